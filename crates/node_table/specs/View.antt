@@ -1,0 +1,37 @@
+-- A list of items that rises by owner and then by key, seen as a table.
+use Rattle.std.specs.Prelude.{◌≡◌, ℕ, ◌<◌, ◌≤◌, List, All, map}
+use lib.Dec.{T}
+use Rattle.std.specs.FinMap.{from_sorted, is_sorted}
+use Rattle.bench_types.specs.declared.entries.Entry.{Entry}
+use Rattle.bench_types.specs.declared.entries.Item.{Item}
+use Rattle.node_table.specs.Table.{Place, place_cmp, Held, Table, IsInPlace}
+
+abbrev pub place_of : Item → Place
+place_of i = (i.owner, i.entry.key)
+
+abbrev pub pair_of : Item → Place × Entry
+pair_of i = (place_of i, i.entry)
+
+abbrev pub pairs : List Item → List (Place × Entry)
+pairs xs = map pair_of xs
+
+abbrev pub held_of : List Item → Held
+held_of xs = from_sorted (pairs xs)
+
+abbrev pub table_of : ℕ → ℕ → ℕ → List Item → Table
+table_of n ns ks xs = record { node = n; nodes = ns; keys = ks; held = held_of xs }
+
+abbrev pub IsItemInPlace : ℕ → ℕ → Item → Type 0
+IsItemInPlace ns ks i = IsInPlace ns ks i.owner i.entry.key i.entry
+
+-- the places rise
+abbrev pub IsRising : List Item → Type 0
+IsRising xs = T (is_sorted place_cmp (pairs xs))
+
+pub record IsSound (node nodes keys : ℕ) (items : List Item) : Type 0 where
+  pub node_below : node < nodes
+  pub nodes_limit : nodes ≤ 4096
+  pub some_key : 1 ≤ keys
+  pub keys_limit : keys ≤ 64
+  pub rising : IsRising items
+  pub in_place : All (IsItemInPlace nodes keys) items

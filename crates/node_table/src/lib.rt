@@ -1,0 +1,7 @@
+//! One node's table: what the node holds of every node's state, as a finite map from owner and
+//! key to an entry, under own writes, received items and restarts.
+#![tactic(auto)]
+
+mod tables;
+
+pub use tables::NodeTable;

@@ -1,0 +1,225 @@
+//! The table, as one vector of items that rises by owner and then by key.
+
+ghost use Rattle.std.specs.Prelude.{◌≡◌, ◌≢◌, ℕ, ◌+◌, ◌-◌, ◌^◌, ◌<◌, ◌≤◌, All, Result, Ok, Err, IfOk, IfErr, OnOk, OnErr, IsOkUnless, List, length, vec_len, vec_capacity, slice_index_or};
+ghost use Rattle.std.specs.FinMap.{put as put_entry};
+ghost use Rattle.node_table.specs.Table.{place_cmp, held_with};
+ghost use Rattle.node_table.specs.View.{IsRising, IsItemInPlace, place_of, pairs, held_of};
+ghost use Rattle.node_table.specs.Runs.{greatest_run};
+ghost use Rattle.node_table.specs.Places.{IsAt, IsGapFor};
+ghost use Rattle.bench_types.specs.declared.faults.Fault.TheVariants.{OutOfMemory};
+
+use bench_types::{Entry, Fault, Item};
+use std::alloc::{AllocFailed, Global};
+use std::marker::Model;
+
+/// What one node holds of every node's state.
+#[derive(Drop)]
+pub struct NodeTable {
+    node: u32,
+    nodes: u32,
+    keys: u32,
+    items: Vec<Item>,
+}
+
+impl Model for NodeTable {
+    ghost use Rattle.std.specs.Prelude.{◌-◌, vec_len, vec_capacity};
+    ghost use Rattle.node_table.specs.Kept.{Kept, kept_code};
+    ghost use Rattle.node_table.specs.View.{table_of, IsSound};
+
+    ghost Value = { Kept };
+
+    ghost coded = { kept_code };
+
+    ghost view = { λ t. record { table = table_of t.node t.nodes t.keys t.items.items; spare = vec_capacity t.items - vec_len t.items } };
+
+    ghost invariant = { λ t. IsSound t.node t.nodes t.keys t.items.items };
+}
+
+impl NodeTable {
+    ghost use Rattle.node_table.specs.Table.{empty_table, entry_at, greatest_version, count_of, items_of, with_own_write, applied, IsProper};
+    ghost use Rattle.node_table.specs.Kept.{HasRoom};
+    ghost use Rattle.node_table.specs.View.{IsItemInPlace};
+
+    /// The empty table of a node. It takes no memory yet.
+    pub fn new(alloc: Global, node: u32, nodes: u32, keys: u32) -> Result<NodeTable, Fault>
+        requires node { node < nodes }
+        requires nodes { nodes ≤ 4096 }
+        requires some_key { 1 ≤ keys }
+        requires keys { keys ≤ 64 }
+        ensures empty { IfOk result (λ t. t.table ≡ empty_table node nodes keys) }
+        ensures only { IsOkUnless result OutOfMemory }
+    {
+        Ok(NodeTable {
+            node,
+            nodes,
+            keys,
+            items: Vec::new(alloc),
+        })
+    }
+
+    /// The node whose table this is.
+    pub fn node(&self) -> u32
+        ensures value { result ≡ self.now.table.node }
+        ensures proper { IsProper self.now.table }
+    {
+        self.node
+    }
+
+    /// How many nodes there are.
+    pub fn nodes(&self) -> u32
+        ensures value { result ≡ self.now.table.nodes }
+        ensures proper { IsProper self.now.table }
+    {
+        self.nodes
+    }
+
+    /// How many keys each node has.
+    pub fn keys(&self) -> u32
+        ensures value { result ≡ self.now.table.keys }
+        ensures proper { IsProper self.now.table }
+    {
+        self.keys
+    }
+
+    /// All entries with their owners, by owner and then by key.
+    pub fn items(&self) -> &[Item]
+        ensures value { result.now ≡ items_of self.now.table }
+        ensures proper { IsProper self.now.table }
+    {
+        &self.items
+    }
+
+    /// How many entries are held.
+    pub fn count(&self) -> usize
+        ensures { result ≡ count_of self.now.table }
+    {
+        self.items.len()
+    }
+
+    /// The entry held of an owner's key: a binary search.
+    pub fn get(&self, owner: u32, key: u32) -> Option<Entry>
+        ensures { result ≡ entry_at self.now.table owner key }
+    {
+        match search(&self.items, owner, key) {
+            Ok(at) => Some(self.items[at].entry),
+            Err(_) => None,
+        }
+    }
+
+    /// The greatest version held of an owner, 0 where none is: a binary search and a step for each
+    /// entry of the owner.
+    pub fn greatest(&self, owner: u32) -> u32
+        ensures { result ≡ greatest_version self.now.table owner }
+    {
+        let start = match search(&self.items, owner, 0) {
+            Ok(at) => at,
+            Err(at) => at,
+        };
+        greatest_at_front(&self.items[start..], owner)
+    }
+
+    /// The node writes one of its own keys, and the answer is the version of that write. A binary
+    /// search, and a move of what stands behind a key that is written for the first time.
+    pub fn write_own(&mut self, key: u32, value: u32, born: u32) -> Result<u32, Fault>
+        requires key { key < self.old.table.keys }
+        requires fits { greatest_version self.old.table self.old.table.node + 1 < 2 ^ 32 }
+        ensures version { IfOk result (λ v. v ≡ greatest_version self.old.table self.old.table.node + 1) }
+        ensures ok { OnOk result (self.new.table ≡ with_own_write self.old.table key value born) }
+        ensures err { OnErr result (self.new.table ≡ self.old.table) }
+        ensures only { IsOkUnless result OutOfMemory }
+    {
+        let owner = self.node;
+        let version = self.greatest(owner) + 1;
+        let entry = Entry {
+            key,
+            version,
+            value,
+            born,
+        };
+        put(&mut self.items, Item { owner, entry })?;
+        Ok(version)
+    }
+
+    /// Makes room for a list of items, so that `apply` takes no memory.
+    pub fn reserve_for(&mut self, added: &[Item]) -> Result<(), Fault>
+        ensures same { self.new.table ≡ self.old.table }
+        ensures room { OnOk result (HasRoom self.new added.now) }
+        ensures only { IsOkUnless result OutOfMemory }
+    {
+        self.items.reserve(added.len())?;
+        Ok(())
+    }
+
+    /// Takes items in turn: each place keeps the entry with the greater version, and the held one
+    /// where the versions are equal. A binary search for each item, and a move of what stands
+    /// behind a place that is new.
+    pub fn apply(&mut self, added: &[Item])
+        requires room { HasRoom self.old added.now }
+        requires others { All (λ i. i.owner ≢ self.old.table.node) added.now }
+        requires in_place { All (IsItemInPlace self.old.table.nodes self.old.table.keys) added.now }
+        ensures { self.new.table ≡ applied self.old.table added.now }
+    {
+        for item in added {
+            receive(&mut self.items, *item);
+        }
+    }
+}
+
+// Where the place is, or where it would go.
+fn search(items: &[Item], owner: u32, key: u32) -> Result<usize, usize>
+    requires { IsRising items.now }
+    ensures found { IfOk result (IsAt items.now (owner, key)) }
+    ensures absent { IfErr result (IsGapFor items.now (owner, key)) }
+{
+    items.binary_search_by_key(&(owner, key), |item| (item.owner, item.entry.key))
+}
+
+// The greatest version among the items at the front that are the owner's.
+fn greatest_at_front(items: &[Item], owner: u32) -> u32
+    ensures { result ≡ greatest_run owner items.now }
+{
+    let mut greatest = 0;
+    for item in items {
+        if item.owner != owner {
+            break;
+        }
+        greatest = greatest.max(item.entry.version);
+    }
+    greatest
+}
+
+// Puts an item at its place, over the one that stands there or into its gap.
+fn put(items: &mut Vec<Item>, item: Item) -> Result<(), AllocFailed<Item>>
+    requires { IsRising items.old.items }
+    ensures rising { IsRising items.new.items }
+    ensures ok { OnOk result (put_entry place_cmp (place_of item) item.entry (pairs items.old.items) ≡ pairs items.new.items) }
+    ensures in_place { (nodes keys : ℕ) → All (IsItemInPlace nodes keys) items.old.items → IsItemInPlace nodes keys item → All (IsItemInPlace nodes keys) items.new.items }
+    ensures err { OnErr result (items.new.items ≡ items.old.items) }
+{
+    match search(items, item.owner, item.entry.key) {
+        Ok(at) => {
+            items[at] = item;
+            Ok(())
+        }
+        Err(at) => items.insert(at, item),
+    }
+}
+
+// Keeps the newer of an item and what stands at its place.
+fn receive(items: &mut Vec<Item>, item: Item)
+    requires rising { IsRising items.old.items }
+    requires room { vec_len items.old < vec_capacity items.old }
+    ensures rising { IsRising items.new.items }
+    ensures held { held_of items.new.items ≡ held_with (held_of items.old.items) item }
+    ensures in_place { (nodes keys : ℕ) → All (IsItemInPlace nodes keys) items.old.items → IsItemInPlace nodes keys item → All (IsItemInPlace nodes keys) items.new.items }
+    ensures room { vec_len items.new + vec_capacity items.old ≤ vec_len items.old + 1 + vec_capacity items.new }
+{
+    match search(items, item.owner, item.entry.key) {
+        Ok(at) => {
+            if items[at].entry.version < item.entry.version {
+                items[at] = item;
+            }
+        }
+        Err(at) => items.insert(at, item).unwrap(),
+    }
+}

@@ -5,3 +5,4 @@ pub mod Search
 pub mod Received
 pub mod Taken
 pub mod Greatest
+pub mod Proper

@@ -1,0 +1,36 @@
+-- How many elements of a list pass a test that holds on one stretch of it.
+use Rattle.std.proofs.Common.{◌≡◌, ℕ, zero, suc, ◌+◌, ◌-◌, ◌<◌, ◌≤◌, Bool, true, false, cond, List, [], ◌∷◌, length, get_or, ◌⊎◌, inl, inr, refl, sym, ap, ◌∙◌, subst, arith}
+use Rattle.std.specs.Prelude.{count_by}
+use Rattle.std.proofs.lemmas.List.Sums.{sum_by-cons}
+
+module _ {X : Type 0} (p : X → Bool) where
+  -- one step of a count
+  pub count_by-cons_true : (x : X) (xs : List X) → p x ≡ true → count_by p (x ∷ xs) ≡ suc (count_by p xs)
+  count_by-cons_true x xs e = sum_by-cons (λ y. cond (p y) 1 0) x xs ∙ ap (λ b. cond b 1 0 + count_by p xs) e ∙ omega arith
+
+  pub count_by-cons_false : (x : X) (xs : List X) → p x ≡ false → count_by p (x ∷ xs) ≡ count_by p xs
+  count_by-cons_false x xs e = sum_by-cons (λ y. cond (p y) 1 0) x xs ∙ ap (λ b. cond b 1 0 + count_by p xs) e ∙ omega arith
+
+  -- the test holds from index a to index b and nowhere else
+  pub count_by-stretch : (xs : List X) (a b : ℕ) → a ≤ b → b ≤ length xs → ((i : ℕ) (d : X) → a ≤ i → i < b → p (get_or xs i d) ≡ true) → ((i : ℕ) (d : X) → i < length xs → (i < a) ⊎ (b ≤ i) → p (get_or xs i d) ≡ false) → count_by p xs ≡ b - a
+  count_by-stretch [] a b le in_range holds fails = omega arith
+  count_by-stretch (x ∷ xs) zero zero le in_range holds fails =
+      count_by-cons_false x xs (fails 0 x (omega arith) (inr (omega arith)))
+      ∙ count_by-stretch xs 0 0 le (omega arith) (λ i d from to. absurd (omega arith)) (λ i d lt _. fails (suc i) d (omega arith) (inr (omega arith)))
+  count_by-stretch (x ∷ xs) zero (suc b) le in_range holds fails =
+      count_by-cons_true x xs (holds 0 x (omega arith) (omega arith))
+      ∙ ap suc (count_by-stretch xs 0 b (omega arith) (omega arith) (λ i d from to. holds (suc i) d (omega arith) (omega arith)) (λ i d lt outside. fails (suc i) d (omega arith) (inr (later i b outside))))
+      ∙ omega arith
+    where
+      later : (i b : ℕ) → (i < 0) ⊎ (b ≤ i) → suc b ≤ suc i
+      later i b (inl lt) = absurd (omega arith)
+      later i b (inr le) = omega arith
+  count_by-stretch (x ∷ xs) (suc a) zero le in_range holds fails = absurd (omega arith)
+  count_by-stretch (x ∷ xs) (suc a) (suc b) le in_range holds fails =
+      count_by-cons_false x xs (fails 0 x (omega arith) (inl (omega arith)))
+      ∙ count_by-stretch xs a b (omega arith) (omega arith) (λ i d from to. holds (suc i) d (omega arith) (omega arith)) (λ i d lt outside. fails (suc i) d (omega arith) (moved i a b outside))
+      ∙ omega arith
+    where
+      moved : (i a b : ℕ) → (i < a) ⊎ (b ≤ i) → (suc i < suc a) ⊎ (suc b ≤ suc i)
+      moved i a b (inl lt) = inl (omega arith)
+      moved i a b (inr le) = inr (omega arith)

@@ -1,0 +1,13 @@
+-- A delta: what is sent of the candidates under a budget, in the order sent, and how many are cut.
+use Rattle.std.specs.Prelude.{◌≡◌, ℕ, List}
+use Rattle.bench_types.specs.declared.entries.Item.{Item}
+use Rattle.bench_types.specs.declared.exchanges.Mode.{Mode}
+use Rattle.reconcile.specs.Order.{sending_order}
+use Rattle.reconcile.specs.Picks.{sent, cut_count}
+
+pub record Sent : Type 0 where
+  pub items : List Item
+  pub cut : ℕ
+
+abbrev pub delta_of : Mode → ℕ → ℕ → ℕ → List Item → Sent
+delta_of mode ns s budget cs = record { items = sent (sending_order mode ns s cs) cs budget; cut = cut_count (sending_order mode ns s cs) cs budget }

@@ -1,0 +1,9 @@
+pub mod Candidates
+pub mod Order
+pub mod Picks
+pub mod Digests
+pub mod Deltas
+pub mod Ranks
+pub use Rattle.node_table.specs.Table
+pub use Rattle.node_table.specs.Kept
+pub use Rattle.bench_types.specs.Entry

@@ -1,0 +1,46 @@
+-- Candidates on the way into their order: each beside where its owner stands and how many of its owner's
+-- candidates have a smaller version.
+use Rattle.std.specs.Prelude.{◌≡◌, ℕ, zero, suc, ◌<◌, ◌≤◌, List, All, map, slice_index_or}
+use Rattle.std.specs.Ordering.{nat_cmp, ordering_then}
+use Rattle.std.specs.declared.cmp.Ordering.{Ordering}
+use Rattle.bench_types.specs.declared.entries.Item.{Item}
+use Rattle.reconcile.specs.declared.orders.Candidate.{Candidate}
+use Rattle.reconcile.specs.Order.{rotated, rank_among}
+
+abbrev pub item_in : Candidate → Item
+item_in c = c.item
+
+abbrev pub items_in : List Candidate → List Item
+items_in cs = map item_in cs
+
+-- each stands where the rotation turns its owner
+abbrev pub AllTurned : ℕ → ℕ → List Candidate → Type 0
+AllTurned nodes rotation cs = All (λ c. c.turn ≡ rotated nodes rotation c.item.owner) cs
+
+-- each has its rank among the items
+abbrev pub AllRanked : List Item → List Candidate → Type 0
+AllRanked items cs = All (λ c. c.rank ≡ rank_among items c.item) cs
+
+-- by owner, then by version, then by key
+abbrev pub version_order : Item → Item → Ordering
+version_order a b = ordering_then (nat_cmp a.owner b.owner) (ordering_then (nat_cmp a.entry.version b.entry.version) (nat_cmp a.entry.key b.entry.key))
+
+abbrev pub no_item : Item
+no_item = record { owner = 0; entry = record { key = 0; version = 0; value = 0; born = 0 } }
+
+abbrev pub item_at : List Item → ℕ → Item
+item_at items i = slice_index_or items i no_item
+
+-- the owner of the item at an index begins at one index, and those of its version at another
+pub record IsRun (items : List Item) (owner_start version_start at : ℕ) : Type 0 where
+  pub order : owner_start ≤ version_start
+  pub reached : version_start ≤ at
+  pub before : (j : ℕ) → j < owner_start → (item_at items j).owner < (item_at items at).owner
+  pub owner : (j : ℕ) → owner_start ≤ j → j ≤ at → (item_at items j).owner ≡ (item_at items at).owner
+  pub older : (j : ℕ) → owner_start ≤ j → j < version_start → (item_at items j).entry.version < (item_at items at).entry.version
+  pub same : (j : ℕ) → version_start ≤ j → j ≤ at → (item_at items j).entry.version ≡ (item_at items at).entry.version
+
+-- the run is that of the item before, or the first
+abbrev pub Follows : List Item → ℕ → ℕ → ℕ → Type 0
+Follows items a b zero = (a ≡ 0) × (b ≡ 0)
+Follows items a b (suc at) = IsRun items a b at

@@ -1,0 +1,11 @@
+//! What one node tells another of its table: digests, and the deltas that answer them, in the
+//! order of a mode and cut by a budget.
+#![tactic(auto)]
+
+mod deltas;
+mod digests;
+mod orders;
+
+pub use deltas::Delta;
+pub use digests::Digest;
+pub use orders::delta;

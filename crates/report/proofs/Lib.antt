@@ -1,0 +1,2 @@
+pub mod Sinking
+pub mod CellFacts

@@ -1,0 +1,29 @@
+-- A text on its way into a sink.
+use Rattle.std.proofs.Common.{◌≡◌, ◌++◌, ◌∙◌, ℕ, List, Option, sym, ap, subst, take, drop, length, append_assoc, take-append-drop}
+use lib.Seq.{take-append_seam}
+use Rattle.std.proofs.KnownBytes.{Appends-trans, Appends-kept}
+use Rattle.std.specs.Io.KnownBytes.{Appends, Keeps}
+use Rattle.report.specs.Output.{AppendsFront}
+
+-- the sink has taken the text up to `rest`
+pub record TakesUpTo (old now : Option (List ℕ)) (text rest : List ℕ) : Type 0 where
+  pub front : List ℕ
+  pub whole : text ≡ front ++ rest
+  pub taken : Appends old now front
+
+-- it takes some more bytes
+pub up_to_more : (old now new : Option (List ℕ)) (text rest : List ℕ) (n : ℕ) → TakesUpTo old now text rest
+    → Appends now new (take n rest) → TakesUpTo old new text (drop n rest)
+up_to_more old now new text rest n so_far more = record {
+  front = so_far.front ++ take n rest;
+  whole = so_far.whole ∙ ap (λ xs. so_far.front ++ xs) (sym (take-append-drop n rest)) ∙ sym (append_assoc so_far.front (take n rest) (drop n rest));
+  taken = Appends-trans old now new so_far.front (take n rest) so_far.taken more;
+}
+
+-- it stops here
+pub up_to_failure : (old now new : Option (List ℕ)) (text rest : List ℕ) → TakesUpTo old now text rest
+    → Keeps now new → AppendsFront old new text
+up_to_failure old now new text rest so_far kept =
+    let seam : take (length so_far.front) text ≡ so_far.front =
+    ap (take (length so_far.front)) so_far.whole ∙ take-append_seam so_far.front rest in
+    (length so_far.front, subst (Appends old new) (sym seam) (Appends-kept old now new so_far.front so_far.taken kept))

@@ -1,0 +1,4 @@
+pub mod Line
+pub mod Report
+pub mod Output
+pub mod Cells

@@ -1,0 +1,3 @@
+pub mod Keys
+pub mod Documents
+pub mod Order

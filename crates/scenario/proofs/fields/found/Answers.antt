@@ -1,0 +1,6 @@
+use Rattle.toml.proofs.Views.{table_get}
+use Rattle.scenario.proofs.fields.found.Goals as goal
+
+pub returns : goal.returns
+returns c =
+    rw (← c.name_of.ensures) (table_get c.get.result c.name_of.result.now c.args.table.now.entries c.get.ensures.value)

@@ -1,0 +1,9 @@
+use Rattle.toml.specs.View.{table_view}
+use Rattle.scenario.proofs.Order.{Says-answer, first_of-answer}
+use Rattle.scenario.proofs.texts.read.Goals as goal
+
+pub returns-clause-first : goal.returns-clause-first
+returns-clause-first c = rw c.in_ok-table.ensures.ok (first_of-answer (table_view c.in_ok-table.table) _ c.checked.ensures)
+
+pub returns-clause-says : goal.returns-clause-says
+returns-clause-says c = rw c.in_ok-table.ensures.ok (Says-answer (table_view c.in_ok-table.table) _ c.checked.ensures)

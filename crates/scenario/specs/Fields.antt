@@ -1,0 +1,91 @@
+-- What a field of a table holds, or the fault that reading it comes to: a field that is absent is
+-- missing, a value of another type than the field's is of the wrong type, and one of the type that
+-- the field does not take is out of range. Source: this project.
+use Rattle.std.specs.Prelude.{ℕ, ℤ, pos, negsuc, Bool, true, false, ◌&&◌, List, Option, None, Some, Result, Ok, Err, codes, bytes_eq, nat_le, if◌then◌else◌}
+use Rattle.std.specs.List.{list_any}
+use Rattle.toml.specs.Data.{Data, integer, string, Members, no_members, member, get_member}
+use Rattle.bench_types.specs.declared.faults.Fault.{Fault}
+use Rattle.bench_types.specs.declared.faults.Fault.TheVariants.{Missing, WrongType, OutOfRange, UnknownField}
+use Rattle.bench_types.specs.declared.fields.Field.{Field}
+use Rattle.bench_types.specs.declared.fields.Field.TheVariants as field
+use Rattle.bench_types.specs.declared.fields.TableName.{TableName}
+
+-- one check after another: the first fault is the answer
+infixl 10 ◌>>=◌
+abbrev pub ◌>>=◌ : {A B : Type 0} → Result A Fault → (A → Result B Fault) → Result B Fault
+Ok x >>= next = next x
+Err fault >>= next = Err fault
+
+-- the key at which a table has the field
+abbrev pub name_of : Field → List ℕ
+name_of field.Format = codes "format"
+name_of field.Nodes = codes "nodes"
+name_of field.Keys = codes "keys"
+name_of field.Rounds = codes "rounds"
+name_of field.Seed = codes "seed"
+name_of field.Mode = codes "mode"
+name_of field.Budget = codes "budget"
+name_of field.Peers = codes "peers"
+name_of field.Rotation = codes "rotation"
+name_of field.Choice = codes "choice"
+name_of field.LossPpm = codes "loss_ppm"
+name_of field.Writes = codes "writes"
+name_of field.Partition = codes "partition"
+name_of field.Restart = codes "restart"
+name_of field.Load = codes "load"
+name_of field.PartitionFrom = codes "from"
+name_of field.PartitionTo = codes "to"
+name_of field.PartitionApart = codes "apart"
+name_of field.RestartNode = codes "node"
+name_of field.RestartRound = codes "round"
+name_of field.RestartDown = codes "down"
+name_of field.LoadFrom = codes "from"
+name_of field.LoadTo = codes "to"
+name_of field.LoadWrites = codes "writes"
+
+-- what a look-up found, or the fault of a field that is absent
+abbrev pub present : Field → Option Data → Result Data Fault
+present f None = Err (Missing f)
+present f (Some value) = Ok value
+
+-- the value of a field
+abbrev pub value_at : Field → Members → Result Data Fault
+value_at f table = present f (get_member (name_of f) table)
+
+-- an integer from low to high
+abbrev pub bounded : Field → ℕ → ℕ → ℤ → Result ℕ Fault
+bounded f low high (pos n) = if nat_le low n && nat_le n high then Ok n else Err (OutOfRange f)
+bounded f low high (negsuc n) = Err (OutOfRange f)
+
+abbrev pub number_of : Field → ℕ → ℕ → Data → Result ℕ Fault
+number_of f low high (integer z) = bounded f low high z
+number_of f low high _ = Err (WrongType f)
+
+-- the value of a field that takes the integers from low to high
+abbrev pub number_at : Field → ℕ → ℕ → Members → Result ℕ Fault
+number_at f low high table = value_at f table >>= number_of f low high
+
+abbrev pub text_of : Field → Data → Result (List ℕ) Fault
+text_of f (string text) = Ok text
+text_of f _ = Err (WrongType f)
+
+-- the value of a field that takes text
+abbrev pub text_at : Field → Members → Result (List ℕ) Fault
+text_at f table = value_at f table >>= text_of f
+
+-- the key is that of one of the fields
+abbrev pub is_among : List Field → List ℕ → Bool
+is_among fields key = list_any (λ f. bytes_eq (name_of f) key) fields
+
+-- the table has no key but those of the fields
+abbrev pub has_only : List Field → Members → Bool
+has_only fields no_members = true
+has_only fields (member key value others) = is_among fields key && has_only fields others
+
+-- the fault of a table that has another key
+abbrev pub only : TableName → Bool → Result (Unit {0}) Fault
+only name true = Ok tt
+only name false = Err (UnknownField name)
+
+abbrev pub only_fields : TableName → List Field → Members → Result (Unit {0}) Fault
+only_fields name fields table = only name (has_only fields table)

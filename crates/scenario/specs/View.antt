@@ -1,0 +1,19 @@
+-- What contracts see of a scenario.
+use Rattle.scenario.specs.Settings.{Settings}
+use Rattle.scenario.specs.declared.scenarios.Scenario.TheInside.{Inside}
+
+abbrev pub settings_of : Inside → Settings
+settings_of s = record {
+  format = s.format;
+  nodes = s.nodes;
+  keys = s.keys;
+  rounds = s.rounds;
+  seed = s.seed;
+  mode = s.mode;
+  budget = s.budget;
+  peers = s.peers;
+  rotation = s.rotation;
+  choice = s.choice;
+  loss_ppm = s.loss_ppm;
+  writes = s.writes;
+}

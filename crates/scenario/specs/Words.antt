@@ -1,0 +1,36 @@
+-- The fields that take one of a few words, and what the words stand for. Source: this project.
+use Rattle.std.specs.Prelude.{ℕ, List, Option, None, Some, Result, Ok, Err, codes, bytes_eq, if◌then◌else◌}
+use Rattle.toml.specs.Data.{Members}
+use Rattle.bench_types.specs.declared.exchanges.Mode.{Mode}
+use Rattle.bench_types.specs.declared.exchanges.Mode.TheVariants.{ScuttleBreadth}
+use Rattle.bench_types.specs.declared.faults.Fault.{Fault}
+use Rattle.bench_types.specs.declared.faults.Fault.TheVariants.{OutOfRange}
+use Rattle.bench_types.specs.declared.fields.Field.{Field}
+use Rattle.scenario.specs.declared.choices.Peers.{Peers}
+use Rattle.scenario.specs.declared.choices.Peers.TheVariants.{Ring}
+use Rattle.scenario.specs.declared.choices.Rotation.{Rotation}
+use Rattle.scenario.specs.declared.choices.Rotation.TheVariants.{Off}
+use Rattle.scenario.specs.declared.choices.Choice.{Choice}
+use Rattle.scenario.specs.declared.choices.Choice.TheVariants.{Cycle}
+use Rattle.scenario.specs.Fields.{◌>>=◌, text_at}
+
+-- what a word stands for; a word that stands for nothing is out of range
+abbrev pub taken : {A : Type 0} → Field → Option A → Result A Fault
+taken f None = Err (OutOfRange f)
+taken f (Some x) = Ok x
+
+-- the value of a field whose words stand for what `meaning` says
+abbrev pub word_at : {A : Type 0} → Field → (List ℕ → Option A) → Members → Result A Fault
+word_at f meaning table = text_at f table >>= (λ word. taken f (meaning word))
+
+abbrev pub mode_of : List ℕ → Option Mode
+mode_of word = if bytes_eq word (codes "scuttle-breadth") then Some ScuttleBreadth else None
+
+abbrev pub peers_of : List ℕ → Option Peers
+peers_of word = if bytes_eq word (codes "ring") then Some Ring else None
+
+abbrev pub rotation_of : List ℕ → Option Rotation
+rotation_of word = if bytes_eq word (codes "none") then Some Off else None
+
+abbrev pub choice_of : List ℕ → Option Choice
+choice_of word = if bytes_eq word (codes "cycle") then Some Cycle else None

@@ -1,0 +1,103 @@
+//! Reading one field of a table.
+
+ghost use Rattle.std.specs.Prelude.{◌≡◌, ◌≤◌, Ok, Err, IfOk, IfErr, option_map};
+ghost use Rattle.toml.specs.Data.{get_member};
+ghost use Rattle.toml.specs.View.{view, table_view};
+ghost use Rattle.scenario.specs.Fields.{name_of, value_at, number_at, text_at, has_only, is_among, only_fields};
+
+use bench_types::{Fault, Field, TableName};
+use toml::{Table, Value};
+
+/// The key at which a table has the field.
+fn name_of(field: Field) -> &'static str
+    ensures { result.now ≡ name_of field }
+{
+    match field {
+        Field::Format => "format",
+        Field::Nodes => "nodes",
+        Field::Keys => "keys",
+        Field::Rounds => "rounds",
+        Field::Seed => "seed",
+        Field::Mode => "mode",
+        Field::Budget => "budget",
+        Field::Peers => "peers",
+        Field::Rotation => "rotation",
+        Field::Choice => "choice",
+        Field::LossPpm => "loss_ppm",
+        Field::Writes | Field::LoadWrites => "writes",
+        Field::Partition => "partition",
+        Field::Restart => "restart",
+        Field::Load => "load",
+        Field::PartitionFrom | Field::LoadFrom => "from",
+        Field::PartitionTo | Field::LoadTo => "to",
+        Field::PartitionApart => "apart",
+        Field::RestartNode => "node",
+        Field::RestartRound => "round",
+        Field::RestartDown => "down",
+    }
+}
+
+fn found(table: &Table, field: Field) -> Option<&Value>
+    ensures { option_map (λ v. view v.now) result ≡ get_member (name_of field) (table_view table.now) }
+{
+    table.get(name_of(field))
+}
+
+/// An integer field that takes the numbers from `low` to `high`.
+pub(crate) fn integer_at(table: &Table, field: Field, low: u64, high: u64) -> Result<u64, Fault>
+    ensures answer { result ≡ number_at field low high (table_view table.now) }
+    ensures within { IfOk result (λ n. (low ≤ n) × (n ≤ high)) }
+{
+    match found(table, field) {
+        None => Err(Fault::Missing(field)),
+        Some(Value::Integer(integer)) => match u64::try_from(*integer) {
+            Ok(number) if (low..=high).contains(&number) => Ok(number),
+            _ => Err(Fault::OutOfRange(field)),
+        },
+        Some(_) => Err(Fault::WrongType(field)),
+    }
+}
+
+/// As `integer_at`, for numbers of 32 bits.
+pub(crate) fn number_at(table: &Table, field: Field, low: u32, high: u32) -> Result<u32, Fault>
+    ensures answer { result ≡ number_at field low high (table_view table.now) }
+    ensures within { IfOk result (λ n. (low ≤ n) × (n ≤ high)) }
+{
+    let number = integer_at(table, field, u64::from(low), u64::from(high))?;
+    Ok(number as u32)
+}
+
+/// A text field.
+pub(crate) fn text_at(table: &Table, field: Field) -> Result<&str, Fault>
+    ensures text { IfOk result (λ text. text_at field (table_view table.now) ≡ Ok text.now) }
+    ensures fault { IfErr result (λ fault. text_at field (table_view table.now) ≡ Err fault) }
+{
+    match found(table, field) {
+        None => Err(Fault::Missing(field)),
+        Some(Value::String(text)) => Ok(text.as_str()),
+        Some(_) => Err(Fault::WrongType(field)),
+    }
+}
+
+fn is_among(key: &str, fields: &[Field]) -> bool
+    ensures { result ≡ is_among fields.now key.now }
+{
+    fields.iter().any(|field| name_of(*field) == key)
+}
+
+fn has_only(table: &Table, fields: &[Field]) -> bool
+    ensures { result ≡ has_only fields.now (table_view table.now) }
+{
+    table.keys().all(|key| is_among(key.as_str(), fields))
+}
+
+/// Checks that the table has no key but those of the fields.
+pub(crate) fn only_fields(table: &Table, name: TableName, fields: &[Field]) -> Result<(), Fault>
+    ensures { result ≡ only_fields name fields.now (table_view table.now) }
+{
+    if has_only(table, fields) {
+        Ok(())
+    } else {
+        Err(Fault::UnknownField(name))
+    }
+}

@@ -1,0 +1,16 @@
+//! Reads a scenario, the description of a run, from a TOML text and checks it field by field. The
+//! first fault in the order of the checks is answered and nothing is filled in. What is accepted
+//! keeps every limit in its type, so no caller has to test one again.
+#![tactic(auto)]
+
+mod choices;
+mod fields;
+mod scenarios;
+#[cfg(test)]
+mod tests;
+mod texts;
+mod words;
+
+pub use choices::{Choice, Peers, Rotation};
+pub use scenarios::Scenario;
+pub use texts::read;

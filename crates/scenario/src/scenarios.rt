@@ -1,0 +1,208 @@
+//! A scenario that passed the check.
+
+ghost use Rattle.std.specs.Prelude.{◌≡◌, ◌*◌, ◌≤◌, IfOk, OnOk};
+ghost use Rattle.toml.specs.View.{table_view};
+ghost use Rattle.scenario.specs.Checked.{checked, size_checked};
+
+use crate::choices::{Choice, Peers, Rotation};
+use crate::fields::{integer_at, number_at, only_fields};
+use crate::words::{choice_at, mode_at, peers_at, rotation_at};
+use bench_types::limits::{
+    LEAST_KEYS, LEAST_NODES, MOST_BUDGET, MOST_ENTRIES, MOST_KEYS, MOST_NODES, MOST_ROUNDS,
+    MOST_SEED, MOST_WRITES,
+};
+use bench_types::{Fault, Field, Mode, TableName};
+use std::marker::Model;
+use toml::Table;
+
+/// The fields of the text itself, in the order of their checks.
+const TOP_FIELDS: [Field; 12] = [
+    Field::Format,
+    Field::Nodes,
+    Field::Keys,
+    Field::Rounds,
+    Field::Seed,
+    Field::Mode,
+    Field::Budget,
+    Field::Peers,
+    Field::Rotation,
+    Field::Choice,
+    Field::LossPpm,
+    Field::Writes,
+];
+
+/// The description of a run: how many nodes and keys, for how many rounds, and by which rules.
+#[derive(Debug, Drop)]
+pub struct Scenario {
+    format: u32,
+    nodes: u32,
+    keys: u32,
+    rounds: u32,
+    seed: u64,
+    mode: Mode,
+    budget: u32,
+    peers: Peers,
+    rotation: Rotation,
+    choice: Choice,
+    loss_ppm: u32,
+    writes: u32,
+}
+
+impl Model for Scenario {
+    ghost use Rattle.scenario.specs.Settings.{Settings, IsLawful};
+
+    ghost Value = { Settings };
+
+    ghost use Rattle.scenario.specs.View.{settings_of};
+
+    ghost view = { settings_of };
+
+    ghost invariant = { λ s. IsLawful (settings_of s) };
+}
+
+fn check_size(nodes: u32, keys: u32) -> Result<(), Fault>
+    requires nodes { nodes ≤ MOST_NODES }
+    requires keys { keys ≤ MOST_KEYS }
+    ensures answer { result ≡ size_checked nodes keys }
+    ensures within { OnOk result (nodes * nodes * keys ≤ MOST_ENTRIES) }
+{
+    let (nodes, keys) = (u64::from(nodes), u64::from(keys));
+    if nodes * nodes * keys <= MOST_ENTRIES {
+        Ok(())
+    } else {
+        Err(Fault::TooLarge)
+    }
+}
+
+impl Scenario {
+    pub(crate) fn checked(table: &Table) -> Result<Scenario, Fault>
+        ensures { result ≡ checked (table_view table.now) }
+    {
+        let format = number_at(table, Field::Format, 1, 1)?;
+        let nodes = number_at(table, Field::Nodes, LEAST_NODES, MOST_NODES)?;
+        let keys = number_at(table, Field::Keys, LEAST_KEYS, MOST_KEYS)?;
+        check_size(nodes, keys)?;
+        let rounds = number_at(table, Field::Rounds, 1, MOST_ROUNDS)?;
+        let seed = integer_at(table, Field::Seed, 0, MOST_SEED)?;
+        let mode = mode_at(table)?;
+        let budget = number_at(table, Field::Budget, 1, MOST_BUDGET)?;
+        let peers = peers_at(table)?;
+        let rotation = rotation_at(table)?;
+        let choice = choice_at(table)?;
+        let loss_ppm = number_at(table, Field::LossPpm, 0, 0)?;
+        let writes = number_at(table, Field::Writes, 0, MOST_WRITES)?;
+        only_fields(table, TableName::Top, &TOP_FIELDS)?;
+        Ok(Scenario {
+            format,
+            nodes,
+            keys,
+            rounds,
+            seed,
+            mode,
+            budget,
+            peers,
+            rotation,
+            choice,
+            loss_ppm,
+            writes,
+        })
+    }
+
+    /// The format of the text.
+    pub fn format(&self) -> u32
+        ensures value { result ≡ self.now.format }
+        ensures limits { result ≡ 1 }
+    {
+        self.format
+    }
+
+    /// How many nodes there are, numbered from 0.
+    pub fn nodes(&self) -> u32
+        ensures value { result ≡ self.now.nodes }
+        ensures limits { (LEAST_NODES ≤ result) × (result ≤ MOST_NODES) }
+        ensures entries { result * result * self.now.keys ≤ MOST_ENTRIES }
+    {
+        self.nodes
+    }
+
+    /// How many keys each node has, numbered from 0.
+    pub fn keys(&self) -> u32
+        ensures value { result ≡ self.now.keys }
+        ensures limits { (LEAST_KEYS ≤ result) × (result ≤ MOST_KEYS) }
+        ensures entries { self.now.nodes * self.now.nodes * result ≤ MOST_ENTRIES }
+    {
+        self.keys
+    }
+
+    /// How many rounds the run has, numbered from 1.
+    pub fn rounds(&self) -> u32
+        ensures value { result ≡ self.now.rounds }
+        ensures limits { (1 ≤ result) × (result ≤ MOST_ROUNDS) }
+    {
+        self.rounds
+    }
+
+    /// What the random words of all nodes follow from.
+    pub fn seed(&self) -> u64
+        ensures value { result ≡ self.now.seed }
+        ensures limits { result ≤ MOST_SEED }
+    {
+        self.seed
+    }
+
+    /// Which entries are sent, and in which order.
+    pub fn mode(&self) -> Mode
+        ensures value { result ≡ self.now.mode }
+        ensures limits { result ≡ Mode.ScuttleBreadth }
+    {
+        self.mode
+    }
+
+    /// The most entries that one message may carry.
+    pub fn budget(&self) -> u32
+        ensures value { result ≡ self.now.budget }
+        ensures limits { (1 ≤ result) × (result ≤ MOST_BUDGET) }
+    {
+        self.budget
+    }
+
+    /// How a node picks its peer.
+    pub fn peers(&self) -> Peers
+        ensures value { result ≡ self.now.peers }
+        ensures limits { result ≡ Peers.Ring }
+    {
+        self.peers
+    }
+
+    /// At which owner the order of an exchange's entries begins.
+    pub fn rotation(&self) -> Rotation
+        ensures value { result ≡ self.now.rotation }
+        ensures limits { result ≡ Rotation.Off }
+    {
+        self.rotation
+    }
+
+    /// How a write picks its key and its value.
+    pub fn choice(&self) -> Choice
+        ensures value { result ≡ self.now.choice }
+        ensures limits { result ≡ Choice.Cycle }
+    {
+        self.choice
+    }
+
+    /// How many of a million messages are lost.
+    pub fn loss_ppm(&self) -> u32
+        ensures value { result ≡ self.now.loss_ppm }
+        ensures limits { result ≡ 0 }
+    {
+        self.loss_ppm
+    }
+
+    /// How many writes a node makes in a round.
+    pub fn writes(&self) -> u32
+        ensures value { result ≡ self.now.writes }
+        ensures limits { result ≤ MOST_WRITES }
+    {
+        self.writes
+    }
+}

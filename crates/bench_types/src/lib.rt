@@ -11,6 +11,8 @@ pub mod limits;
 mod rows;
 mod sinks;
 mod sources;
+#[cfg(test)]
+mod tests;
 
 pub use entries::{Entry, Item};
 pub use exchanges::{Exchange, Fate, Mode, Record, Rules};

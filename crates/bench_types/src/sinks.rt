@@ -10,6 +10,7 @@ use std::io::Write;
 pub trait Sink {
     // The bytes that were taken, where the sink tells them.
     ghost taken: { Self → Option (List ℕ) };
+
     ghost failed: { Self → Bool };
 
     /// Takes some bytes from the front and answers how many: at least one of some bytes.
@@ -58,6 +59,7 @@ impl<W: Write> Push<W> {
 
 impl<W: Write> Sink for Push<W> {
     ghost taken = { λ sink. W.contents sink.writer };
+
     ghost failed = { λ sink. sink.failed };
 
     fn push(&mut self, bytes: &[u8]) -> Result<usize, Failed> {
@@ -93,6 +95,7 @@ pub struct Discard;
 
 impl Sink for Discard {
     ghost taken = { λ _. None };
+
     ghost failed = { λ _. false };
 
     fn push(&mut self, bytes: &[u8]) -> Result<usize, Failed> {

@@ -13,6 +13,7 @@ pub struct Failed;
 pub trait Source {
     // The bytes that are left, where the source tells them.
     ghost left: { Self → Option (List ℕ) };
+
     ghost failed: { Self → Bool };
 
     /// Fills the front of `buf` and answers how many bytes it gave: none where `buf` has no room
@@ -55,6 +56,7 @@ impl<R: Read> Pull<R> {
 
 impl<R: Read> Source for Pull<R> {
     ghost left = { λ source. R.remaining source.reader };
+
     ghost failed = { λ source. source.failed };
 
     fn pull(&mut self, buf: &mut [u8]) -> Result<usize, Failed> {

@@ -1,5 +1,5 @@
 -- The greatest version of an owner, by look-ups and over a list of items.
-use Rattle.std.proofs.Common.{◌≡◌, ◌≢◌, ℕ, zero, suc, ◌+◌, ◌<◌, ◌≤◌, max, Bool, true, false, cond, eqb, List, [], ◌∷◌, length, map, get_or, drop, Option, Some, None, All, ◌⊎◌, inl, inr, if◌then◌else◌, refl, sym, ap, ◌∙◌, subst, arith}
+use Rattle.std.proofs.Common.{◌≡◌, ℕ, zero, suc, ◌<◌, ◌≤◌, max, true, false, cond, eqb, List, [], ◌∷◌, length, get_or, drop, Some, None, All, ◌⊎◌, inl, inr, if◌then◌else◌, refl, sym, ap, ◌∙◌, subst, arith}
 use lib.Dec.{T}
 use Rattle.std.specs.declared.cmp.Ordering.{Ordering}
 use Rattle.std.specs.declared.cmp.Ordering.TheVariants.{Less, Equal, Greater}
@@ -7,18 +7,15 @@ use Rattle.std.specs.Ordering.{nat_cmp, ordering_then, is_eq}
 use Rattle.std.specs.Cmp.{ranked, tied_itself}
 use Rattle.std.specs.FinMap.{find, get, get-from_sorted}
 use Rattle.std.proofs.lemmas.Bool.{cases_lt, eq-eqb, ne_eqb, eqb-true, eqb-false}
-use Rattle.std.proofs.lemmas.Bool.Decides.{nat_tests}
 use Rattle.std.proofs.lemmas.List.Elements.{All-head, All-tail}
-use Rattle.bench_types.specs.declared.entries.Entry.{Entry}
 use Rattle.bench_types.specs.declared.entries.Item.{Item}
 use Rattle.bench_types.specs.Entry.{version_of}
-use Rattle.node_table.specs.Table.{Place, place_cmp, Table, version_at, greatest_below, greatest_version, IsInPlace}
+use Rattle.node_table.specs.Table.{Place, place_cmp, Table, version_at, greatest_below, greatest_version}
 use Rattle.node_table.specs.View.{place_of, pairs, table_of, IsRising, IsItemInPlace, IsSound}
 use Rattle.node_table.specs.Places.{IsAt, IsGapFor}
 use Rattle.node_table.specs.Runs.{greatest_run, greatest_among}
 use Rattle.node_table.proofs.Order.{place_total, place_same, place_turned}
 use Rattle.node_table.proofs.Rising.{rising_at, rising_tail, find_behind, place_at, below_place}
-use Rattle.node_table.proofs.Sound.{entry_at-table_of}
 
 -- a place below another has an owner below, or the same owner and a key below
 pub place_less : (p q : Place) → place_cmp p q ≡ Less → (p.0 < q.0) ⊎ ((p.0 ≡ q.0) × (p.1 < q.1))
@@ -33,7 +30,7 @@ place_less p q e =
     turned h = cc
 
 -- no key's version is above the greatest
-version_at-le-greatest_below : (t : Table) (owner n key : ℕ) → key < n → version_at t owner key ≤ greatest_below t owner n
+pub version_at-le-greatest_below : (t : Table) (owner n key : ℕ) → key < n → version_at t owner key ≤ greatest_below t owner n
 version_at-le-greatest_below t owner zero key lt = absurd (omega arith)
 version_at-le-greatest_below t owner (suc n) key lt = elim (cases_lt key n) [
   | inl below ↦ omega (arith, version_at-le-greatest_below t owner n key below)
@@ -41,7 +38,7 @@ version_at-le-greatest_below t owner (suc n) key lt = elim (cases_lt key n) [
 ]
 
 -- and the greatest is above no bound of them
-greatest_below-le : (t : Table) (owner n most : ℕ) → ((key : ℕ) → key < n → version_at t owner key ≤ most) → greatest_below t owner n ≤ most
+pub greatest_below-le : (t : Table) (owner n most : ℕ) → ((key : ℕ) → key < n → version_at t owner key ≤ most) → greatest_below t owner n ≤ most
 greatest_below-le t owner zero most above = omega arith
 greatest_below-le t owner (suc n) most above = omega (arith, above n (omega arith), greatest_below-le t owner n most (λ key lt. above key (omega arith)))
 
@@ -99,12 +96,15 @@ greatest_among-found ns ks (x ∷ xs) owner rising all =
   where
     above : x.entry.version < greatest_among owner xs → max x.entry.version (greatest_among owner xs) ≡ greatest_among owner xs
     above less = omega arith
+
     below : greatest_among owner xs ≤ x.entry.version → max x.entry.version (greatest_among owner xs) ≡ x.entry.version
     below le = omega arith
+
     here : eqb x.owner owner ≡ true → version_of (find place_cmp (owner, x.entry.key) (pairs (x ∷ xs))) ≡ x.entry.version
     here own = let same = eqb-true x.owner owner own in
         subst (λ o. version_of (cond (is_eq (place_cmp (o, x.entry.key) (place_of x))) (Some x.entry) (find place_cmp (o, x.entry.key) (pairs xs))) ≡ x.entry.version) same
         (ap (λ r. version_of (cond (is_eq r) (Some x.entry) (find place_cmp (place_of x) (pairs xs)))) (tied_itself place_total (place_of x)))
+
     later : 0 < greatest_among owner xs → IsFoundOr0 xs owner ks (greatest_among owner xs) → IsFoundOr0 (x ∷ xs) owner ks (greatest_among owner xs)
     later some (inl none) = absurd (omega arith)
     later some (inr (key, lt, is)) = inr (key, lt, ap version_of (found_later x xs owner key rising (omega (arith, is))) ∙ is)
@@ -117,6 +117,7 @@ greatest_version-among n ns ks xs owner sound =
   where
     looked : (key : ℕ) → get (table_of n ns ks xs).held (owner, key) ≡ find place_cmp (owner, key) (pairs xs)
     looked key = get-from_sorted place_cmp (pairs xs) (owner, key) sound.rising
+
     attained : IsFoundOr0 xs owner ks (greatest_among owner xs) → (greatest_among owner xs ≡ 0) ⊎ ((key : ℕ) × (key < ks) × (version_at (table_of n ns ks xs) owner key ≡ greatest_among owner xs))
     attained (inl none) = inl none
     attained (inr (key, lt, is)) = inr (key, lt, ap version_of (looked key) ∙ is)

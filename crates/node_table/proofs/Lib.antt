@@ -1,8 +1,16 @@
+-- Laws of the definitions, for the crates above.
+pub mod Laws
+pub mod Versions
+pub mod Items
+pub mod Proper
+-- What the proofs of this crate's functions rest on.
 pub mod Order
 pub mod Rising
 pub mod Sound
 pub mod Search
 pub mod Received
-pub mod Taken
 pub mod Greatest
-pub mod Proper
+mod Forgotten
+mod Gaps
+mod Orders
+mod Merging

@@ -1,5 +1,5 @@
 -- What taking one item does to a list of items that rises.
-use Rattle.std.proofs.Common.{◌≡◌, ℕ, ◌<◌, ◌≤◌, Bool, true, false, List, length, get_or, set, Option, Some, None, Result, Ok, Err, OnOk, is_ok, if◌then◌else◌, All, refl, sym, ap, ◌∙◌, subst, arith}
+use Rattle.std.proofs.Common.{◌≡◌, ℕ, ◌<◌, ◌≤◌, Bool, true, false, List, get_or, set, Option, Some, None, Result, Ok, Err, OnOk, is_ok, if◌then◌else◌, All, refl, sym, ap, ◌∙◌, subst}
 use Rattle.std.specs.List.{insert}
 use Rattle.std.specs.FinMap.{find, put, get, get-from_sorted}
 use Rattle.std.proofs.lemmas.Bool.{lt-ltb, le-ltb}
@@ -37,6 +37,7 @@ received_older xs y d i rising at le =
   where
     there : place_of (get_or xs i d) ≡ place_of y
     there = place_at xs (place_of y) i d at
+
     stays : put place_cmp (place_of y) (get_or xs i d).entry (pairs xs) ≡ pairs xs
     stays = subst (λ p. put place_cmp p (get_or xs i d).entry (pairs xs) ≡ pairs xs) there
         (put_found xs (get_or xs i d) i rising (subst (λ p. IsAt xs p i) (sym there) at) ∙ ap pairs (set-get_or xs i d))

@@ -9,20 +9,24 @@ use Rattle.std.specs.FinMap.{FinMap, find, put, is_sorted, from_sorted, entries,
 use Rattle.std.specs.FinMap.Entries.{below_all, by_order}
 use Rattle.bench_types.specs.declared.entries.Entry.{Entry}
 use Rattle.bench_types.specs.declared.entries.Item.{Item}
-use Rattle.node_table.specs.Table.{Place, place_cmp, Held}
+use Rattle.node_table.specs.Table.{Place, place_cmp}
 use Rattle.node_table.specs.View.{place_of, pair_of, pairs, held_of, IsRising}
 use Rattle.node_table.specs.Places.{IsAt, IsGapFor}
 use Rattle.node_table.proofs.Order.{place_total, place_turned}
 
-first : (a b : Bool) → T (a && b) → T a
+pub first : (a b : Bool) → T (a && b) → T a
 first true b p = tt
 first false b p = absurd p
 
-second : (a b : Bool) → T (a && b) → T b
+pub second : (a b : Bool) → T (a && b) → T b
 second true b p = p
 second false b p = absurd p
 
-less : (o : Ordering) → T (is_lt o) → o ≡ Less
+pub both : (a b : Bool) → T a → T b → T (a && b)
+both true b p q = q
+both false b p q = p
+
+pub less : (o : Ordering) → T (is_lt o) → o ≡ Less
 less Less p = refl
 less Equal p = absurd p
 less Greater p = absurd p
@@ -81,10 +85,10 @@ put_gap (x ∷ xs) y zero gap =
 put_gap (x ∷ xs) y (suc i) gap =
     ap (λ r. by_order r (pair_of y ∷ pairs (x ∷ xs)) ((place_of x, y.entry) ∷ pairs xs) (pair_of x ∷ put place_cmp (place_of y) y.entry (pairs xs))) (place_turned (place_of x) (place_of y) Less (gap.below 0 x (omega arith)))
     ∙ ap (λ es. pair_of x ∷ es) (put_gap xs y i (record {
-        in_range = omega (arith, gap.in_range);
-        below = λ j d lt. gap.below (suc j) d (omega arith);
-        above = λ j d le lt. gap.above (suc j) d (omega arith) (omega arith)
-      }))
+      in_range = omega (arith, gap.in_range);
+      below = λ j d lt. gap.below (suc j) d (omega arith);
+      above = λ j d le lt. gap.above (suc j) d (omega arith) (omega arith);
+    }))
 
 -- what a map made of a rising list holds
 pub entries_of_held : (xs : List Item) → IsRising xs → entries (held_of xs) ≡ pairs xs
@@ -136,5 +140,6 @@ find_behind x xs p rising tie = find_none xs p (λ j d lt. ap is_eq (above j d l
     equal Less h = absurd (subst (λ b. T (Rattle.std.specs.Prelude.not b)) h tt)
     equal Equal h = refl
     equal Greater h = absurd (subst (λ b. T (Rattle.std.specs.Prelude.not b)) h tt)
+
     above : (j : ℕ) (d : Item) → j < length xs → place_cmp (place_of (get_or xs j d)) p ≡ Greater
     above j d lt = place_turned p (place_of (get_or xs j d)) Less (place_total.congr p (place_of x) (place_of (get_or xs j d)) (equal _ tie) ∙ below_at (place_of x) xs j d (first _ _ rising) lt)

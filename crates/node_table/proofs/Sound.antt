@@ -1,5 +1,5 @@
 -- What is known of the table that a sound list of items is seen as.
-use Rattle.std.proofs.Common.{◌≡◌, ℕ, zero, suc, ◌<◌, ◌≤◌, Bool, true, false, cond, List, [], ◌∷◌, length, map, get_or, set, Option, Some, None, All, refl, sym, ap, ◌∙◌, subst, arith}
+use Rattle.std.proofs.Common.{◌≡◌, ℕ, true, false, cond, List, [], ◌∷◌, length, map, Some, All, refl, sym, ap, ◌∙◌, subst}
 use lib.Dec.{T}
 use Rattle.std.specs.declared.cmp.Ordering.{Ordering}
 use Rattle.std.specs.declared.cmp.Ordering.TheVariants.{Less, Equal, Greater}
@@ -10,8 +10,8 @@ use Rattle.std.proofs.lemmas.List.{length-map}
 use Rattle.std.proofs.lemmas.List.Elements.{All-head, All-tail}
 use Rattle.bench_types.specs.declared.entries.Entry.{Entry}
 use Rattle.bench_types.specs.declared.entries.Item.{Item}
-use Rattle.node_table.specs.Table.{Place, place_cmp, Held, Table, item_of, items_of, count_of, entry_at, IsInPlace, IsProper}
-use Rattle.node_table.specs.View.{place_of, pair_of, pairs, held_of, table_of, IsRising, IsItemInPlace, IsSound}
+use Rattle.node_table.specs.Table.{Place, place_cmp, item_of, items_of, count_of, entry_at, IsInPlace, IsProper}
+use Rattle.node_table.specs.View.{place_of, pair_of, pairs, held_of, table_of, IsItemInPlace, IsSound}
 use Rattle.node_table.proofs.Order.{place_same}
 use Rattle.node_table.proofs.Rising.{entries_of_held}
 

@@ -1,11 +1,11 @@
 -- What contracts see of a node's table in memory: the table, and for how many more entries it has room.
 -- Room is no part of the table: two tables are equal where node, nodes, keys and entries are.
-use Rattle.std.specs.Prelude.{◌≡◌, ℕ, ◌≤◌, List, length, refl}
+use Rattle.std.specs.Prelude.{ℕ, ◌≤◌, List, length, refl}
 use Rattle.std.specs.Coded.{Coded, code_by, coded×, coded_ℕ}
 use Rattle.std.specs.FinMap as finite
 use Rattle.bench_types.specs.declared.entries.Item.{Item}
 use Rattle.bench_types.specs.contracts.entries.Entry as entry
-use Rattle.node_table.specs.Table.{Place, Held, Table}
+use Rattle.node_table.specs.Table.{Held, Table}
 
 pub record Kept : Type 0 where
   pub table : Table

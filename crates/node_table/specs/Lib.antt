@@ -3,4 +3,6 @@ pub mod Kept
 pub mod View
 pub mod Places
 pub mod Runs
+pub mod Applied
+pub mod Walks
 pub use Rattle.bench_types.specs.Entry

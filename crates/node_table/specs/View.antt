@@ -1,5 +1,5 @@
 -- A list of items that rises by owner and then by key, seen as a table.
-use Rattle.std.specs.Prelude.{◌≡◌, ℕ, ◌<◌, ◌≤◌, List, All, map}
+use Rattle.std.specs.Prelude.{ℕ, ◌<◌, ◌≤◌, List, All, map}
 use lib.Dec.{T}
 use Rattle.std.specs.FinMap.{from_sorted, is_sorted}
 use Rattle.bench_types.specs.declared.entries.Entry.{Entry}

@@ -2,6 +2,10 @@
 //! key to an entry, under own writes, received items and restarts.
 #![tactic(auto)]
 
+mod merges;
+mod searches;
 mod tables;
+#[cfg(test)]
+mod tests;
 
 pub use tables::NodeTable;

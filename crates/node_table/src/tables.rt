@@ -1,13 +1,14 @@
 //! The table, as one vector of items that rises by owner and then by key.
 
-ghost use Rattle.std.specs.Prelude.{◌≡◌, ◌≢◌, ℕ, ◌+◌, ◌-◌, ◌^◌, ◌<◌, ◌≤◌, All, Result, Ok, Err, IfOk, IfErr, OnOk, OnErr, IsOkUnless, List, length, vec_len, vec_capacity, slice_index_or};
+ghost use Rattle.std.specs.Prelude.{◌≡◌, ◌≢◌, ℕ, ◌+◌, ◌^◌, ◌<◌, ◌≤◌, All, IfOk, OnOk, OnErr, IsOkUnless};
 ghost use Rattle.std.specs.FinMap.{put as put_entry};
-ghost use Rattle.node_table.specs.Table.{place_cmp, held_with};
-ghost use Rattle.node_table.specs.View.{IsRising, IsItemInPlace, place_of, pairs, held_of};
+ghost use Rattle.node_table.specs.Table.{place_cmp};
+ghost use Rattle.node_table.specs.View.{IsRising, IsItemInPlace, place_of, pairs};
 ghost use Rattle.node_table.specs.Runs.{greatest_run};
-ghost use Rattle.node_table.specs.Places.{IsAt, IsGapFor};
 ghost use Rattle.bench_types.specs.declared.faults.Fault.TheVariants.{OutOfMemory};
 
+use crate::merges::{merge, order_by_place};
+use crate::searches::search;
 use bench_types::{Entry, Fault, Item};
 use std::alloc::{AllocFailed, Global};
 use std::marker::Model;
@@ -19,10 +20,12 @@ pub struct NodeTable {
     nodes: u32,
     keys: u32,
     items: Vec<Item>,
+    // Room for the indices of received items; between calls what it lists is of no use.
+    order: Vec<usize>,
 }
 
 impl Model for NodeTable {
-    ghost use Rattle.std.specs.Prelude.{◌-◌, vec_len, vec_capacity};
+    ghost use Rattle.std.specs.Prelude.{◌-◌, min, vec_len, vec_capacity};
     ghost use Rattle.node_table.specs.Kept.{Kept, kept_code};
     ghost use Rattle.node_table.specs.View.{table_of, IsSound};
 
@@ -30,13 +33,13 @@ impl Model for NodeTable {
 
     ghost coded = { kept_code };
 
-    ghost view = { λ t. record { table = table_of t.node t.nodes t.keys t.items.items; spare = vec_capacity t.items - vec_len t.items } };
+    ghost view = { λ t. record { table = table_of t.node t.nodes t.keys t.items.items; spare = min (vec_capacity t.items - vec_len t.items) (vec_capacity t.order) } };
 
     ghost invariant = { λ t. IsSound t.node t.nodes t.keys t.items.items };
 }
 
 impl NodeTable {
-    ghost use Rattle.node_table.specs.Table.{empty_table, entry_at, greatest_version, count_of, items_of, with_own_write, applied, IsProper};
+    ghost use Rattle.node_table.specs.Table.{empty_table, entry_at, greatest_version, count_of, items_of, with_own_write, applied, without_others, IsProper};
     ghost use Rattle.node_table.specs.Kept.{HasRoom};
     ghost use Rattle.node_table.specs.View.{IsItemInPlace};
 
@@ -54,6 +57,7 @@ impl NodeTable {
             nodes,
             keys,
             items: Vec::new(alloc),
+            order: Vec::new(alloc),
         })
     }
 
@@ -81,7 +85,7 @@ impl NodeTable {
         self.keys
     }
 
-    /// All entries with their owners, by owner and then by key.
+    /// All entries with their owners, by owner and then by key. Nothing is copied.
     pub fn items(&self) -> &[Item]
         ensures value { result.now ≡ items_of self.now.table }
         ensures proper { IsProper self.now.table }
@@ -90,10 +94,10 @@ impl NodeTable {
     }
 
     /// How many entries are held.
-    pub fn count(&self) -> usize
+    pub fn count(&self) -> u32
         ensures { result ≡ count_of self.now.table }
     {
-        self.items.len()
+        self.items.len() as u32
     }
 
     /// The entry held of an owner's key: a binary search.
@@ -118,8 +122,9 @@ impl NodeTable {
         greatest_at_front(&self.items[start..], owner)
     }
 
-    /// The node writes one of its own keys, and the answer is the version of that write. A binary
-    /// search, and a move of what stands behind a key that is written for the first time.
+    /// The node writes one of its own keys, and the answer is the version of that write. Two binary
+    /// searches, a step for each entry of the node, and a move of what stands behind a key that is
+    /// written for the first time. An error is want of memory, and then nothing was written.
     pub fn write_own(&mut self, key: u32, value: u32, born: u32) -> Result<u32, Fault>
         requires key { key < self.old.table.keys }
         requires fits { greatest_version self.old.table self.old.table.node + 1 < 2 ^ 32 }
@@ -140,38 +145,56 @@ impl NodeTable {
         Ok(version)
     }
 
-    /// Makes room for a list of items, so that `apply` takes no memory.
+    /// Makes room for a list of items, so that `apply` takes no memory. What is held is copied where
+    /// it has to move for that, and else nothing is done; after a refusal the room is no less.
     pub fn reserve_for(&mut self, added: &[Item]) -> Result<(), Fault>
         ensures same { self.new.table ≡ self.old.table }
         ensures room { OnOk result (HasRoom self.new added.now) }
+        ensures keeps_room { self.old.spare ≤ self.new.spare }
         ensures only { IsOkUnless result OutOfMemory }
     {
         self.items.reserve(added.len())?;
+        self.order.reserve(added.len())?;
         Ok(())
     }
 
     /// Takes items in turn: each place keeps the entry with the greater version, and the held one
-    /// where the versions are equal. A binary search for each item, and a move of what stands
-    /// behind a place that is new.
+    /// where the versions are equal. It takes no memory. It costs a sort of the items, a binary
+    /// search for each, and where places are new at most two moves of each entry behind the first
+    /// of them.
     pub fn apply(&mut self, added: &[Item])
         requires room { HasRoom self.old added.now }
         requires others { All (λ i. i.owner ≢ self.old.table.node) added.now }
         requires in_place { All (IsItemInPlace self.old.table.nodes self.old.table.keys) added.now }
         ensures { self.new.table ≡ applied self.old.table added.now }
     {
-        for item in added {
-            receive(&mut self.items, *item);
-        }
+        order_by_place(&mut self.order, added);
+        merge(&mut self.items, added, &mut self.order);
     }
-}
 
-// Where the place is, or where it would go.
-fn search(items: &[Item], owner: u32, key: u32) -> Result<usize, usize>
-    requires { IsRising items.now }
-    ensures found { IfOk result (IsAt items.now (owner, key)) }
-    ensures absent { IfErr result (IsGapFor items.now (owner, key)) }
-{
-    items.binary_search_by_key(&(owner, key), |item| (item.owner, item.entry.key))
+    /// Drops the entries of all other owners, as a restart does. One walk over the table, in place:
+    /// it takes no memory and gives none back.
+    pub fn forget_others(&mut self)
+        ensures { self.new.table ≡ without_others self.old.table }
+    {
+        let node = self.node;
+        self.items.retain(|item| item.owner == node);
+    }
+
+    /// A table with the same node, nodes, keys and entries, but with room of its own. One walk over
+    /// the table.
+    pub fn try_clone(&self) -> Result<NodeTable, Fault>
+        ensures equal { IfOk result (λ t. t.table ≡ self.now.table) }
+        ensures only { IsOkUnless result OutOfMemory }
+    {
+        Ok(NodeTable {
+            node: self.node,
+            nodes: self.nodes,
+            keys: self.keys,
+            items: self.items.clone()?,
+            order: Vec::new(*self.order.allocator()),
+        })
+    }
 }
 
 // The greatest version among the items at the front that are the owner's.
@@ -202,24 +225,5 @@ fn put(items: &mut Vec<Item>, item: Item) -> Result<(), AllocFailed<Item>>
             Ok(())
         }
         Err(at) => items.insert(at, item),
-    }
-}
-
-// Keeps the newer of an item and what stands at its place.
-fn receive(items: &mut Vec<Item>, item: Item)
-    requires rising { IsRising items.old.items }
-    requires room { vec_len items.old < vec_capacity items.old }
-    ensures rising { IsRising items.new.items }
-    ensures held { held_of items.new.items ≡ held_with (held_of items.old.items) item }
-    ensures in_place { (nodes keys : ℕ) → All (IsItemInPlace nodes keys) items.old.items → IsItemInPlace nodes keys item → All (IsItemInPlace nodes keys) items.new.items }
-    ensures room { vec_len items.new + vec_capacity items.old ≤ vec_len items.old + 1 + vec_capacity items.new }
-{
-    match search(items, item.owner, item.entry.key) {
-        Ok(at) => {
-            if items[at].entry.version < item.entry.version {
-                items[at] = item;
-            }
-        }
-        Err(at) => items.insert(at, item).unwrap(),
     }
 }

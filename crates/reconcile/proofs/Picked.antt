@@ -1,6 +1,6 @@
 -- What the definition picks of candidates, where they stand sorted: the first of them.
-use Rattle.std.proofs.Common.{◌≡◌, ◌≢◌, ℕ, zero, suc, ◌+◌, ◌-◌, ◌<◌, ◌≤◌, Bool, true, false, cond, eqb, leb, List, [], ◌∷◌, length, get_or, take, drop, Option, Some, None, All, ◌⊎◌, inl, inr, refl, sym, ap, ◌∙◌, subst, arith, add-one}
-use Rattle.std.specs.Prelude.{count_by, find, IsPermutation, Contains}
+use Rattle.std.proofs.Common.{◌≡◌, ℕ, zero, suc, ◌+◌, ◌-◌, ◌<◌, ◌≤◌, Bool, true, false, cond, eqb, leb, List, [], ◌∷◌, length, get_or, take, drop, Option, Some, None, ◌⊎◌, inl, inr, refl, sym, ap, ◌∙◌, subst, arith}
+use Rattle.std.specs.Prelude.{find, IsPermutation, Contains}
 use Rattle.std.specs.List.{filter_map, range_with_len, cons_option}
 use Rattle.std.specs.List.Sorted.{IsSorted}
 use Rattle.std.specs.declared.cmp.Ordering.{Ordering}
@@ -9,14 +9,12 @@ use Rattle.std.specs.Ordering.{is_lt, ordering_reverse}
 use Rattle.std.specs.Cmp.{IsTotalOrder, tied_itself}
 use Rattle.std.proofs.lemmas.Bool.{cases_lt, eq-eqb, eqb-true, le-leb, lt-leb}
 use Rattle.std.proofs.lemmas.List.{get_or_default}
-use Rattle.std.proofs.lemmas.List.Sorted.{sorted_far, ranks_by, sum_by-IsPermutation, Contains-permutation, IsPermutation-sym, length_permutation, All-permutation}
-use Rattle.std.proofs.lemmas.List.Sums.{count_by-le-length}
-use Rattle.std.proofs.Math.Seq.{take-suc, drop-cons}
+use Rattle.std.proofs.lemmas.List.Sorted.{sorted_far, ranks_by, sum_by-IsPermutation, Contains-permutation, IsPermutation-sym}
 use Rattle.reconcile.specs.Picks.{before_count, at_place, sent, cut_count}
 use Rattle.reconcile.proofs.Counts.{count_by-stretch}
 
 -- what a search finds passes the test and stands in the list
-find_passes : {X : Type 0} (p : X → Bool) (xs : List X) (x : X) → find p xs ≡ Some x → p x ≡ true
+pub find_passes : {X : Type 0} (p : X → Bool) (xs : List X) (x : X) → find p xs ≡ Some x → p x ≡ true
 find_passes p [] x e = cc
 find_passes p (y ∷ ys) x e = elim (p y) as (λ b. p y ≡ b → cond b (Some y) (find p ys) ≡ Some x → p x ≡ true) [
   | true ↦ λ is here. subst (λ z. p z ≡ true) (same y x here) is
@@ -26,7 +24,7 @@ find_passes p (y ∷ ys) x e = elim (p y) as (λ b. p y ≡ b → cond b (Some y
     same : {X : Type 0} (y x : X) → Some y ≡ Some x → y ≡ x
     same y x e = cc
 
-find_stands : {X : Type 0} (p : X → Bool) (xs : List X) (x : X) → find p xs ≡ Some x → Contains xs x
+pub find_stands : {X : Type 0} (p : X → Bool) (xs : List X) (x : X) → find p xs ≡ Some x → Contains xs x
 find_stands p [] x e = cc
 find_stands p (y ∷ ys) x e = elim (p y) as (λ b. cond b (Some y) (find p ys) ≡ Some x → Contains (y ∷ ys) x) [
   | true ↦ λ here. let same : y ≡ x = cc in (0, omega arith, same)
@@ -34,7 +32,7 @@ find_stands p (y ∷ ys) x e = elim (p y) as (λ b. cond b (Some y) (find p ys) 
 ] e
 
 -- where a search finds nothing, nothing passes
-find_none : {X : Type 0} (p : X → Bool) (xs : List X) → find p xs ≡ None → (k : ℕ) (d : X) → k < length xs → p (get_or xs k d) ≡ false
+pub find_none : {X : Type 0} (p : X → Bool) (xs : List X) → find p xs ≡ None → (k : ℕ) (d : X) → k < length xs → p (get_or xs k d) ≡ false
 find_none p [] e k d lt = absurd (omega arith)
 find_none p (y ∷ ys) e zero d lt = elim (p y) as (λ b. p y ≡ b → cond b (Some y) (find p ys) ≡ None → p y ≡ false) [ true ↦ λ is here. cc | false ↦ λ is later. is ] refl e
 find_none p (y ∷ ys) e (suc k) d lt = find_none p ys (elim (p y) as (λ b. cond b (Some y) (find p ys) ≡ None → find p ys ≡ None) [ true ↦ λ here. cc | false ↦ λ later. later ] e) k d (omega arith)
@@ -95,6 +93,7 @@ module _ {X : Type 0} (order : X → X → Ordering) (total : IsTotalOrder order
     where
       holds : (i : ℕ) (d : X) → 0 ≤ i → i < j → is_lt (order (get_or sorted i d) (get_or sorted j none)) ≡ true
       holds i d from to = ap (λ x. is_lt (order x (get_or sorted j none))) (get_or_default sorted i d none (omega arith)) ∙ ap is_lt (earlier i j to lt)
+
       fails : (i : ℕ) (d : X) → i < length sorted → (i < 0) ⊎ (j ≤ i) → is_lt (order (get_or sorted i d) (get_or sorted j none)) ≡ false
       fails i d in_range (inl early) = absurd (omega arith)
       fails i d in_range (inr late) =
@@ -147,8 +146,10 @@ module _ {X : Type 0} (order : X → X → Ordering) (total : IsTotalOrder order
     where
       holds : (i : ℕ) (d : X) → budget ≤ i → i < length sorted → leb budget (before_count order candidates (get_or sorted i d)) ≡ true
       holds i d from to = ap (λ x. leb budget (before_count order candidates x)) (get_or_default sorted i d none to) ∙ ap (leb budget) (count_at i to) ∙ le-leb budget i from
+
       small : (i : ℕ) (d : X) → i < length sorted → i < budget → leb budget (before_count order candidates (get_or sorted i d)) ≡ false
       small i d lt below = ap (λ x. leb budget (before_count order candidates x)) (get_or_default sorted i d none lt) ∙ ap (leb budget) (count_at i lt) ∙ lt-leb budget i below
+
       fails_before : (n : ℕ) (i : ℕ) (d : X) → i < length sorted → (i < budget) ⊎ (length sorted ≤ i) → leb budget (before_count order candidates (get_or sorted i d)) ≡ false
       fails_before n i d lt (inl below) = small i d lt below
       fails_before n i d lt (inr past) = absurd (omega arith)

@@ -1,24 +1,67 @@
--- How far the ranks of candidates have been set.
-use Rattle.std.proofs.Common.{◌≡◌, ℕ, zero, suc, ◌+◌, ◌-◌, ◌<◌, ◌≤◌, List, length, map, get_or, set, ◌⊎◌, inl, inr, refl, sym, ap, ◌∙◌, subst, arith, add-one}
+-- How far candidates have got what their mode looks at first.
+use Rattle.std.proofs.Common.{◌≡◌, ℕ, zero, suc, ◌+◌, ◌-◌, ◌<◌, ◌≤◌, eqb, List, [], ◌∷◌, length, map, get_or, set, All, inl, inr, refl, sym, ap, ◌∙◌, subst, arith, add-one}
+use Rattle.std.specs.Prelude.{count_by, IsPermutation}
 use Rattle.std.specs.List.Sorted.{IsSorted}
+use Rattle.std.proofs.lemmas.List.Sorted.{IsPermutation-map}
+use Rattle.std.proofs.lemmas.List.Elements.{All-map}
 use Rattle.std.proofs.lemmas.Bool.{cases_lt}
 use Rattle.std.proofs.Math.ListN.{get_or-map}
-use Rattle.std.proofs.lemmas.List.{get_or-set_other, get_or-set_same, length-map, length-set, map-set}
+use Rattle.std.proofs.lemmas.List.{get_or-set_other, get_or-set_same, length-map}
 use Rattle.std.proofs.Math.Seq.{map-set_same}
 use Rattle.bench_types.specs.declared.entries.Item.{Item}
 use Rattle.reconcile.specs.declared.orders.Candidate.{Candidate}
-use Rattle.reconcile.specs.Order.{rank_among}
-use Rattle.reconcile.specs.Ranks.{item_in, items_in, version_order, no_item, item_at, IsRun, Follows}
+use Rattle.reconcile.specs.Order.{rank_among, owner_count}
+use Rattle.reconcile.specs.Keys.{item_in, items_in, reversed, without_first, rest_of, AllFirst}
+use Rattle.reconcile.specs.Ranks.{version_order, item_at, IsRun, Follows}
 use Rattle.reconcile.proofs.Runs.{run_owner, run_version, run_same, rank_of_run}
 
 unfoldable pub no_candidate : Candidate
-no_candidate = record { rank = 0; turn = 0; item = record { owner = 0; entry = record { key = 0; version = 0; value = 0; born = 0 } } }
+no_candidate = record { first = 0; turn = 0; second = 0; item = record { owner = 0; entry = record { key = 0; version = 0; value = 0; born = 0 } } }
+
+-- what holds of each element's image holds of the images, and back
+pub All-unmap : {X Y : Type 0} (P : X → Type 0) (f : Y → X) (ys : List Y) → All P (map f ys) → All (λ y. P (f y)) ys
+All-unmap P f ys all k d lt = subst P (get_or-map f ys k d) (all k (f d) (omega (arith, length-map ys f)))
+
+items_of_rest : (cs : List Candidate) → items_in (rest_of cs) ≡ items_in cs
+items_of_rest [] = refl
+items_of_rest (c ∷ cs) = ap (λ is. c.item ∷ is) (items_of_rest cs)
+
+-- candidates with the same rest have the same items, in another order too
+pub items-rest : (xs ys : List Candidate) → rest_of xs ≡ rest_of ys → items_in xs ≡ items_in ys
+items-rest xs ys same = sym (items_of_rest xs) ∙ ap items_in same ∙ items_of_rest ys
+
+pub items-permuted : (xs ys : List Candidate) → IsPermutation (rest_of xs) (rest_of ys) → IsPermutation (items_in xs) (items_in ys)
+items-permuted xs ys same = subst (λ is. IsPermutation is (items_in ys)) (items_of_rest xs) (subst (IsPermutation (items_in (rest_of xs))) (items_of_rest ys) (IsPermutation-map item_in (rest_of xs) (rest_of ys) same))
+
+-- and their owners are below what the others' are
+pub owners-rest : (n : ℕ) (xs ys : List Candidate) → rest_of xs ≡ rest_of ys → All (λ (c : Candidate). c.item.owner < n) ys → All (λ (c : Candidate). c.item.owner < n) xs
+owners-rest n xs ys same all =
+    All-unmap (λ (c : Candidate). c.item.owner < n) without_first xs
+    (subst (All (λ (c : Candidate). c.item.owner < n)) (sym same) (All-map (λ (c : Candidate). c.item.owner < n) without_first ys all))
+
+-- the first n candidates have what is looked at first, and nothing else has changed
+pub record IsKeying (first : Item → ℕ) (old new : List Candidate) (n : ℕ) : Type 0 where
+  pub rest : rest_of new ≡ rest_of old
+  pub keyed : (k : ℕ) → k < n → (d : Candidate) → (get_or new k d).first ≡ first (get_or new k d).item
+
+-- one more gets it
+pub keying_more : (first : Item → ℕ) (old new : List Candidate) (n key : ℕ) → IsKeying first old new n → n < length new → key ≡ first (get_or new n no_candidate).item → IsKeying first old (set new n (record { first = key; turn = (get_or new n no_candidate).turn; second = (get_or new n no_candidate).second; item = (get_or new n no_candidate).item })) (n + 1)
+keying_more first old new n key so_far lt is =
+    let one : Candidate = record { first = key; turn = (get_or new n no_candidate).turn; second = (get_or new n no_candidate).second; item = (get_or new n no_candidate).item } in
+    record {
+      rest = map-set_same without_first new n one no_candidate refl ∙ so_far.rest;
+      keyed = λ k below d. elim (cases_lt k n) [
+        | inl before ↦ rw (get_or-set_other new n k one d (λ e. absurd (omega arith))) (so_far.keyed k before d)
+        | inr at_least ↦ let same : k ≡ n = omega arith in rw same (rw (get_or-set_same new n one d lt) is)
+      ];
+    }
+
+pub keying_all : (first : Item → ℕ) (old new : List Candidate) (n : ℕ) → IsKeying first old new n → length new ≤ n → AllFirst first new
+keying_all first old new n done le = λ k d lt. done.keyed k (omega arith) d
 
 -- the first n candidates have their ranks, and the run follows up to there
 pub record IsRanking (old new : List Candidate) (owner_start version_start n : ℕ) : Type 0 where
-  pub items : items_in new ≡ items_in old
-  pub turns : map (λ (c : Candidate). c.turn) new ≡ map (λ (c : Candidate). c.turn) old
-  pub ranked : (k : ℕ) → k < n → (d : Candidate) → (get_or new k d).rank ≡ rank_among (items_in old) (get_or new k d).item
+  pub keying : IsKeying (rank_among (items_in old)) old new n
   pub run : Follows (items_in old) owner_start version_start n
 
 -- the item of the candidate at an index
@@ -55,21 +98,17 @@ module _ (cs : List Candidate) (sorted : IsSorted version_order (items_in cs)) w
       (ap (λ (i : Item). i.entry.version) (item_at-items_in cs (suc k)) ∙ versions ∙ ap (λ n. (get_or cs n no_candidate).item.entry.version) {x = suc k - 1} {y = k} (omega arith) ∙ ap (λ (i : Item). i.entry.version) (sym (item_at-items_in cs k)))
 
 -- the candidate at n gets its rank
-pub ranking_more : (old new : List Candidate) (a b n p q : ℕ) → IsSorted version_order (items_in old) → IsRanking old new a b n → n < length new → IsRun (items_in new) p q n → IsRanking old (set new n (record { rank = q - p; turn = (get_or new n no_candidate).turn; item = (get_or new n no_candidate).item })) p q (n + 1)
+pub ranking_more : (old new : List Candidate) (a b n p q : ℕ) → IsSorted version_order (items_in old) → IsRanking old new a b n → n < length new → IsRun (items_in new) p q n → IsRanking old (set new n (record { first = q - p; turn = (get_or new n no_candidate).turn; second = (get_or new n no_candidate).second; item = (get_or new n no_candidate).item })) p q (n + 1)
 ranking_more old new a b n p q sorted so_far lt run' =
-    let run = subst (λ is. IsRun is p q n) so_far.items run' in
-    let ranked_one : Candidate = record { rank = q - p; turn = (get_or new n no_candidate).turn; item = (get_or new n no_candidate).item } in
+    let same = items-rest new old so_far.keying.rest in
+    let run = subst (λ is. IsRun is p q n) same run' in
     record {
-      items = map-set_same item_in new n ranked_one no_candidate refl ∙ so_far.items;
-      turns = map-set_same (λ (c : Candidate). c.turn) new n ranked_one no_candidate refl ∙ so_far.turns;
-      ranked = λ k below d. elim (cases_lt k n) [
-        | inl before ↦ rw (get_or-set_other new n k ranked_one d (λ e. absurd (omega arith))) (so_far.ranked k before d)
-        | inr at_least ↦
-            let same : k ≡ n = omega arith in
-            rw same (rw (get_or-set_same new n ranked_one d lt) (sym (
-              ap (rank_among (items_in old)) (sym (item_at-items_in new n) ∙ ap (λ is. item_at is n) so_far.items)
-              ∙ rank_of_run (items_in old) sorted p q n run (subst (λ is. n < length is) so_far.items (omega (arith, length-map new item_in)))
-            )))
-      ];
+      keying = keying_more (rank_among (items_in old)) old new n (q - p) so_far.keying lt (sym (
+          ap (rank_among (items_in old)) (sym (item_at-items_in new n) ∙ ap (λ is. item_at is n) same)
+          ∙ rank_of_run (items_in old) sorted p q n run (subst (λ is. n < length is) same (omega (arith, length-map new item_in)))));
       run = rw add-one run;
     }
+
+-- the counts by owner are those of the items' owners
+pub counts_first : (counts : List ℕ) (nodes : ℕ) (old new : List Candidate) → ((owner : ℕ) → owner < nodes → get_or counts owner 0 ≡ count_by (λ (d : Item). eqb d.owner owner) (items_in old)) → All (λ (c : Candidate). c.item.owner < nodes) new → AllFirst (λ i. reversed (get_or counts i.owner 0)) new → AllFirst (λ i. reversed (owner_count (items_in old) i)) new
+counts_first counts nodes old new is owners firsts k d lt = firsts k d lt ∙ ap reversed (is (get_or new k d).item.owner (owners k d lt))

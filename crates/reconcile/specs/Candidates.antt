@@ -2,11 +2,18 @@
 -- modes an entry is one where its version is greater than the receiver's version of the same owner and key;
 -- in the scuttle modes where it is greater than the greatest version that the receiver holds of that owner.
 -- What the receiver itself owns is none. Source: the LADIS 2008 paper; the last sentence is this project's.
-use Rattle.std.specs.Prelude.{ℕ, Bool, not, ◌&&◌, ◌==◌, nat_lt, List, filter}
+use Rattle.std.specs.Prelude.{ℕ, not, ◌&&◌, ◌==◌, nat_lt, List, filter}
 use Rattle.bench_types.specs.declared.entries.Item.{Item}
 use Rattle.bench_types.specs.declared.exchanges.Mode.{Mode}
 use Rattle.bench_types.specs.declared.exchanges.Mode.TheVariants.{ScuttleBreadth, ScuttleDepth, PreciseOldest, PreciseNewest}
 use Rattle.node_table.specs.Table.{Table, version_at, greatest_version, items_of}
+
+-- the modes of the LADIS 2008 paper, in which a digest gives one version for each owner
+abbrev pub IsScuttleMode : Mode → Type 0
+IsScuttleMode ScuttleBreadth = Unit {0}
+IsScuttleMode ScuttleDepth = Unit {0}
+IsScuttleMode PreciseOldest = ⊥
+IsScuttleMode PreciseNewest = ⊥
 
 -- the version up to which a receiver knows what an item tells
 abbrev pub known_version : Mode → Table → Item → ℕ

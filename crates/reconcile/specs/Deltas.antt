@@ -1,5 +1,5 @@
 -- A delta: what is sent of the candidates under a budget, in the order sent, and how many are cut.
-use Rattle.std.specs.Prelude.{◌≡◌, ℕ, List}
+use Rattle.std.specs.Prelude.{ℕ, List}
 use Rattle.bench_types.specs.declared.entries.Item.{Item}
 use Rattle.bench_types.specs.declared.exchanges.Mode.{Mode}
 use Rattle.reconcile.specs.Order.{sending_order}

@@ -2,7 +2,9 @@ pub mod Candidates
 pub mod Order
 pub mod Picks
 pub mod Digests
+pub mod Inside
 pub mod Deltas
+pub mod Keys
 pub mod Ranks
 pub use Rattle.node_table.specs.Table
 pub use Rattle.node_table.specs.Kept

@@ -1,25 +1,8 @@
--- Candidates on the way into their order: each beside where its owner stands and how many of its owner's
--- candidates have a smaller version.
-use Rattle.std.specs.Prelude.{◌≡◌, ℕ, zero, suc, ◌<◌, ◌≤◌, List, All, map, slice_index_or}
+-- Items by owner and then by version: where an owner's begin, and those of one version of it.
+use Rattle.std.specs.Prelude.{◌≡◌, ℕ, zero, suc, ◌<◌, ◌≤◌, List, slice_index_or}
 use Rattle.std.specs.Ordering.{nat_cmp, ordering_then}
 use Rattle.std.specs.declared.cmp.Ordering.{Ordering}
 use Rattle.bench_types.specs.declared.entries.Item.{Item}
-use Rattle.reconcile.specs.declared.orders.Candidate.{Candidate}
-use Rattle.reconcile.specs.Order.{rotated, rank_among}
-
-abbrev pub item_in : Candidate → Item
-item_in c = c.item
-
-abbrev pub items_in : List Candidate → List Item
-items_in cs = map item_in cs
-
--- each stands where the rotation turns its owner
-abbrev pub AllTurned : ℕ → ℕ → List Candidate → Type 0
-AllTurned nodes rotation cs = All (λ c. c.turn ≡ rotated nodes rotation c.item.owner) cs
-
--- each has its rank among the items
-abbrev pub AllRanked : List Item → List Candidate → Type 0
-AllRanked items cs = All (λ c. c.rank ≡ rank_among items c.item) cs
 
 -- by owner, then by version, then by key
 abbrev pub version_order : Item → Item → Ordering

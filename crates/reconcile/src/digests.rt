@@ -1,22 +1,40 @@
 //! Digests of tables.
 
-ghost use Rattle.std.specs.Prelude.{◌≡◌, ℕ, ◌^◌, ◌<◌, ◌≤◌, max, nat_lt, count_by, All, length, IfOk, IsOkUnless, slice_index};
+ghost use Rattle.std.specs.Prelude.{◌≡◌, ℕ, ◌^◌, ◌<◌, ◌≤◌, max, nat_lt, count_by, map, All, length, IfOk, IsOkUnless, slice_index};
 ghost use Rattle.node_table.specs.Runs.{greatest_among};
 ghost use Rattle.bench_types.specs.declared.faults.Fault.TheVariants.{OutOfMemory};
-ghost use Rattle.bench_types.specs.declared.exchanges.Mode.TheVariants.{ScuttleBreadth};
+ghost use Rattle.reconcile.specs.Digests.{IsDigestOf, IsScuttleDigest, IsPreciseDigest, version_in};
+ghost use Rattle.reconcile.specs.Inside.{VersionsRise, version_of_item};
 
 use bench_types::{Fault, Item, Mode};
 use node_table::NodeTable;
 use std::alloc::Global;
 use std::marker::Model;
 
-/// What a table holds, in short: for each owner the greatest version held.
+/// What a table holds, in short: for each owner the greatest version held, or each version held.
 #[derive(Drop)]
 pub struct Digest {
     nodes: u32,
     keys: u32,
     size: u32,
-    greatest: Vec<u32>,
+    versions: Versions,
+}
+
+// Which versions a digest gives.
+#[derive(Drop)]
+enum Versions {
+    // The greatest one of each owner.
+    Greatest(Vec<u32>),
+    // Each one that is held, by owner and then by key.
+    Each(Vec<KeyVersion>),
+}
+
+// The version of one key of an owner.
+#[derive(Clone, Copy)]
+struct KeyVersion {
+    owner: u32,
+    key: u32,
+    version: u32,
 }
 
 impl Model for Digest {
@@ -25,32 +43,29 @@ impl Model for Digest {
 
     ghost Value = { Told };
 
-    ghost view = { λ d. record { nodes = d.nodes; keys = d.keys; size = d.size; greatest = d.greatest.items } };
+    ghost use Rattle.reconcile.specs.Inside.{knowledge_of, IsInOrder};
 
-    ghost invariant = { λ d. length d.greatest.items ≡ d.nodes };
+    ghost view = { λ d. record { nodes = d.nodes; keys = d.keys; size = d.size; knowledge = knowledge_of d.versions } };
+
+    ghost invariant = { λ d. IsInOrder d.nodes d.versions };
 }
 
 impl Digest {
-    ghost use Rattle.reconcile.specs.Digests.{IsScuttleDigest};
+    ghost use Rattle.reconcile.specs.Digests.{IsScuttle, IsPrecise, told_greatest, told_each, told_version};
 
-    /// The digest that a mode asks of a table: one pass over the table's entries, and memory for a
-    /// number of each owner.
+    /// The digest that a mode asks of a table: one pass over the table's entries. It takes memory
+    /// for a number of each owner in a scuttle mode, and of each entry in a precise one.
     pub fn of(alloc: Global, table: &NodeTable, mode: Mode) -> Result<Digest, Fault>
-        requires { mode ≡ ScuttleBreadth }
-        ensures ok { IfOk result (IsScuttleDigest table.now.table) }
+        ensures ok { IfOk result (IsDigestOf mode table.now.table) }
         ensures only { IsOkUnless result OutOfMemory }
     {
-        let nodes = table.nodes();
-        let greatest = greatest_versions(alloc, nodes, table.items())?;
-        Ok(Digest {
-            nodes,
-            keys: table.keys(),
-            size: count_positive(&greatest),
-            greatest,
-        })
+        match mode {
+            Mode::ScuttleBreadth | Mode::ScuttleDepth => greatest_of_table(alloc, table),
+            Mode::PreciseOldest | Mode::PreciseNewest => each_of_table(alloc, table),
+        }
     }
 
-    /// How many owners it tells of.
+    /// How many owners a scuttle digest tells of, and how many entries a precise one.
     pub fn size(&self) -> u32
         ensures { result ≡ self.now.size }
     {
@@ -59,11 +74,67 @@ impl Digest {
 
     /// The greatest version that is held of an owner.
     pub fn greatest(&self, owner: u32) -> u32
-        requires { owner < self.now.nodes }
-        ensures { result ≡ slice_index self.now.greatest owner }
+        requires kind { IsScuttle self.now }
+        requires owner { owner < self.now.nodes }
+        ensures { result ≡ told_greatest self.now owner }
     {
-        self.greatest[owner as usize]
+        match &self.versions {
+            Versions::Greatest(versions) => versions[owner as usize],
+            Versions::Each(_) => unreachable!(),
+        }
     }
+
+    /// The version that is held of an owner's key, 0 where none is: a binary search.
+    pub fn version(&self, owner: u32, key: u32) -> u32
+        requires kind { IsPrecise self.now }
+        requires owner { owner < self.now.nodes }
+        requires key { key < self.now.keys }
+        ensures { result ≡ told_each self.now owner key }
+    {
+        match &self.versions {
+            Versions::Greatest(_) => unreachable!(),
+            Versions::Each(versions) => version_among(versions, owner, key),
+        }
+    }
+
+    /// The version up to which it knows what an item tells.
+    pub(crate) fn known_version(&self, item: &Item) -> u32
+        requires { item.now.owner < self.now.nodes }
+        ensures { result ≡ told_version self.now item.now }
+    {
+        match &self.versions {
+            Versions::Greatest(versions) => versions[item.owner as usize],
+            Versions::Each(versions) => version_among(versions, item.owner, item.entry.key),
+        }
+    }
+}
+
+// What the scuttle modes ask of a table.
+fn greatest_of_table(alloc: Global, table: &NodeTable) -> Result<Digest, Fault>
+    ensures ok { IfOk result (IsScuttleDigest table.now.table) }
+    ensures only { IsOkUnless result OutOfMemory }
+{
+    let nodes = table.nodes();
+    let greatest = greatest_versions(alloc, nodes, table.items())?;
+    Ok(Digest {
+        nodes,
+        keys: table.keys(),
+        size: count_positive(&greatest),
+        versions: Versions::Greatest(greatest),
+    })
+}
+
+// What the precise modes ask of a table.
+fn each_of_table(alloc: Global, table: &NodeTable) -> Result<Digest, Fault>
+    ensures ok { IfOk result (IsPreciseDigest table.now.table) }
+    ensures only { IsOkUnless result OutOfMemory }
+{
+    Ok(Digest {
+        nodes: table.nodes(),
+        keys: table.keys(),
+        size: table.count(),
+        versions: Versions::Each(each_version(alloc, table.items())?),
+    })
 }
 
 // The greatest version of each owner's items.
@@ -94,5 +165,34 @@ fn raise_to(greatest: &mut [u32], items: &[Item])
     for item in items {
         let slot = item.owner as usize;
         greatest[slot] = greatest[slot].max(item.entry.version);
+    }
+}
+
+// The version of each item, with its place.
+fn each_version(alloc: Global, items: &[Item]) -> Result<Vec<KeyVersion>, Fault>
+    ensures versions { IfOk result (λ v. v.items ≡ map version_of_item items.now) }
+    ensures only { IsOkUnless result OutOfMemory }
+{
+    Ok(items.iter().map(version_of_item).collect(alloc)?)
+}
+
+fn version_of_item(item: &Item) -> KeyVersion
+    ensures { result ≡ version_of_item item.now }
+{
+    KeyVersion {
+        owner: item.owner,
+        key: item.entry.key,
+        version: item.entry.version,
+    }
+}
+
+// The version of an owner's key, 0 where it has none.
+fn version_among(versions: &[KeyVersion], owner: u32, key: u32) -> u32
+    requires { VersionsRise versions.now }
+    ensures { result ≡ version_in versions.now owner key }
+{
+    match versions.binary_search_by_key(&(owner, key), |v| (v.owner, v.key)) {
+        Ok(at) => versions[at].version,
+        Err(_) => 0,
     }
 }

@@ -5,6 +5,8 @@
 mod deltas;
 mod digests;
 mod orders;
+#[cfg(test)]
+mod tests;
 
 pub use deltas::Delta;
 pub use digests::Digest;

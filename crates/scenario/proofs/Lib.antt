@@ -1,3 +1,4 @@
 pub mod Keys
 pub mod Documents
 pub mod Order
+pub mod OnlyReadFaults

@@ -5,3 +5,4 @@ pub mod Words
 pub mod Top
 pub mod Checked
 pub mod Order
+pub mod ReadFault

@@ -1,9 +1,9 @@
 //! Reading one field of a table.
 
-ghost use Rattle.std.specs.Prelude.{◌≡◌, ◌≤◌, Ok, Err, IfOk, IfErr, option_map};
+ghost use Rattle.std.specs.Prelude.{◌≡◌, ◌≤◌, IfOk, IfErr, option_map};
 ghost use Rattle.toml.specs.Data.{get_member};
 ghost use Rattle.toml.specs.View.{view, table_view};
-ghost use Rattle.scenario.specs.Fields.{name_of, value_at, number_at, text_at, has_only, is_among, only_fields};
+ghost use Rattle.scenario.specs.Fields.{name_of, number_at, text_at, has_only, is_among, only_fields};
 
 use bench_types::{Fault, Field, TableName};
 use toml::{Table, Value};

@@ -1,6 +1,6 @@
 //! A scenario that passed the check.
 
-ghost use Rattle.std.specs.Prelude.{◌≡◌, ◌*◌, ◌≤◌, IfOk, OnOk};
+ghost use Rattle.std.specs.Prelude.{◌≡◌, ◌*◌, ◌≤◌, OnOk};
 ghost use Rattle.toml.specs.View.{table_view};
 ghost use Rattle.scenario.specs.Checked.{checked, size_checked};
 

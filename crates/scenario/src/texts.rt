@@ -1,20 +1,25 @@
 //! From bytes to a scenario.
 
-ghost use Rattle.std.specs.Prelude.{◌≡◌, ◌≢◌, None, Some, Ok, Err, IfOk, IfErr, IsErrOf, IsSomeAnd, IsUtf8};
+ghost use Rattle.std.specs.Prelude.{◌≡◌, ◌≢◌, IfOk, IfErr, IsErrOf, IsSomeAnd, IsUtf8};
 ghost use Rattle.toml.specs.View.{table_view};
 ghost use Rattle.scenario.specs.Checked.{document_of, text_checked};
 ghost use Rattle.scenario.specs.Order.{first_fault, Says};
+ghost use Rattle.scenario.specs.ReadFault.{IsReadFault};
 
 use crate::scenarios::Scenario;
 use bench_types::Fault;
 use std::alloc::Global;
 use toml::Table;
 
-/// Reads and checks the text of a scenario. Costs time in proportion to the text.
+/// Reads and checks the text of a scenario. The time is about in proportion to the text.
+///
+/// Answers `NotToml`, `Missing`, `WrongType`, `OutOfRange`, `TooLarge` or `UnknownField` for a text
+/// at fault, and `OutOfMemory` where memory was refused.
 pub fn read(alloc: Global, bytes: &[u8]) -> Result<Scenario, Fault>
     ensures accepted { IfOk result (λ scenario. text_checked bytes.now ≡ Ok scenario) }
     ensures refused { IfErr result (λ fault.
         fault ≢ Fault.OutOfMemory → text_checked bytes.now ≡ Err fault) }
+    ensures only { IfErr result IsReadFault }
     ensures no_text { ¬ IsUtf8 bytes.now → IsErrOf result Fault.NotToml }
 
     // A scenario is what the document says, and a fault is that of the first check that fails.
@@ -31,6 +36,7 @@ fn document(alloc: Global, bytes: &[u8]) -> Result<Table, Fault>
     ensures ok { IfOk result (λ table. document_of bytes.now ≡ Some (table_view table)) }
     ensures refused { IfErr result (λ fault.
         fault ≢ Fault.OutOfMemory → (fault ≡ Fault.NotToml) × (document_of bytes.now ≡ None)) }
+    ensures only { IfErr result IsReadFault }
     ensures no_text { ¬ IsUtf8 bytes.now → IsErrOf result Fault.NotToml }
 {
     let text = match std::str::from_utf8(bytes) {

@@ -1,4 +1,5 @@
 use Rattle.toml.specs.View.{table_view}
+use Rattle.scenario.proofs.OnlyReadFaults.{OnlyReadFaults-answer}
 use Rattle.scenario.proofs.Order.{Says-answer, first_of-answer}
 use Rattle.scenario.proofs.texts.read.Goals as goal
 
@@ -7,3 +8,6 @@ returns-clause-first c = rw c.in_ok-table.ensures.ok (first_of-answer (table_vie
 
 pub returns-clause-says : goal.returns-clause-says
 returns-clause-says c = rw c.in_ok-table.ensures.ok (Says-answer (table_view c.in_ok-table.table) _ c.checked.ensures)
+
+pub returns-clause-only : goal.returns-clause-only
+returns-clause-only c = OnlyReadFaults-answer (table_view c.in_ok-table.table) _ c.checked.ensures

@@ -1,5 +1,4 @@
 use Rattle.std.proofs.Common.{Some, sym, ap, ◌∙◌, subst}
-use Rattle.std.proofs.lemmas.List.{get_or_default}
 use Rattle.node_table.specs.Table.{entry_at}
 use Rattle.node_table.specs.Places.{IsAt, IsGapFor}
 use Rattle.node_table.proofs.Sound.{entry_at-table_of}

@@ -1,5 +1,4 @@
 use Rattle.std.proofs.Common.{ap, ◌∙◌}
-use Rattle.node_table.specs.Table.{Table}
 use Rattle.node_table.specs.View.{held_of}
 use Rattle.node_table.proofs.Rising.{held_of-nil}
 use Rattle.node_table.proofs.tables.NodeTable.new.Goals as goal

@@ -1,7 +1,7 @@
-use Rattle.std.proofs.Common.{◌≡◌, ℕ, ◌+◌, ◌<◌, sym, ap, ◌∙◌, subst, arith, Ok}
+use Rattle.std.proofs.Common.{◌≡◌, ℕ, ◌+◌, ◌<◌, sym, ap, ◌∙◌, subst, arith}
 use Rattle.std.specs.FinMap.{insert}
 use Rattle.bench_types.specs.declared.entries.Entry.{Entry}
-use Rattle.node_table.specs.Table.{Held, Table, with_own_write, greatest_version}
+use Rattle.node_table.specs.Table.{Held, Table, greatest_version}
 use Rattle.node_table.specs.View.{table_of, held_of}
 use Rattle.node_table.proofs.Rising.{held_put}
 use Rattle.node_table.proofs.tables.NodeTable.write_own.Goals as goal

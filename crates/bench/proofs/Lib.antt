@@ -1,0 +1,9 @@
+pub mod Writing
+pub mod Pairs
+pub mod InputFacts
+pub mod Turns
+pub mod Begun
+pub mod Standing
+pub mod Lags
+pub mod Stepping
+pub mod Reporting

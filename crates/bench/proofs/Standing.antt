@@ -1,0 +1,60 @@
+-- What holds of all nodes at the beginning, and still holds after exchanges.
+use Rattle.std.proofs.Common.{◌≡◌, ℕ, List, [], length, refl, sym, ap, ◌∙◌, subst, arith}
+use Rattle.std.specs.List.{range_with_len}
+use Rattle.std.proofs.lemmas.List.{length-map}
+use Rattle.std.proofs.lemmas.List.FromFn.{get_or-map-range_with_len, length-map-range_with_len}
+use Rattle.node_table.specs.Table.{Table, empty_table, greatest_version, entry_at}
+use Rattle.node_table.specs.Kept.{Kept}
+use Rattle.node_table.proofs.Versions.{greatest_version-empty_table}
+use Rattle.scenario.specs.Settings.{Settings}
+use Rattle.staleness.specs.declared.lists.Write.{Write}
+use Rattle.staleness.specs.Cluster.{write_of_entry}
+use Rattle.staleness.specs.Figures.{table_at, writes_at}
+use Rattle.staleness.proofs.OwnParts.{own_part-empty}
+use Rattle.exchange.specs.Owns.{KeepsOwn}
+use Rattle.exchange.specs.Folds.{table_of_node}
+use Rattle.bench.specs.Rounds.{tables_in, opening_tables}
+use Rattle.bench.specs.Standing.{IsOwner, IsStanding, KeepOwn}
+use Rattle.bench.proofs.Pairs.{table_of_node-tables_in}
+
+owner_opening : (s : Settings) (n : ℕ) (t : Table) (ws : List Write) → t ≡ empty_table n s.nodes s.keys → ws ≡ [] → IsOwner s 0 n t ws
+owner_opening s n t ws table list = subst (λ u. IsOwner s 0 n u ws) (sym table) (subst (IsOwner s 0 n (empty_table n s.nodes s.keys)) (sym list) (record {
+  node = refl;
+  nodes = refl;
+  keys = refl;
+  count = refl;
+  writes = refl;
+  few = omega arith;
+  greatest = greatest_version-empty_table n s.nodes s.keys n;
+  own_part = own_part-empty n s.nodes s.keys;
+  born = λ k d lt. absurd (omega arith);
+}))
+
+pub standing_opening : (s : Settings) (tables : List Kept) (lists : List (List Write)) → tables_in tables ≡ opening_tables s → length lists ≡ s.nodes → ((n : ℕ) → writes_at lists n ≡ []) → IsStanding s 0 tables lists
+standing_opening s tables lists opening count none = record {
+  table_count = sym (length-map tables (λ (k : Kept). k.table)) ∙ ap length opening ∙ length-map-range_with_len (λ n. empty_table n s.nodes s.keys) 0 s.nodes;
+  list_count = count;
+  owners = λ n lt. owner_opening s n (table_at tables n) (writes_at lists n)
+      (sym (table_of_node-tables_in tables n) ∙ ap (λ ts. table_of_node ts n) opening ∙ get_or-map-range_with_len (λ m. empty_table m s.nodes s.keys) 0 s.nodes n n (empty_table 0 0 0) lt (omega arith))
+      (none n);
+}
+
+owner_kept : (s : Settings) (round n : ℕ) (t u : Table) (ws : List Write) → KeepsOwn t u → IsOwner s round n t ws → IsOwner s round n u ws
+owner_kept s round n t u ws own is = record {
+  node = own.node ∙ is.node;
+  nodes = own.nodes ∙ is.nodes;
+  keys = own.keys ∙ is.keys;
+  count = is.count;
+  writes = is.writes;
+  few = is.few;
+  greatest = ap (greatest_version u) own.node ∙ own.greatest ∙ is.greatest;
+  own_part = λ key. ap (Rattle.std.specs.Option.option_map write_of_entry) (ap (λ o. entry_at u o key) own.node ∙ own.own_part key) ∙ is.own_part key;
+  born = is.born;
+}
+
+pub standing_kept : (s : Settings) (round : ℕ) (old new : List Kept) (lists : List (List Write)) → length new ≡ length old → KeepOwn old new → IsStanding s round old lists → IsStanding s round new lists
+standing_kept s round old new lists size own is = record {
+  table_count = size ∙ is.table_count;
+  list_count = is.list_count;
+  owners = λ n lt. owner_kept s round n (table_at old n) (table_at new n) (writes_at lists n) (own n) (is.owners n lt);
+}

@@ -1,0 +1,61 @@
+-- A step that carries out the next round.
+use Rattle.std.proofs.Common.{◌≡◌, ◌≢◌, ℕ, suc, ◌+◌, ◌-◌, ◌<◌, false, List, Option, Some, refl, sym, ap, ◌∙◌, arith}
+use Rattle.std.specs.Prelude.{is_none}
+use Rattle.scenario.specs.Settings.{Settings}
+use Rattle.bench.specs.declared.sims.Cluster.{Cluster}
+use Rattle.bench.specs.Played.{Played}
+use Rattle.bench.specs.Rounds.{tables_in, tables_after, round_of, records_in}
+use Rattle.bench.specs.Standing.{IsStanding}
+use Rattle.bench.specs.Simulation.{IsSimulation, IsPlayed, simulation_of, tables_held}
+use Rattle.bench.specs.Reports.{played_from}
+use Rattle.bench.specs.Rows.{row_of}
+use Rattle.round_plan.specs.Plan.{round_list_of}
+use Rattle.bench_types.specs.declared.exchanges.Record.{Record}
+use Rattle.bench_types.specs.declared.rows.Figures.{Figures}
+use Rattle.bench.proofs.Lags.{figures_are}
+
+unfolded : (s : Settings) (done : ℕ) → tables_after s (suc done) ≡ (round_of s (suc done) (tables_after s done)).tables
+unfolding tables_after
+unfolded s done = refl
+
+pub tables_after-more : (s : Settings) (done : ℕ) → tables_after s (done + 1) ≡ (round_of s (done + 1) (tables_after s done)).tables
+tables_after-more s done =
+    let next : done + 1 ≡ suc done = omega arith in
+    ap (tables_after s) next ∙ unfolded s done ∙ ap (λ n. (round_of s n (tables_after s done)).tables) (sym next)
+
+abbrev played_with : Settings → ℕ → List Record → Figures → Played
+played_with s round rs fs = record { row = row_of round (round_list_of s round) rs fs; records = rs; figures = fs }
+
+module _ (s : Settings) (cluster : Option Cluster) (old new : Cluster) (done : ℕ) (round : Played) (so_far : IsSimulation (simulation_of s cluster done)) (is : cluster ≡ Some old) (more : done ≢ s.rounds) (standing : IsStanding s (done + 1) new.tables.items new.lists.items) (tables : tables_in new.tables.items ≡ (round_of s (done + 1) (tables_in old.tables.items)).tables) where
+  unbroken : is_none cluster ≡ false
+  unbroken = ap is_none is
+
+  before : tables_in old.tables.items ≡ tables_after s done
+  before = ap (λ c. tables_in (tables_held c)) (sym is) ∙ so_far.tables unbroken
+
+  after : tables_in new.tables.items ≡ tables_after s (done + 1)
+  after = tables ∙ ap (λ ts. (round_of s (done + 1) ts).tables) before ∙ sym (tables_after-more s done)
+
+  not_done : done < s.rounds
+  not_done = let within = so_far.within in omega (arith, more)
+
+  pub step_simulation : IsSimulation (simulation_of s (Some new) (done + 1))
+  step_simulation = record { within = omega (arith, not_done); standing = λ _. standing; tables = λ _. after }
+
+  pub step_played : round ≡ played_from s (done + 1) (tables_in old.tables.items) new.tables.items new.lists.items → IsPlayed (simulation_of s cluster done) (simulation_of s (Some new) (done + 1)) round
+  step_played played = record {
+    unbroken = unbroken;
+    unfinished = not_done;
+    still = refl;
+    settings = refl;
+    done = refl;
+    tables = after;
+    standing = standing;
+    played = played ∙ (λ i. played_with s (done + 1) (records i) (figures_are s (done + 1) new.tables.items new.lists.items standing after i));
+  }
+    where
+      previous : done ≡ done + 1 - 1
+      previous = omega arith
+
+      records : (round_of s (done + 1) (tables_in old.tables.items)).records ≡ records_in s (done + 1)
+      records = ap (λ ts. (round_of s (done + 1) ts).records) (before ∙ ap (tables_after s) previous)

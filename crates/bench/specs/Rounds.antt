@@ -1,0 +1,45 @@
+-- The rounds of a run. In round 0 all tables are empty. A round begins with the writes of the nodes, by node and
+-- then in their order; then come the exchanges of its list, one after another. Source: this project.
+use Rattle.std.specs.Prelude.{ℕ, zero, suc, ◌-◌, List, map, fold}
+use Rattle.std.specs.List.{range_with_len}
+use Rattle.bench_types.specs.declared.exchanges.Record.{Record}
+use Rattle.bench_types.specs.declared.exchanges.Rules.{Rules}
+use Rattle.node_table.specs.Table.{Table, empty_table, with_own_write}
+use Rattle.node_table.specs.Kept.{Kept}
+use Rattle.round_plan.specs.declared.owners.OwnWrite.{OwnWrite}
+use Rattle.round_plan.specs.Plan.{round_list_of}
+use Rattle.round_plan.specs.Writes.{count_upto, own_writes}
+use Rattle.scenario.specs.Settings.{Settings}
+use Rattle.exchange.specs.Folds.{Folded, table_of_node, fold_of}
+
+-- the tables in memory, without their room
+abbrev pub tables_in : List Kept → List Table
+tables_in kept = map (λ k. k.table) kept
+
+abbrev pub opening_tables : Settings → List Table
+opening_tables s = map (λ n. empty_table n s.nodes s.keys) (range_with_len 0 s.nodes)
+
+-- one node's writes of a round, in turn
+abbrev pub with_own_writes : ℕ → Table → List OwnWrite → Table
+with_own_writes round = fold (λ t w. with_own_write t w.key w.value round)
+
+-- the table of a node after its writes of a round
+abbrev pub written_table : Settings → ℕ → List Table → ℕ → Table
+written_table s round ts n = with_own_writes round (table_of_node ts n) (own_writes s n round (count_upto s n (round - 1)))
+
+abbrev pub begun : Settings → ℕ → List Table → List Table
+begun s round ts = map (written_table s round ts) (range_with_len 0 s.nodes)
+
+abbrev pub rules_of : Settings → Rules
+rules_of s = record { mode = s.mode; budget = s.budget }
+
+-- a round, from the tables before it: the tables after it and its records
+abbrev pub round_of : Settings → ℕ → List Table → Folded
+round_of s round ts = fold_of (rules_of s) (begun s round ts) (round_list_of s round).exchanges
+
+unfoldable pub tables_after : Settings → ℕ → List Table
+tables_after s zero = opening_tables s
+tables_after s (suc round) = (round_of s (suc round) (tables_after s round)).tables
+
+abbrev pub records_in : Settings → ℕ → List Record
+records_in s round = (round_of s round (tables_after s (round - 1))).records

@@ -1,0 +1,145 @@
+//! All nodes' tables and the lists of what their owners wrote, and how a round changes them.
+
+ghost use Rattle.std.specs.Prelude.{◌≡◌, ℕ, ◌+◌, ◌-◌, ◌^◌, ◌<◌, ◌≤◌, ◌++◌, ◌∷◌, [], All, List, length, map, slice_index_or, IfOk, OnOk, IsOkUnless};
+ghost use Rattle.bench_types.specs.declared.faults.Fault.TheVariants.{OutOfMemory};
+ghost use Rattle.bench_types.specs.declared.exchanges.Record.{Record};
+ghost use Rattle.node_table.specs.Table.{empty_table, greatest_version};
+ghost use Rattle.staleness.specs.Figures.{table_at, writes_at};
+ghost use Rattle.staleness.specs.Cluster.{OwnPartIsLastWrites};
+ghost use Rattle.staleness.specs.Writes.{AreBornBy};
+ghost use Rattle.round_plan.specs.declared.owners.OwnWrite.{OwnWrite};
+ghost use Rattle.round_plan.specs.Plan.{IsPlanned};
+ghost use Rattle.exchange.specs.Folds.{Folded, exchange_in, fold_of};
+ghost use Rattle.bench.specs.Rounds.{tables_in, opening_tables, with_own_writes, begun, rules_of};
+ghost use Rattle.bench.specs.Lists.{write_in};
+ghost use Rattle.bench.specs.Standing.{IsStanding, AreTablesOf, KeepOwn};
+
+use bench_types::{Exchange, Fault, Record, Rules};
+use exchange::exchange;
+use node_table::NodeTable;
+use round_plan::{OwnWrite, RoundList, writes_of};
+use scenario::Scenario;
+use staleness::OwnerList;
+use std::alloc::Global;
+
+/// The empty tables of all nodes, in order.
+pub(crate) fn empty_tables(alloc: Global, scenario: &Scenario) -> Result<Vec<NodeTable>, Fault>
+    ensures tables { IfOk result (λ v. tables_in v.items ≡ opening_tables scenario.now) }
+    ensures only { IsOkUnless result OutOfMemory }
+{
+    let nodes = scenario.nodes();
+    let keys = scenario.keys();
+    let mut tables = Vec::with_capacity(alloc, nodes as usize)?;
+    for node in 0..nodes {
+        tables.push(NodeTable::new(alloc, node, nodes, keys)?)?;
+    }
+    Ok(tables)
+}
+
+/// A list for each owner, with nothing written.
+pub(crate) fn empty_lists(alloc: Global, scenario: &Scenario) -> Result<Vec<OwnerList>, Fault>
+    ensures count { IfOk result (λ v. length v.items ≡ scenario.now.nodes) }
+    ensures lists { IfOk result (λ v. (n : ℕ) → writes_at v.items n ≡ []) }
+    ensures only { IsOkUnless result OutOfMemory }
+{
+    let mut lists = Vec::with_capacity(alloc, scenario.nodes() as usize)?;
+    for _ in 0..scenario.nodes() {
+        lists.push(OwnerList::new(alloc))?;
+    }
+    Ok(lists)
+}
+
+/// The writes of a round, by node.
+pub(crate) fn write_all(
+    scenario: &Scenario,
+    tables: &mut [NodeTable],
+    lists: &mut [OwnerList],
+    round: u32,
+) -> Result<(), Fault>
+    requires first { 1 ≤ round }
+    requires last { round ≤ 100000 }
+    requires standing { IsStanding scenario.now (round - 1) tables.old lists.old }
+    ensures standing { OnOk result (IsStanding scenario.now round tables.new lists.new) }
+    ensures tables { OnOk result (tables_in tables.new ≡ begun scenario.now round (tables_in tables.old)) }
+    ensures only { IsOkUnless result OutOfMemory }
+{
+    for node in 0..scenario.nodes() {
+        let at = node as usize;
+        let writes = writes_of(scenario, node, round, lists[at].len());
+        write_own(&mut tables[at], &mut lists[at], writes.as_slice(), round)?;
+    }
+    Ok(())
+}
+
+// The writes of one node in a round, in order.
+fn write_own(
+    table: &mut NodeTable,
+    list: &mut OwnerList,
+    writes: &[OwnWrite],
+    round: u32,
+) -> Result<(), Fault>
+    requires keys { All (λ w. w.key < table.old.table.keys) writes.now }
+    requires numbered { (i : ℕ) → (w : OwnWrite) → i < length writes.now → (slice_index_or writes.now i w).version ≡ length list.old + 1 + i }
+    requires fits { length list.old + length writes.now + 1 < 2 ^ 32 }
+    requires greatest { greatest_version table.old.table table.old.table.node ≡ length list.old }
+    requires own_part { OwnPartIsLastWrites table.old.table list.old }
+    requires born { AreBornBy round list.old }
+    ensures table { OnOk result (table.new.table ≡ with_own_writes round table.old.table writes.now) }
+    ensures list { OnOk result (list.new ≡ list.old ++ map (write_in round) writes.now) }
+    ensures greatest { OnOk result (greatest_version table.new.table table.new.table.node ≡ length list.new) }
+    ensures own_part { OnOk result (OwnPartIsLastWrites table.new.table list.new) }
+    ensures born { OnOk result (AreBornBy round list.new) }
+    ensures only { IsOkUnless result OutOfMemory }
+{
+    for write in writes {
+        table.write_own(write.key, write.value, round)?;
+        list.push(write.key, round)?;
+    }
+    Ok(())
+}
+
+/// The exchanges of a round, in the order of its list, with their records in that order.
+pub(crate) fn exchange_all(
+    alloc: Global,
+    tables: &mut [NodeTable],
+    list: &RoundList,
+    rules: &Rules,
+) -> Result<Vec<Record>, Fault>
+    requires budget { 1 ≤ rules.now.budget }
+    requires tables { AreTablesOf list.now.nodes (table_at tables.old 0).keys tables.old }
+    ensures folded { IfOk result (λ v. fold_of rules.now (tables_in tables.old) list.now.exchanges ≡ record { tables = tables_in tables.new; records = v.items }) }
+    ensures count { IfOk result (λ v. length v.items ≡ length list.now.exchanges) }
+    ensures own { OnOk result (KeepOwn tables.old tables.new) }
+    ensures only { IsOkUnless result OutOfMemory }
+{
+    let mut records = Vec::with_capacity(alloc, list.len() as usize)?;
+    for plan in list.exchanges() {
+        records.push(exchange_pair(alloc, tables, plan, rules)?)?;
+    }
+    Ok(records)
+}
+
+// One exchange of two of the tables.
+fn exchange_pair(
+    alloc: Global,
+    tables: &mut [NodeTable],
+    plan: &Exchange,
+    rules: &Rules,
+) -> Result<Record, Fault>
+    requires budget { 1 ≤ rules.now.budget }
+    requires tables { AreTablesOf (length tables.old) (table_at tables.old 0).keys tables.old }
+    requires planned { IsPlanned (length tables.old) plan.now }
+    ensures exchanged { IfOk result (λ r. (records : List Record) → exchange_in rules.now (record { tables = tables_in tables.old; records = records }) plan.now ≡ record { tables = tables_in tables.new; records = records ++ r ∷ [] }) }
+    ensures own { OnOk result (KeepOwn tables.old tables.new) }
+    ensures only { IsOkUnless result OutOfMemory }
+{
+    let initiator = plan.initiator as usize;
+    let responder = plan.responder as usize;
+    if initiator < responder {
+        let (below, from) = tables.split_at_mut(responder);
+        exchange(alloc, &mut below[initiator], &mut from[0], plan, rules)
+    } else {
+        let (below, from) = tables.split_at_mut(initiator);
+        exchange(alloc, &mut from[0], &mut below[responder], plan, rules)
+    }
+}

@@ -1,0 +1,117 @@
+//! What a round came to.
+
+ghost use Rattle.std.specs.Prelude.{◌≡◌, ◌≤◌, length};
+ghost use Rattle.bench.specs.Rows.{row_of, is_lost, lost_count, entry_count, cut_total};
+
+use bench_types::{Fate, Figures, Record, Row};
+use round_plan::RoundList;
+use std::marker::Model;
+
+/// A round that was carried out.
+#[derive(Debug, Drop)]
+pub struct Round {
+    row: Row,
+    records: Vec<Record>,
+    figures: Figures,
+}
+
+impl Model for Round {
+    ghost use Rattle.std.specs.Prelude.{◌≤◌, length};
+    ghost use Rattle.bench.specs.Played.{Played};
+
+    ghost Value = { Played };
+
+    ghost view = { λ r. record { row = r.row; records = r.records.items; figures = r.figures } };
+}
+
+impl Round {
+    pub(crate) fn of(round: u32, list: &RoundList, records: Vec<Record>, figures: Figures) -> Round
+        requires { length records.items ≤ 4096 }
+        ensures { result ≡ record { row = row_of round list.now records.items figures; records = records.items; figures = figures } }
+    {
+        let row = row_of(round, list, &records, figures);
+        Round {
+            row,
+            records,
+            figures,
+        }
+    }
+
+    /// The round's line of the report.
+    pub fn row(&self) -> Row
+        ensures { result ≡ self.now.row }
+    {
+        self.row
+    }
+
+    /// What was sent in each exchange, in the order of the round's list.
+    pub fn records(&self) -> &[Record]
+        ensures { result.now ≡ self.now.records }
+    {
+        &self.records
+    }
+
+    /// How far the copies lagged at the end of the round.
+    pub fn figures(&self) -> Figures
+        ensures { result ≡ self.now.figures }
+    {
+        self.figures
+    }
+}
+
+fn row_of(round: u32, list: &RoundList, records: &[Record], figures: Figures) -> Row
+    requires { length records.now ≤ 4096 }
+    ensures { result ≡ row_of round list.now records.now figures }
+{
+    Row {
+        round,
+        exchanges: list.len(),
+        unreached: list.unreached(),
+        lost: lost_count(records),
+        entries: entry_count(records),
+        cut: cut_total(records),
+        stale: figures.stale,
+        greatest: figures.greatest,
+    }
+}
+
+// How many exchanges lost a message.
+fn lost_count(records: &[Record]) -> u32
+    requires { length records.now ≤ 4096 }
+    ensures { result ≡ lost_count records.now }
+{
+    records.iter().filter(|r| is_lost(r.fate)).count() as u32
+}
+
+fn is_lost(fate: Fate) -> bool
+    ensures { result ≡ is_lost fate }
+{
+    match fate {
+        Fate::Ok => false,
+        Fate::Lost1 | Fate::Lost2 | Fate::Lost3 => true,
+    }
+}
+
+// How many entries were sent.
+fn entry_count(records: &[Record]) -> u64
+    requires { length records.now ≤ 4096 }
+    ensures { result ≡ entry_count records.now }
+{
+    let mut total = 0;
+    for record in records {
+        total += u64::from(record.back) + u64::from(record.forth);
+    }
+    total
+}
+
+// How many entries the budget cut.
+fn cut_total(records: &[Record]) -> u64
+    requires { length records.now ≤ 4096 }
+    ensures { result ≡ cut_total records.now }
+{
+    let mut total = 0;
+    for record in records {
+        total += u64::from(record.back_cut) + u64::from(record.forth_cut);
+    }
+    total
+}

@@ -1,0 +1,171 @@
+//! A simulation, round by round.
+
+ghost use Rattle.std.specs.Prelude.{◌≡◌, ℕ, ◌+◌, ◌-◌, ◌<◌, ◌≤◌, ◌⊎◌, true, false, [], IfOk, IfErr, OnOk, IsOkUnless};
+ghost use Rattle.bench_types.specs.declared.faults.Fault.TheVariants.{OutOfMemory};
+ghost use Rattle.staleness.specs.Figures.{figures_of};
+ghost use Rattle.bench.specs.Played.{Played};
+ghost use Rattle.bench.specs.Rounds.{tables_in, opening_tables, tables_after, round_of};
+ghost use Rattle.bench.specs.Rows.{row_of};
+ghost use Rattle.bench.specs.Standing.{IsStanding};
+ghost use Rattle.bench.specs.Simulation.{IsPlayed, IsFailedBy, IsRefusedBy};
+ghost use Rattle.bench.specs.Reports.{played_from};
+
+use crate::clusters::{empty_lists, empty_tables, exchange_all, write_all};
+use crate::rounds::Round;
+use bench_types::{Fault, Rules};
+use node_table::NodeTable;
+use round_plan::round_list;
+use scenario::Scenario;
+use staleness::{OwnerList, figures};
+use std::alloc::Global;
+use std::marker::Model;
+
+/// A simulation of a scenario. A fault within a round breaks it: its tables are then given up.
+#[derive(Drop)]
+pub struct Sim {
+    alloc: Global,
+    scenario: Scenario,
+    cluster: Option<Cluster>,
+    rounds_done: u32,
+}
+
+impl Model for Sim {
+    ghost use Rattle.bench.specs.Simulation.{Simulation, IsSimulation, simulation_of, simulation_code};
+
+    ghost Value = { Simulation };
+
+    ghost coded = { simulation_code };
+
+    ghost view = { λ s. simulation_of s.scenario s.cluster s.rounds_done };
+
+    ghost invariant = { λ s. IsSimulation (simulation_of s.scenario s.cluster s.rounds_done) };
+}
+
+// What all nodes hold, and what each has written.
+#[derive(Drop)]
+struct Cluster {
+    tables: Vec<NodeTable>,
+    lists: Vec<OwnerList>,
+}
+
+impl Sim {
+    /// The simulation before its first round, where all tables are empty. It takes memory for the
+    /// nodes, and hands the scenario back where that is refused.
+    pub fn new(alloc: Global, scenario: Scenario) -> Result<Sim, (Fault, Scenario)>
+        ensures opens { IfOk result (λ sim. (sim.settings ≡ scenario) × (sim.rounds_done ≡ 0) × (sim.broken ≡ false)) }
+        ensures empty { IfOk result (λ sim. tables_in sim.tables ≡ opening_tables scenario) }
+        ensures hands_back { IfErr result (λ e. (e.0 ≡ OutOfMemory) × (e.1 ≡ scenario)) }
+    {
+        match Cluster::new(alloc, &scenario) {
+            Ok(cluster) => Ok(Sim {
+                alloc,
+                scenario,
+                cluster: Some(cluster),
+                rounds_done: 0,
+            }),
+            Err(fault) => Err((fault, scenario)),
+        }
+    }
+
+    /// Carries out the next round: the writes by node, the exchanges of the round's list in order,
+    /// the figures. It answers `Broken` where an earlier round failed and `Finished` where all rounds
+    /// are done, and then changes nothing; any other fault breaks the simulation.
+    pub fn step(&mut self) -> Result<Round, Fault>
+        ensures played { IfOk result (IsPlayed self.old self.new) }
+        ensures fails { IfErr result (λ f. IsFailedBy self.old self.new f ⊎ (IsRefusedBy self.old f × (self.new ≡ self.old))) }
+    {
+        if self.is_broken() {
+            return Err(Fault::Broken);
+        }
+        if self.rounds_done == self.scenario.rounds() {
+            return Err(Fault::Finished);
+        }
+        let Some(mut cluster) = self.cluster.take() else {
+            return Err(Fault::Broken);
+        };
+        let round = cluster.play(self.alloc, &self.scenario, self.rounds_done + 1)?;
+        self.cluster = Some(cluster);
+        self.rounds_done += 1;
+        Ok(round)
+    }
+
+    /// The nodes' tables, in order; none where the simulation is broken.
+    pub fn tables(&self) -> &[NodeTable]
+        ensures value { result.now ≡ self.now.tables }
+        ensures after { self.now.broken ≡ false → tables_in result.now ≡ tables_after self.now.settings self.now.rounds_done }
+        ensures none { self.now.broken ≡ true → result.now ≡ [] }
+    {
+        match &self.cluster {
+            Some(cluster) => &cluster.tables,
+            None => &[],
+        }
+    }
+
+    /// How many rounds were carried out.
+    pub fn rounds_done(&self) -> u32
+        ensures value { result ≡ self.now.rounds_done }
+        ensures within { result ≤ self.now.settings.rounds }
+    {
+        self.rounds_done
+    }
+
+    /// Whether a round has failed.
+    pub fn is_broken(&self) -> bool
+        ensures { result ≡ self.now.broken }
+    {
+        self.cluster.is_none()
+    }
+
+    /// The scenario that `new` was given.
+    pub fn into_scenario(self) -> Scenario
+        ensures { result ≡ self.settings }
+    {
+        let Sim {
+            alloc: _,
+            scenario,
+            cluster: _,
+            rounds_done: _,
+        } = self;
+        scenario
+    }
+
+    // How many rounds there are in all.
+    pub(crate) fn rounds(&self) -> u32
+        ensures { result ≡ self.now.settings.rounds }
+    {
+        self.scenario.rounds()
+    }
+}
+
+impl Cluster {
+    fn new(alloc: Global, scenario: &Scenario) -> Result<Cluster, Fault>
+        ensures tables { IfOk result (λ c. tables_in c.tables.items ≡ opening_tables scenario.now) }
+        ensures standing { IfOk result (λ c. IsStanding scenario.now 0 c.tables.items c.lists.items) }
+        ensures only { IsOkUnless result OutOfMemory }
+    {
+        Ok(Cluster {
+            tables: empty_tables(alloc, scenario)?,
+            lists: empty_lists(alloc, scenario)?,
+        })
+    }
+
+    fn play(&mut self, alloc: Global, scenario: &Scenario, round: u32) -> Result<Round, Fault>
+        requires first { 1 ≤ round }
+        requires last { round ≤ 100000 }
+        requires standing { IsStanding scenario.now (round - 1) self.old.tables.items self.old.lists.items }
+        ensures tables { OnOk result (tables_in self.new.tables.items ≡ (round_of scenario.now round (tables_in self.old.tables.items)).tables) }
+        ensures standing { OnOk result (IsStanding scenario.now round self.new.tables.items self.new.lists.items) }
+        ensures played { IfOk result (λ r. r ≡ played_from scenario.now round (tables_in self.old.tables.items) self.new.tables.items self.new.lists.items) }
+        ensures only { IsOkUnless result OutOfMemory }
+    {
+        let rules = Rules {
+            mode: scenario.mode(),
+            budget: scenario.budget(),
+        };
+        write_all(scenario, &mut self.tables, &mut self.lists, round)?;
+        let list = round_list(alloc, scenario, round)?;
+        let records = exchange_all(alloc, &mut self.tables, &list, &rules)?;
+        let lag = figures(&self.tables, &self.lists, round)?;
+        Ok(Round::of(round, &list, records, lag))
+    }
+}

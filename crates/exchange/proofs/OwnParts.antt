@@ -1,0 +1,64 @@
+-- An exchange leaves each side's own part alone.
+use Rattle.std.proofs.Common.{◌≢◌, ℕ, List, All, refl, sym, ap, ◌∙◌}
+use Rattle.bench_types.specs.declared.entries.Item.{Item}
+use Rattle.bench_types.specs.declared.exchanges.Exchange.{Exchange}
+use Rattle.bench_types.specs.declared.exchanges.Fate.{Fate}
+use Rattle.bench_types.specs.declared.exchanges.Fate.TheVariants as fate
+use Rattle.bench_types.specs.declared.exchanges.Rules.{Rules}
+use Rattle.node_table.specs.Table.{Table, applied, items_of, entry_at, greatest_version}
+use Rattle.node_table.proofs.Laws.{entry_at-applied_other}
+use Rattle.node_table.proofs.Versions.{greatest_version-applied_other}
+use Rattle.reconcile.specs.Candidates.{candidates, known_version}
+use Rattle.reconcile.specs.Deltas.{Sent}
+use Rattle.reconcile.specs.Order.{sending_order}
+use Rattle.reconcile.proofs.Told.{All-sent, All-items_above}
+use Rattle.exchange.specs.Exchanged.{exchanged, delta_between, fate_of, initiator_after, responder_after}
+use Rattle.exchange.specs.Owns.{KeepsOwn}
+use Rattle.std.proofs.lemmas.List.Elements.{All-weaker}
+
+-- nothing that is sent is the receiver's own
+pub delta-others : (rules : Rules) (s : ℕ) (from to : Table) → All (λ (i : Item). i.owner ≢ to.node) (delta_between rules s from to).items
+delta-others rules s from to =
+    All-sent (λ (i : Item). i.owner ≢ to.node) (sending_order rules.mode from.nodes s (candidates rules.mode from to)) (candidates rules.mode from to) rules.budget
+    (All-weaker (λ (i : Item). (i.owner ≢ to.node) × Unit {0}) (λ (i : Item). i.owner ≢ to.node) (λ i h. h.0) (candidates rules.mode from to)
+    (All-items_above (λ i. Unit {0}) (known_version rules.mode to) to.node (items_of from) (λ k d lt. tt)))
+
+pub keeps_own_same : (t : Table) → KeepsOwn t t
+keeps_own_same t = record { node = refl; nodes = refl; keys = refl; own_part = λ key. refl; greatest = refl }
+
+pub keeps_own_then : (t u v : Table) → KeepsOwn t u → KeepsOwn u v → KeepsOwn t v
+keeps_own_then t u v a b = record {
+  node = b.node ∙ a.node;
+  nodes = b.nodes ∙ a.nodes;
+  keys = b.keys ∙ a.keys;
+  own_part = λ key. ap (λ o. entry_at v o key) (sym a.node) ∙ b.own_part key ∙ ap (λ o. entry_at u o key) a.node ∙ a.own_part key;
+  greatest = ap (greatest_version v) (sym a.node) ∙ b.greatest ∙ ap (greatest_version u) a.node ∙ a.greatest;
+}
+
+keeps_own_applied : (t : Table) (added : List Item) → All (λ (i : Item). i.owner ≢ t.node) added → KeepsOwn t (applied t added)
+keeps_own_applied t added others = record {
+  node = refl;
+  nodes = refl;
+  keys = refl;
+  own_part = λ key. entry_at-applied_other t added t.node key others;
+  greatest = greatest_version-applied_other t added t.node others;
+}
+
+after_initiator : (f : Fate) (p : Table) (back : Sent) → All (λ (i : Item). i.owner ≢ p.node) back.items → KeepsOwn p (initiator_after f p back)
+after_initiator fate.Lost1 p back others = keeps_own_same p
+after_initiator fate.Lost2 p back others = keeps_own_same p
+after_initiator fate.Lost3 p back others = keeps_own_applied p back.items others
+after_initiator fate.Ok p back others = keeps_own_applied p back.items others
+
+after_responder : (f : Fate) (q : Table) (forth : Sent) → All (λ (i : Item). i.owner ≢ q.node) forth.items → KeepsOwn q (responder_after f q forth)
+after_responder fate.Lost1 q forth others = keeps_own_same q
+after_responder fate.Lost2 q forth others = keeps_own_same q
+after_responder fate.Lost3 q forth others = keeps_own_same q
+after_responder fate.Ok q forth others = keeps_own_applied q forth.items others
+
+module _ (rules : Rules) (e : Exchange) (p q : Table) where
+  pub initiator_keeps_own : KeepsOwn p (exchanged rules e p q).initiator
+  initiator_keeps_own = after_initiator (fate_of e) p (delta_between rules e.rotation q p) (delta-others rules e.rotation q p)
+
+  pub responder_keeps_own : KeepsOwn q (exchanged rules e p q).responder
+  responder_keeps_own = after_responder (fate_of e) q (delta_between rules e.rotation p q) (delta-others rules e.rotation p q)

@@ -1,0 +1,90 @@
+-- What a digest tells is what the table holds, and what is sent stood among the candidates.
+use Rattle.std.proofs.Common.{◌≡◌, ◌≢◌, ℕ, zero, suc, ◌+◌, ◌<◌, ◌≤◌, Bool, true, false, cond, not, ◌&&◌, eqb, ltb, List, [], ◌∷◌, length, get_or, All, Some, None, refl, sym, ap, ◌∙◌, subst, arith}
+use Rattle.std.specs.Prelude.{filter}
+use Rattle.std.specs.List.{filter_map, range_with_len, cons_option}
+use Rattle.std.specs.declared.cmp.Ordering.{Ordering}
+use Rattle.std.proofs.lemmas.Bool.{eq-eqb}
+use Rattle.std.proofs.lemmas.List.Elements.{All-nil, All-cons, All-head, All-tail}
+use Rattle.bench_types.specs.declared.entries.Item.{Item}
+use Rattle.bench_types.specs.declared.exchanges.Mode.{Mode}
+use Rattle.bench_types.specs.declared.exchanges.Mode.TheVariants.{ScuttleBreadth, ScuttleDepth, PreciseOldest, PreciseNewest}
+use Rattle.node_table.specs.Table.{Table, items_of, IsProper}
+use Rattle.node_table.specs.View.{IsItemInPlace}
+use Rattle.node_table.proofs.Proper.{items_sound}
+use Rattle.reconcile.specs.Candidates.{items_above, candidates, known_version}
+use Rattle.reconcile.specs.Digests.{Told, Knowledge, Greatest, Each, IsGreatest, IsEach, IsDigestOf, greatest_in, each_in, known_in, told_version}
+use Rattle.reconcile.specs.Picks.{at_place, sent}
+use Rattle.reconcile.proofs.Picked.{find_stands}
+use Rattle.reconcile.proofs.Sending.{owners_below}
+
+-- two tests that agree on a list keep the same of it
+filter-same : (p q : Item → Bool) (xs : List Item) → All (λ (i : Item). p i ≡ q i) xs → filter p xs ≡ filter q xs
+filter-same p q [] same = refl
+filter-same p q (x ∷ xs) same =
+    ap (λ b. cond b (x ∷ filter p xs) (filter p xs)) (All-head (λ (i : Item). p i ≡ q i) x xs same)
+    ∙ ap (λ ys. cond (q x) (x ∷ ys) ys) (filter-same p q xs (All-tail (λ (i : Item). p i ≡ q i) x xs same))
+
+-- what a digest knows of an item, by its kind
+known_in-greatest : (k : Knowledge) (i : Item) → IsGreatest k → known_in k i ≡ greatest_in k i.owner
+known_in-greatest (Greatest gs) i is = refl
+known_in-greatest (Each vs) i is = absurd is
+
+known_in-each : (k : Knowledge) (i : Item) → IsEach k → known_in k i ≡ each_in k i.owner i.entry.key
+known_in-each (Greatest gs) i is = absurd is
+known_in-each (Each vs) i is = refl
+
+-- a table's digest knows what the table does
+pub told_version-known : (mode : Mode) (to : Table) (told : Told) (i : Item) → IsDigestOf mode to told → i.owner < to.nodes → told_version told i ≡ known_version mode to i
+told_version-known ScuttleBreadth to told i is lt = known_in-greatest told.knowledge i is.kind ∙ is.tells i.owner lt
+told_version-known ScuttleDepth to told i is lt = known_in-greatest told.knowledge i is.kind ∙ is.tells i.owner lt
+told_version-known PreciseOldest to told i is lt = known_in-each told.knowledge i is.kind ∙ is.tells i.owner i.entry.key
+told_version-known PreciseNewest to told i is lt = known_in-each told.knowledge i is.kind ∙ is.tells i.owner i.entry.key
+
+-- what a table's digest does not tell are the candidates to that table
+pub candidates-told : (mode : Mode) (from to : Table) (told : Told) → IsProper from → IsDigestOf mode to told → told.nodes ≡ from.nodes → items_above (told_version told) to.node (items_of from) ≡ candidates mode from to
+candidates-told mode from to told proper is nodes =
+    filter-same (λ i. not (eqb i.owner to.node) && ltb (told_version told i) i.entry.version) (λ i. not (eqb i.owner to.node) && ltb (known_version mode to i) i.entry.version) (items_of from)
+    (λ k d lt. ap (λ v. not (eqb (get_or (items_of from) k d).owner to.node) && ltb v (get_or (items_of from) k d).entry.version)
+    (told_version-known mode to told (get_or (items_of from) k d) is (subst (λ n. (get_or (items_of from) k d).owner < n) (sym nodes ∙ is.nodes) (owners_below from proper k d lt))))
+
+-- none of the candidates is the receiver's own, and each has what all the sender's items have
+pub All-items_above : (P : Item → Type 0) (known : Item → ℕ) (receiver : ℕ) (xs : List Item) → All P xs → All (λ (i : Item). (i.owner ≢ receiver) × P i) (items_above known receiver xs)
+All-items_above P known receiver [] all = All-nil (λ (i : Item). (i.owner ≢ receiver) × P i)
+All-items_above P known receiver (x ∷ xs) all =
+    let rest = All-items_above P known receiver xs (All-tail P x xs all) in
+    elim (eqb x.owner receiver) as (λ b. eqb x.owner receiver ≡ b → All (λ (i : Item). (i.owner ≢ receiver) × P i) (cond (not b && ltb (known x) x.entry.version) (x ∷ items_above known receiver xs) (items_above known receiver xs))) [
+      | true ↦ λ own. rest
+      | false ↦ λ other. elim (ltb (known x) x.entry.version) as (λ b. All (λ (i : Item). (i.owner ≢ receiver) × P i) (cond b (x ∷ items_above known receiver xs) (items_above known receiver xs))) [
+        | true ↦ All-cons (λ (i : Item). (i.owner ≢ receiver) × P i) x (items_above known receiver xs) ((λ e. let yes = eq-eqb x.owner receiver e in let no : true ≡ false = sym yes ∙ other in cc), All-head P x xs all) rest
+        | false ↦ rest
+      ]
+    ] refl
+
+pub candidates-in_place : (t : Table) (known : Item → ℕ) (receiver : ℕ) → IsProper t → All (λ (i : Item). (i.owner ≢ receiver) × IsItemInPlace t.nodes t.keys i) (items_above known receiver (items_of t))
+candidates-in_place t known receiver proper = All-items_above (IsItemInPlace t.nodes t.keys) known receiver (items_of t) (items_sound t proper).in_place
+
+-- what is sent has what all candidates have
+pub All-sent : {X : Type 0} (P : X → Type 0) (order : X → X → Ordering) (cs : List X) (budget : ℕ) → All P cs → All P (sent order cs budget)
+All-sent P order cs budget all = places 0 budget
+  where
+    places : (a n : ℕ) → All P (filter_map (at_place order cs) (range_with_len a n))
+    places a zero = All-nil P
+    places a (suc n) =
+        let rest = places (a + 1) n in
+        elim (at_place order cs a) as (λ o. at_place order cs a ≡ o → All P (cons_option o (filter_map (at_place order cs) (range_with_len (a + 1) n)))) [
+          | None ↦ λ e. rest
+          | Some x ↦ λ e. let there = find_stands (λ c. eqb (Rattle.reconcile.specs.Picks.before_count order cs c) a) cs x e in
+              All-cons P x (filter_map (at_place order cs) (range_with_len (a + 1) n)) (subst P there.2 (all there.0 x there.1)) rest
+        ] refl
+
+-- and nothing is sent past the budget
+pub length-sent-le : {X : Type 0} (order : X → X → Ordering) (cs : List X) (budget : ℕ) → length (sent order cs budget) ≤ budget
+length-sent-le order cs budget = places 0 budget
+  where
+    places : (a n : ℕ) → length (filter_map (at_place order cs) (range_with_len a n)) ≤ n
+    places a zero = omega arith
+    places a (suc n) =
+        elim (at_place order cs a) as (λ o. length (cons_option o (filter_map (at_place order cs) (range_with_len (a + 1) n))) ≤ suc n) [
+          | None ↦ omega (arith, places (a + 1) n)
+          | Some x ↦ omega (arith, places (a + 1) n)
+        ]

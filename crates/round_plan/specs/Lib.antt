@@ -1,0 +1,3 @@
+pub mod Peer
+pub mod Plan
+pub mod Writes

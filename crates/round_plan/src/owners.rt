@@ -1,0 +1,122 @@
+//! What a node writes of its own state.
+
+ghost use Rattle.std.specs.Prelude.{◌≡◌, ◌+◌, ◌-◌, ◌^◌, ◌<◌, ◌≤◌, ◌==◌, ◌++◌, All, length, map, slice_get};
+ghost use Rattle.round_plan.specs.Writes.{writes_in, own_write, own_writes, writes_upto, born_in};
+
+use bench_types::limits::{MOST_ROUNDS, MOST_WRITES};
+use scenario::Scenario;
+use std::marker::Model;
+
+/// One write of a node to one of its own keys.
+#[derive(Clone, Copy, Debug, PartialEq, Eq)]
+pub struct OwnWrite {
+    pub key: u32,
+    pub value: u32,
+    /// The node's n-th write has version n, from 1.
+    pub version: u32,
+}
+
+// What stands behind the writes of a round that has fewer than the most.
+const BLANK: OwnWrite = OwnWrite {
+    key: 0,
+    value: 0,
+    version: 0,
+};
+
+/// The writes of one node in one round, in their order: at most 8.
+#[derive(Debug, Drop)]
+pub struct Writes {
+    items: [OwnWrite; MOST_WRITES as usize],
+    count: u32,
+}
+
+impl Model for Writes {
+    ghost use Rattle.std.specs.Prelude.{◌≡◌, ◌≤◌, List, length, take};
+    ghost use Rattle.bench_types.specs.declared.limits.TheConstants.{MOST_WRITES};
+    ghost use Rattle.round_plan.specs.declared.owners.OwnWrite.{OwnWrite};
+
+    ghost Value = { List OwnWrite };
+
+    ghost view = { λ w. take w.count w.items };
+
+    ghost invariant = { λ w. (length w.items ≡ MOST_WRITES) × (w.count ≤ MOST_WRITES) };
+}
+
+impl Writes {
+    /// How many there are.
+    pub fn len(&self) -> u32
+        ensures value { result ≡ length self.now }
+        ensures limit { result ≤ MOST_WRITES }
+    {
+        self.as_slice().len() as u32
+    }
+
+    pub fn is_empty(&self) -> bool
+        ensures { result ≡ (length self.now == 0) }
+    {
+        self.as_slice().is_empty()
+    }
+
+    /// The write at a place of the list, from 0; none past the end.
+    pub fn get(&self, i: u32) -> Option<OwnWrite>
+        ensures { result ≡ slice_get self.now i }
+    {
+        self.as_slice().get(i as usize).copied()
+    }
+
+    /// All of them, in order.
+    pub fn as_slice(&self) -> &[OwnWrite]
+        ensures value { result.now ≡ self.now }
+        ensures limit { length result.now ≤ MOST_WRITES }
+    {
+        &self.items[..self.count as usize]
+    }
+}
+
+/// How many writes each node makes in a round.
+pub fn writes_in(scenario: &Scenario, round: u32) -> u32
+    requires first { 1 ≤ round }
+    requires last { round ≤ MOST_ROUNDS }
+    ensures value { result ≡ writes_in scenario.now round }
+    ensures limit { result ≤ MOST_WRITES }
+{
+    scenario.writes()
+}
+
+/// The writes of a node in a round, before which it had made `count_before`.
+pub fn writes_of(scenario: &Scenario, node: u32, round: u32, count_before: u32) -> Writes
+    requires node { node < scenario.now.nodes }
+    requires first { 1 ≤ round }
+    requires last { round ≤ MOST_ROUNDS }
+    requires fits { count_before + MOST_WRITES < 2 ^ 32 }
+    ensures value { result ≡ own_writes scenario.now node round count_before }
+    ensures keys { All (λ write. write.key < scenario.now.keys) result }
+
+    // Put behind the node's earlier writes they make its writes up to the round.
+    ensures grows { length (writes_upto scenario.now node (round - 1)) ≡ count_before →
+        writes_upto scenario.now node round
+        ≡ writes_upto scenario.now node (round - 1) ++ map (born_in round) result }
+{
+    let keys = scenario.keys();
+    let count = writes_in(scenario, round);
+    let mut items = [BLANK; MOST_WRITES as usize];
+    for place in 0..count {
+        items[place as usize] = own_write(keys, count_before + 1 + place);
+    }
+    Writes { items, count }
+}
+
+// The write of a version: the keys in turn, and then each with the next value.
+fn own_write(keys: u32, version: u32) -> OwnWrite
+    requires keys { 1 ≤ keys }
+    requires version { 1 ≤ version }
+    ensures value { result ≡ own_write keys version }
+    ensures key { result.key < keys }
+{
+    let number = version - 1;
+    OwnWrite {
+        key: number % keys,
+        value: number / keys,
+        version,
+    }
+}

@@ -1,0 +1,27 @@
+-- What the tables and the lists of all nodes keep between rounds. Only the owner writes its own state, so its own part
+-- of its table is, for each key, the last write with that key. Source: the LADIS 2008 paper and this project.
+use Rattle.std.specs.Prelude.{◌≡◌, ℕ, ◌<◌, List, length, option_map}
+use Rattle.bench_types.specs.declared.entries.Entry.{Entry}
+use Rattle.node_table.specs.Table.{Table, entry_at}
+use Rattle.node_table.specs.Kept.{Kept}
+use Rattle.staleness.specs.declared.lists.Write.{Write}
+use Rattle.staleness.specs.Writes.{last_write}
+use Rattle.staleness.specs.Figures.{table_at, writes_at}
+
+-- these are the tables of all nodes, in order, with the same keys
+pub record IsCluster (tables : List Kept) : Type 0 where
+  pub in_order : (p : ℕ) → p < length tables → (table_at tables p).node ≡ p
+  pub all_nodes : (p : ℕ) → p < length tables → (table_at tables p).nodes ≡ length tables
+  pub same_keys : (p q : ℕ) → p < length tables → q < length tables → (table_at tables p).keys ≡ (table_at tables q).keys
+
+-- an entry as a write, which leaves out the value
+abbrev pub write_of_entry : Entry → Write
+write_of_entry e = record { key = e.key; version = e.version; born = e.born }
+
+-- a node's own part is the last write of each key, in key, version and born
+abbrev pub OwnPartIsLastWrites : Table → List Write → Type 0
+OwnPartIsLastWrites table writes = (key : ℕ) → option_map write_of_entry (entry_at table table.node key) ≡ last_write writes key
+
+-- and so at each node
+abbrev pub OwnPartsAreLastWrites : List Kept → List (List Write) → Type 0
+OwnPartsAreLastWrites tables lists = (r : ℕ) → r < length tables → OwnPartIsLastWrites (table_at tables r) (writes_at lists r)

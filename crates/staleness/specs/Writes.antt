@@ -1,0 +1,32 @@
+-- The writes of an owner, in order. Only the owner writes its own state, and its n-th write has version n, from 1.
+-- Source: the LADIS 2008 paper; the numbers and `born`, the round of a write, are this project's.
+use Rattle.std.specs.Prelude.{◌≡◌, ℕ, ◌+◌, ◌<◌, ◌≤◌, ◌==◌, ◌&&◌, nat_lt, List, length, reverse, find, slice_index_or, All, Bool, Option}
+use Rattle.staleness.specs.declared.lists.Write.{Write}
+
+-- the write that comes next
+abbrev pub next_write : List Write → ℕ → ℕ → Write
+next_write writes key born = record { key = key; version = length writes + 1; born = born }
+
+-- the write at each place, counted from 0, has the next number as its version
+abbrev pub IsNumbered : List Write → Type 0
+IsNumbered writes = (i : ℕ) (d : Write) → i < length writes → (slice_index_or writes i d).version ≡ i + 1
+
+-- a write of this key
+abbrev pub is_of : ℕ → Write → Bool
+is_of key w = w.key == key
+
+-- the last write of a key
+abbrev pub last_write : List Write → ℕ → Option Write
+last_write writes key = find (is_of key) (reverse writes)
+
+-- a write of this key above a version
+abbrev pub is_missed : ℕ → ℕ → Write → Bool
+is_missed key version w = w.key == key && nat_lt version w.version
+
+-- the least write of a key above a version: the writes stand by version, so it is the first
+abbrev pub first_missed : List Write → ℕ → ℕ → Option Write
+first_missed writes key version = find (is_missed key version) writes
+
+-- none was made after this round
+abbrev pub AreBornBy : ℕ → List Write → Type 0
+AreBornBy round writes = All (λ w. w.born ≤ round) writes

@@ -1,0 +1,11 @@
+//! How far the copies lag behind their owners: the list of an owner's writes, and the figures of a
+//! round, which are how many keys of copies are stale and the most rounds that one has been so.
+#![tactic(auto)]
+
+mod lags;
+mod lists;
+#[cfg(test)]
+mod tests;
+
+pub use lags::figures;
+pub use lists::{OwnerList, Write};

@@ -1,38 +1,53 @@
-//! Readers and writers that go byte by byte and fail.
+//! Runs whose reader and writers go byte by byte and fail.
 
+use crate::runs::Ran;
 use bench::run;
-use bench_types::{Fault, Pull, Push};
-use std::alloc::Global;
+use bench_types::{Pull, Push};
+use std::alloc::{AllocGlobal, Global};
 use std::io::{self, ErrorKind, Read, Write};
+use std::thread::Threads;
 
-/// How many calls the two ends of a run answer before they fail.
+/// How many calls a writer answers before it fails.
 #[derive(Clone, Copy)]
-pub(crate) struct Calls {
-    pub(crate) reads: usize,
+pub(crate) struct Taking {
     pub(crate) writes: usize,
     pub(crate) flushes: usize,
 }
 
-pub(crate) const NEVER_FAILS: Calls = Calls {
-    reads: usize::MAX,
+/// How many calls the ends of a run answer before they fail.
+#[derive(Clone, Copy)]
+pub(crate) struct Calls {
+    pub(crate) reads: usize,
+    pub(crate) report: Taking,
+    pub(crate) trace: Taking,
+}
+
+pub(crate) const ALL: Taking = Taking {
     writes: usize::MAX,
     flushes: usize::MAX,
 };
 
-/// What a run answers that reads and writes byte by byte until an end fails, and what it has
-/// written.
-pub(crate) fn run_until(alloc: Global, text: &str, calls: Calls) -> (Result<(), Fault>, Vec<u8>) {
+pub(crate) const NEVER_FAILS: Calls = Calls {
+    reads: usize::MAX,
+    report: ALL,
+    trace: ALL,
+};
+
+/// A run of this text that reads and writes byte by byte until an end fails.
+pub(crate) fn run_until(rt: &(impl Threads + AllocGlobal + Sync), text: &str, calls: Calls) -> Ran {
+    let alloc = rt.alloc();
     let mut reader = Pull::new(Trickle {
         bytes: text.as_bytes(),
         reads: calls.reads,
     });
-    let mut writer = Push::new(Drip {
-        taken: Vec::new(alloc),
-        writes: calls.writes,
-        flushes: calls.flushes,
-    });
-    let answer = run(alloc, &mut reader, &mut writer);
-    (answer, writer.into_inner().taken)
+    let mut writer = Push::new(Drip::new(alloc, calls.report));
+    let mut trace = Push::new(Drip::new(alloc, calls.trace));
+    let answer = run(rt, alloc, &mut reader, &mut writer, &mut trace);
+    Ran {
+        answer,
+        report: writer.into_inner().taken,
+        trace: trace.into_inner().taken,
+    }
 }
 
 // Gives one byte at a time, and fails once its reads are used up.
@@ -64,8 +79,16 @@ impl Read for Trickle<'_> {
 #[derive(Drop)]
 struct Drip {
     taken: Vec<u8>,
-    writes: usize,
-    flushes: usize,
+    left: Taking,
+}
+
+impl Drip {
+    fn new(alloc: Global, left: Taking) -> Drip {
+        Drip {
+            taken: Vec::new(alloc),
+            left,
+        }
+    }
 }
 
 impl Write for Drip {
@@ -73,18 +96,18 @@ impl Write for Drip {
         let Some(byte) = bytes.first() else {
             return Ok(0);
         };
-        if self.writes == 0 || self.taken.push(*byte).is_err() {
+        if self.left.writes == 0 || self.taken.push(*byte).is_err() {
             return Err(io::Error::from(ErrorKind::Other));
         }
-        self.writes -= 1;
+        self.left.writes -= 1;
         Ok(1)
     }
 
     fn flush(&mut self) -> io::Result<()> {
-        if self.flushes == 0 {
+        if self.left.flushes == 0 {
             return Err(io::Error::from(ErrorKind::Other));
         }
-        self.flushes -= 1;
+        self.left.flushes -= 1;
         Ok(())
     }
 }

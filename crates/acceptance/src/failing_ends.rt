@@ -1,112 +1,149 @@
-//! Readers and writers that fail, at once or in mid-stream, and ones that go byte by byte.
+//! Ends that go byte by byte and fail at each place of a run of two rounds.
 
-use crate::ends::{Calls, NEVER_FAILS, run_until};
-use crate::examples::TWO_NODES;
-use crate::runs::run_of;
-use bench::read_all;
-use bench_types::{Fault, Field, Pull};
+use crate::ends::{ALL, Calls, NEVER_FAILS, Taking, run_until};
+use crate::examples::{REPORT_HEADER, RESTART_WITHOUT_DOWNTIME, TRACE_HEADER};
+use crate::runs::{Ran, expect_refusal};
+use bench_types::Fault;
+use std::alloc::{AllocError, Global};
+use std::process::Abort;
 use std::test::Fail;
 
-#[test]
-fn empty_input_and_failing_ends(rt: HostRuntime) -> Result<(), Fail> {
-    let (answer, written) = run_of(rt.alloc(), b"");
-    assert_eq!(rt; answer, Err(Fault::Missing(Field::Format)));
-    assert!(rt; written.is_empty());
+#[derive(Clone, Copy, PartialEq)]
+enum End {
+    Report,
+    Trace,
+}
 
-    let at_once = Calls {
-        reads: 0,
-        ..NEVER_FAILS
-    };
-    let (answer, written) = run_until(rt.alloc(), TWO_NODES.scenario, at_once);
-    assert_eq!(rt; answer, Err(Fault::ReadFailed));
-    assert!(rt; written.is_empty());
+// What the run writes, in this order, each part followed by a flush.
+const PARTS: [(End, &str); 6] = [
+    (End::Report, REPORT_HEADER),
+    (End::Trace, TRACE_HEADER),
+    (
+        End::Trace,
+        "1,0,0,1,ok,1,1,1,1,0,0\n1,1,1,0,ok,2,2,0,0,0,0\n",
+    ),
+    (End::Report, "1,2,0,0,2,0,0,0\n"),
+    (
+        End::Trace,
+        "2,0,0,1,ok,2,1,0,1,0,0\n2,1,1,0,ok,2,2,0,0,0,0\n",
+    ),
+    (End::Report, "2,2,0,0,1,0,0,0\n"),
+];
 
-    let at_once = Calls {
-        writes: 0,
-        ..NEVER_FAILS
-    };
-    let (answer, written) = run_until(rt.alloc(), TWO_NODES.scenario, at_once);
-    assert_eq!(rt; answer, Err(Fault::WriteFailed));
-    assert!(rt; written.is_empty());
+// What the first so many parts bring to an end.
+fn brought(alloc: Global, end: End, parts: usize) -> Result<String, AllocError> {
+    let mut text = String::new(alloc);
+    for (at, part) in PARTS.iter().take(parts) {
+        if *at == end {
+            text.push_str(part)?;
+        }
+    }
+    Ok(text)
+}
+
+// A run in which a writer failed within the part behind the first so many: what was flushed stands in
+// front, and what was written is a front of the whole.
+fn expect_front(rt: &impl Abort, alloc: Global, ran: &Ran, parts: usize) -> Result<(), Fail> {
+    assert_eq!(rt; ran.answer, Err(Fault::WriteFailed));
+    for (end, written) in [(End::Report, &ran.report), (End::Trace, &ran.trace)] {
+        let flushed = brought(alloc, end, parts)?;
+        let whole = brought(alloc, end, PARTS.len())?;
+        assert!(rt; written.starts_with(flushed.as_bytes()), "part {parts}");
+        assert!(rt; whole.as_bytes().starts_with(written), "part {parts}");
+    }
     Ok(())
 }
 
-#[test]
-fn byte_by_byte(rt: HostRuntime) {
-    let (answer, written) = run_until(rt.alloc(), TWO_NODES.scenario, NEVER_FAILS);
-    assert_eq!(rt; answer, Ok(()));
-    assert_eq!(rt; written.as_slice(), TWO_NODES.report.as_bytes());
+fn calls_of(end: End, taking: Taking) -> Calls {
+    match end {
+        End::Report => Calls {
+            report: taking,
+            ..NEVER_FAILS
+        },
+        End::Trace => Calls {
+            trace: taking,
+            ..NEVER_FAILS
+        },
+    }
 }
 
-// One read more than the text has bytes finds its end.
 #[test]
-fn reads_that_fail(rt: HostRuntime) {
-    let size = TWO_NODES.scenario.len();
-    for reads in 0..=size {
+fn empty_input_and_failing_ends(rt: HostRuntime) -> Result<(), Fail> {
+    expect_refusal(&rt, b"", "fault 4: missing field format")?;
+    let text = RESTART_WITHOUT_DOWNTIME.text(rt.alloc())?;
+    for reads in 0..=text.len() {
         let calls = Calls {
             reads,
             ..NEVER_FAILS
         };
-        let (answer, written) = run_until(rt.alloc(), TWO_NODES.scenario, calls);
-        assert_eq!(rt; answer, Err(Fault::ReadFailed), "after {reads} reads");
-        assert!(rt; written.is_empty(), "after {reads} reads");
+        let ran = run_until(&rt, text.as_str(), calls);
+        assert_eq!(rt; ran.answer, Err(Fault::ReadFailed), "after {reads} reads");
+        assert!(rt; ran.report.is_empty() && ran.trace.is_empty());
     }
+    let at_once = Taking { writes: 0, ..ALL };
+    let ran = run_until(&rt, text.as_str(), calls_of(End::Report, at_once));
+    expect_front(&rt, rt.alloc(), &ran, 0)
+}
+
+// One read more than the text has bytes finds its end.
+#[test]
+fn byte_by_byte(rt: HostRuntime) -> Result<(), Fail> {
+    let alloc = rt.alloc();
+    let text = RESTART_WITHOUT_DOWNTIME.text(alloc)?;
     let calls = Calls {
-        reads: size + 1,
+        reads: text.len() + 1,
         ..NEVER_FAILS
     };
-    let (answer, _) = run_until(rt.alloc(), TWO_NODES.scenario, calls);
-    assert_eq!(rt; answer, Ok(()));
+    let ran = run_until(&rt, text.as_str(), calls);
+    assert_eq!(rt; ran.answer, Ok(()));
+    for (end, written) in [(End::Report, &ran.report), (End::Trace, &ran.trace)] {
+        let whole = brought(alloc, end, PARTS.len())?;
+        assert_eq!(rt; written.as_slice(), whole.as_bytes());
+    }
+    Ok(())
 }
 
 #[test]
-fn writes_that_fail(rt: HostRuntime) {
-    let report = TWO_NODES.report.as_bytes();
-    for writes in 0..report.len() {
-        let calls = Calls {
-            writes,
-            ..NEVER_FAILS
-        };
-        let (answer, written) = run_until(rt.alloc(), TWO_NODES.scenario, calls);
-        assert_eq!(rt; answer, Err(Fault::WriteFailed), "after {writes} writes");
-        assert_eq!(rt; written.len(), writes);
-        assert!(rt; report.starts_with(&written), "after {writes} writes");
+fn writes_that_fail(rt: HostRuntime) -> Result<(), Fail> {
+    let alloc = rt.alloc();
+    let text = RESTART_WITHOUT_DOWNTIME.text(alloc)?;
+    for (place, (end, part)) in PARTS.iter().enumerate() {
+        let before = brought(alloc, *end, place)?.len();
+        for within in 0..part.len() {
+            let taking = Taking {
+                writes: before.saturating_add(within),
+                ..ALL
+            };
+            let ran = run_until(&rt, text.as_str(), calls_of(*end, taking));
+            expect_front(&rt, alloc, &ran, place)?;
+        }
     }
-    let calls = Calls {
-        writes: report.len(),
-        ..NEVER_FAILS
-    };
-    let (answer, _) = run_until(rt.alloc(), TWO_NODES.scenario, calls);
-    assert_eq!(rt; answer, Ok(()));
+    Ok(())
 }
 
-// The header and the one row are each followed by a flush.
+// The report is flushed by parts 0, 3 and 5, the trace by 1, 2 and 4.
 #[test]
-fn flushes_that_fail(rt: HostRuntime) {
-    let report = TWO_NODES.report.as_bytes();
-    for flushes in 0..2 {
-        let calls = Calls {
-            flushes,
-            ..NEVER_FAILS
-        };
-        let (answer, written) = run_until(rt.alloc(), TWO_NODES.scenario, calls);
-        assert_eq!(rt; answer, Err(Fault::WriteFailed), "after {flushes} flushes");
-        assert!(rt; report.starts_with(&written), "after {flushes} flushes");
+fn flushes_that_fail(rt: HostRuntime) -> Result<(), Fail> {
+    let alloc = rt.alloc();
+    let text = RESTART_WITHOUT_DOWNTIME.text(alloc)?;
+    for (place, end, flushes) in [
+        (0, End::Report, 0),
+        (1, End::Trace, 0),
+        (2, End::Trace, 1),
+        (3, End::Report, 1),
+        (4, End::Trace, 2),
+        (5, End::Report, 2),
+    ] {
+        let taking = Taking { flushes, ..ALL };
+        let ran = run_until(&rt, text.as_str(), calls_of(end, taking));
+        expect_front(&rt, alloc, &ran, place)?;
     }
+    let taking = Taking { flushes: 3, ..ALL };
     let calls = Calls {
-        flushes: 2,
-        ..NEVER_FAILS
+        reads: usize::MAX,
+        report: taking,
+        trace: taking,
     };
-    let (answer, _) = run_until(rt.alloc(), TWO_NODES.scenario, calls);
-    assert_eq!(rt; answer, Ok(()));
-}
-
-#[test]
-fn all_that_is_left(rt: HostRuntime) -> Result<(), Fail> {
-    let mut reader = Pull::new(TWO_NODES.scenario.as_bytes());
-    let text = read_all(rt.alloc(), &mut reader)?;
-    assert_eq!(rt; text.as_slice(), TWO_NODES.scenario.as_bytes());
-    let rest = read_all(rt.alloc(), &mut reader)?;
-    assert!(rt; rest.is_empty());
+    assert_eq!(rt; run_until(&rt, text.as_str(), calls).answer, Ok(()));
     Ok(())
 }

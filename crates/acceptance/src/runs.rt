@@ -1,49 +1,84 @@
 //! Runs of a text in memory.
 
-use bench::{Sim, run};
-use bench_types::{Fate, Fault, Pull, Push, Record};
-use node_table::NodeTable;
-use scenario::read;
-use std::alloc::{AllocError, Global};
+use crate::examples::{Example, REPORT_HEADER, TRACE_HEADER};
+use bench::run;
+use bench_types::{Fault, Pull, Push};
+use std::alloc::AllocGlobal;
+use std::process::Abort;
+use std::test::Fail;
+use std::thread::Threads;
 
-/// What a run of a text answers, and what it has written.
-pub(crate) fn run_of(alloc: Global, text: &[u8]) -> (Result<(), Fault>, Vec<u8>) {
+/// What a run answers, and what it has written to the report and to the trace.
+#[derive(Drop)]
+pub(crate) struct Ran {
+    pub(crate) answer: Result<(), Fault>,
+    pub(crate) report: Vec<u8>,
+    pub(crate) trace: Vec<u8>,
+}
+
+/// A run of this text.
+pub(crate) fn run_of(rt: &(impl Threads + AllocGlobal + Sync), text: &[u8]) -> Ran {
+    let alloc = rt.alloc();
     let mut reader = Pull::new(text);
     let mut writer = Push::new(Vec::new(alloc));
-    let answer = run(alloc, &mut reader, &mut writer);
-    (answer, writer.into_inner())
-}
-
-/// The simulation of a text, before its first round.
-pub(crate) fn sim_of(alloc: Global, text: &str) -> Result<Sim, Fault> {
-    let scenario = read(alloc, text.as_bytes())?;
-    match Sim::new(alloc, scenario) {
-        Ok(sim) => Ok(sim),
-        Err((fault, _)) => Err(fault),
+    let mut trace = Push::new(Vec::new(alloc));
+    let answer = run(rt, alloc, &mut reader, &mut writer, &mut trace);
+    Ran {
+        answer,
+        report: writer.into_inner(),
+        trace: trace.into_inner(),
     }
 }
 
-/// The record of an exchange that lost nothing: the digests' sizes, then what went back and forth,
-/// then what the budget cut of either.
-pub(crate) fn record_of(digests: [u32; 2], sent: [u32; 2], cut: [u32; 2]) -> Record {
-    Record {
-        digest1: digests[0],
-        digest2: digests[1],
-        back: sent[0],
-        forth: sent[1],
-        back_cut: cut[0],
-        forth_cut: cut[1],
-        fate: Fate::Ok,
-    }
+/// Runs an example and compares its report and its trace.
+pub(crate) fn expect_run(
+    rt: &(impl Threads + Abort + AllocGlobal + Sync),
+    example: Example,
+) -> Result<(), Fail> {
+    let text = example.text(rt.alloc())?;
+    expect_texts(rt, text.as_bytes(), example)
 }
 
-/// The owners of which a table holds nothing, ascending.
-pub(crate) fn missing_owners(alloc: Global, table: &NodeTable) -> Result<Vec<u32>, AllocError> {
-    let mut owners = Vec::new(alloc);
-    for owner in 0..table.nodes() {
-        if table.greatest(owner) == 0 {
-            owners.push(owner)?;
-        }
-    }
-    Ok(owners)
+/// Runs a text and compares its report and its trace with those of an example.
+pub(crate) fn expect_texts(
+    rt: &(impl Threads + Abort + AllocGlobal + Sync),
+    text: &[u8],
+    example: Example,
+) -> Result<(), Fail> {
+    let ran = run_of(rt, text);
+    assert_eq!(rt; ran.answer, Ok(()), "at {}", example.name);
+    expect_lines(rt, example.name, &ran.report, REPORT_HEADER, example.report)?;
+    expect_lines(rt, example.name, &ran.trace, TRACE_HEADER, example.trace)
+}
+
+// Compares a written text with a header and the lines behind it.
+fn expect_lines(
+    rt: &impl Abort,
+    name: &str,
+    written: &[u8],
+    header: &str,
+    lines: &str,
+) -> Result<(), Fail> {
+    let written = std::str::from_utf8(written)?;
+    assert!(rt; written.starts_with(header), "header at {name}");
+    let rest = written.strip_prefix(header).unwrap_or("");
+    assert_eq!(rt; rest, lines, "at {name}");
+    Ok(())
+}
+
+/// Runs a text that is refused with this line, behind which nothing is written.
+pub(crate) fn expect_refusal(
+    rt: &(impl Threads + Abort + AllocGlobal + Sync),
+    text: &[u8],
+    line: &str,
+) -> Result<(), Fail> {
+    let ran = run_of(rt, text);
+    let found = match ran.answer {
+        Ok(()) => String::from_str(rt.alloc(), "no fault")?,
+        Err(fault) => format!(in rt.alloc(); "{fault}")?,
+    };
+    assert_eq!(rt; found.as_str(), line);
+    assert!(rt; ran.report.is_empty(), "report at {line}");
+    assert!(rt; ran.trace.is_empty(), "trace at {line}");
+    Ok(())
 }

@@ -1,117 +1,121 @@
-//! Runs of one round, down to what was sent in each exchange and what each node then lacks.
+//! Small runs that can be followed by hand.
 
-use crate::examples::{Example, RING_OF_FOUR, TWO_NODES, TWO_NODES_CUT_BY_THE_BUDGET};
-use crate::runs::{missing_owners, record_of, run_of, sim_of};
+use crate::examples::{
+    A_NODE_DOWN_FOR_TWO_ROUNDS, ALL_NODES_DOWN, COMPARISON_OF_THE_MODES, EVERY_MESSAGE_LOST,
+    Example, PARTITIONED_FOR_A_ROUND, RESTART_WITHOUT_DOWNTIME, RING_OF_FOUR, TWO_NODES,
+    TWO_NODES_CUT_BY_THE_BUDGET,
+};
+use crate::runs::expect_run;
 use bench::Sim;
-use bench_types::{Figures, Record};
-use round_plan::round_list;
+use bench_types::Fault;
 use scenario::read;
-use std::alloc::Global;
-use std::process::Abort;
 use std::test::Fail;
 
-// Compares the report of an example, the ends and the records of its round, and what the round
-// leaves stale. Gives the simulation behind that round.
-fn played(
-    rt: &impl Abort,
-    alloc: Global,
-    example: Example,
-    ends: &[(u32, u32)],
-    records: &[Record],
-    figures: Figures,
-) -> Result<Sim, Fail> {
-    let (answer, written) = run_of(alloc, example.scenario.as_bytes());
-    assert_eq!(rt; answer, Ok(()));
-    assert_eq!(rt; written.as_slice(), example.report.as_bytes());
-
-    let list = round_list(alloc, &read(alloc, example.scenario.as_bytes())?, 1)?;
-    let mut planned = Vec::new(alloc);
-    for exchange in list.exchanges() {
-        planned.push((exchange.initiator, exchange.responder))?;
-    }
-    assert_eq!(rt; planned.as_slice(), ends);
-
-    let mut sim = sim_of(alloc, example.scenario)?;
-    let round = sim.step()?;
-    assert_eq!(rt; round.records(), records);
-    assert_eq!(rt; round.figures(), figures);
-    assert_eq!(rt; sim.rounds_done(), 1);
-    Ok(sim)
+#[test]
+fn two_nodes(rt: HostRuntime) -> Result<(), Fail> {
+    expect_run(&rt, TWO_NODES)
 }
 
-// Compares the owners of which each node holds nothing.
-fn expect_missing(
-    rt: &impl Abort,
-    alloc: Global,
-    sim: &Sim,
-    missing: &[&[u32]],
-) -> Result<(), Fail> {
-    assert_eq!(rt; sim.tables().len(), missing.len());
-    for (table, owners) in sim.tables().iter().zip(missing) {
-        let found = missing_owners(alloc, table)?;
-        assert_eq!(rt; found.as_slice(), *owners, "at node {}", table.node());
+// A digest's size is the number of owners in a scuttle mode and of entries in a precise one.
+#[test]
+fn two_nodes_cut_by_the_budget(rt: HostRuntime) -> Result<(), Fail> {
+    let scuttle = TWO_NODES_CUT_BY_THE_BUDGET.trace;
+    let precise = "1,0,0,1,ok,2,2,1,1,1,1\n1,1,1,0,ok,3,3,1,1,0,0\n";
+    for (mode, trace) in [
+        ("scuttle-breadth", scuttle),
+        ("scuttle-depth", scuttle),
+        ("precise-oldest", precise),
+        ("precise-newest", precise),
+    ] {
+        let example = Example {
+            mode,
+            trace,
+            ..TWO_NODES_CUT_BY_THE_BUDGET
+        };
+        expect_run(&rt, example)?;
+    }
+    Ok(())
+}
+
+// What the newest entries first leave behind is replaced before it is sent.
+#[test]
+fn comparison_of_the_modes(rt: HostRuntime) -> Result<(), Fail> {
+    let scuttle = COMPARISON_OF_THE_MODES.trace;
+    let report = COMPARISON_OF_THE_MODES.report;
+    for (mode, report, trace) in [
+        ("scuttle-breadth", report, scuttle),
+        ("scuttle-depth", report, scuttle),
+        (
+            "precise-oldest",
+            report,
+            "1,0,0,1,ok,3,3,1,1,2,2\n1,1,1,0,ok,4,4,1,1,1,1\n\
+                2,0,0,1,ok,5,5,1,1,1,1\n2,1,1,0,ok,6,6,1,1,0,0\n",
+        ),
+        (
+            "precise-newest",
+            "1,2,0,0,4,6,2,1\n2,2,0,0,2,0,0,0\n",
+            "1,0,0,1,ok,3,3,1,1,2,2\n1,1,1,0,ok,4,4,1,1,1,1\n\
+                2,0,0,1,ok,5,5,1,1,0,0\n2,1,1,0,ok,6,6,0,0,0,0\n",
+        ),
+    ] {
+        let example = Example {
+            mode,
+            report,
+            trace,
+            ..COMPARISON_OF_THE_MODES
+        };
+        expect_run(&rt, example)?;
     }
     Ok(())
 }
 
 #[test]
-fn two_nodes(rt: HostRuntime) -> Result<(), Fail> {
-    let alloc = rt.alloc();
-    let sim = played(
-        &rt,
-        alloc,
-        TWO_NODES,
-        &[(0, 1), (1, 0)],
-        &[
-            record_of([1, 1], [1, 1], [0, 0]),
-            record_of([2, 2], [0, 0], [0, 0]),
-        ],
-        Figures {
-            stale: 0,
-            greatest: 0,
-        },
-    )?;
-    expect_missing(&rt, alloc, &sim, &[&[], &[]])
+fn a_node_down_for_two_rounds(rt: HostRuntime) -> Result<(), Fail> {
+    expect_run(&rt, A_NODE_DOWN_FOR_TWO_ROUNDS)
 }
 
 #[test]
-fn two_nodes_cut_by_the_budget(rt: HostRuntime) -> Result<(), Fail> {
-    let alloc = rt.alloc();
-    let sim = played(
-        &rt,
-        alloc,
-        TWO_NODES_CUT_BY_THE_BUDGET,
-        &[(0, 1), (1, 0)],
-        &[
-            record_of([1, 1], [1, 1], [1, 1]),
-            record_of([2, 2], [1, 1], [0, 0]),
-        ],
-        Figures {
-            stale: 0,
-            greatest: 0,
-        },
-    )?;
-    expect_missing(&rt, alloc, &sim, &[&[], &[]])
+fn all_nodes_down(rt: HostRuntime) -> Result<(), Fail> {
+    expect_run(&rt, ALL_NODES_DOWN)
 }
 
+#[test]
+fn every_message_lost(rt: HostRuntime) -> Result<(), Fail> {
+    expect_run(&rt, EVERY_MESSAGE_LOST)
+}
+
+#[test]
+fn partitioned_for_a_round(rt: HostRuntime) -> Result<(), Fail> {
+    expect_run(&rt, PARTITIONED_FOR_A_ROUND)
+}
+
+#[test]
+fn restart_without_downtime(rt: HostRuntime) -> Result<(), Fail> {
+    expect_run(&rt, RESTART_WITHOUT_DOWNTIME)
+}
+
+// At the end each node misses one owner.
 #[test]
 fn ring_of_four(rt: HostRuntime) -> Result<(), Fail> {
+    expect_run(&rt, RING_OF_FOUR)?;
     let alloc = rt.alloc();
-    let sim = played(
-        &rt,
-        alloc,
-        RING_OF_FOUR,
-        &[(0, 1), (1, 2), (2, 3), (3, 0)],
-        &[
-            record_of([1, 1], [1, 1], [0, 0]),
-            record_of([2, 1], [1, 1], [0, 1]),
-            record_of([2, 1], [1, 1], [0, 1]),
-            record_of([2, 2], [1, 1], [0, 0]),
-        ],
-        Figures {
-            stale: 4,
-            greatest: 1,
-        },
-    )?;
-    expect_missing(&rt, alloc, &sim, &[&[2], &[3], &[1], &[2]])
+    let scenario = read(alloc, RING_OF_FOUR.text(alloc)?.as_bytes())?;
+    let mut sim = match Sim::new(alloc, scenario) {
+        Ok(sim) => sim,
+        Err((fault, _)) => return Err(fault.into()),
+    };
+    sim.step(&rt)?;
+    assert_eq!(rt; sim.step(&rt).err(), Some(Fault::Finished));
+    assert_eq!(rt; sim.tables().len(), 4);
+    for (table, missed) in sim.tables().iter().zip([2, 3, 1, 2]) {
+        for owner in 0..table.nodes() {
+            assert_eq!(rt;
+                table.greatest(owner) == 0,
+                owner == missed,
+                "owner {owner} at node {}",
+                table.node()
+            );
+        }
+    }
+    Ok(())
 }

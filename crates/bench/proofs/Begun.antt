@@ -7,7 +7,7 @@ use Rattle.std.proofs.lemmas.List.FromFn.{get_or-map-range_with_len, length-map-
 use Rattle.node_table.specs.Table.{Table, greatest_version, with_own_write}
 use Rattle.node_table.specs.Kept.{Kept}
 use Rattle.round_plan.specs.declared.owners.OwnWrite.{OwnWrite}
-use Rattle.round_plan.specs.Writes.{count_upto, writes_in, own_writes, writes_upto, born_in}
+use Rattle.round_plan.specs.Writes.{count_upto, own_writes, writes_upto, born_in}
 use Rattle.round_plan.proofs.Growth.{length-writes_upto, writes_upto-suc}
 use Rattle.scenario.specs.Settings.{Settings}
 use Rattle.staleness.specs.declared.lists.Write.{Write}
@@ -15,7 +15,7 @@ use Rattle.staleness.specs.Cluster.{OwnPartIsLastWrites, write_of_entry}
 use Rattle.staleness.specs.Figures.{table_at, writes_at, no_table}
 use Rattle.staleness.specs.Writes.{AreBornBy}
 use Rattle.bench.specs.Lists.{write_in, list_after}
-use Rattle.bench.specs.Rounds.{tables_in, with_own_writes, written_table, begun}
+use Rattle.bench.specs.Rounds.{tables_in, with_own_writes, written_table, written}
 use Rattle.bench.specs.Standing.{IsOwner, IsStanding}
 use Rattle.bench.proofs.Pairs.{table_of_node-tables_in}
 
@@ -35,11 +35,20 @@ begun_none s round tables lists standing = record {
 }
 
 -- what a round adds to the writes of an owner
-count_upto-before : (s : Settings) (n round : ℕ) → 1 ≤ round → count_upto s n round ≡ count_upto s n (round - 1) + s.writes
+count_upto-suc : (s : Settings) (n round : ℕ) → count_upto s n (suc round) ≡ count_upto s n round + length (own_writes s n (suc round) (count_upto s n round))
+count_upto-suc s n round =
+    let added = own_writes s n (suc round) (length (writes_upto s n round)) in
+    sym (length-writes_upto s n (suc round))
+    ∙ ap length (writes_upto-suc s n round)
+    ∙ length-append (writes_upto s n round) (map (born_in (suc round)) added)
+    ∙ (λ i. length-writes_upto s n round i + length-map added (born_in (suc round)) i)
+    ∙ ap (λ m. count_upto s n round + length (own_writes s n (suc round) m)) (length-writes_upto s n round)
+
+pub count_upto-before : (s : Settings) (n round : ℕ) → 1 ≤ round → count_upto s n round ≡ count_upto s n (round - 1) + length (own_writes s n round (count_upto s n (round - 1)))
 count_upto-before s n zero first = absurd (omega arith)
 count_upto-before s n (suc round) first =
     let same : suc round - 1 ≡ round = omega arith in
-    ap (λ m. count_upto s n m + s.writes) (sym same)
+    count_upto-suc s n round ∙ ap (λ m. count_upto s n m + length (own_writes s n (suc round) (count_upto s n m))) (sym same)
 
 map_map : {X Y Z : Type 0} (f : X → Y) (g : Y → Z) (xs : List X) → map g (map f xs) ≡ map (λ x. g (f x)) xs
 map_map f g [] = refl
@@ -55,14 +64,6 @@ list_after-before s n (suc round) first =
     ∙ map-append write_of_entry (writes_upto s n round) (map (born_in (suc round)) added)
     ∙ ap (λ l. list_after s round n ++ l) (map_map (born_in (suc round)) write_of_entry added)
     ∙ ap (λ m. list_after s m n ++ map (write_in (suc round)) (own_writes s n (suc round) (length (writes_upto s n m)))) (sym same)
-
-length-own_writes : (s : Settings) (n round before : ℕ) → length (own_writes s n round before) ≡ s.writes
-length-own_writes s n round before = length-map-range_with_len (Rattle.round_plan.specs.Writes.own_write s.keys) (before + 1) s.writes
-
--- the versions of a round's writes follow those before it
-pub version-own_writes : (s : Settings) (n round before i : ℕ) (w : OwnWrite) → i < length (own_writes s n round before) → (get_or (own_writes s n round before) i w).version ≡ before + 1 + i
-version-own_writes s n round before i w lt =
-    ap (λ (x : OwnWrite). x.version) (get_or-map-range_with_len (Rattle.round_plan.specs.Writes.own_write s.keys) (before + 1) s.writes i (before + 1 + i) w (omega (arith, length-own_writes s n round before)) refl)
 
 -- own writes leave whose table it is, and its bounds
 node-own_writes : (round : ℕ) (t : Table) (ws : List OwnWrite) → (with_own_writes round t ws).node ≡ t.node
@@ -100,7 +101,7 @@ module _ (s : Settings) (round : ℕ) (old new : List Kept) (lists : List (List 
     node = ap (λ (t : Table). t.node) table ∙ node-own_writes round (table_at new n) writes ∙ before.node;
     nodes = ap (λ (t : Table). t.nodes) table ∙ nodes-own_writes round (table_at new n) writes ∙ before.nodes;
     keys = ap (λ (t : Table). t.keys) table ∙ keys-own_writes round (table_at new n) writes ∙ before.keys;
-    count = omega (arith, count, before.count, ap length is, length-own_writes s n round (length (writes_at lists n)), count_upto-before s n round first);
+    count = omega (arith, count, before.count, ap length is ∙ ap (λ m. length (own_writes s n round m)) before.count, count_upto-before s n round first);
     writes = longer ws writes first is grown;
     few = omega (arith, count, before.few);
     greatest = greatest;
@@ -169,16 +170,16 @@ same_list (x ∷ xs) (y ∷ ys) size same =
     let rest = same_list xs ys (omega (arith, size)) (λ p d lt. same (suc p) d (omega arith)) in
     λ i. same 0 x (omega arith) i ∷ rest i
 
-pub begun_all : (s : Settings) (round : ℕ) (old new : List Kept) (lists : List (List Write)) → IsBegun s round old new lists s.nodes → (tables_in new ≡ begun s round (tables_in old)) × IsStanding s round new lists
+pub begun_all : (s : Settings) (round : ℕ) (old new : List Kept) (lists : List (List Write)) → IsBegun s round old new lists s.nodes → (tables_in new ≡ written s round (tables_in old)) × IsStanding s round new lists
 begun_all s round old new lists so_far = (tables, record { table_count = so_far.table_count; list_count = so_far.list_count; owners = λ n lt. (so_far.done n lt lt).1 })
   where
     size : length (tables_in new) ≡ length new
     size = length-map new (λ (k : Kept). k.table)
 
-    there : length (begun s round (tables_in old)) ≡ s.nodes
+    there : length (written s round (tables_in old)) ≡ s.nodes
     there = length-map-range_with_len (written_table s round (tables_in old)) 0 s.nodes
 
-    at_each : (p : ℕ) (d : Table) → p < length (tables_in new) → get_or (tables_in new) p d ≡ get_or (begun s round (tables_in old)) p d
+    at_each : (p : ℕ) (d : Table) → p < length (tables_in new) → get_or (tables_in new) p d ≡ get_or (written s round (tables_in old)) p d
     at_each p d lt =
         let below : p < s.nodes = omega (arith, size, so_far.table_count) in
         get_or_default (tables_in new) p d no_table.table lt
@@ -186,5 +187,5 @@ begun_all s round old new lists so_far = (tables, record { table_count = so_far.
         ∙ (so_far.done p below below).0
         ∙ sym (get_or-map-range_with_len (written_table s round (tables_in old)) 0 s.nodes p p d below (omega arith))
 
-    tables : tables_in new ≡ begun s round (tables_in old)
-    tables = same_list (tables_in new) (begun s round (tables_in old)) (omega (arith, size, so_far.table_count, there)) at_each
+    tables : tables_in new ≡ written s round (tables_in old)
+    tables = same_list (tables_in new) (written s round (tables_in old)) (omega (arith, size, so_far.table_count, there)) at_each

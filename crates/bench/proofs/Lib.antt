@@ -3,7 +3,10 @@ pub mod Pairs
 pub mod InputFacts
 pub mod Turns
 pub mod Begun
+pub mod Restarting
 pub mod Standing
 pub mod Lags
 pub mod Stepping
 pub mod Reporting
+pub mod OwnWrites
+pub mod Soundness

@@ -1,7 +1,7 @@
 -- What holds of all nodes at the beginning, and still holds after exchanges.
-use Rattle.std.proofs.Common.{◌≡◌, ℕ, List, [], length, refl, sym, ap, ◌∙◌, subst, arith}
+use Rattle.std.proofs.Common.{◌≡◌, ℕ, All, List, [], length, refl, sym, ap, ◌∙◌, subst, arith}
 use Rattle.std.specs.List.{range_with_len}
-use Rattle.std.proofs.lemmas.List.{length-map}
+use Rattle.std.proofs.lemmas.List.{length-map, get_or_default}
 use Rattle.std.proofs.lemmas.List.FromFn.{get_or-map-range_with_len, length-map-range_with_len}
 use Rattle.node_table.specs.Table.{Table, empty_table, greatest_version, entry_at}
 use Rattle.node_table.specs.Kept.{Kept}
@@ -10,6 +10,7 @@ use Rattle.scenario.specs.Settings.{Settings}
 use Rattle.staleness.specs.declared.lists.Write.{Write}
 use Rattle.staleness.specs.Cluster.{write_of_entry}
 use Rattle.staleness.specs.Figures.{table_at, writes_at}
+use Rattle.staleness.specs.Writes.{AreBornBy}
 use Rattle.staleness.proofs.OwnParts.{own_part-empty}
 use Rattle.exchange.specs.Owns.{KeepsOwn}
 use Rattle.exchange.specs.Folds.{table_of_node}
@@ -58,3 +59,7 @@ standing_kept s round old new lists size own is = record {
   list_count = is.list_count;
   owners = λ n lt. owner_kept s round n (table_at old n) (table_at new n) (writes_at lists n) (own n) (is.owners n lt);
 }
+
+-- no list has a write that was born after the round
+pub all_born : (s : Settings) (round : ℕ) (tables : List Kept) (lists : List (List Write)) → IsStanding s round tables lists → All (AreBornBy round) lists
+all_born s round tables lists is k d lt = subst (AreBornBy round) (get_or_default lists k [] d lt) (is.owners k (omega (arith, is.list_count))).born

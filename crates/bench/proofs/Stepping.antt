@@ -1,10 +1,11 @@
 -- A step that carries out the next round.
-use Rattle.std.proofs.Common.{◌≡◌, ◌≢◌, ℕ, suc, ◌+◌, ◌-◌, ◌<◌, false, List, Option, Some, refl, sym, ap, ◌∙◌, arith}
+use Rattle.std.proofs.Common.{◌≡◌, ◌≢◌, ℕ, suc, ◌+◌, ◌-◌, ◌<◌, false, List, Option, Some, refl, sym, ap, ◌∙◌, subst, arith}
 use Rattle.std.specs.Prelude.{is_none}
-use Rattle.scenario.specs.Settings.{Settings}
+use Rattle.scenario.specs.Settings.{Settings, IsLawful}
 use Rattle.bench.specs.declared.sims.Cluster.{Cluster}
 use Rattle.bench.specs.Played.{Played}
 use Rattle.bench.specs.Rounds.{tables_in, tables_after, round_of, records_in}
+use Rattle.bench.specs.Soundness.{AreSound, OnlyRestartsForget}
 use Rattle.bench.specs.Standing.{IsStanding}
 use Rattle.bench.specs.Simulation.{IsSimulation, IsPlayed, simulation_of, tables_held}
 use Rattle.bench.specs.Reports.{played_from}
@@ -13,6 +14,7 @@ use Rattle.round_plan.specs.Plan.{round_list_of}
 use Rattle.bench_types.specs.declared.exchanges.Record.{Record}
 use Rattle.bench_types.specs.declared.rows.Figures.{Figures}
 use Rattle.bench.proofs.Lags.{figures_are}
+use Rattle.bench.proofs.Soundness.{sound_run, round_rises}
 
 unfolded : (s : Settings) (done : ℕ) → tables_after s (suc done) ≡ (round_of s (suc done) (tables_after s done)).tables
 unfolding tables_after
@@ -24,7 +26,7 @@ tables_after-more s done =
     ap (tables_after s) next ∙ unfolded s done ∙ ap (λ n. (round_of s n (tables_after s done)).tables) (sym next)
 
 abbrev played_with : Settings → ℕ → List Record → Figures → Played
-played_with s round rs fs = record { row = row_of round (round_list_of s round) rs fs; records = rs; figures = fs }
+played_with s round rs fs = record { row = row_of round (round_list_of s round) rs fs; list = round_list_of s round; records = rs; figures = fs }
 
 module _ (s : Settings) (cluster : Option Cluster) (old new : Cluster) (done : ℕ) (round : Played) (so_far : IsSimulation (simulation_of s cluster done)) (is : cluster ≡ Some old) (more : done ≢ s.rounds) (standing : IsStanding s (done + 1) new.tables.items new.lists.items) (tables : tables_in new.tables.items ≡ (round_of s (done + 1) (tables_in old.tables.items)).tables) where
   unbroken : is_none cluster ≡ false
@@ -42,8 +44,8 @@ module _ (s : Settings) (cluster : Option Cluster) (old new : Cluster) (done : �
   pub step_simulation : IsSimulation (simulation_of s (Some new) (done + 1))
   step_simulation = record { within = omega (arith, not_done); standing = λ _. standing; tables = λ _. after }
 
-  pub step_played : round ≡ played_from s (done + 1) (tables_in old.tables.items) new.tables.items new.lists.items → IsPlayed (simulation_of s cluster done) (simulation_of s (Some new) (done + 1)) round
-  step_played played = record {
+  pub step_played : IsLawful s → round ≡ played_from s (done + 1) (tables_in old.tables.items) new.tables.items new.lists.items → IsPlayed (simulation_of s cluster done) (simulation_of s (Some new) (done + 1)) round
+  step_played lawful played = record {
     unbroken = unbroken;
     unfinished = not_done;
     still = refl;
@@ -51,9 +53,15 @@ module _ (s : Settings) (cluster : Option Cluster) (old new : Cluster) (done : �
     done = refl;
     tables = after;
     standing = standing;
+    sound = subst (AreSound s (done + 1)) (sym after) ((sound_run s lawful.nodes.0 lawful.nodes.1 lawful.keys.0 lawful.keys.1).after (done + 1));
+    kept = subst (λ ts. OnlyRestartsForget s (done + 1) ts (tables_in new.tables.items)) (sym before_held)
+        (subst (OnlyRestartsForget s (done + 1) (tables_after s done)) (sym after) (round_rises s lawful.nodes.0 lawful.nodes.1 lawful.keys.0 lawful.keys.1 done));
     played = played ∙ (λ i. played_with s (done + 1) (records i) (figures_are s (done + 1) new.tables.items new.lists.items standing after i));
   }
     where
+      before_held : tables_in (tables_held cluster) ≡ tables_after s done
+      before_held = so_far.tables unbroken
+
       previous : done ≡ done + 1 - 1
       previous = omega arith
 

@@ -1,4 +1,5 @@
 pub mod Rounds
+pub mod Soundness
 pub mod Lists
 pub mod Standing
 pub mod Rows

@@ -13,6 +13,7 @@ use Rattle.staleness.specs.declared.lists.Write.{Write}
 use Rattle.bench.specs.Played.{Played}
 use Rattle.bench.specs.Rounds.{tables_in, tables_after}
 use Rattle.bench.specs.Reports.{played_of}
+use Rattle.bench.specs.Soundness.{AreSound, OnlyRestartsForget}
 use Rattle.bench.specs.Standing.{IsStanding}
 
 pub record Simulation : Type 0 where
@@ -59,6 +60,8 @@ pub record IsPlayed (old new : Simulation) (round : Played) : Type 0 where
   pub tables : tables_in new.tables ≡ tables_after new.settings new.rounds_done
   pub standing : IsStanding new.settings new.rounds_done new.tables new.lists
   pub played : round ≡ played_of new.settings new.rounds_done
+  pub sound : AreSound new.settings new.rounds_done (tables_in new.tables)
+  pub kept : OnlyRestartsForget new.settings new.rounds_done (tables_in old.tables) (tables_in new.tables)
 
 -- a step that failed
 abbrev pub IsFailedBy : Simulation → Simulation → Fault → Type 0

@@ -10,14 +10,15 @@ ghost use Rattle.staleness.specs.Writes.{AreBornBy};
 ghost use Rattle.round_plan.specs.declared.owners.OwnWrite.{OwnWrite};
 ghost use Rattle.round_plan.specs.Plan.{IsPlanned};
 ghost use Rattle.exchange.specs.Folds.{Folded, exchange_in, fold_of};
-ghost use Rattle.bench.specs.Rounds.{tables_in, opening_tables, with_own_writes, begun, rules_of};
+ghost use Rattle.bench.specs.Rounds.{tables_in, opening_tables, with_own_writes, restarted, written, begun, rules_of};
 ghost use Rattle.bench.specs.Lists.{write_in};
 ghost use Rattle.bench.specs.Standing.{IsStanding, AreTablesOf, KeepOwn};
 
+use bench_types::limits::MOST_ROUNDS;
 use bench_types::{Exchange, Fault, Record, Rules};
 use exchange::exchange;
 use node_table::NodeTable;
-use round_plan::{OwnWrite, RoundList, writes_of};
+use round_plan::{OwnWrite, RoundList, restarts_now, writes_of};
 use scenario::Scenario;
 use staleness::OwnerList;
 use std::alloc::Global;
@@ -49,18 +50,51 @@ pub(crate) fn empty_lists(alloc: Global, scenario: &Scenario) -> Result<Vec<Owne
     Ok(lists)
 }
 
-/// The writes of a round, by node.
-pub(crate) fn write_all(
+/// What a round begins with: its restarts, and then its writes, by node.
+pub(crate) fn begin_round(
     scenario: &Scenario,
     tables: &mut [NodeTable],
     lists: &mut [OwnerList],
     round: u32,
 ) -> Result<(), Fault>
     requires first { 1 ≤ round }
-    requires last { round ≤ 100000 }
+    requires last { round ≤ MOST_ROUNDS }
     requires standing { IsStanding scenario.now (round - 1) tables.old lists.old }
     ensures standing { OnOk result (IsStanding scenario.now round tables.new lists.new) }
     ensures tables { OnOk result (tables_in tables.new ≡ begun scenario.now round (tables_in tables.old)) }
+    ensures only { IsOkUnless result OutOfMemory }
+{
+    restart_all(scenario, tables, round);
+    write_all(scenario, tables, lists, round)
+}
+
+// The restarts of a round: each empties a node's copies of all others.
+fn restart_all(scenario: &Scenario, tables: &mut [NodeTable], round: u32)
+    requires first { 1 ≤ round }
+    requires last { round ≤ MOST_ROUNDS }
+    requires one_each { length tables.old ≡ scenario.now.nodes }
+    ensures tables { tables_in tables.new ≡ restarted scenario.now round (tables_in tables.old) }
+    ensures own { KeepOwn tables.old tables.new }
+{
+    for node in 0..scenario.nodes() {
+        if restarts_now(scenario, node, round) {
+            tables[node as usize].forget_others();
+        }
+    }
+}
+
+// The writes of a round, by node.
+fn write_all(
+    scenario: &Scenario,
+    tables: &mut [NodeTable],
+    lists: &mut [OwnerList],
+    round: u32,
+) -> Result<(), Fault>
+    requires first { 1 ≤ round }
+    requires last { round ≤ MOST_ROUNDS }
+    requires standing { IsStanding scenario.now (round - 1) tables.old lists.old }
+    ensures standing { OnOk result (IsStanding scenario.now round tables.new lists.new) }
+    ensures tables { OnOk result (tables_in tables.new ≡ written scenario.now round (tables_in tables.old)) }
     ensures only { IsOkUnless result OutOfMemory }
 {
     for node in 0..scenario.nodes() {

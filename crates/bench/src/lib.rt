@@ -1,8 +1,10 @@
-//! The simulation, from a scenario's bytes to the report's: reading, rounds in order, rows.
+//! The simulation, from a scenario's bytes to those of its report and its trace: reading, rounds in
+//! order, lines.
 #![tactic(auto)]
 
 mod clusters;
 mod inputs;
+mod laws;
 mod rounds;
 mod runs;
 mod sims;
@@ -10,6 +12,7 @@ mod sims;
 mod tests;
 
 pub use inputs::read_all;
+pub use laws::every_run_is_sound;
 pub use rounds::Round;
-pub use runs::run;
+pub use runs::{check_input, run};
 pub use sims::Sim;

@@ -11,27 +11,31 @@ use std::marker::Model;
 #[derive(Debug, Drop)]
 pub struct Round {
     row: Row,
+    list: RoundList,
     records: Vec<Record>,
     figures: Figures,
 }
 
 impl Model for Round {
-    ghost use Rattle.std.specs.Prelude.{◌≤◌, length};
+    ghost use Rattle.std.specs.Prelude.{◌≡◌, length};
     ghost use Rattle.bench.specs.Played.{Played};
 
     ghost Value = { Played };
 
-    ghost view = { λ r. record { row = r.row; records = r.records.items; figures = r.figures } };
+    ghost view = { λ r. record { row = r.row; list = r.list; records = r.records.items; figures = r.figures } };
+
+    ghost invariant = { λ r. length r.records.items ≡ length r.list.exchanges };
 }
 
 impl Round {
-    pub(crate) fn of(round: u32, list: &RoundList, records: Vec<Record>, figures: Figures) -> Round
-        requires { length records.items ≤ 4096 }
-        ensures { result ≡ record { row = row_of round list.now records.items figures; records = records.items; figures = figures } }
+    pub(crate) fn of(round: u32, list: RoundList, records: Vec<Record>, figures: Figures) -> Round
+        requires { length records.items ≡ length list.exchanges }
+        ensures { result ≡ record { row = row_of round list records.items figures; list = list; records = records.items; figures = figures } }
     {
-        let row = row_of(round, list, &records, figures);
+        let row = row_of(round, &list, &records, figures);
         Round {
             row,
+            list,
             records,
             figures,
         }
@@ -44,9 +48,17 @@ impl Round {
         self.row
     }
 
+    /// The exchanges of the round, in order, and how many nodes reached no peer.
+    pub fn list(&self) -> &RoundList
+        ensures { result.now ≡ self.now.list }
+    {
+        &self.list
+    }
+
     /// What was sent in each exchange, in the order of the round's list.
     pub fn records(&self) -> &[Record]
-        ensures { result.now ≡ self.now.records }
+        ensures value { result.now ≡ self.now.records }
+        ensures count { length result.now ≡ length self.now.list.exchanges }
     {
         &self.records
     }

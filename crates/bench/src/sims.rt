@@ -10,8 +10,9 @@ ghost use Rattle.bench.specs.Standing.{IsStanding};
 ghost use Rattle.bench.specs.Simulation.{IsPlayed, IsFailedBy, IsRefusedBy};
 ghost use Rattle.bench.specs.Reports.{played_from};
 
-use crate::clusters::{empty_lists, empty_tables, exchange_all, write_all};
+use crate::clusters::{begin_round, empty_lists, empty_tables, exchange_all};
 use crate::rounds::Round;
+use bench_types::limits::MOST_ROUNDS;
 use bench_types::{Fault, Rules};
 use node_table::NodeTable;
 use round_plan::round_list;
@@ -19,6 +20,7 @@ use scenario::Scenario;
 use staleness::{OwnerList, figures};
 use std::alloc::Global;
 use std::marker::Model;
+use std::thread::Threads;
 
 /// A simulation of a scenario. A fault within a round breaks it: its tables are then given up.
 #[derive(Drop)]
@@ -67,10 +69,10 @@ impl Sim {
         }
     }
 
-    /// Carries out the next round: the writes by node, the exchanges of the round's list in order,
-    /// the figures. It answers `Broken` where an earlier round failed and `Finished` where all rounds
-    /// are done, and then changes nothing; any other fault breaks the simulation.
-    pub fn step(&mut self) -> Result<Round, Fault>
+    /// Carries out the next round: the restarts, the writes by node, the exchanges of the round's list
+    /// in order, the figures. It answers `Broken` where an earlier round failed and `Finished` where
+    /// all rounds are done, and then changes nothing; any other fault breaks the simulation.
+    pub fn step<R: Threads + Sync>(&mut self, rt: &R) -> Result<Round, Fault>
         ensures played { IfOk result (IsPlayed self.old self.new) }
         ensures fails { IfErr result (λ f. IsFailedBy self.old self.new f ⊎ (IsRefusedBy self.old f × (self.new ≡ self.old))) }
     {
@@ -83,7 +85,7 @@ impl Sim {
         let Some(mut cluster) = self.cluster.take() else {
             return Err(Fault::Broken);
         };
-        let round = cluster.play(self.alloc, &self.scenario, self.rounds_done + 1)?;
+        let round = cluster.play(rt, self.alloc, &self.scenario, self.rounds_done + 1)?;
         self.cluster = Some(cluster);
         self.rounds_done += 1;
         Ok(round)
@@ -149,23 +151,56 @@ impl Cluster {
         })
     }
 
-    fn play(&mut self, alloc: Global, scenario: &Scenario, round: u32) -> Result<Round, Fault>
+    fn play<R: Threads + Sync>(
+        &mut self,
+        rt: &R,
+        alloc: Global,
+        scenario: &Scenario,
+        round: u32,
+    ) -> Result<Round, Fault>
         requires first { 1 ≤ round }
-        requires last { round ≤ 100000 }
+        requires last { round ≤ MOST_ROUNDS }
         requires standing { IsStanding scenario.now (round - 1) self.old.tables.items self.old.lists.items }
         ensures tables { OnOk result (tables_in self.new.tables.items ≡ (round_of scenario.now round (tables_in self.old.tables.items)).tables) }
         ensures standing { OnOk result (IsStanding scenario.now round self.new.tables.items self.new.lists.items) }
         ensures played { IfOk result (λ r. r ≡ played_from scenario.now round (tables_in self.old.tables.items) self.new.tables.items self.new.lists.items) }
         ensures only { IsOkUnless result OutOfMemory }
     {
-        let rules = Rules {
-            mode: scenario.mode(),
-            budget: scenario.budget(),
-        };
-        write_all(scenario, &mut self.tables, &mut self.lists, round)?;
-        let list = round_list(alloc, scenario, round)?;
-        let records = exchange_all(alloc, &mut self.tables, &list, &rules)?;
-        let lag = figures(&self.tables, &self.lists, round)?;
-        Ok(Round::of(round, &list, records, lag))
+        play_round(
+            rt,
+            alloc,
+            scenario,
+            &mut self.tables,
+            &mut self.lists,
+            round,
+        )
     }
+}
+
+// A round, on the tables and the lists of all nodes.
+fn play_round<R: Threads + Sync>(
+    rt: &R,
+    alloc: Global,
+    scenario: &Scenario,
+    tables: &mut [NodeTable],
+    lists: &mut [OwnerList],
+    round: u32,
+) -> Result<Round, Fault>
+    requires first { 1 ≤ round }
+    requires last { round ≤ MOST_ROUNDS }
+    requires standing { IsStanding scenario.now (round - 1) tables.old lists.old }
+    ensures tables { OnOk result (tables_in tables.new ≡ (round_of scenario.now round (tables_in tables.old)).tables) }
+    ensures standing { OnOk result (IsStanding scenario.now round tables.new lists.new) }
+    ensures played { IfOk result (λ r. r ≡ played_from scenario.now round (tables_in tables.old) tables.new lists.new) }
+    ensures only { IsOkUnless result OutOfMemory }
+{
+    let rules = Rules {
+        mode: scenario.mode(),
+        budget: scenario.budget(),
+    };
+    begin_round(scenario, tables, lists, round)?;
+    let list = round_list(rt, alloc, scenario, round)?;
+    let records = exchange_all(alloc, tables, &list, &rules)?;
+    let lag = figures(rt, alloc, tables, lists, round)?;
+    Ok(Round::of(round, list, records, lag))
 }

@@ -1,7 +1,8 @@
 use super::*;
 use bench_types::limits::MOST_BYTES;
-use bench_types::{Fate, Fault, Figures, Pull, Record, Row};
-use scenario::read;
+use bench_types::{Discard, Exchange, Fate, Fault, Field, Figures, Pull, Push, Record, Row};
+use node_table::NodeTable;
+use scenario::Scenario;
 use std::alloc::{AllocError, Global};
 use std::io;
 use std::io::Read;
@@ -139,6 +140,9 @@ const TWO_NODES: &str = "format = 1\n\
     loss_ppm = 0\n\
     writes = 1\n";
 
+const TWO_NODES_REPORT: &str = "round,exchanges,unreached,lost,entries,cut,stale,greatest\n\
+    1,2,0,0,2,0,0,0\n";
+
 // What an exchange sent where it lost and cut nothing: the sizes of its digests, and entries back and forth.
 fn sent(digest1: u32, digest2: u32, back: u32, forth: u32) -> Record {
     Record {
@@ -152,50 +156,122 @@ fn sent(digest1: u32, digest2: u32, back: u32, forth: u32) -> Record {
     }
 }
 
+// The scenario of a text.
+fn check(alloc: Global, text: &str) -> Result<Scenario, Fault> {
+    check_input(alloc, &mut Pull::new(text.as_bytes()))
+}
+
+// The simulation of a text, before its first round.
+fn sim_of(alloc: Global, text: &str) -> Result<Sim, Fault> {
+    match Sim::new(alloc, check(alloc, text)?) {
+        Ok(sim) => Ok(sim),
+        Err((fault, _)) => Err(fault),
+    }
+}
+
+fn between(initiator: u32, responder: u32) -> Exchange {
+    Exchange {
+        initiator,
+        responder,
+        lost1: false,
+        lost2: false,
+        lost3: false,
+        rotation: 0,
+    }
+}
+
+// How many entries each node holds.
+fn counts_of(alloc: Global, tables: &[NodeTable]) -> Result<Vec<u32>, AllocError> {
+    let mut counts = Vec::new(alloc);
+    for table in tables {
+        counts.push(table.count())?;
+    }
+    Ok(counts)
+}
+
 #[test]
 fn two_nodes(rt: HostRuntime) -> Result<(), Fail> {
     let alloc = rt.alloc();
-    let scenario = read(alloc, TWO_NODES.as_bytes())?;
-    let mut sim = match Sim::new(alloc, scenario) {
-        Ok(sim) => sim,
-        Err((fault, _)) => return Err(fault.into()),
-    };
-    assert_eq!(rt; sim.tables().len(), 2);
-    for table in sim.tables() {
-        assert_eq!(rt; table.count(), 0);
-    }
+    let mut sim = sim_of(alloc, TWO_NODES)?;
+    assert_eq!(rt; sim.rounds_done(), 0);
+    assert_eq!(rt;
+        counts_of(alloc, sim.tables())?.as_slice(),
+        [0, 0].as_slice()
+    );
 
-    let round = sim.step()?;
-    let figures = Figures {
-        stale: 0,
-        greatest: 0,
-    };
+    let round = sim.step(&rt)?;
+    assert_eq!(rt;
+        round.list().exchanges(),
+        [between(0, 1), between(1, 0)].as_slice()
+    );
+    assert_eq!(rt; (round.list().nodes(), round.list().unreached()), (2, 0));
     assert_eq!(rt;
         round.records(),
         [sent(1, 1, 1, 1), sent(2, 2, 0, 0)].as_slice()
     );
+    let figures = Figures {
+        stale: 0,
+        greatest: 0,
+    };
     assert_eq!(rt; round.figures(), figures);
+    let row = Row {
+        round: 1,
+        exchanges: 2,
+        unreached: 0,
+        lost: 0,
+        entries: 2,
+        cut: 0,
+        stale: 0,
+        greatest: 0,
+    };
+    assert_eq!(rt; round.row(), row);
     assert_eq!(rt;
-        round.row(),
-        Row {
-            round: 1,
-            exchanges: 2,
-            unreached: 0,
-            lost: 0,
-            entries: 2,
-            cut: 0,
-            stale: 0,
-            greatest: 0,
-        }
+        counts_of(alloc, sim.tables())?.as_slice(),
+        [2, 2].as_slice()
     );
-
-    assert_eq!(rt; sim.tables().len(), 2);
-    for table in sim.tables() {
-        assert_eq!(rt; table.count(), 2, "at node {}", table.node());
-    }
-    assert_eq!(rt; sim.step().err(), Some(Fault::Finished));
-    assert_eq!(rt; sim.rounds_done(), 1);
-    assert!(rt; !sim.is_broken());
-    assert_eq!(rt; sim.into_scenario().nodes(), 2);
     Ok(())
+}
+
+#[test]
+fn steps_behind_the_last_round(rt: HostRuntime) -> Result<(), Fail> {
+    let alloc = rt.alloc();
+    let mut sim = sim_of(alloc, TWO_NODES)?;
+    sim.step(&rt)?;
+    for _ in 0..2 {
+        assert_eq!(rt; sim.step(&rt).err(), Some(Fault::Finished));
+        assert_eq!(rt; sim.rounds_done(), 1);
+        assert!(rt; !sim.is_broken());
+        assert_eq!(rt;
+            counts_of(alloc, sim.tables())?.as_slice(),
+            [2, 2].as_slice()
+        );
+    }
+    let scenario = sim.into_scenario();
+    assert_eq!(rt; (scenario.nodes(), scenario.rounds()), (2, 1));
+    Ok(())
+}
+
+#[test]
+fn checked_inputs(rt: HostRuntime) -> Result<(), Fail> {
+    let alloc = rt.alloc();
+    assert_eq!(rt; check(alloc, TWO_NODES)?.nodes(), 2);
+    assert_eq!(rt; check(alloc, "").err(), Some(Fault::Missing(Field::Format)));
+    let mut failing = Pull::new(Halting {
+        rest: TWO_NODES.as_bytes(),
+        step: 1,
+        calls: Some(3),
+    });
+    let answer = check_input(alloc, &mut failing);
+    assert_eq!(rt; answer.err(), Some(Fault::ReadFailed));
+    Ok(())
+}
+
+#[test]
+fn a_run_without_a_trace(rt: HostRuntime) {
+    let alloc = rt.alloc();
+    let mut reader = Pull::new(TWO_NODES.as_bytes());
+    let mut writer = Push::new(Vec::new(alloc));
+    let answer = run(&rt, alloc, &mut reader, &mut writer, &mut Discard);
+    assert_eq!(rt; answer, Ok(()));
+    assert!(rt; writer.into_inner().as_slice() == TWO_NODES_REPORT.as_bytes());
 }

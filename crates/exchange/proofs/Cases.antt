@@ -61,3 +61,16 @@ module _ (rules : Rules) (e : Exchange) (p q : Table) where
             responder = (ap (λ (d : Sent). applied q d.items) (sym forth_is) ∙ sym q'_is) i;
             sent = ((λ j. sent_until fate.Ok (size_is p d1 is1 j) (size_is q d2 is2 j) (sym back_is j) (sym forth_is j)) ∙ sym sent) i;
           })
+
+-- what holds of a table before an exchange and with what it receives holds after the exchange
+pub initiator_after-either : (P : Table → Type 0) (f : Fate) (p : Table) (back : Sent) → P p → P (applied p back.items) → P (initiator_after f p back)
+initiator_after-either P fate.Lost1 p back old new = old
+initiator_after-either P fate.Lost2 p back old new = old
+initiator_after-either P fate.Lost3 p back old new = new
+initiator_after-either P fate.Ok p back old new = new
+
+pub responder_after-either : (P : Table → Type 0) (f : Fate) (q : Table) (forth : Sent) → P q → P (applied q forth.items) → P (responder_after f q forth)
+responder_after-either P fate.Lost1 q forth old new = old
+responder_after-either P fate.Lost2 q forth old new = old
+responder_after-either P fate.Lost3 q forth old new = old
+responder_after-either P fate.Ok q forth old new = new

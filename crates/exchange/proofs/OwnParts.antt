@@ -2,18 +2,16 @@
 use Rattle.std.proofs.Common.{◌≢◌, ℕ, List, All, refl, sym, ap, ◌∙◌}
 use Rattle.bench_types.specs.declared.entries.Item.{Item}
 use Rattle.bench_types.specs.declared.exchanges.Exchange.{Exchange}
-use Rattle.bench_types.specs.declared.exchanges.Fate.{Fate}
-use Rattle.bench_types.specs.declared.exchanges.Fate.TheVariants as fate
 use Rattle.bench_types.specs.declared.exchanges.Rules.{Rules}
 use Rattle.node_table.specs.Table.{Table, applied, items_of, entry_at, greatest_version}
 use Rattle.node_table.proofs.Laws.{entry_at-applied_other}
 use Rattle.node_table.proofs.Versions.{greatest_version-applied_other}
 use Rattle.reconcile.specs.Candidates.{candidates, known_version}
-use Rattle.reconcile.specs.Deltas.{Sent}
 use Rattle.reconcile.specs.Order.{sending_order}
 use Rattle.reconcile.proofs.Told.{All-sent, All-items_above}
-use Rattle.exchange.specs.Exchanged.{exchanged, delta_between, fate_of, initiator_after, responder_after}
+use Rattle.exchange.specs.Exchanged.{exchanged, delta_between, fate_of}
 use Rattle.exchange.specs.Owns.{KeepsOwn}
+use Rattle.exchange.proofs.Cases.{initiator_after-either, responder_after-either}
 use Rattle.std.proofs.lemmas.List.Elements.{All-weaker}
 
 -- nothing that is sent is the receiver's own
@@ -44,21 +42,9 @@ keeps_own_applied t added others = record {
   greatest = greatest_version-applied_other t added t.node others;
 }
 
-after_initiator : (f : Fate) (p : Table) (back : Sent) → All (λ (i : Item). i.owner ≢ p.node) back.items → KeepsOwn p (initiator_after f p back)
-after_initiator fate.Lost1 p back others = keeps_own_same p
-after_initiator fate.Lost2 p back others = keeps_own_same p
-after_initiator fate.Lost3 p back others = keeps_own_applied p back.items others
-after_initiator fate.Ok p back others = keeps_own_applied p back.items others
-
-after_responder : (f : Fate) (q : Table) (forth : Sent) → All (λ (i : Item). i.owner ≢ q.node) forth.items → KeepsOwn q (responder_after f q forth)
-after_responder fate.Lost1 q forth others = keeps_own_same q
-after_responder fate.Lost2 q forth others = keeps_own_same q
-after_responder fate.Lost3 q forth others = keeps_own_same q
-after_responder fate.Ok q forth others = keeps_own_applied q forth.items others
-
 module _ (rules : Rules) (e : Exchange) (p q : Table) where
   pub initiator_keeps_own : KeepsOwn p (exchanged rules e p q).initiator
-  initiator_keeps_own = after_initiator (fate_of e) p (delta_between rules e.rotation q p) (delta-others rules e.rotation q p)
+  initiator_keeps_own = initiator_after-either (KeepsOwn p) (fate_of e) p (delta_between rules e.rotation q p) (keeps_own_same p) (keeps_own_applied p (delta_between rules e.rotation q p).items (delta-others rules e.rotation q p))
 
   pub responder_keeps_own : KeepsOwn q (exchanged rules e p q).responder
-  responder_keeps_own = after_responder (fate_of e) q (delta_between rules e.rotation p q) (delta-others rules e.rotation p q)
+  responder_keeps_own = responder_after-either (KeepsOwn q) (fate_of e) q (delta_between rules e.rotation p q) (keeps_own_same q) (keeps_own_applied q (delta_between rules e.rotation p q).items (delta-others rules e.rotation p q))

@@ -1,6 +1,10 @@
 pub mod Exchanged
 pub mod Folds
 pub mod Owns
+pub mod Laws
+pub mod Copies
+pub mod Clusters
+pub mod Begins
 pub use Rattle.reconcile.specs.Candidates
 pub use Rattle.reconcile.specs.Order
 pub use Rattle.reconcile.specs.Picks

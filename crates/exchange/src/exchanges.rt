@@ -14,9 +14,15 @@ use node_table::NodeTable;
 use reconcile::{Delta, Digest, delta};
 use std::alloc::Global;
 
-/// Carries out one exchange. The first table is the initiator's. All memory is taken before either
-/// table changes. The work is one pass over each table for its digest and one for its candidates,
-/// with a search of a precise digest for each entry, the sorts of `delta`, and the two `apply`.
+/// Carries out one exchange. The first table is the initiator's.
+///
+/// An error is want of memory. All of it is taken before either table changes, so both are then as
+/// they were. It is taken for both digests, for the candidates both ways and for the room of what
+/// is sent; only that room stays taken.
+///
+/// Where no message is lost, each table is gone through once for its digest and once, beside the
+/// other's digest, for its candidates. To this come the sorts of `delta` and both calls of `apply`.
+/// What a lost message leaves unsent isn't worked out.
 pub fn exchange(
     alloc: Global,
     initiator: &mut NodeTable,

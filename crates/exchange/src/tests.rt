@@ -1,7 +1,7 @@
 //! Exchanges of two tables, with records and tables worked out from the rules.
 
 use crate::exchange;
-use bench_types::{Entry, Exchange, Fate, Item, Mode, Record, Rules};
+use bench_types::{Entry, Exchange, Fate, Fault, Item, Mode, Record, Rules};
 use node_table::NodeTable;
 use std::alloc::Global;
 use std::process::Abort;
@@ -59,18 +59,21 @@ fn meet(
     initiator: &mut NodeTable,
     responder: &mut NodeTable,
     plan: &Exchange,
-    budget: u32,
-) -> Result<Record, Fail> {
-    let rules = Rules {
-        mode: Mode::ScuttleBreadth,
-        budget,
-    };
-    assert!(rt; budget >= 1);
+    rules: &Rules,
+) -> Result<Record, Fault> {
+    assert!(rt; rules.budget >= 1);
     assert!(rt; initiator.node() == plan.initiator && responder.node() == plan.responder);
     assert!(rt; initiator.nodes() == responder.nodes());
     assert!(rt; initiator.keys() == responder.keys());
     assert!(rt; plan.rotation < initiator.nodes());
-    Ok(exchange(alloc, initiator, responder, plan, &rules)?)
+    exchange(alloc, initiator, responder, plan, rules)
+}
+
+fn breadth(budget: u32) -> Rules {
+    Rules {
+        mode: Mode::ScuttleBreadth,
+        budget,
+    }
 }
 
 // The record of an exchange: sizes of the digests, entries sent back and forth, and their cuts.
@@ -93,13 +96,13 @@ fn two_nodes(rt: HostRuntime) -> Result<(), Fail> {
     write(&rt, &mut first, 1)?;
     write(&rt, &mut second, 1)?;
     let plan = planned(&first, &second, Fate::Ok, 0);
-    let sent = meet(&rt, rt.alloc(), &mut first, &mut second, &plan, 1)?;
+    let sent = meet(&rt, rt.alloc(), &mut first, &mut second, &plan, &breadth(1))?;
     assert_eq!(rt; sent, record(Fate::Ok, (1, 1), (1, 1), (0, 0)));
     let both = [item(0, 0, 1, 1), item(1, 0, 1, 1)];
     assert_eq!(rt; first.items(), both.as_slice());
     assert_eq!(rt; second.items(), both.as_slice());
     let plan = planned(&second, &first, Fate::Ok, 0);
-    let sent = meet(&rt, rt.alloc(), &mut second, &mut first, &plan, 1)?;
+    let sent = meet(&rt, rt.alloc(), &mut second, &mut first, &plan, &breadth(1))?;
     assert_eq!(rt; sent, record(Fate::Ok, (2, 2), (0, 0), (0, 0)));
     Ok(())
 }
@@ -118,7 +121,7 @@ fn lost_messages_of_one_exchange(rt: HostRuntime) -> Result<(), Fail> {
         write(&rt, &mut second, 1)?;
         let plan = planned(&first, &second, sent.fate, 0);
         assert_eq!(rt;
-            meet(&rt, rt.alloc(), &mut first, &mut second, &plan, 1)?,
+            meet(&rt, rt.alloc(), &mut first, &mut second, &plan, &breadth(1))?,
             sent
         );
         assert_eq!(rt; first.items(), both.split_at(first_holds).0);
@@ -127,28 +130,62 @@ fn lost_messages_of_one_exchange(rt: HostRuntime) -> Result<(), Fail> {
     Ok(())
 }
 
+// Each side sends its older entry first, but in the mode that sends the newest first.
 #[test]
 fn two_nodes_cut_by_the_budget(rt: HostRuntime) -> Result<(), Fail> {
-    let mut first = NodeTable::new(rt.alloc(), 0, 2, 2)?;
-    let mut second = NodeTable::new(rt.alloc(), 1, 2, 2)?;
-    write(&rt, &mut first, 2)?;
-    write(&rt, &mut second, 2)?;
-    let plan = planned(&first, &second, Fate::Ok, 0);
-    let sent = meet(&rt, rt.alloc(), &mut first, &mut second, &plan, 1)?;
-    assert_eq!(rt; sent, record(Fate::Ok, (1, 1), (1, 1), (1, 1)));
-    assert_eq!(rt; first.get(1, 0), Some(item(1, 0, 1, 1).entry));
-    assert_eq!(rt; second.get(0, 1), None);
-    let plan = planned(&second, &first, Fate::Ok, 0);
-    let sent = meet(&rt, rt.alloc(), &mut second, &mut first, &plan, 1)?;
-    assert_eq!(rt; sent, record(Fate::Ok, (2, 2), (1, 1), (0, 0)));
     let all = [
         item(0, 0, 1, 1),
         item(0, 1, 2, 1),
         item(1, 0, 1, 1),
         item(1, 1, 2, 1),
     ];
-    assert_eq!(rt; first.items(), all.as_slice());
-    assert_eq!(rt; second.items(), all.as_slice());
+    let (older, newer) = ([all[0], all[1], all[2]], [all[0], all[1], all[3]]);
+    for (mode, digests, first_then) in [
+        (Mode::ScuttleBreadth, [1, 2], older),
+        (Mode::ScuttleDepth, [1, 2], older),
+        (Mode::PreciseOldest, [2, 3], older),
+        (Mode::PreciseNewest, [2, 3], newer),
+    ] {
+        let rules = Rules { mode, budget: 1 };
+        let mut first = NodeTable::new(rt.alloc(), 0, 2, 2)?;
+        let mut second = NodeTable::new(rt.alloc(), 1, 2, 2)?;
+        write(&rt, &mut first, 2)?;
+        write(&rt, &mut second, 2)?;
+        let plan = planned(&first, &second, Fate::Ok, 0);
+        let sent = meet(&rt, rt.alloc(), &mut first, &mut second, &plan, &rules)?;
+        let sizes = (digests[0], digests[0]);
+        assert_eq!(rt; sent, record(Fate::Ok, sizes, (1, 1), (1, 1)));
+        assert_eq!(rt; first.items(), first_then.as_slice());
+        let plan = planned(&second, &first, Fate::Ok, 0);
+        let sent = meet(&rt, rt.alloc(), &mut second, &mut first, &plan, &rules)?;
+        let sizes = (digests[1], digests[1]);
+        assert_eq!(rt; sent, record(Fate::Ok, sizes, (1, 1), (0, 0)));
+        assert_eq!(rt; first.items(), all.as_slice());
+        assert_eq!(rt; second.items(), all.as_slice());
+    }
+    Ok(())
+}
+
+// To be run with each allocation refused in turn, by `rt try --test --fail-alloc N`.
+#[test]
+fn refused_memory_leaves_both_tables(rt: HostRuntime) -> Result<(), Fail> {
+    let own = [item(0, 0, 1, 1), item(1, 0, 1, 1)];
+    for mode in [Mode::ScuttleBreadth, Mode::PreciseNewest] {
+        let rules = Rules { mode, budget: 1 };
+        let mut first = NodeTable::new(rt.alloc(), 0, 2, 1)?;
+        let mut second = NodeTable::new(rt.alloc(), 1, 2, 1)?;
+        write(&rt, &mut first, 1)?;
+        write(&rt, &mut second, 1)?;
+        let plan = planned(&first, &second, Fate::Ok, 0);
+        match meet(&rt, rt.alloc(), &mut first, &mut second, &plan, &rules) {
+            Ok(sent) => assert_eq!(rt; sent, record(Fate::Ok, (1, 1), (1, 1), (0, 0))),
+            Err(fault) => {
+                assert_eq!(rt; fault, Fault::OutOfMemory);
+                assert_eq!(rt; first.items(), own.split_at(1).0);
+                assert_eq!(rt; second.items(), own.split_at(1).1);
+            }
+        }
+    }
     Ok(())
 }
 
@@ -170,12 +207,26 @@ fn rotation_turns_the_order(rt: HostRuntime) -> Result<(), Fail> {
         }
         let mut receiver = NodeTable::new(rt.alloc(), 0, 4, 2)?;
         let plan = planned(&receiver, &sender, Fate::Lost3, rotation);
-        let back = meet(&rt, rt.alloc(), &mut receiver, &mut sender, &plan, budget)?;
+        let back = meet(
+            &rt,
+            rt.alloc(),
+            &mut receiver,
+            &mut sender,
+            &plan,
+            &breadth(budget),
+        )?;
         assert_eq!(rt; back, record(Fate::Lost3, (0, 2), (count, 0), (cut, 0)));
         assert_eq!(rt; receiver.items(), sent);
         let mut other = NodeTable::new(rt.alloc(), 0, 4, 2)?;
         let plan = planned(&sender, &other, Fate::Ok, rotation);
-        let forth = meet(&rt, rt.alloc(), &mut sender, &mut other, &plan, budget)?;
+        let forth = meet(
+            &rt,
+            rt.alloc(),
+            &mut sender,
+            &mut other,
+            &plan,
+            &breadth(budget),
+        )?;
         assert_eq!(rt; forth, record(Fate::Ok, (2, 0), (0, count), (0, cut)));
         assert_eq!(rt; other.items(), sent);
         assert_eq!(rt; sender.items(), held.as_slice());

@@ -2,14 +2,14 @@
 #![tactic(auto)]
 
 use bench::run;
-use bench_types::{Pull, Push};
+use bench_types::{Discard, Pull, Push};
 use std::io;
 use std::process::ExitCode;
 
 fn main(rt: HostRuntime) -> ExitCode {
     let mut reader = Pull::new(rt.reader());
     let mut writer = Push::new(io::writer(&rt));
-    match run(rt.alloc(), &mut reader, &mut writer) {
+    match run(&rt, rt.alloc(), &mut reader, &mut writer, &mut Discard) {
         Ok(()) => ExitCode::SUCCESS,
         Err(fault) => {
             let _ = eprintln!(rt; "{fault}");

@@ -148,7 +148,23 @@ greatest_version-own_write t k v b below =
     written : version_at (with_own_write t k v b) t.node k ≡ greatest_version t t.node + 1
     written = ap version_of (entry_at-own_write t k v b)
 
--- and leaves the other owners'
+-- no version goes down at it
+pub version_at-le-own_write : (t : Table) (k v b owner key : ℕ) → k < t.keys → version_at t owner key ≤ version_at (with_own_write t k v b) owner key
+version_at-le-own_write t k v b owner key below = elim (cases_eq owner t.node) [
+  | inr other ↦ omega (arith, ap version_of (entry_at-own_write_other t k v b owner key (inl other)))
+  | inl own ↦ elim (cases_eq key k) [
+    | inr other ↦ omega (arith, ap version_of (entry_at-own_write_other t k v b owner key (inr other)))
+    | inl same ↦ subst (λ o. version_at t o key ≤ version_at (with_own_write t k v b) o key) (sym own) (subst (λ j. version_at t t.node j ≤ version_at (with_own_write t k v b) t.node j) (sym same) here)
+  ]
+]
+  where
+    here : version_at t t.node k ≤ version_at (with_own_write t k v b) t.node k
+    here = omega (arith, ap version_of (entry_at-own_write t k v b), version_at-le-greatest_version t t.node k below)
+
+pub greatest_version-le-own_write : (t : Table) (k v b owner : ℕ) → k < t.keys → greatest_version t owner ≤ greatest_version (with_own_write t k v b) owner
+greatest_version-le-own_write t k v b owner below = greatest_below-le t owner t.keys (greatest_version (with_own_write t k v b) owner) (λ key lt. omega (arith, version_at-le-own_write t k v b owner key below, version_at-le-greatest_version (with_own_write t k v b) owner key lt))
+
+-- it leaves the other owners' greatest versions
 pub greatest_version-own_write_other : (t : Table) (k v b owner : ℕ) → owner ≢ t.node → greatest_version (with_own_write t k v b) owner ≡ greatest_version t owner
 greatest_version-own_write_other t k v b owner other = greatest_version-same (with_own_write t k v b) t owner refl (λ key lt. ap version_of (entry_at-own_write_other t k v b owner key (inl other)))
 

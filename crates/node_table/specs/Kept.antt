@@ -1,5 +1,6 @@
 -- What contracts see of a node's table in memory: the table, and for how many more entries it has room.
--- Room is no part of the table: two tables are equal where node, nodes, keys and entries are.
+-- Room is no part of the table: two tables are equal where node, nodes, keys and entries are. Source: this
+-- project.
 use Rattle.std.specs.Prelude.{ℕ, ◌≤◌, List, length, refl}
 use Rattle.std.specs.Coded.{Coded, code_by, coded×, coded_ℕ}
 use Rattle.std.specs.FinMap as finite

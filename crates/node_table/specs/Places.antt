@@ -1,4 +1,4 @@
--- What a search finds in a list of items that rises.
+-- What a search finds in a list of items that rises. Source: this project.
 use Rattle.std.specs.Prelude.{◌≡◌, ℕ, ◌<◌, ◌≤◌, List, length, slice_index_or}
 use Rattle.std.specs.declared.cmp.Ordering.TheVariants.{Less, Equal, Greater}
 use Rattle.bench_types.specs.declared.entries.Item.{Item}

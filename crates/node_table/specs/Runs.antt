@@ -1,4 +1,4 @@
--- The versions of one owner in a list of items.
+-- The versions of one owner in a list of items. Source: this project.
 use Rattle.std.specs.Prelude.{ℕ, max, ◌==◌, List, [], ◌∷◌, if◌then◌else◌}
 use Rattle.bench_types.specs.declared.entries.Item.{Item}
 

@@ -1,4 +1,4 @@
--- A list of items that rises by owner and then by key, seen as a table.
+-- A list of items that rises by owner and then by key, seen as a table. Source: this project.
 use Rattle.std.specs.Prelude.{ℕ, ◌<◌, ◌≤◌, List, All, map}
 use lib.Dec.{T}
 use Rattle.std.specs.FinMap.{from_sorted, is_sorted}

@@ -1,6 +1,6 @@
 //! The table, as one vector of items that rises by owner and then by key.
 
-ghost use Rattle.std.specs.Prelude.{◌≡◌, ◌≢◌, ℕ, ◌+◌, ◌^◌, ◌<◌, ◌≤◌, All, IfOk, OnOk, OnErr, IsOkUnless};
+ghost use Rattle.std.specs.Prelude.{◌≡◌, ◌≢◌, ℕ, ◌+◌, ◌^◌, ◌<◌, ◌≤◌, All, IfOk, IsOk, OnOk, OnErr, IsOkUnless, vec_len, vec_capacity};
 ghost use Rattle.std.specs.FinMap.{put as put_entry};
 ghost use Rattle.node_table.specs.Table.{place_cmp};
 ghost use Rattle.node_table.specs.View.{IsRising, IsItemInPlace, place_of, pairs};
@@ -43,12 +43,13 @@ impl NodeTable {
     ghost use Rattle.node_table.specs.Kept.{HasRoom};
     ghost use Rattle.node_table.specs.View.{IsItemInPlace};
 
-    /// The empty table of a node. It takes no memory yet.
+    /// The empty table of a node. It takes no memory, so it always succeeds.
     pub fn new(alloc: Global, node: u32, nodes: u32, keys: u32) -> Result<NodeTable, Fault>
         requires node { node < nodes }
         requires nodes { nodes ≤ 4096 }
         requires some_key { 1 ≤ keys }
         requires keys { keys ≤ 64 }
+        ensures succeeds { IsOk result }
         ensures empty { IfOk result (λ t. t.table ≡ empty_table node nodes keys) }
         ensures only { IsOkUnless result OutOfMemory }
     {
@@ -93,14 +94,14 @@ impl NodeTable {
         &self.items
     }
 
-    /// How many entries are held.
+    /// How many entries are held. Nothing is walked over.
     pub fn count(&self) -> u32
         ensures { result ≡ count_of self.now.table }
     {
         self.items.len() as u32
     }
 
-    /// The entry held of an owner's key: a binary search.
+    /// The entry held of an owner's key, if any: a binary search.
     pub fn get(&self, owner: u32, key: u32) -> Option<Entry>
         ensures { result ≡ entry_at self.now.table owner key }
     {
@@ -111,7 +112,7 @@ impl NodeTable {
     }
 
     /// The greatest version held of an owner, 0 where none is: a binary search and a step for each
-    /// entry of the owner.
+    /// entry of the owner, so at most one for each key.
     pub fn greatest(&self, owner: u32) -> u32
         ensures { result ≡ greatest_version self.now.table owner }
     {
@@ -124,13 +125,16 @@ impl NodeTable {
 
     /// The node writes one of its own keys, and the answer is the version of that write. Two binary
     /// searches, a step for each entry of the node, and a move of what stands behind a key that is
-    /// written for the first time. An error is want of memory, and then nothing was written.
+    /// written for the first time. An error is want of memory, and then nothing was written and the
+    /// room is no less. With room for one entry there is none.
     pub fn write_own(&mut self, key: u32, value: u32, born: u32) -> Result<u32, Fault>
         requires key { key < self.old.table.keys }
         requires fits { greatest_version self.old.table self.old.table.node + 1 < 2 ^ 32 }
         ensures version { IfOk result (λ v. v ≡ greatest_version self.old.table self.old.table.node + 1) }
         ensures ok { OnOk result (self.new.table ≡ with_own_write self.old.table key value born) }
         ensures err { OnErr result (self.new.table ≡ self.old.table) }
+        ensures keeps_room { OnErr result (self.old.spare ≤ self.new.spare) }
+        ensures succeeds { 1 ≤ self.old.spare → IsOk result }
         ensures only { IsOkUnless result OutOfMemory }
     {
         let owner = self.node;
@@ -146,14 +150,17 @@ impl NodeTable {
     }
 
     /// Makes room for a list of items, so that `apply` takes no memory. What is held is copied where
-    /// it has to move for that, and else nothing is done; after a refusal the room is no less.
+    /// it has to move for that. Where there is room already nothing is done; after a refusal the
+    /// room is no less.
     pub fn reserve_for(&mut self, added: &[Item]) -> Result<(), Fault>
         ensures same { self.new.table ≡ self.old.table }
         ensures room { OnOk result (HasRoom self.new added.now) }
         ensures keeps_room { self.old.spare ≤ self.new.spare }
+        ensures succeeds { HasRoom self.old added.now → IsOk result }
         ensures only { IsOkUnless result OutOfMemory }
     {
         self.items.reserve(added.len())?;
+        self.order.clear();
         self.order.reserve(added.len())?;
         Ok(())
     }
@@ -218,6 +225,8 @@ fn put(items: &mut Vec<Item>, item: Item) -> Result<(), AllocFailed<Item>>
     ensures ok { OnOk result (put_entry place_cmp (place_of item) item.entry (pairs items.old.items) ≡ pairs items.new.items) }
     ensures in_place { (nodes keys : ℕ) → All (IsItemInPlace nodes keys) items.old.items → IsItemInPlace nodes keys item → All (IsItemInPlace nodes keys) items.new.items }
     ensures err { OnErr result (items.new.items ≡ items.old.items) }
+    ensures keeps_room { OnErr result (vec_capacity items.old ≤ vec_capacity items.new) }
+    ensures succeeds { vec_len items.old < vec_capacity items.old → IsOk result }
 {
     match search(items, item.owner, item.entry.key) {
         Ok(at) => {

@@ -4,7 +4,7 @@ ghost use Rattle.std.specs.Prelude.{◌≡◌, ◌≢◌, All, IsTrue};
 ghost use Rattle.node_table.specs.View.{IsItemInPlace};
 
 use crate::NodeTable;
-use bench_types::{Entry, Item};
+use bench_types::{Entry, Fault, Item};
 use std::process::Abort;
 use std::test::Fail;
 
@@ -50,17 +50,23 @@ fn take(rt: &impl Abort, table: &mut NodeTable, items: &[Item]) -> Result<(), Fa
     Ok(())
 }
 
-fn write(rt: &impl Abort, table: &mut NodeTable, key: u32, value: u32) -> Result<u32, Fail> {
+fn write(
+    rt: &impl Abort,
+    table: &mut NodeTable,
+    key: u32,
+    value: u32,
+    born: u32,
+) -> Result<u32, Fault> {
     let node = table.node();
     assert!(rt; key < table.keys());
     assert!(rt; table.greatest(node) < u32::MAX);
-    Ok(table.write_own(key, value, 1)?)
+    table.write_own(key, value, born)
 }
 
 #[test]
 fn forgetting_others(rt: HostRuntime) -> Result<(), Fail> {
     let mut table = NodeTable::new(rt.alloc(), 0, 2, 1)?;
-    assert_eq!(rt; write(&rt, &mut table, 0, 0)?, 1);
+    assert_eq!(rt; write(&rt, &mut table, 0, 0, 1)?, 1);
     take(&rt, &mut table, &[item(1, 0, 1, 0)])?;
     assert_eq!(rt; table.count(), 2);
     let copy = table.try_clone()?;
@@ -72,8 +78,15 @@ fn forgetting_others(rt: HostRuntime) -> Result<(), Fail> {
     table.forget_others();
     assert_eq!(rt; table.count(), 1);
     assert_eq!(rt; table.greatest(1), 0);
-    assert_eq!(rt; write(&rt, &mut table, 0, 7)?, 2);
-    assert_eq!(rt; table.items(), [item(0, 0, 2, 7)].as_slice());
+    assert_eq!(rt; write(&rt, &mut table, 0, 7, 2)?, 2);
+    let second = Entry {
+        key: 0,
+        version: 2,
+        value: 7,
+        born: 2,
+    };
+    assert_eq!(rt; table.get(0, 0), Some(second));
+    assert_eq!(rt; table.count(), 1);
     assert_eq!(rt; copy.count(), 2);
     Ok(())
 }
@@ -81,7 +94,7 @@ fn forgetting_others(rt: HostRuntime) -> Result<(), Fail> {
 #[test]
 fn several_items_of_one_place(rt: HostRuntime) -> Result<(), Fail> {
     let mut table = NodeTable::new(rt.alloc(), 2, NODES, KEYS)?;
-    assert_eq!(rt; write(&rt, &mut table, 1, 50)?, 1);
+    assert_eq!(rt; write(&rt, &mut table, 1, 50, 1)?, 1);
     take(&rt, &mut table, &[item(3, 1, 4, 10), item(0, 2, 2, 20)])?;
     let added = [
         item(3, 1, 4, 11),
@@ -106,6 +119,36 @@ fn several_items_of_one_place(rt: HostRuntime) -> Result<(), Fail> {
     assert_eq!(rt; table.greatest(3), 4);
     assert_eq!(rt; table.get(1, 0), Some(held[1].entry));
     assert_eq!(rt; table.get(1, 1), None);
+    Ok(())
+}
+
+// Where memory is refused once, each call that asks for some leaves the table and then goes through.
+#[test]
+fn a_refusal_leaves_the_table(rt: HostRuntime) -> Result<(), Fail> {
+    let mut table = NodeTable::new(rt.alloc(), 1, NODES, KEYS)?;
+    for key in 0..KEYS {
+        let before = table.try_clone().or_else(|_| table.try_clone())?;
+        if write(&rt, &mut table, key, 50, 1) == Err(Fault::OutOfMemory) {
+            assert_eq!(rt; table.items(), before.items());
+            assert_eq!(rt; write(&rt, &mut table, key, 50, 1)?, key.saturating_add(1));
+        }
+        assert_eq!(rt; before.count(), key);
+    }
+    let added = [item(3, 0, 9, 10), item(0, 2, 4, 20), item(2, 1, 7, 30)];
+    let before = table.try_clone().or_else(|_| table.try_clone())?;
+    if table.reserve_for(&added) == Err(Fault::OutOfMemory) {
+        assert_eq!(rt; table.items(), before.items());
+    }
+    take(&rt, &mut table, &added)?;
+    let held = [
+        item(0, 2, 4, 20),
+        item(1, 0, 1, 50),
+        item(1, 1, 2, 50),
+        item(1, 2, 3, 50),
+        item(2, 1, 7, 30),
+        item(3, 0, 9, 10),
+    ];
+    assert_eq!(rt; table.items(), held.as_slice());
     Ok(())
 }
 

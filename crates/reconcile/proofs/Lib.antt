@@ -5,6 +5,7 @@ pub mod Told
 pub mod Counts
 pub mod Runs
 pub mod Ranking
+pub mod Owners
 pub mod Picked
 pub mod Places
 pub mod Ordered
@@ -12,3 +13,4 @@ pub mod Apart
 pub mod Sending
 pub mod Sizes
 pub mod Held
+pub mod Walked

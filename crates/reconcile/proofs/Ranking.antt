@@ -1,17 +1,16 @@
 -- How far candidates have got what their mode looks at first.
-use Rattle.std.proofs.Common.{◌≡◌, ℕ, zero, suc, ◌+◌, ◌-◌, ◌<◌, ◌≤◌, eqb, List, [], ◌∷◌, length, map, get_or, set, All, inl, inr, refl, sym, ap, ◌∙◌, subst, arith, add-one}
-use Rattle.std.specs.Prelude.{count_by, IsPermutation}
+use Rattle.std.proofs.Common.{◌≡◌, ℕ, zero, suc, ◌+◌, ◌-◌, ◌<◌, ◌≤◌, List, [], ◌∷◌, length, map, get_or, set, All, inl, inr, refl, sym, ap, ◌∙◌, subst, arith, add-one}
+use Rattle.std.specs.Prelude.{IsPermutation}
 use Rattle.std.specs.List.Sorted.{IsSorted}
 use Rattle.std.proofs.lemmas.List.Sorted.{IsPermutation-map}
-use Rattle.std.proofs.lemmas.List.Elements.{All-map}
 use Rattle.std.proofs.lemmas.Bool.{cases_lt}
 use Rattle.std.proofs.Math.ListN.{get_or-map}
 use Rattle.std.proofs.lemmas.List.{get_or-set_other, get_or-set_same, length-map}
 use Rattle.std.proofs.Math.Seq.{map-set_same}
 use Rattle.bench_types.specs.declared.entries.Item.{Item}
 use Rattle.reconcile.specs.declared.orders.Candidate.{Candidate}
-use Rattle.reconcile.specs.Order.{rank_among, owner_count}
-use Rattle.reconcile.specs.Keys.{item_in, items_in, reversed, without_first, rest_of, AllFirst}
+use Rattle.reconcile.specs.Order.{rank_among}
+use Rattle.reconcile.specs.Keys.{item_in, items_in, without_first, rest_of, AllFirst}
 use Rattle.reconcile.specs.Ranks.{version_order, item_at, IsRun, Follows}
 use Rattle.reconcile.proofs.Runs.{run_owner, run_version, run_same, rank_of_run}
 
@@ -32,12 +31,6 @@ items-rest xs ys same = sym (items_of_rest xs) ∙ ap items_in same ∙ items_of
 
 pub items-permuted : (xs ys : List Candidate) → IsPermutation (rest_of xs) (rest_of ys) → IsPermutation (items_in xs) (items_in ys)
 items-permuted xs ys same = subst (λ is. IsPermutation is (items_in ys)) (items_of_rest xs) (subst (IsPermutation (items_in (rest_of xs))) (items_of_rest ys) (IsPermutation-map item_in (rest_of xs) (rest_of ys) same))
-
--- and their owners are below what the others' are
-pub owners-rest : (n : ℕ) (xs ys : List Candidate) → rest_of xs ≡ rest_of ys → All (λ (c : Candidate). c.item.owner < n) ys → All (λ (c : Candidate). c.item.owner < n) xs
-owners-rest n xs ys same all =
-    All-unmap (λ (c : Candidate). c.item.owner < n) without_first xs
-    (subst (All (λ (c : Candidate). c.item.owner < n)) (sym same) (All-map (λ (c : Candidate). c.item.owner < n) without_first ys all))
 
 -- the first n candidates have what is looked at first, and nothing else has changed
 pub record IsKeying (first : Item → ℕ) (old new : List Candidate) (n : ℕ) : Type 0 where
@@ -108,7 +101,3 @@ ranking_more old new a b n p q sorted so_far lt run' =
           ∙ rank_of_run (items_in old) sorted p q n run (subst (λ is. n < length is) same (omega (arith, length-map new item_in)))));
       run = rw add-one run;
     }
-
--- the counts by owner are those of the items' owners
-pub counts_first : (counts : List ℕ) (nodes : ℕ) (old new : List Candidate) → ((owner : ℕ) → owner < nodes → get_or counts owner 0 ≡ count_by (λ (d : Item). eqb d.owner owner) (items_in old)) → All (λ (c : Candidate). c.item.owner < nodes) new → AllFirst (λ i. reversed (get_or counts i.owner 0)) new → AllFirst (λ i. reversed (owner_count (items_in old) i)) new
-counts_first counts nodes old new is owners firsts k d lt = firsts k d lt ∙ ap reversed (is (get_or new k d).item.owner (owners k d lt))

@@ -1,4 +1,4 @@
--- What a digest keeps, seen as what it tells.
+-- What a digest keeps, seen as what it tells. Source: this project.
 use Rattle.std.specs.Prelude.{◌≡◌, ℕ, List, length}
 use Rattle.std.specs.List.{AllPairs}
 use Rattle.std.specs.declared.cmp.Ordering.TheVariants.{Less}

@@ -1,7 +1,8 @@
 -- Candidates on the way into their order: each beside three numbers, by which and by the key they are sorted.
 -- What comes later where it is greater stands as it is, and what comes earlier where it is greater is taken
--- from the greatest number of 32 bits.
+-- from the greatest number of 32 bits. Source: this project.
 use Rattle.std.specs.Prelude.{◌≡◌, ℕ, ◌-◌, ◌<◌, ◌^◌, List, All, map}
+use Rattle.std.specs.List.Sorted.{IsNonDecreasingBy}
 use Rattle.bench_types.specs.declared.entries.Item.{Item}
 use Rattle.bench_types.specs.declared.exchanges.Mode.{Mode}
 use Rattle.bench_types.specs.declared.exchanges.Mode.TheVariants.{ScuttleBreadth, ScuttleDepth, PreciseOldest, PreciseNewest}
@@ -60,3 +61,7 @@ without_first c = record c { first = 0 }
 
 abbrev pub rest_of : List Candidate → List Candidate
 rest_of cs = map without_first cs
+
+-- the items stand by owner
+abbrev pub OwnersRise : List Item → Type 0
+OwnersRise items = IsNonDecreasingBy (λ (i : Item). i.owner) items

@@ -3,6 +3,7 @@ pub mod Order
 pub mod Picks
 pub mod Digests
 pub mod Inside
+pub mod Walks
 pub mod Deltas
 pub mod Keys
 pub mod Ranks

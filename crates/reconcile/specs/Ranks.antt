@@ -1,4 +1,5 @@
--- Items by owner and then by version: where an owner's begin, and those of one version of it.
+-- Items by owner and then by version: where an owner's begin, and those of one version of it. Source: this
+-- project.
 use Rattle.std.specs.Prelude.{◌≡◌, ℕ, zero, suc, ◌<◌, ◌≤◌, List, slice_index_or}
 use Rattle.std.specs.Ordering.{nat_cmp, ordering_then}
 use Rattle.std.specs.declared.cmp.Ordering.{Ordering}

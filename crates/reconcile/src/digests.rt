@@ -5,10 +5,12 @@ ghost use Rattle.node_table.specs.Runs.{greatest_among};
 ghost use Rattle.bench_types.specs.declared.faults.Fault.TheVariants.{OutOfMemory};
 ghost use Rattle.reconcile.specs.Digests.{IsDigestOf, IsScuttleDigest, IsPreciseDigest, version_in};
 ghost use Rattle.reconcile.specs.Inside.{VersionsRise, version_of_item};
+ghost use Rattle.reconcile.specs.Walks.{StandBelow};
 
 use bench_types::{Fault, Item, Mode};
 use node_table::NodeTable;
 use std::alloc::Global;
+use std::cmp::Ordering;
 use std::marker::Model;
 
 /// What a table holds, in short: for each owner the greatest version held, or each version held.
@@ -51,7 +53,9 @@ impl Model for Digest {
 }
 
 impl Digest {
+    ghost use Rattle.node_table.specs.View.{place_of};
     ghost use Rattle.reconcile.specs.Digests.{IsScuttle, IsPrecise, told_greatest, told_each, told_version};
+    ghost use Rattle.reconcile.specs.Walks.{IsWalked};
 
     /// The digest that a mode asks of a table: one pass over the table's entries. It takes memory
     /// for a number of each owner in a scuttle mode, and of each entry in a precise one.
@@ -97,14 +101,22 @@ impl Digest {
         }
     }
 
-    /// The version up to which it knows what an item tells.
-    pub(crate) fn known_version(&self, item: &Item) -> u32
-        requires { item.now.owner < self.now.nodes }
-        ensures { result ≡ told_version self.now item.now }
+    /// The version up to which it knows what an item tells. A walk over items that rise by owner
+    /// and then by key passes over a precise digest once: `walked` is how many versions it has left
+    /// behind, from 0.
+    pub(crate) fn known_version(&self, item: &Item, walked: &mut usize) -> u32
+        requires owner { item.now.owner < self.now.nodes }
+        requires walked { IsWalked self.now.knowledge (place_of item.now) walked.old }
+        ensures version { result ≡ told_version self.now item.now }
+        ensures walked { IsWalked self.now.knowledge (place_of item.now) walked.new }
     {
         match &self.versions {
             Versions::Greatest(versions) => versions[item.owner as usize],
-            Versions::Each(versions) => version_among(versions, item.owner, item.entry.key),
+            Versions::Each(versions) => {
+                let (behind, version) = version_from(versions, *walked, item.owner, item.entry.key);
+                *walked = behind;
+                version
+            }
         }
     }
 }
@@ -195,4 +207,23 @@ fn version_among(versions: &[KeyVersion], owner: u32, key: u32) -> u32
         Ok(at) => versions[at].version,
         Err(_) => 0,
     }
+}
+
+// How many versions stand below an owner's key, of which so many are known, and the key's version,
+// 0 where it has none.
+fn version_from(versions: &[KeyVersion], walked: usize, owner: u32, key: u32) -> (usize, u32)
+    requires rise { VersionsRise versions.now }
+    requires below { StandBelow versions.now (owner, key) walked }
+    ensures below { StandBelow versions.now (owner, key) result.0 }
+    ensures version { result.1 ≡ version_in versions.now owner key }
+{
+    for at in walked..versions.len() {
+        let here = versions[at];
+        match (here.owner, here.key).cmp(&(owner, key)) {
+            Ordering::Less => {}
+            Ordering::Equal => return (at, here.version),
+            Ordering::Greater => return (at, 0),
+        }
+    }
+    (versions.len(), 0)
 }

@@ -1,13 +1,14 @@
 //! Which items answer a digest, and in which order.
 
-ghost use Rattle.std.specs.Prelude.{◌≡◌, ℕ, ◌+◌, ◌-◌, ◌%◌, ◌^◌, ◌<◌, ◌≤◌, ◌==◌, List, All, map, take, length, count_by, IfOk, OnOk, IsOkUnless, IsPermutation, IsSorted, slice_index};
+ghost use Rattle.std.specs.Prelude.{◌≡◌, ℕ, ◌+◌, ◌-◌, ◌%◌, ◌^◌, ◌<◌, ◌≤◌, ◌==◌, All, map, take, length, count_by, IfOk, IsOkUnless, IsPermutation, IsSorted};
 ghost use Rattle.bench_types.specs.declared.faults.Fault.TheVariants.{OutOfMemory};
 ghost use Rattle.node_table.specs.Table.{items_of, IsProper};
+ghost use Rattle.node_table.specs.View.{IsRising};
 ghost use Rattle.reconcile.specs.Candidates.{items_above};
 ghost use Rattle.reconcile.specs.Order.{sending_order, rank_among, owner_count};
 ghost use Rattle.reconcile.specs.Deltas.{delta_of};
 ghost use Rattle.reconcile.specs.Digests.{told_version, IsOfKind};
-ghost use Rattle.reconcile.specs.Keys.{item_in, items_in, rest_of, age_key, first_key, second_key, reversed, AllSet, AllFirst, IsSet};
+ghost use Rattle.reconcile.specs.Keys.{item_in, items_in, rest_of, age_key, first_key, second_key, reversed, AllSet, AllFirst, IsSet, OwnersRise};
 ghost use Rattle.reconcile.specs.Ranks.{version_order, IsRun, Follows};
 
 use crate::deltas::Delta;
@@ -30,9 +31,9 @@ pub(crate) struct Candidate {
 }
 
 /// What is sent to a receiver whose digest came in: the first `budget` candidates in the order of
-/// the mode. One pass over the table's entries, with a search of a precise digest for each of them,
-/// and at most two sorts of the candidates. It takes memory for the candidates, and in the mode
-/// scuttle-depth for a number of each owner.
+/// the mode. One pass over the table's entries and the digest, and at most two sorts of the
+/// candidates, in scuttle-depth with two binary searches for each. It takes memory in proportion to
+/// the candidates alone.
 pub fn delta(
     alloc: Global,
     table: &NodeTable,
@@ -60,7 +61,7 @@ pub fn delta(
         rotation,
     };
     let mut order = candidates(alloc, table.items(), digest, receiver, turns)?;
-    sort_in_order(alloc, &mut order, mode, nodes)?;
+    sort_in_order(&mut order, mode);
     let sent = order.len().min(budget as usize);
     Ok(Delta {
         items: first_items(alloc, &order, sent)?,
@@ -94,6 +95,7 @@ fn candidates(
 ) -> Result<Vec<Candidate>, Fault>
     requires limit { turns.nodes ≤ 4096 }
     requires nodes { digest.now.nodes ≡ turns.nodes }
+    requires rising { IsRising items.now }
     requires owners { All (λ i. i.owner < turns.nodes) items.now }
     requires rotation { turns.rotation < turns.nodes }
     ensures items { IfOk result (λ v. items_in v.items ≡ items_above (told_version digest.now) receiver items.now) }
@@ -101,8 +103,9 @@ fn candidates(
     ensures only { IsOkUnless result OutOfMemory }
 {
     let mut found = Vec::new(alloc);
+    let mut walked = 0;
     for item in items {
-        if item.owner != receiver && digest.known_version(item) < item.entry.version {
+        if item.owner != receiver && digest.known_version(item, &mut walked) < item.entry.version {
             found.push(candidate_of(*item, turns))?;
         }
     }
@@ -148,43 +151,25 @@ fn version_key(mode: Mode, version: u32) -> u32
 }
 
 // Sorts candidates into the order of the mode.
-fn sort_in_order(
-    alloc: Global,
-    order: &mut [Candidate],
-    mode: Mode,
-    nodes: u32,
-) -> Result<(), Fault>
-    requires limit { length order.old < 2 ^ 32 }
-    requires owners { All (λ c. c.item.owner < nodes) order.old }
+fn sort_in_order(order: &mut [Candidate], mode: Mode)
+    requires { length order.old < 2 ^ 32 }
     ensures same { IsPermutation (items_in order.old) (items_in order.new) }
-    ensures sorted { OnOk result ((rotation : ℕ) → AllSet mode nodes rotation order.old → IsSorted (sending_order mode nodes rotation (items_in order.old)) (items_in order.new)) }
-    ensures only { IsOkUnless result OutOfMemory }
+    ensures sorted { (nodes rotation : ℕ) → AllSet mode nodes rotation order.old → IsSorted (sending_order mode nodes rotation (items_in order.old)) (items_in order.new) }
 {
-    set_first_keys(alloc, order, mode, nodes)?;
+    set_first_keys(order, mode);
     order.sort_unstable_by_key(|c| (c.first, c.turn, c.second, c.item.entry.key));
-    Ok(())
 }
 
 // Gives each candidate what the mode looks at first. They may change places.
-fn set_first_keys(
-    alloc: Global,
-    order: &mut [Candidate],
-    mode: Mode,
-    nodes: u32,
-) -> Result<(), Fault>
-    requires limit { length order.old < 2 ^ 32 }
-    requires owners { All (λ c. c.item.owner < nodes) order.old }
+fn set_first_keys(order: &mut [Candidate], mode: Mode)
+    requires { length order.old < 2 ^ 32 }
     ensures same { IsPermutation (rest_of order.old) (rest_of order.new) }
-    ensures firsts { OnOk result (AllFirst (age_key mode) order.old → AllFirst (first_key mode (items_in order.old)) order.new) }
-    ensures only { IsOkUnless result OutOfMemory }
+    ensures firsts { AllFirst (age_key mode) order.old → AllFirst (first_key mode (items_in order.old)) order.new }
 {
     match mode {
-        Mode::ScuttleBreadth => {
-            rank_candidates(order);
-            Ok(())
-        }
-        Mode::ScuttleDepth => count_candidates(alloc, order, nodes),
-        Mode::PreciseOldest | Mode::PreciseNewest => Ok(()),
+        Mode::ScuttleBreadth => rank_candidates(order),
+        Mode::ScuttleDepth => count_candidates(order),
+        Mode::PreciseOldest | Mode::PreciseNewest => {}
     }
 }
 
@@ -198,53 +183,37 @@ fn rank_candidates(order: &mut [Candidate])
     set_ranks(order);
 }
 
-// Puts first the candidates whose owner has most.
-fn count_candidates(alloc: Global, order: &mut [Candidate], nodes: u32) -> Result<(), Fault>
+// Puts first the candidates whose owner has most. They change places.
+fn count_candidates(order: &mut [Candidate])
+    requires { length order.old < 2 ^ 32 }
+    ensures same { IsPermutation (rest_of order.old) (rest_of order.new) }
+    ensures firsts { AllFirst (λ i. reversed (owner_count (items_in order.old) i)) order.new }
+{
+    order.sort_unstable_by_key(|c| c.item.owner);
+    set_counts(order);
+}
+
+// Puts first the candidates whose owner has most, where they stand by owner.
+fn set_counts(order: &mut [Candidate])
     requires limit { length order.old < 2 ^ 32 }
-    requires owners { All (λ c. c.item.owner < nodes) order.old }
+    requires sorted { OwnersRise (items_in order.old) }
     ensures rest { rest_of order.new ≡ rest_of order.old }
-    ensures firsts { OnOk result (AllFirst (λ i. reversed (owner_count (items_in order.old) i)) order.new) }
-    ensures only { IsOkUnless result OutOfMemory }
-{
-    let counts = owner_counts(alloc, order, nodes)?;
-    set_counts(order, &counts);
-    Ok(())
-}
-
-// How many candidates each owner has.
-fn owner_counts(alloc: Global, order: &[Candidate], nodes: u32) -> Result<Vec<u32>, Fault>
-    requires limit { length order.now < 2 ^ 32 }
-    requires owners { All (λ c. c.item.owner < nodes) order.now }
-    ensures len { IfOk result (λ v. length v.items ≡ nodes) }
-    ensures counts { IfOk result (λ v. (owner : ℕ) → owner < nodes → slice_index v.items owner ≡ count_by (λ d. d.owner == owner) (items_in order.now)) }
-    ensures only { IsOkUnless result OutOfMemory }
-{
-    let mut counts = vec![in alloc; 0u32; nodes as usize]?;
-    count_owners(&mut counts, order);
-    Ok(counts)
-}
-
-// Counts each owner's candidates, from 0.
-fn count_owners(counts: &mut [u32], order: &[Candidate])
-    requires limit { length order.now < 2 ^ 32 }
-    requires owners { All (λ c. c.item.owner < length counts.old) order.now }
-    requires zeros { All (λ n. n ≡ 0) counts.old }
-    ensures { (owner : ℕ) → owner < length counts.old → slice_index counts.new owner ≡ count_by (λ d. d.owner == owner) (items_in order.now) }
-{
-    for candidate in order {
-        counts[candidate.item.owner as usize] += 1;
-    }
-}
-
-// Puts first the candidates whose owner has the greatest count.
-fn set_counts(order: &mut [Candidate], counts: &[u32])
-    requires owners { All (λ c. c.item.owner < length counts.now) order.old }
-    ensures rest { rest_of order.new ≡ rest_of order.old }
-    ensures firsts { AllFirst (λ i. reversed (slice_index counts.now i.owner)) order.new }
+    ensures firsts { AllFirst (λ i. reversed (owner_count (items_in order.old) i)) order.new }
 {
     for at in 0..order.len() {
-        order[at].first = u32::MAX - counts[order[at].item.owner as usize];
+        order[at].first = u32::MAX - count_of_owner(order, order[at].item.owner);
     }
+}
+
+// How many candidates an owner has, where they stand by owner: two binary searches.
+fn count_of_owner(order: &[Candidate], owner: u32) -> u32
+    requires limit { length order.now < 2 ^ 32 }
+    requires sorted { OwnersRise (items_in order.now) }
+    ensures { result ≡ count_by (λ d. d.owner == owner) (items_in order.now) }
+{
+    let start = order.partition_point(|c| c.item.owner < owner);
+    let end = order.partition_point(|c| c.item.owner <= owner);
+    (end - start) as u32
 }
 
 // Where the candidates of an owner begin, and those of one version of it.

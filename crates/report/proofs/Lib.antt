@@ -1,2 +1,3 @@
 pub mod Sinking
 pub mod CellFacts
+pub mod TraceFacts

@@ -2,3 +2,4 @@ pub mod Line
 pub mod Report
 pub mod Output
 pub mod Cells
+pub mod Trace

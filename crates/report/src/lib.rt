@@ -1,12 +1,14 @@
 //! The lines of the bench's texts of comma-separated fields, written to any sink. Each call makes
-//! its line in memory, then writes and flushes it.
+//! its lines in memory, then writes and flushes them.
 #![tactic(auto)]
 
 mod cells;
 mod outputs;
 mod reports;
+mod traces;
 
 pub use reports::{report_header, write_report_row};
+pub use traces::{trace_header, write_trace_rows};
 
 #[cfg(test)]
 mod tests;

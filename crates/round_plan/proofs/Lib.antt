@@ -1,1 +1,5 @@
 pub mod Growth
+pub mod Listed
+pub mod Others
+pub mod Planned
+pub mod Searched

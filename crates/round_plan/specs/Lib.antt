@@ -1,3 +1,5 @@
+pub mod Outages
 pub mod Peer
 pub mod Plan
+pub mod Words
 pub mod Writes

@@ -1,35 +1,59 @@
--- The writes of an owner. In each round a node makes so many writes, one after another, and its n-th write
--- has version n, from 1. A write takes a number, which here is one less than its version: its key is the number
--- modulo how many keys there are, and its value the number divided by that. Each write is born in the round
--- in which it is made. Source: the LADIS 2008 paper for versions that rise; numbers and rounds are this project's.
-use Rattle.std.specs.Prelude.{ℕ, zero, suc, ◌+◌, ◌-◌, ◌/◌, ◌%◌, nat_le, if◌then◌else◌, List, map}
-use Rattle.std.specs.List.{range_with_len}
+-- The writes of an owner. In each round in which it is up a node makes so many writes, one after another, and its
+-- n-th write has version n, from 1. A write takes a number, which is a word of the node or one less than its version:
+-- its key is the number modulo how many keys there are, and its value the number divided by that. Each write is
+-- born in the round in which it is made. Source: the LADIS 2008 paper for versions that rise; numbers and rounds
+-- are this project's.
+use Rattle.std.specs.Prelude.{◌≡◌, ◌<◌, length, slice_index, ℕ, zero, suc, ◌+◌, ◌-◌, ◌/◌, ◌%◌, Bool, if◌then◌else◌, List, [], ◌++◌, map, reverse, unwrap_or}
+use Rattle.std.specs.Option.{option_map}
+use Rattle.std.specs.List.{range_with_len, find}
 use Rattle.bench_types.specs.declared.entries.Entry.{Entry}
+use Rattle.bench_types.specs.declared.limits.TheConstants.{MOST_WRITES}
+use Rattle.scenario.specs.declared.choices.Choice.{Choice}
+use Rattle.scenario.specs.declared.choices.Choice.TheVariants.{Random, Cycle}
+use Rattle.scenario.specs.declared.elements.Load.{Load}
 use Rattle.scenario.specs.Settings.{Settings}
 use Rattle.round_plan.specs.declared.owners.OwnWrite.{OwnWrite}
+use Rattle.round_plan.specs.Outages.{is_between, is_up}
+use Rattle.round_plan.specs.Words.{word_of}
 
--- how many writes a node makes in a round
-abbrev pub writes_in : Settings → ℕ → ℕ
-writes_in s round = s.writes
+-- a load covers a round
+abbrev pub covers : ℕ → Load → Bool
+covers round l = is_between l.from l.to round
+
+-- how many writes a node that is up makes in a round: as the last load that covers it says, else as the scenario does
+unfoldable pub writes_in : Settings → ℕ → ℕ
+writes_in s round = unwrap_or (option_map (λ (l : Load). l.writes) (find (covers round) (reverse s.loads))) s.writes
+
+-- the number of a write, from a word and its version
+abbrev pub number_by : Choice → ℕ → ℕ → ℕ
+number_by Random word version = word
+number_by Cycle word version = version - 1
+
+-- the number of the write at a place of a node's round, from 0, before which the node had made so many; word 8 is
+-- the first write's
+abbrev pub number_of : Settings → ℕ → ℕ → ℕ → ℕ → ℕ
+number_of s node round count_before place = number_by s.choice (word_of s node round (8 + place)) (count_before + 1 + place)
+
+abbrev pub AreNumbers : Settings → ℕ → ℕ → ℕ → List ℕ → Type 0
+AreNumbers s node round count_before numbers =
+    (length numbers ≡ MOST_WRITES) × ((place : ℕ) → place < MOST_WRITES → slice_index numbers place ≡ number_of s node round count_before place)
+
+-- the write of a number and a version, where there are so many keys
+abbrev pub write_of : ℕ → ℕ → ℕ → OwnWrite
+write_of keys number version = record { key = number % keys; value = number / keys; version = version }
+
+-- the write at a place of a node's round
+abbrev pub own_write : Settings → ℕ → ℕ → ℕ → ℕ → OwnWrite
+own_write s node round count_before place = write_of s.keys (number_of s node round count_before place) (count_before + 1 + place)
+
+-- the writes of a node in a round, before which it had made so many: none where it is down
+abbrev pub own_writes : Settings → ℕ → ℕ → ℕ → List OwnWrite
+own_writes s node round count_before = if is_up s node round then map (own_write s node round count_before) (range_with_len 0 (writes_in s round)) else []
 
 -- how many writes an owner has made up to a round
 abbrev pub count_upto : Settings → ℕ → ℕ → ℕ
 count_upto s owner zero = 0
-count_upto s owner (suc round) = count_upto s owner round + writes_in s (suc round)
-
--- the write of a version, where there are so many keys
-abbrev pub own_write : ℕ → ℕ → OwnWrite
-own_write keys version = record { key = (version - 1) % keys; value = (version - 1) / keys; version = version }
-
--- the writes of an owner in a round, before which it had made so many
-abbrev pub own_writes : Settings → ℕ → ℕ → ℕ → List OwnWrite
-own_writes s owner round count_before = map (own_write s.keys) (range_with_len (count_before + 1) (writes_in s round))
-
--- the round in which an owner makes the write of a version, as far as a last round: the first in which it
--- has made that many
-abbrev pub born_upto : Settings → ℕ → ℕ → ℕ → ℕ
-born_upto s owner zero version = 0
-born_upto s owner (suc round) version = if nat_le version (count_upto s owner round) then born_upto s owner round version else suc round
+count_upto s owner (suc round) = count_upto s owner round + (if is_up s owner (suc round) then writes_in s (suc round) else 0)
 
 -- a write that is made in a round, as an entry of the owner's state
 abbrev pub born_in : ℕ → OwnWrite → Entry
@@ -37,4 +61,5 @@ born_in round w = record { key = w.key; version = w.version; value = w.value; bo
 
 -- the writes of an owner up to a round: the write at place m, from 1, has version m
 abbrev pub writes_upto : Settings → ℕ → ℕ → List Entry
-writes_upto s owner round = map (λ version. born_in (born_upto s owner round version) (own_write s.keys version)) (range_with_len 1 (count_upto s owner round))
+writes_upto s owner zero = []
+writes_upto s owner (suc round) = writes_upto s owner round ++ map (born_in (suc round)) (own_writes s owner (suc round) (count_upto s owner round))

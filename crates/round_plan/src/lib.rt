@@ -1,15 +1,22 @@
-//! What a round of a scenario holds before any entry moves: which nodes exchange with which, and
-//! what each node writes. Both follow from the scenario and the number of the round alone.
+//! What a round of a scenario holds before any entry moves: the random words of its nodes, which of
+//! them are out of reach, which exchange with which, and what each node writes. All of it follows
+//! from the scenario and the number of the round alone.
 #![tactic(auto)]
 
 mod lists;
+mod outages;
 mod owners;
 mod peers;
 mod rounds;
 #[cfg(test)]
 mod tests;
+#[cfg(test)]
+mod word_tables;
+mod words;
 
 pub use lists::{MOST_EXCHANGES, RoundList};
+pub use outages::{is_up, restarts_now, separated};
 pub use owners::{OwnWrite, Writes, writes_in, writes_of};
 pub use peers::peer;
 pub use rounds::round_list;
+pub use words::{ROUND_WORDS, draw};

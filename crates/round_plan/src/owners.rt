@@ -1,10 +1,12 @@
 //! What a node writes of its own state.
 
 ghost use Rattle.std.specs.Prelude.{◌≡◌, ◌+◌, ◌-◌, ◌^◌, ◌<◌, ◌≤◌, ◌==◌, ◌++◌, All, length, map, slice_get};
-ghost use Rattle.round_plan.specs.Writes.{writes_in, own_write, own_writes, writes_upto, born_in};
+ghost use Rattle.round_plan.specs.Writes.{writes_in, write_of, own_writes, writes_upto, born_in, AreNumbers};
 
+use crate::outages::{is_between, is_up};
+use crate::words::{WRITE_PLACE, words_of};
 use bench_types::limits::{MOST_ROUNDS, MOST_WRITES};
-use scenario::Scenario;
+use scenario::{Choice, Scenario};
 use std::marker::Model;
 
 /// One write of a node to one of its own keys.
@@ -73,17 +75,22 @@ impl Writes {
     }
 }
 
-/// How many writes each node makes in a round.
+/// How many writes a node that is up makes in a round. Costs a step for each load.
 pub fn writes_in(scenario: &Scenario, round: u32) -> u32
     requires first { 1 ≤ round }
     requires last { round ≤ MOST_ROUNDS }
     ensures value { result ≡ writes_in scenario.now round }
     ensures limit { result ≤ MOST_WRITES }
 {
-    scenario.writes()
+    let mut from_last = scenario.loads().iter().rev();
+    match from_last.find(|load| is_between(load.from, load.to, round)) {
+        Some(load) => load.writes,
+        None => scenario.writes(),
+    }
 }
 
-/// The writes of a node in a round, before which it had made `count_before`.
+/// The writes of a node in a round, before which it had made `count_before`: none where it is down.
+/// Costs a step for each restart and load, and where writes are random one block of words.
 pub fn writes_of(scenario: &Scenario, node: u32, round: u32, count_before: u32) -> Writes
     requires node { node < scenario.now.nodes }
     requires first { 1 ≤ round }
@@ -97,23 +104,54 @@ pub fn writes_of(scenario: &Scenario, node: u32, round: u32, count_before: u32) 
         writes_upto scenario.now node round
         ≡ writes_upto scenario.now node (round - 1) ++ map (born_in round) result }
 {
+    let mut items = [BLANK; MOST_WRITES as usize];
+    if !is_up(scenario, node, round) {
+        return Writes { items, count: 0 };
+    }
     let keys = scenario.keys();
     let count = writes_in(scenario, round);
-    let mut items = [BLANK; MOST_WRITES as usize];
+    let numbers = numbers_of(scenario, node, round, count_before);
     for place in 0..count {
-        items[place as usize] = own_write(keys, count_before + 1 + place);
+        let number = numbers[place as usize];
+        items[place as usize] = write_of(keys, number, count_before + 1 + place);
     }
     Writes { items, count }
 }
 
-// The write of a version: the keys in turn, and then each with the next value.
-fn own_write(keys: u32, version: u32) -> OwnWrite
-    requires keys { 1 ≤ keys }
-    requires version { 1 ≤ version }
-    ensures value { result ≡ own_write keys version }
+// The numbers of the most writes of a node in a round, before which it had made `count_before`.
+fn numbers_of(
+    scenario: &Scenario,
+    node: u32,
+    round: u32,
+    count_before: u32,
+) -> [u32; MOST_WRITES as usize]
+    requires node { node < scenario.now.nodes }
+    requires first { 1 ≤ round }
+    requires last { round ≤ MOST_ROUNDS }
+    requires fits { count_before + MOST_WRITES < 2 ^ 32 }
+    ensures { AreNumbers scenario.now node round count_before result }
+{
+    let mut numbers = [0; MOST_WRITES as usize];
+    match scenario.choice() {
+        Choice::Random => {
+            let words = words_of(scenario, node, round);
+            numbers.copy_from_slice(&words[WRITE_PLACE as usize..]);
+        }
+        Choice::Cycle => {
+            for place in 0..MOST_WRITES {
+                numbers[place as usize] = count_before + place;
+            }
+        }
+    }
+    numbers
+}
+
+// The write of a number: the keys in turn, and then each with the next value.
+fn write_of(keys: u32, number: u32, version: u32) -> OwnWrite
+    requires { 1 ≤ keys }
+    ensures value { result ≡ write_of keys number version }
     ensures key { result.key < keys }
 {
-    let number = version - 1;
     OwnWrite {
         key: number % keys,
         value: number / keys,

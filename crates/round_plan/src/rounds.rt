@@ -1,32 +1,77 @@
 //! Who exchanges with whom in a round.
 
 ghost use Rattle.std.specs.Prelude.{◌≡◌, ◌<◌, ◌≤◌, IfOk, IsOkUnless};
-ghost use Rattle.round_plan.specs.Plan.{exchange_of, round_list_of, IsPlanned};
+ghost use Rattle.round_plan.specs.Plan.{exchange_of, is_lost, reaches, round_list_of, AreChosen, IsPlanned};
 ghost use Rattle.bench_types.specs.declared.faults.Fault.TheVariants.{OutOfMemory};
 
 use crate::lists::RoundList;
-use crate::peers::peer;
+use crate::outages::{is_up, separated};
+use crate::peers::peer_by;
+use crate::words::words_of;
 use bench_types::limits::MOST_ROUNDS;
 use bench_types::{Exchange, Fault};
-use scenario::Scenario;
-use std::alloc::Global;
+use rayon::prelude::*;
+use scenario::{Rotation, Scenario};
+use std::alloc::{AllocError, Global};
+use std::thread::Threads;
 
-/// The exchanges of a round, by ascending initiator: each node begins one with its peer.
-pub fn round_list(alloc: Global, scenario: &Scenario, round: u32) -> Result<RoundList, Fault>
+/// A message is lost by so many words of a million.
+const MILLION: u32 = 1_000_000;
+
+/// The exchanges of a round, by ascending initiator: each node that is up begins one with its peer,
+/// where that is up too and not separated from it. Costs one block of words for each node, spread
+/// over threads, and a step for each restart and each partition for each node.
+pub fn round_list(
+    rt: &(impl Threads + Sync),
+    alloc: Global,
+    scenario: &Scenario,
+    round: u32,
+) -> Result<RoundList, Fault>
     requires first { 1 ≤ round }
     requires last { round ≤ MOST_ROUNDS }
     ensures plan { IfOk result (λ list. list ≡ round_list_of scenario.now round) }
     ensures only { IsOkUnless result OutOfMemory }
 {
     let nodes = scenario.nodes();
-    let mut exchanges = Vec::with_capacity(alloc, nodes as usize)?;
-    for node in 0..nodes {
-        exchanges.push(exchange_of(scenario, node, round))?;
+    let chosen = choices(rt, alloc, scenario, round)?;
+    let mut exchanges = Vec::with_capacity(alloc, chosen.len())?;
+    let mut unreached = 0;
+    for exchange in &chosen {
+        if is_up(scenario, exchange.initiator, round) {
+            if reaches(scenario, exchange, round) {
+                exchanges.push(*exchange)?;
+            } else {
+                unreached += 1;
+            }
+        }
     }
-    Ok(RoundList::planned(nodes, 0, exchanges))
+    Ok(RoundList::planned(nodes, unreached, exchanges))
 }
 
-// The exchange that a node begins. Nothing is lost, and orders begin at owner 0.
+// The exchange that each node would begin, whoever is out of reach.
+fn choices(
+    rt: &(impl Threads + Sync),
+    alloc: Global,
+    scenario: &Scenario,
+    round: u32,
+) -> Result<Vec<Exchange>, AllocError>
+    requires first { 1 ≤ round }
+    requires last { round ≤ MOST_ROUNDS }
+    ensures { IfOk result (λ chosen. AreChosen scenario.now round chosen.items) }
+{
+    (0..scenario.nodes())
+        .into_par_iter()
+        .map(
+            |node: u32| -> Exchange
+                requires { (node < scenario.now.nodes) × (1 ≤ round) × (round ≤ MOST_ROUNDS) }
+                ensures { (result ≡ exchange_of scenario.entry.now round node)
+                    × IsPlanned scenario.entry.now.nodes result }
+            { exchange_of(scenario, node, round) },
+        )
+        .collect(rt, alloc)
+}
+
+// The exchange of a node with its peer, by one block of words.
 fn exchange_of(scenario: &Scenario, node: u32, round: u32) -> Exchange
     requires node { node < scenario.now.nodes }
     requires first { 1 ≤ round }
@@ -34,12 +79,34 @@ fn exchange_of(scenario: &Scenario, node: u32, round: u32) -> Exchange
     ensures value { result ≡ exchange_of scenario.now round node }
     ensures planned { IsPlanned scenario.now.nodes result }
 {
+    let [peer, loss1, loss2, loss3, turn, ..] = words_of(scenario, node, round);
     Exchange {
         initiator: node,
-        responder: peer(scenario, node, round),
-        lost1: false,
-        lost2: false,
-        lost3: false,
-        rotation: 0,
+        responder: peer_by(scenario, node, round, peer),
+        lost1: is_lost(scenario, loss1),
+        lost2: is_lost(scenario, loss2),
+        lost3: is_lost(scenario, loss3),
+        rotation: match scenario.rotation() {
+            Rotation::Random => turn % scenario.nodes(),
+            Rotation::Off => 0,
+        },
     }
+}
+
+fn is_lost(scenario: &Scenario, word: u32) -> bool
+    ensures { result ≡ is_lost scenario.now word }
+{
+    word % MILLION < scenario.loss_ppm()
+}
+
+// Whether the initiator's peer is up and not separated from it.
+fn reaches(scenario: &Scenario, exchange: &Exchange, round: u32) -> bool
+    requires first { 1 ≤ round }
+    requires last { round ≤ MOST_ROUNDS }
+    requires planned { IsPlanned scenario.now.nodes exchange.now }
+    requires chosen { exchange.now ≡ exchange_of scenario.now round exchange.now.initiator }
+    ensures { result ≡ reaches scenario.now round exchange.now.initiator }
+{
+    let (node, peer) = (exchange.initiator, exchange.responder);
+    is_up(scenario, peer, round) && !separated(scenario, node, peer, round)
 }

@@ -1,4 +1,8 @@
 pub mod Keys
 pub mod Documents
+pub mod Walks
+pub mod Steps
+pub mod Lawful
 pub mod Order
+pub mod Sayings
 pub mod OnlyReadFaults

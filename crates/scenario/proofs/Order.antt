@@ -1,26 +1,101 @@
--- The check of a document, done one check after another, answers the first fault of them all, and
--- gives what the document says.
-use Rattle.std.proofs.Common.{◌≡◌, ℕ, pos, negsuc, Bool, true, false, ◌&&◌, nat_le, cond, List, ◌∷◌, Option, None, Some, Result, Ok, Err, IfOk, IfErr, ◌≢◌, refl, sym, ◌∙◌, ap, subst}
-use Rattle.std.specs.Result.{result_err}
-use Rattle.toml.specs.Data.{Data, integer, string, Members}
+-- The check of a document, done one check after another, answers the first fault of them all.
+use Rattle.std.proofs.Common.{◌≡◌, ◌≢◌, ℕ, ◌+◌, ◌-◌, List, [], ◌∷◌, ◌++◌, Option, None, Some, Result, Ok, Err, IfErr, refl, sym, ◌∙◌, ap}
+use Rattle.std.specs.List.{flat_map}
+use Rattle.std.specs.Result.{result_err, result_unwrap_or}
+use Rattle.toml.specs.Data as toml
+use Rattle.toml.specs.Data.{Data, integer, Members, get_member}
 use Rattle.bench_types.specs.declared.faults.Fault.{Fault}
 use Rattle.bench_types.specs.declared.faults.Fault.TheVariants.{OutOfMemory}
 use Rattle.bench_types.specs.declared.fields.Field.{Field}
 use Rattle.bench_types.specs.declared.fields.Field.TheVariants as field
-use Rattle.bench_types.specs.declared.fields.TableName.{TableName}
-use Rattle.bench_types.specs.declared.fields.TableName.TheVariants.{Top}
+use Rattle.bench_types.specs.declared.fields.TableName.TheVariants as name
+use Rattle.bench_types.specs.declared.limits.TheConstants.{MOST_ROUNDS, MOST_WRITES}
 use Rattle.scenario.specs.Checked.{checked, size_checked}
-use Rattle.scenario.specs.Fields.{◌>>=◌, number_of, present, text_of, only, only_fields, has_only}
-use Rattle.scenario.specs.Order.{faults, first_of, Says}
+use Rattle.scenario.specs.Elements.{array_of, elements_at, each, ascending, array_at, partition_of, restart_of, load_of, partitions_at, restarts_at, loads_at, only_elements, partition_fields, restart_fields, load_fields}
+use Rattle.scenario.specs.Fields.{◌>>=◌, value_at, number_of, number_at, only_fields}
+use Rattle.scenario.specs.Order.{faults, first_of, above, ascending_faults, partition_faults, restart_faults, load_faults, array_faults, unknown_faults, nodes_in}
 use Rattle.scenario.specs.Settings.{Settings}
 use Rattle.scenario.specs.Top.{format_at, nodes_at, keys_at, rounds_at, seed_at, mode_at, budget_at, peers_at, rotation_at, choice_at, loss_ppm_at, writes_at, top_fields}
-use Rattle.scenario.specs.Words.{taken, mode_of, peers_of, rotation_of, choice_of}
+use Rattle.scenario.proofs.Steps.{elements_found, array_found, number_found_at}
+
+first_of-passed : (own others : List (Option Fault)) → first_of own ≡ None → first_of (own ++ others) ≡ first_of others
+first_of-passed [] others e = refl
+first_of-passed (None ∷ own) others e = first_of-passed own others e
+first_of-passed (Some fault ∷ own) others e = absurd cc
+
+first_of-failed : (own others : List (Option Fault)) (fault : Fault) → first_of own ≡ Some fault → first_of (own ++ others) ≡ Some fault
+first_of-failed [] others fault e = absurd cc
+first_of-failed (None ∷ own) others fault e = first_of-failed own others fault e
+first_of-failed (Some other ∷ own) others fault e = e
+
+-- a check that is itself several, whose value the next ones may use
+steps : {A B : Type 0} (r : Result A Fault) (next : A → Result B Fault) (own others : List (Option Fault)) → result_err r ≡ first_of own
+    → ((x : A) → r ≡ Ok x → result_err (next x) ≡ first_of others) → result_err (r >>= next) ≡ first_of (own ++ others)
+steps (Ok x) next own others is rest = rest x refl ∙ sym (first_of-passed own others (sym is))
+steps (Err fault) next own others is rest = sym (first_of-failed own others fault (sym is))
 
 -- a check whose value the next ones may use
 step : {A B : Type 0} (r : Result A Fault) (next : A → Result B Fault) (others : List (Option Fault))
     → ((x : A) → r ≡ Ok x → result_err (next x) ≡ first_of others) → result_err (r >>= next) ≡ first_of (result_err r ∷ others)
 step (Ok x) next others rest = rest x refl
 step (Err fault) next others rest = refl
+
+-- what is made of a value has no fault of its own
+made : {A B : Type 0} (r : Result A Fault) (make : A → B) → result_err (r >>= (λ x. Ok (make x))) ≡ result_err r
+made (Ok x) make = refl
+made (Err fault) make = refl
+
+first_of-each : {A : Type 0} (check : Data → Result A Fault) (element : Data → List (Option Fault))
+    → ((value : Data) → result_err (check value) ≡ first_of (element value))
+    → (values : List Data) → result_err (each check values) ≡ first_of (flat_map element values)
+first_of-each check element is [] = refl
+first_of-each check element is (value ∷ others) =
+    steps (check value) _ (element value) _ (is value) (λ x _.
+    made (each check others) (λ xs. x ∷ xs) ∙ first_of-each check element is others)
+
+first_of-array : {A : Type 0} (f : Field) (check : Data → Result A Fault) (element : Data → List (Option Fault))
+    → ((value : Data) → result_err (check value) ≡ first_of (element value))
+    → (table : Members) → result_err (array_at f check table) ≡ first_of (array_faults f element table)
+first_of-array f check element is table =
+    step (elements_at f table) _ _ (λ values found.
+    first_of-each check element is values ∙ ap (λ vs. first_of (flat_map element vs)) (sym (elements_found f _ values found)))
+
+first_of-ascending : (f : Field) (low high : ℕ) (values : List Data) → result_err (ascending f low high values) ≡ first_of (ascending_faults f low high values)
+first_of-ascending f low high [] = refl
+first_of-ascending f low high (value ∷ others) =
+    step (number_of f low high value) _ _ (λ n found.
+    made (ascending f (n + 1) high others) (λ ns. n ∷ ns)
+    ∙ first_of-ascending f (n + 1) high others
+    ∙ ap (λ least. first_of (ascending_faults f least high others)) (sym (ap above (number_found_at f low high n value found))))
+
+first_of-partition : (nodes : ℕ) (value : Data) → result_err (partition_of nodes value) ≡ first_of (partition_faults nodes value)
+first_of-partition nodes (toml.table members) =
+    step (number_at field.PartitionFrom 1 MOST_ROUNDS members) _ _ (λ from is_from.
+    rw is_from (
+    step (number_at field.PartitionTo from MOST_ROUNDS members) _ _ (λ to _.
+    made _ _ ∙
+    step (value_at field.PartitionApart members >>= array_of field.PartitionApart) _ _ (λ values found.
+    first_of-ascending field.PartitionApart 0 (nodes - 1) values
+    ∙ ap (λ vs. first_of (ascending_faults field.PartitionApart 0 (nodes - 1) vs)) (sym (array_found field.PartitionApart _ values found))))))
+first_of-partition nodes _ = refl
+
+first_of-restart : (nodes : ℕ) (value : Data) → result_err (restart_of nodes value) ≡ first_of (restart_faults nodes value)
+first_of-restart nodes (toml.table members) =
+    step (number_at field.RestartNode 0 (nodes - 1) members) _ _ (λ node _.
+    step (number_at field.RestartRound 1 MOST_ROUNDS members) _ _ (λ round _.
+    step (number_at field.RestartDown 0 MOST_ROUNDS members) _ _ (λ down _. refl)))
+first_of-restart nodes _ = refl
+
+first_of-load : (value : Data) → result_err (load_of value) ≡ first_of (load_faults value)
+first_of-load (toml.table members) =
+    step (number_at field.LoadFrom 1 MOST_ROUNDS members) _ _ (λ from is_from.
+    rw is_from (
+    step (number_at field.LoadTo from MOST_ROUNDS members) _ _ (λ to _.
+    step (number_at field.LoadWrites 0 MOST_WRITES members) _ _ (λ writes _. refl))))
+first_of-load _ = refl
+
+nodes_known : (table : Members) (nodes : ℕ) → nodes_at table ≡ Ok nodes → nodes_in table ≡ nodes
+nodes_known table nodes e = ap (λ r. result_unwrap_or r 0) e
 
 -- the fault of the check is that of the first check that fails
 pub first_of-faults : (table : Members) → result_err (checked table) ≡ first_of (faults table)
@@ -39,84 +114,19 @@ first_of-faults table =
     step (choice_at table) _ _ (λ choice _.
     step (loss_ppm_at table) _ _ (λ loss_ppm _.
     step (writes_at table) _ _ (λ writes _.
-    step (only_fields Top top_fields table) _ _ (λ _ _. refl)))))))))))))))
+    let same = nodes_known table nodes is_nodes in
+    steps (partitions_at nodes table) _ (array_faults field.Partition (partition_faults (nodes_in table)) table) (array_faults field.Restart (restart_faults (nodes_in table)) table ++ (array_faults field.Load load_faults table ++ unknown_faults table)) (first_of-array field.Partition _ (partition_faults (nodes_in table)) (λ value. first_of-partition nodes value ∙ ap (λ n. first_of (partition_faults n value)) (sym same)) table) (λ partitions _.
+    steps (restarts_at nodes table) _ (array_faults field.Restart (restart_faults (nodes_in table)) table) (array_faults field.Load load_faults table ++ unknown_faults table) (first_of-array field.Restart _ (restart_faults (nodes_in table)) (λ value. first_of-restart nodes value ∙ ap (λ n. first_of (restart_faults n value)) (sym same)) table) (λ restarts _.
+    steps (loads_at table) _ (array_faults field.Load load_faults table) (unknown_faults table) (first_of-array field.Load _ load_faults first_of-load table) (λ loads _.
+    made _ _ ∙
+    step (only_fields name.Top top_fields table) _ _ (λ _ _.
+    step (only_elements name.Partition field.Partition partition_fields table) _ _ (λ _ _.
+    step (only_elements name.Restart field.Restart restart_fields table) _ _ (λ _ _.
+    sole (only_elements name.Load field.Load load_fields table))))))))))))))))))))) where
+      sole : (r : Result (Unit {0}) Fault) → result_err r ≡ first_of (result_err r ∷ [])
+      sole (Ok x) = refl
+      sole (Err fault) = refl
 
--- where all checks pass, each of them does
-passed : {A B C : Type 0} (r : Result A Fault) (next : A → Result B Fault) (y : B) → (r >>= next) ≡ Ok y → ((x : A) → r ≡ Ok x → next x ≡ Ok y → C) → C
-passed (Ok x) next y e rest = rest x refl e
-passed (Err fault) next y e rest = absurd cc
-
-kept : (b : Bool) (m n : ℕ) (fault : Fault) → cond b (Ok m) (Err fault) ≡ Ok n → m ≡ n
-kept true m n fault e = cc
-kept false m n fault e = absurd cc
-
--- a number that was read stands in the document
-number_found : (f : Field) (low high n : ℕ) (o : Option Data) → (present f o >>= number_of f low high) ≡ Ok n → o ≡ Some (integer (pos n))
-number_found f low high n None e = cc
-number_found f low high n (Some (integer (pos m))) e =
-    ap (λ k. Some (integer (pos k))) (kept (nat_le low m && nat_le m high) m n _ e)
-number_found f low high n (Some (integer (negsuc m))) e = cc
-number_found f low high n (Some _) e = cc
-
-word_meant : {A : Type 0} (f : Field) (x : A) (o : Option A) → taken f o ≡ Ok x → o ≡ Some x
-word_meant f x None e = cc
-word_meant f x (Some y) e = cc
-
--- a word that was read stands in the document
-word_found : {A : Type 0} (f : Field) (meaning : List ℕ → Option A) (x : A) (o : Option Data)
-    → (present f o >>= text_of f >>= (λ word. taken f (meaning word))) ≡ Ok x → (word : List ℕ) × (o ≡ Some (string word)) × (meaning word ≡ Some x)
-word_found f meaning x None e = absurd cc
-word_found f meaning x (Some (string word)) e = (word, refl, word_meant f x (meaning word) e)
-word_found f meaning x (Some _) e = absurd cc
-
-abbrev accepted : Settings → Result Settings Fault
-accepted s = Ok s
-
-same_ok : (r s : Settings) → accepted r ≡ accepted s → r ≡ s
-same_ok r s e = cc
-
-only_known : (name : TableName) (b : Bool) (u : Unit {0}) → only name b ≡ Ok u → b ≡ true
-only_known name true u e = refl
-only_known name false u e = absurd cc
-
--- what the check gives is what the document says
-pub Says-checked : (table : Members) (s : Settings) → checked table ≡ Ok s → Says table s
-Says-checked table s all =
-    passed (format_at table) _ s all (λ format is_format e.
-    passed (nodes_at table) _ s e (λ nodes is_nodes e.
-    passed (keys_at table) _ s e (λ keys is_keys e.
-    passed (size_checked nodes keys) _ s e (λ _ _ e.
-    passed (rounds_at table) _ s e (λ rounds is_rounds e.
-    passed (seed_at table) _ s e (λ seed is_seed e.
-    passed (mode_at table) _ s e (λ mode is_mode e.
-    passed (budget_at table) _ s e (λ budget is_budget e.
-    passed (peers_at table) _ s e (λ peers is_peers e.
-    passed (rotation_at table) _ s e (λ rotation is_rotation e.
-    passed (choice_at table) _ s e (λ choice is_choice e.
-    passed (loss_ppm_at table) _ s e (λ loss_ppm is_loss_ppm e.
-    passed (writes_at table) _ s e (λ writes is_writes e.
-    passed (only_fields Top top_fields table) _ s e (λ _ is_only e.
-    subst (Says table) (same_ok _ s e) (record {
-      format = number_found field.Format _ _ _ _ is_format;
-      nodes = number_found field.Nodes _ _ _ _ is_nodes;
-      keys = number_found field.Keys _ _ _ _ is_keys;
-      rounds = number_found field.Rounds _ _ _ _ is_rounds;
-      seed = number_found field.Seed _ _ _ _ is_seed;
-      mode = word_found field.Mode mode_of _ _ is_mode;
-      budget = number_found field.Budget _ _ _ _ is_budget;
-      peers = word_found field.Peers peers_of _ _ is_peers;
-      rotation = word_found field.Rotation rotation_of _ _ is_rotation;
-      choice = word_found field.Choice choice_of _ _ is_choice;
-      loss_ppm = number_found field.LossPpm _ _ _ _ is_loss_ppm;
-      writes = number_found field.Writes _ _ _ _ is_writes;
-      others = only_known Top (has_only top_fields table) _ is_only;
-    })))))))))))))))
-
--- the same of an answer, `Ok` or `Err`
-pub Says-answer : (table : Members) (answer : Result Settings Fault) → answer ≡ checked table → IfOk answer (λ s. Says table s)
-Says-answer table (Ok s) e = Says-checked table s (sym e)
-Says-answer table (Err fault) e = tt
-
-pub first_of-answer : (table : Members) (answer : Result Settings Fault) → answer ≡ checked table → IfErr answer (λ fault. fault ≢ OutOfMemory → first_of (faults table) ≡ Some fault)
-first_of-answer table (Ok s) e = tt
-first_of-answer table (Err fault) e = λ _. sym (first_of-faults table) ∙ ap result_err (sym e)
+pub first_of-answer : (table : Members) (answer : Result Settings Fault) → IfErr answer (λ fault. fault ≢ OutOfMemory → checked table ≡ Err fault) → IfErr answer (λ fault. fault ≢ OutOfMemory → first_of (faults table) ≡ Some fault)
+first_of-answer table (Ok s) h = tt
+first_of-answer table (Err fault) h = λ other. sym (first_of-faults table) ∙ ap result_err (h other)

@@ -1,7 +1,9 @@
+pub mod Separation
 pub mod Settings
 pub mod View
 pub mod Fields
 pub mod Words
+pub mod Elements
 pub mod Top
 pub mod Checked
 pub mod Order

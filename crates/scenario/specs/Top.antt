@@ -5,7 +5,7 @@ use Rattle.bench_types.specs.declared.exchanges.Mode.{Mode}
 use Rattle.bench_types.specs.declared.faults.Fault.{Fault}
 use Rattle.bench_types.specs.declared.fields.Field.{Field}
 use Rattle.bench_types.specs.declared.fields.Field.TheVariants as field
-use Rattle.bench_types.specs.declared.limits.TheConstants.{LEAST_NODES, MOST_NODES, LEAST_KEYS, MOST_KEYS, MOST_ROUNDS, MOST_BUDGET, MOST_WRITES, MOST_SEED}
+use Rattle.bench_types.specs.declared.limits.TheConstants.{LEAST_NODES, MOST_NODES, LEAST_KEYS, MOST_KEYS, MOST_ROUNDS, MOST_BUDGET, MOST_LOSS, MOST_WRITES, MOST_SEED}
 use Rattle.scenario.specs.declared.choices.Peers.{Peers}
 use Rattle.scenario.specs.declared.choices.Rotation.{Rotation}
 use Rattle.scenario.specs.declared.choices.Choice.{Choice}
@@ -43,12 +43,12 @@ abbrev pub choice_at : Members → Result Choice Fault
 choice_at = word_at field.Choice choice_of
 
 abbrev pub loss_ppm_at : Members → Result ℕ Fault
-loss_ppm_at = number_at field.LossPpm 0 0
+loss_ppm_at = number_at field.LossPpm 0 MOST_LOSS
 
 abbrev pub writes_at : Members → Result ℕ Fault
 writes_at = number_at field.Writes 0 MOST_WRITES
 
--- all of them, in order
+-- all of them, in order, and the arrays
 abbrev pub top_fields : List Field
 top_fields =
     field.Format
@@ -63,4 +63,7 @@ top_fields =
     ∷ field.Choice
     ∷ field.LossPpm
     ∷ field.Writes
+    ∷ field.Partition
+    ∷ field.Restart
+    ∷ field.Load
     ∷ []

@@ -16,4 +16,7 @@ settings_of s = record {
   choice = s.choice;
   loss_ppm = s.loss_ppm;
   writes = s.writes;
+  partitions = s.partitions.items;
+  restarts = s.restarts.items;
+  loads = s.loads.items;
 }

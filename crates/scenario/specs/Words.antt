@@ -2,16 +2,16 @@
 use Rattle.std.specs.Prelude.{ℕ, List, Option, None, Some, Result, Ok, Err, codes, bytes_eq, if◌then◌else◌}
 use Rattle.toml.specs.Data.{Members}
 use Rattle.bench_types.specs.declared.exchanges.Mode.{Mode}
-use Rattle.bench_types.specs.declared.exchanges.Mode.TheVariants.{ScuttleBreadth}
+use Rattle.bench_types.specs.declared.exchanges.Mode.TheVariants.{ScuttleBreadth, ScuttleDepth, PreciseOldest, PreciseNewest}
 use Rattle.bench_types.specs.declared.faults.Fault.{Fault}
 use Rattle.bench_types.specs.declared.faults.Fault.TheVariants.{OutOfRange}
 use Rattle.bench_types.specs.declared.fields.Field.{Field}
 use Rattle.scenario.specs.declared.choices.Peers.{Peers}
-use Rattle.scenario.specs.declared.choices.Peers.TheVariants.{Ring}
+use Rattle.scenario.specs.declared.choices.Peers.TheVariants as peers
 use Rattle.scenario.specs.declared.choices.Rotation.{Rotation}
-use Rattle.scenario.specs.declared.choices.Rotation.TheVariants.{Off}
+use Rattle.scenario.specs.declared.choices.Rotation.TheVariants as rotation
 use Rattle.scenario.specs.declared.choices.Choice.{Choice}
-use Rattle.scenario.specs.declared.choices.Choice.TheVariants.{Cycle}
+use Rattle.scenario.specs.declared.choices.Choice.TheVariants as choice
 use Rattle.scenario.specs.Fields.{◌>>=◌, text_at}
 
 -- what a word stands for; a word that stands for nothing is out of range
@@ -24,13 +24,27 @@ abbrev pub word_at : {A : Type 0} → Field → (List ℕ → Option A) → Memb
 word_at f meaning table = text_at f table >>= (λ word. taken f (meaning word))
 
 abbrev pub mode_of : List ℕ → Option Mode
-mode_of word = if bytes_eq word (codes "scuttle-breadth") then Some ScuttleBreadth else None
+mode_of word =
+    if bytes_eq word (codes "scuttle-breadth") then Some ScuttleBreadth
+    else if bytes_eq word (codes "scuttle-depth") then Some ScuttleDepth
+    else if bytes_eq word (codes "precise-oldest") then Some PreciseOldest
+    else if bytes_eq word (codes "precise-newest") then Some PreciseNewest
+    else None
 
 abbrev pub peers_of : List ℕ → Option Peers
-peers_of word = if bytes_eq word (codes "ring") then Some Ring else None
+peers_of word =
+    if bytes_eq word (codes "random") then Some peers.Random
+    else if bytes_eq word (codes "ring") then Some peers.Ring
+    else None
 
 abbrev pub rotation_of : List ℕ → Option Rotation
-rotation_of word = if bytes_eq word (codes "none") then Some Off else None
+rotation_of word =
+    if bytes_eq word (codes "random") then Some rotation.Random
+    else if bytes_eq word (codes "none") then Some rotation.Off
+    else None
 
 abbrev pub choice_of : List ℕ → Option Choice
-choice_of word = if bytes_eq word (codes "cycle") then Some Cycle else None
+choice_of word =
+    if bytes_eq word (codes "random") then Some choice.Random
+    else if bytes_eq word (codes "cycle") then Some choice.Cycle
+    else None

@@ -3,7 +3,7 @@
 ghost use Rattle.std.specs.Prelude.{◌≡◌, ◌≤◌, IfOk, IfErr, option_map};
 ghost use Rattle.toml.specs.Data.{get_member};
 ghost use Rattle.toml.specs.View.{view, table_view};
-ghost use Rattle.scenario.specs.Fields.{name_of, number_at, text_at, has_only, is_among, only_fields};
+ghost use Rattle.scenario.specs.Fields.{name_of, value_at, number_of, number_at, text_at, has_only, is_among, only_fields};
 
 use bench_types::{Fault, Field, TableName};
 use toml::{Table, Value};
@@ -37,10 +37,34 @@ fn name_of(field: Field) -> &'static str
     }
 }
 
-fn found(table: &Table, field: Field) -> Option<&Value>
+pub(crate) fn found(table: &Table, field: Field) -> Option<&Value>
     ensures { option_map (λ v. view v.now) result ≡ get_member (name_of field) (table_view table.now) }
 {
     table.get(name_of(field))
+}
+
+/// The value of a field that has to be there.
+pub(crate) fn value_at(table: &Table, field: Field) -> Result<&Value, Fault>
+    ensures ok { IfOk result (λ value. value_at field (table_view table.now) ≡ Ok (view value.now)) }
+    ensures fault { IfErr result (λ fault. value_at field (table_view table.now) ≡ Err fault) }
+{
+    match found(table, field) {
+        None => Err(Fault::Missing(field)),
+        Some(value) => Ok(value),
+    }
+}
+
+fn integer_of(value: &Value, field: Field, low: u64, high: u64) -> Result<u64, Fault>
+    ensures answer { result ≡ number_of field low high (view value.now) }
+    ensures within { IfOk result (λ n. (low ≤ n) × (n ≤ high)) }
+{
+    match value {
+        Value::Integer(integer) => match u64::try_from(*integer) {
+            Ok(number) if (low..=high).contains(&number) => Ok(number),
+            _ => Err(Fault::OutOfRange(field)),
+        },
+        _ => Err(Fault::WrongType(field)),
+    }
 }
 
 /// An integer field that takes the numbers from `low` to `high`.
@@ -48,23 +72,24 @@ pub(crate) fn integer_at(table: &Table, field: Field, low: u64, high: u64) -> Re
     ensures answer { result ≡ number_at field low high (table_view table.now) }
     ensures within { IfOk result (λ n. (low ≤ n) × (n ≤ high)) }
 {
-    match found(table, field) {
-        None => Err(Fault::Missing(field)),
-        Some(Value::Integer(integer)) => match u64::try_from(*integer) {
-            Ok(number) if (low..=high).contains(&number) => Ok(number),
-            _ => Err(Fault::OutOfRange(field)),
-        },
-        Some(_) => Err(Fault::WrongType(field)),
-    }
+    integer_of(value_at(table, field)?, field, low, high)
 }
 
-/// As `integer_at`, for numbers of 32 bits.
+/// The value as a number from `low` to `high`.
+pub(crate) fn number_of(value: &Value, field: Field, low: u32, high: u32) -> Result<u32, Fault>
+    ensures answer { result ≡ number_of field low high (view value.now) }
+    ensures within { IfOk result (λ n. (low ≤ n) × (n ≤ high)) }
+{
+    let number = integer_of(value, field, u64::from(low), u64::from(high))?;
+    Ok(number as u32)
+}
+
+/// A field that takes the numbers from `low` to `high`.
 pub(crate) fn number_at(table: &Table, field: Field, low: u32, high: u32) -> Result<u32, Fault>
     ensures answer { result ≡ number_at field low high (table_view table.now) }
     ensures within { IfOk result (λ n. (low ≤ n) × (n ≤ high)) }
 {
-    let number = integer_at(table, field, u64::from(low), u64::from(high))?;
-    Ok(number as u32)
+    number_of(value_at(table, field)?, field, low, high)
 }
 
 /// A text field.
@@ -85,7 +110,7 @@ fn is_among(key: &str, fields: &[Field]) -> bool
     fields.iter().any(|field| name_of(*field) == key)
 }
 
-fn has_only(table: &Table, fields: &[Field]) -> bool
+pub(crate) fn has_only(table: &Table, fields: &[Field]) -> bool
     ensures { result ≡ has_only fields.now (table_view table.now) }
 {
     table.keys().all(|key| is_among(key.as_str(), fields))

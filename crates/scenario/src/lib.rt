@@ -3,14 +3,16 @@
 //! keeps every limit in its type, so no caller has to test one again.
 #![tactic(auto)]
 
+mod arrays;
 mod choices;
+mod elements;
 mod fields;
 mod scenarios;
-#[cfg(test)]
-mod tests;
+mod tables;
 mod texts;
 mod words;
 
 pub use choices::{Choice, Peers, Rotation};
+pub use elements::{Load, Partition, Restart};
 pub use scenarios::Scenario;
 pub use texts::read;

@@ -1,22 +1,26 @@
 //! A scenario that passed the check.
 
-ghost use Rattle.std.specs.Prelude.{◌≡◌, ◌*◌, ◌≤◌, OnOk};
+ghost use Rattle.std.specs.Prelude.{◌≡◌, ◌≢◌, ◌*◌, ◌≤◌, IfOk, IfErr, OnOk};
 ghost use Rattle.toml.specs.View.{table_view};
-ghost use Rattle.scenario.specs.Checked.{checked, size_checked};
+ghost use Rattle.scenario.specs.Checked.{checked, size_checked, unknown_checked};
 
+use crate::arrays::only_elements;
 use crate::choices::{Choice, Peers, Rotation};
+use crate::elements::{Load, Partition, Restart};
 use crate::fields::{integer_at, number_at, only_fields};
+use crate::tables::{loads_at, partitions_at, restarts_at};
 use crate::words::{choice_at, mode_at, peers_at, rotation_at};
 use bench_types::limits::{
-    LEAST_KEYS, LEAST_NODES, MOST_BUDGET, MOST_ENTRIES, MOST_KEYS, MOST_NODES, MOST_ROUNDS,
-    MOST_SEED, MOST_WRITES,
+    LEAST_KEYS, LEAST_NODES, MOST_BUDGET, MOST_ENTRIES, MOST_KEYS, MOST_LOSS, MOST_NODES,
+    MOST_ROUNDS, MOST_SEED, MOST_WRITES,
 };
 use bench_types::{Fault, Field, Mode, TableName};
+use std::alloc::Global;
 use std::marker::Model;
 use toml::Table;
 
 /// The fields of the text itself, in the order of their checks.
-const TOP_FIELDS: [Field; 12] = [
+const TOP_FIELDS: [Field; 15] = [
     Field::Format,
     Field::Nodes,
     Field::Keys,
@@ -29,7 +33,20 @@ const TOP_FIELDS: [Field; 12] = [
     Field::Choice,
     Field::LossPpm,
     Field::Writes,
+    Field::Partition,
+    Field::Restart,
+    Field::Load,
 ];
+
+const PARTITION_FIELDS: [Field; 3] = [
+    Field::PartitionFrom,
+    Field::PartitionTo,
+    Field::PartitionApart,
+];
+
+const RESTART_FIELDS: [Field; 3] = [Field::RestartNode, Field::RestartRound, Field::RestartDown];
+
+const LOAD_FIELDS: [Field; 3] = [Field::LoadFrom, Field::LoadTo, Field::LoadWrites];
 
 /// The description of a run: how many nodes and keys, for how many rounds, and by which rules.
 #[derive(Debug, Drop)]
@@ -46,6 +63,9 @@ pub struct Scenario {
     choice: Choice,
     loss_ppm: u32,
     writes: u32,
+    partitions: Vec<Partition>,
+    restarts: Vec<Restart>,
+    loads: Vec<Load>,
 }
 
 impl Model for Scenario {
@@ -74,9 +94,28 @@ fn check_size(nodes: u32, keys: u32) -> Result<(), Fault>
     }
 }
 
+// That no table has a key that is not a field's: first the text itself, then each element.
+fn check_unknown(table: &Table) -> Result<(), Fault>
+    ensures { result ≡ unknown_checked (table_view table.now) }
+{
+    only_fields(table, TableName::Top, &TOP_FIELDS)?;
+    only_elements(
+        table,
+        TableName::Partition,
+        Field::Partition,
+        &PARTITION_FIELDS,
+    )?;
+    only_elements(table, TableName::Restart, Field::Restart, &RESTART_FIELDS)?;
+    only_elements(table, TableName::Load, Field::Load, &LOAD_FIELDS)
+}
+
 impl Scenario {
-    pub(crate) fn checked(table: &Table) -> Result<Scenario, Fault>
-        ensures { result ≡ checked (table_view table.now) }
+    ghost use Rattle.scenario.specs.Settings.{with_mode, IsLawful, AreLawful, IsLawfulPartition, IsLawfulRestart, IsLawfulLoad};
+
+    pub(crate) fn checked(alloc: Global, table: &Table) -> Result<Scenario, Fault>
+        ensures ok { IfOk result (λ scenario. checked (table_view table.now) ≡ Ok scenario) }
+        ensures refused { IfErr result (λ fault.
+            fault ≢ Fault.OutOfMemory → checked (table_view table.now) ≡ Err fault) }
     {
         let format = number_at(table, Field::Format, 1, 1)?;
         let nodes = number_at(table, Field::Nodes, LEAST_NODES, MOST_NODES)?;
@@ -89,9 +128,12 @@ impl Scenario {
         let peers = peers_at(table)?;
         let rotation = rotation_at(table)?;
         let choice = choice_at(table)?;
-        let loss_ppm = number_at(table, Field::LossPpm, 0, 0)?;
+        let loss_ppm = number_at(table, Field::LossPpm, 0, MOST_LOSS)?;
         let writes = number_at(table, Field::Writes, 0, MOST_WRITES)?;
-        only_fields(table, TableName::Top, &TOP_FIELDS)?;
+        let partitions = partitions_at(alloc, table, nodes)?;
+        let restarts = restarts_at(alloc, table, nodes)?;
+        let loads = loads_at(alloc, table, nodes)?;
+        check_unknown(table)?;
         Ok(Scenario {
             format,
             nodes,
@@ -105,6 +147,9 @@ impl Scenario {
             choice,
             loss_ppm,
             writes,
+            partitions,
+            restarts,
+            loads,
         })
     }
 
@@ -137,6 +182,7 @@ impl Scenario {
     /// How many rounds the run has, numbered from 1.
     pub fn rounds(&self) -> u32
         ensures value { result ≡ self.now.rounds }
+        ensures lawful { IsLawful self.now }
         ensures limits { (1 ≤ result) × (result ≤ MOST_ROUNDS) }
     {
         self.rounds
@@ -152,8 +198,7 @@ impl Scenario {
 
     /// Which entries are sent, and in which order.
     pub fn mode(&self) -> Mode
-        ensures value { result ≡ self.now.mode }
-        ensures limits { result ≡ Mode.ScuttleBreadth }
+        ensures { result ≡ self.now.mode }
     {
         self.mode
     }
@@ -168,24 +213,21 @@ impl Scenario {
 
     /// How a node picks its peer.
     pub fn peers(&self) -> Peers
-        ensures value { result ≡ self.now.peers }
-        ensures limits { result ≡ Peers.Ring }
+        ensures { result ≡ self.now.peers }
     {
         self.peers
     }
 
     /// At which owner the order of an exchange's entries begins.
     pub fn rotation(&self) -> Rotation
-        ensures value { result ≡ self.now.rotation }
-        ensures limits { result ≡ Rotation.Off }
+        ensures { result ≡ self.now.rotation }
     {
         self.rotation
     }
 
     /// How a write picks its key and its value.
     pub fn choice(&self) -> Choice
-        ensures value { result ≡ self.now.choice }
-        ensures limits { result ≡ Choice.Cycle }
+        ensures { result ≡ self.now.choice }
     {
         self.choice
     }
@@ -193,7 +235,7 @@ impl Scenario {
     /// How many of a million messages are lost.
     pub fn loss_ppm(&self) -> u32
         ensures value { result ≡ self.now.loss_ppm }
-        ensures limits { result ≡ 0 }
+        ensures limits { result ≤ MOST_LOSS }
     {
         self.loss_ppm
     }
@@ -204,5 +246,36 @@ impl Scenario {
         ensures limits { result ≤ MOST_WRITES }
     {
         self.writes
+    }
+
+    /// The partitions, in the order of the text.
+    pub fn partitions(&self) -> &[Partition]
+        ensures value { result.now ≡ self.now.partitions }
+        ensures limits { AreLawful (IsLawfulPartition self.now.nodes) result.now }
+    {
+        &self.partitions
+    }
+
+    /// The restarts, in the order of the text.
+    pub fn restarts(&self) -> &[Restart]
+        ensures value { result.now ≡ self.now.restarts }
+        ensures limits { AreLawful (IsLawfulRestart self.now.nodes) result.now }
+    {
+        &self.restarts
+    }
+
+    /// The loads, in the order of the text.
+    pub fn loads(&self) -> &[Load]
+        ensures value { result.now ≡ self.now.loads }
+        ensures limits { AreLawful IsLawfulLoad result.now }
+    {
+        &self.loads
+    }
+
+    /// The same scenario under another mode.
+    pub fn with_mode(self, mode: Mode) -> Scenario
+        ensures { result ≡ with_mode self mode }
+    {
+        Scenario { mode, ..self }
     }
 }

@@ -29,7 +29,7 @@ pub fn read(alloc: Global, bytes: &[u8]) -> Result<Scenario, Fault>
         fault ≢ Fault.OutOfMemory → first_fault (document_of bytes.now) ≡ Some fault) }
 {
     let table = document(alloc, bytes)?;
-    Scenario::checked(&table)
+    Scenario::checked(alloc, &table)
 }
 
 fn document(alloc: Global, bytes: &[u8]) -> Result<Table, Fault>

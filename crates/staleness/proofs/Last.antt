@@ -1,19 +1,15 @@
 -- The last write of a key, and the first one that was missed.
-use Rattle.std.proofs.Common.{◌≡◌, ◌≢◌, ℕ, zero, suc, ◌+◌, ◌^◌, ◌<◌, ◌≤◌, Bool, true, false, cond, eqb, ltb, ◌&&◌, List, [], ◌∷◌, ◌++◌, length, get_or, drop, reverse, Some, None, IfSome, All, inl, inr, if◌then◌else◌, refl, sym, ap, ◌∙◌, subst, arith, length-append}
+use Rattle.std.proofs.Common.{◌≡◌, ◌≢◌, ℕ, zero, suc, ◌+◌, ◌<◌, ◌≤◌, Bool, true, false, cond, eqb, ltb, ◌&&◌, List, [], ◌∷◌, ◌++◌, length, get_or, drop, reverse, Some, None, IfSome, All, inl, inr, if◌then◌else◌, refl, sym, ap, ◌∙◌, subst, arith}
 use Rattle.std.specs.List.{find}
 use Rattle.std.specs.Option.{option_or}
 use Rattle.std.specs.Ordering.{nat_cmp, is_eq}
-use Rattle.std.specs.Cmp.{nat_cmp_total}
-use Rattle.std.specs.FinMap.{put}
-use Rattle.std.specs.FinMap.Entries.{find-put}
 use Rattle.std.proofs.lemmas.Bool.{cases_lt, lt-ltb, le-ltb, ne_eqb, eq-eqb}
-use Rattle.std.proofs.lemmas.List.{reverse-append, get_or_append_left, get_or_push}
+use Rattle.std.proofs.lemmas.List.{reverse-append}
 use Rattle.std.proofs.lemmas.List.Folds.{find-append}
 use Rattle.std.proofs.lemmas.List.Elements.{All-head, All-tail}
 use Rattle.staleness.specs.declared.lists.Write.{Write}
-use Rattle.staleness.specs.Writes.{next_write, IsNumbered, is_of, is_missed, last_write, first_missed}
-use Rattle.staleness.specs.Latest.{keyed, write_of, IsKept}
-use Rattle.staleness.proofs.Rising.{cmp-less, cmp-equal, cmp-greater, rising_put}
+use Rattle.staleness.specs.Writes.{IsNumbered, is_of, is_missed, last_write, first_missed}
+use Rattle.staleness.proofs.Rising.{cmp-less, cmp-equal, cmp-greater}
 
 -- a write at the end is the last of its key
 pub last_write-push : (ws : List Write) (w : Write) (key : ℕ) → last_write (ws ++ w ∷ []) key ≡ (if is_of key w then Some w else last_write ws key)
@@ -32,38 +28,9 @@ same_key m n = elim (cases_lt m n) [
   ]
 ]
 
-numbered_push : (ws : List Write) (key born : ℕ) → IsNumbered ws → IsNumbered (ws ++ next_write ws key born ∷ [])
-numbered_push ws key born numbered i d lt = elim (cases_lt i (length ws)) [
-  | inl before ↦ rw (get_or_append_left ws (next_write ws key born ∷ []) d i before) (numbered i d before)
-  | inr last ↦
-      let e : length ws ≡ i = omega (arith, length-append ws (next_write ws key born ∷ [])) in
-      ap (λ (w : Write). w.version) (get_or_push ws (next_write ws key born) d i e) ∙ ap (λ n. n + 1) e
-]
-
--- what the list keeps, after a push
-pub kept_push : (ws latest latest' : List Write) (key born : ℕ) → IsKept ws latest → length ws + 1 < 2 ^ 32 → put nat_cmp key (next_write ws key born) (keyed latest) ≡ keyed latest' → IsKept (ws ++ next_write ws key born ∷ []) latest'
-kept_push ws latest latest' key born kept few is = record {
-  few = omega (arith, length-append ws (next_write ws key born ∷ []));
-  numbered = numbered_push ws key born kept.numbered;
-  ends = record {
-    rising = rising_put latest latest' (next_write ws key born) kept.ends.rising is;
-    last = λ q. ap (Rattle.std.specs.FinMap.find nat_cmp q) (sym is)
-        ∙ find-put nat_cmp nat_cmp_total q key (next_write ws key born) (keyed latest)
-        ∙ ap (λ b. cond b (Some (next_write ws key born)) (write_of latest q)) (same_key q key)
-        ∙ ap (cond (eqb key q) (Some (next_write ws key born))) (kept.ends.last q)
-        ∙ sym (last_write-push ws (next_write ws key born) q);
-  };
-}
-
+-- a write of a version
 abbrev pub with_version : ℕ → ℕ → ℕ → Write
 with_version version key born = record { key = key; version = version; born = born }
-
--- the same, where the length was counted as n, and the write pushed
-pub kept_counted : (ws ws' latest latest' : List Write) (key born n : ℕ) → IsKept ws latest → n ≡ length ws → length ws + 1 < 2 ^ 32
-    → put nat_cmp key (with_version (n + 1) key born) (keyed latest) ≡ keyed latest' → ws' ≡ ws ++ with_version (n + 1) key born ∷ [] → IsKept ws' latest'
-kept_counted ws ws' latest latest' key born n kept counted few is pushed =
-    subst (λ vs. IsKept vs latest') (sym (pushed ∙ ap (λ m. ws ++ with_version (m + 1) key born ∷ []) counted))
-    (kept_push ws latest latest' key born kept few (subst (λ m. put nat_cmp key (with_version (m + 1) key born) (keyed latest) ≡ keyed latest') counted is))
 
 -- the versions count up from n
 abbrev CountsFrom : ℕ → List Write → Type 0

@@ -1,7 +1,9 @@
 pub mod Rising
 pub mod Last
+pub mod Linking
 pub mod Passing
 pub mod Sums
 pub mod Lagging
 pub mod Sharing
 pub mod OwnParts
+pub mod Counting

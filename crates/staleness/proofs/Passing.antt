@@ -1,58 +1,20 @@
 -- A walk through a node's items: what it has passed, and the version that stands where it stops.
-use Rattle.std.proofs.Common.{◌≡◌, ℕ, ◌+◌, ◌<◌, ◌≤◌, true, false, cond, List, [], ◌∷◌, length, map, get_or, Some, None, ◌⊎◌, inl, inr, refl, sym, ap, ◌∙◌, subst, arith}
-use lib.Dec.{T}
-use Rattle.std.specs.declared.cmp.Ordering.{Ordering}
+use Rattle.std.proofs.Common.{◌≡◌, ℕ, ◌+◌, ◌<◌, ◌≤◌, List, length, get_or, ◌⊎◌, inl, inr, sym, ap, ◌∙◌, subst, arith}
 use Rattle.std.specs.declared.cmp.Ordering.TheVariants.{Less, Equal, Greater}
-use Rattle.std.specs.Ordering.{nat_cmp, ordering_then, is_lt, is_eq}
-use Rattle.std.specs.Cmp.{tied_itself}
-use Rattle.std.specs.FinMap.{find, is_sorted, entries, entries_sorted, get-entries}
-use Rattle.std.specs.FinMap.Entries.{below_all}
+use Rattle.std.specs.Ordering.{nat_cmp, ordering_then}
+use Rattle.std.specs.FinMap.{find, get-entries}
 use Rattle.std.proofs.lemmas.Bool.{cases_lt}
 use Rattle.std.proofs.lemmas.List.{get_or_default}
-use Rattle.bench_types.specs.declared.entries.Entry.{Entry}
 use Rattle.bench_types.specs.declared.entries.Item.{Item}
 use Rattle.bench_types.specs.Entry.{version_of}
-use Rattle.node_table.specs.Table.{Place, place_cmp, Table, version_at, item_of, items_of, IsProper}
+use Rattle.node_table.specs.Table.{Place, place_cmp, Table, version_at, items_of, IsProper}
 use Rattle.node_table.specs.View.{place_of, pairs, IsRising}
-use Rattle.node_table.proofs.Order.{place_total, place_same, place_turned}
+use Rattle.node_table.proofs.Order.{place_total, place_turned}
+use Rattle.node_table.proofs.Items.{pairs-items_of}
 use Rattle.node_table.proofs.Rising.{rising_at, find_at, find_in_gap}
 use Rattle.node_table.proofs.Greatest.{place_less}
 use Rattle.staleness.specs.Walk.{IsPassed}
-use Rattle.staleness.proofs.Rising.{first, second, less, cmp-less, cmp-equal}
-
-equal : (r : Ordering) → is_eq r ≡ true → r ≡ Equal
-equal Less h = absurd (subst (λ b. T (Rattle.std.specs.Prelude.not b)) h tt)
-equal Equal h = refl
-equal Greater h = absurd (subst (λ b. T (Rattle.std.specs.Prelude.not b)) h tt)
-
-find_below : (p : Place) (es : List (Place × Entry)) → T (below_all place_cmp p es) → find place_cmp p es ≡ None
-find_below p [] h = refl
-find_below p (e ∷ es) h = ap (λ r. cond (is_eq r) (Some e.1) (find place_cmp p es)) (less _ (first _ _ h)) ∙ find_below p es (second _ _ h)
-
--- what is found behind an entry is found with it
-found_later : (e : Place × Entry) (es : List (Place × Entry)) (p : Place) (x : Entry) → T (is_sorted place_cmp (e ∷ es)) → find place_cmp p es ≡ Some x → find place_cmp p (e ∷ es) ≡ Some x
-found_later e es p x sorted found =
-    elim (is_eq (place_cmp p e.0)) as (λ b. is_eq (place_cmp p e.0) ≡ b → cond b (Some e.1) (find place_cmp p es) ≡ Some x) [
-      | true ↦ λ tie. absurd (apart (place_same p e.0 (equal _ tie)))
-      | false ↦ λ tie. found
-    ] refl
-  where
-    apart : p ≡ e.0 → ⊥
-    apart same = let none : find place_cmp p es ≡ None = subst (λ q. find place_cmp q es ≡ None) (sym same) (find_below e.0 es (first _ _ sorted)) in cc
-
--- entries that have their places' keys are the items' pairs
-paired : (es : List (Place × Entry)) → T (is_sorted place_cmp es) → ((p : Place) (x : Entry) → find place_cmp p es ≡ Some x → x.key ≡ p.1) → pairs (map item_of es) ≡ es
-paired [] sorted keyed = refl
-paired (e ∷ es) sorted keyed =
-    let here : e.1.key ≡ e.0.1 = keyed e.0 e.1 (ap (λ r. cond (is_eq r) (Some e.1) (find place_cmp e.0 es)) (tied_itself place_total e.0)) in
-    ap (λ (k : ℕ). ((e.0.0, k), e.1) ∷ pairs (map item_of es)) here
-    ∙ ap (λ fs. e ∷ fs) (paired es (second _ _ sorted) (λ p x found. keyed p x (found_later e es p x sorted found)))
-
-pub pairs-items_of : (t : Table) → IsProper t → pairs (items_of t) ≡ entries t.held
-pairs-items_of t proper = paired (entries t.held) (entries_sorted t.held) (λ p x found. (proper.in_place p.0 p.1 x (get-entries t.held p ∙ found)).keyed)
-
-pub rising-items_of : (t : Table) → IsProper t → IsRising (items_of t)
-rising-items_of t proper = subst (λ es. T (is_sorted place_cmp es)) (sym (pairs-items_of t proper)) (entries_sorted t.held)
+use Rattle.staleness.proofs.Rising.{cmp-less, cmp-equal}
 
 -- a table's version of a key, by its items
 pub version_at-items_of : (t : Table) (owner key : ℕ) → IsProper t → version_at t owner key ≡ version_of (find place_cmp (owner, key) (pairs (items_of t)))

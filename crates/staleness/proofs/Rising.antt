@@ -1,5 +1,5 @@
 -- Lists of writes that rise by key: what a search finds, and what an edit at an index does to the look-ups.
-use Rattle.std.proofs.Common.{◌≡◌, ◌≢◌, ℕ, zero, suc, ◌+◌, ◌<◌, ◌≤◌, Bool, true, false, cond, eqb, ltb, ◌&&◌, List, [], ◌∷◌, length, map, get_or, set, Option, Some, None, Result, Ok, Err, OnOk, IfOk, IfErr, is_ok, if◌then◌else◌, refl, sym, ap, ◌∙◌, subst, arith}
+use Rattle.std.proofs.Common.{◌≡◌, ◌≢◌, ℕ, zero, suc, ◌+◌, ◌<◌, Bool, true, false, cond, ◌&&◌, List, [], ◌∷◌, length, get_or, set, Some, None, Result, Ok, Err, IfOk, IfErr, inl, inr, if◌then◌else◌, refl, sym, ap, ◌∙◌, subst, arith}
 use lib.Dec.{T}
 use Rattle.std.specs.declared.cmp.Ordering.{Ordering}
 use Rattle.std.specs.declared.cmp.Ordering.TheVariants.{Less, Equal, Greater}
@@ -9,7 +9,7 @@ use Rattle.std.specs.List.{insert}
 use Rattle.std.specs.List.Sorted.{IsSearchInRange, IsBinarySearchResult, IsSortedBy}
 use Rattle.std.specs.FinMap.{find, put, is_sorted}
 use Rattle.std.specs.FinMap.Entries.{below_all, by_order, is_sorted-put}
-use Rattle.std.proofs.lemmas.Bool.{lt-ltb, le-ltb, eq-eqb, ne_eqb}
+use Rattle.std.proofs.lemmas.Bool.{cases_lt, lt-ltb, le-ltb, eq-eqb, ne_eqb}
 use Rattle.std.proofs.lemmas.List.Sorted.{searchable_from_sorted}
 use Rattle.staleness.specs.declared.lists.Write.{Write}
 use Rattle.staleness.specs.Latest.{keyed, IsRising, IsAt, IsGapFor}
@@ -65,10 +65,17 @@ find-none (w ∷ ws) key apart =
     ∙ find-none ws key (λ i d lt. apart (suc i) d (omega arith))
   where
     unequal : (m n : ℕ) → m ≢ n → is_eq (nat_cmp m n) ≡ false
-    unequal m n ne = elim (Rattle.std.proofs.lemmas.Bool.cases_lt m n) [
-      | Rattle.std.proofs.Common.inl lt ↦ ap is_eq (cmp-less m n lt)
-      | Rattle.std.proofs.Common.inr le ↦ ap is_eq (cmp-greater m n (omega arith))
+    unequal m n ne = elim (cases_lt m n) [
+      | inl lt ↦ ap is_eq (cmp-less m n lt)
+      | inr le ↦ ap is_eq (cmp-greater m n (omega arith))
     ]
+
+-- as where it has a gap
+pub find-gap : (ws : List Write) (key i : ℕ) → IsGapFor ws key i → find nat_cmp key (keyed ws) ≡ None
+find-gap ws key i gap = find-none ws key (λ j d lt same. elim (cases_lt j i) [
+  | inl before ↦ omega (arith, gap.below j d before)
+  | inr behind ↦ omega (arith, gap.above j d behind lt)
+])
 
 -- to put a write where its key stands is to set it there
 pub put_at : (ws : List Write) (w : Write) (i : ℕ) → IsRising ws → IsAt ws w.key i → put nat_cmp w.key w (keyed ws) ≡ keyed (set ws i w)
@@ -104,10 +111,6 @@ rising_set ws w i rising at = rising_put ws (set ws i w) w rising (put_at ws w i
 pub rising_tried : (ws vs : List Write) (w : Write) (i : ℕ) (b : Bool) → IsRising ws → IsGapFor ws w.key i → vs ≡ (if b then insert ws i w else ws) → IsRising vs
 rising_tried ws vs w i true rising gap is = subst IsRising (sym is) (rising_put ws (insert ws i w) w rising (put_gap ws w i gap))
 rising_tried ws vs w i false rising gap is = subst IsRising (sym is) rising
-
-pub put_tried : {E : Type 0} (r : Result (Unit {0}) E) (ws vs : List Write) (w : Write) (i : ℕ) → IsGapFor ws w.key i → vs ≡ (if is_ok r then insert ws i w else ws) → OnOk r (put nat_cmp w.key w (keyed ws) ≡ keyed vs)
-put_tried (Ok _) ws vs w i gap is = put_gap ws w i gap ∙ ap keyed (sym is)
-put_tried (Err _) ws vs w i gap is = tt
 
 sorted_of_rising : (ws : List Write) → IsRising ws → IsSortedBy (λ a b. is_lt (nat_cmp a.key b.key)) ws
 sorted_of_rising ws rising k d from in_range = ap is_lt (cmp-greater (get_or ws (k + 1) d).key (get_or ws k d).key (rising_at ws k (k + 1) d d rising (omega arith) in_range))

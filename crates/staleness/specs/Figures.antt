@@ -28,6 +28,10 @@ table_at tables p = (slice_index_or tables p no_table).table
 abbrev pub writes_at : List (List Write) → ℕ → List Write
 writes_at lists r = slice_index_or lists r []
 
+-- what was counted of a node
+abbrev pub figures_at : List Figures → ℕ → Figures
+figures_at parts p = slice_index_or parts p (record { stale = 0; greatest = 0 })
+
 -- how long a version of a key has been behind an owner's list, if it is
 abbrev pub staleness_of : ℕ → List Write → ℕ → ℕ → Option ℕ
 staleness_of round writes key version = option_map (λ w. round - w.born + 1) (first_missed writes key version)

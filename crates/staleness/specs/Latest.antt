@@ -1,10 +1,10 @@
--- The last write of each key, as a list that rises by key.
-use Rattle.std.specs.Prelude.{◌≡◌, ℕ, ◌^◌, ◌<◌, ◌≤◌, List, length, map, slice_index_or, Option}
+-- The first and the last write of each key, each as a list that rises by key. Source: this project.
+use Rattle.std.specs.Prelude.{◌≡◌, ℕ, ◌<◌, ◌≤◌, List, length, map, slice_index_or, Option}
 use lib.Dec.{T}
 use Rattle.std.specs.Ordering.{nat_cmp}
 use Rattle.std.specs.FinMap.{find, is_sorted}
 use Rattle.staleness.specs.declared.lists.Write.{Write}
-use Rattle.staleness.specs.Writes.{IsNumbered, last_write}
+use Rattle.staleness.specs.Writes.{last_write, first_missed}
 
 abbrev pub with_key : Write → ℕ × Write
 with_key w = (w.key, w)
@@ -25,6 +25,11 @@ pub record IsLatest (latest writes : List Write) : Type 0 where
   pub rising : IsRising latest
   pub last : (key : ℕ) → write_of latest key ≡ last_write writes key
 
+-- these are the first writes
+pub record AreFirst (firsts writes : List Write) : Type 0 where
+  pub rising : IsRising firsts
+  pub first : (key : ℕ) → write_of firsts key ≡ first_missed writes key 0
+
 -- the write at index i has the key
 pub record IsAt (ws : List Write) (key i : ℕ) : Type 0 where
   pub in_range : i < length ws
@@ -35,9 +40,3 @@ pub record IsGapFor (ws : List Write) (key i : ℕ) : Type 0 where
   pub in_range : i ≤ length ws
   pub below : (j : ℕ) (d : Write) → j < i → (slice_index_or ws j d).key < key
   pub above : (j : ℕ) (d : Write) → i ≤ j → j < length ws → key < (slice_index_or ws j d).key
-
--- what an owner's list keeps in memory
-pub record IsKept (writes latest : List Write) : Type 0 where
-  pub few : length writes < 2 ^ 32
-  pub numbered : IsNumbered writes
-  pub ends : IsLatest latest writes

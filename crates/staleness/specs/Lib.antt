@@ -1,5 +1,6 @@
 pub mod Writes
 pub mod Latest
+pub mod Linked
 pub mod Figures
 pub mod Cluster
 pub mod Walk

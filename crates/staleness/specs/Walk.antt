@@ -1,4 +1,4 @@
--- A walk through a node's items, which stand by owner and then by key.
+-- A walk through a node's items, which stand by owner and then by key. Source: this project.
 use Rattle.std.specs.Prelude.{◌≡◌, ℕ, ◌<◌, List, slice_index_or}
 use Rattle.std.specs.declared.cmp.Ordering.TheVariants.{Less}
 use Rattle.bench_types.specs.declared.entries.Item.{Item}

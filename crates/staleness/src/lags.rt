@@ -2,19 +2,23 @@
 
 ghost use Rattle.std.specs.Prelude.{◌≡◌, ℕ, ◌+◌, ◌*◌, ◌^◌, ◌<◌, ◌≤◌, max, All, IfOk, IfSome, IsOkUnless, List, length, None, Some};
 ghost use Rattle.std.specs.FinMap.{find as find_entry};
+ghost use Rattle.std.specs.List.{AllZip, range_with_len};
 ghost use Rattle.bench_types.specs.Entry.{version_of};
 ghost use Rattle.bench_types.specs.declared.faults.Fault.TheVariants.{OutOfMemory};
 ghost use Rattle.node_table.specs.Table.{place_cmp, items_of, version_at};
 ghost use Rattle.node_table.specs.View.{IsRising, pairs};
 ghost use Rattle.staleness.specs.Writes.{AreBornBy, last_write};
-ghost use Rattle.staleness.specs.Figures.{table_at, writes_at, staleness_of, stale_count, rounds_behind, lag_figures, node_figures, figures_of};
-ghost use Rattle.staleness.specs.Cluster.{IsCluster, OwnPartIsLastWrites, OwnPartsAreLastWrites};
+ghost use Rattle.staleness.specs.Figures.{sum_below, most_below, figures_at, staleness_of, stale_count, rounds_behind, lag_figures, node_figures, figures_of};
+ghost use Rattle.staleness.specs.Cluster.{IsCluster, OwnPartsAreLastWrites, AreCountable, IsCounted};
 ghost use Rattle.staleness.specs.Walk.{IsPassed};
 
 use crate::lists::OwnerList;
 use bench_types::{Fault, Figures, Item};
 use node_table::NodeTable;
+use rayon::prelude::*;
+use std::alloc::{AllocError, Global};
 use std::cmp::Ordering;
+use std::thread::Threads;
 
 const NOTHING_STALE: Figures = Figures {
     stale: 0,
@@ -129,14 +133,50 @@ fn lag_of_node(tables: &[NodeTable], lists: &[OwnerList], node: usize, round: u3
     total
 }
 
+// How many triples are worth a thread of their own.
+const TRIPLES_OF_A_THREAD: usize = 65_536;
+
+// How many nodes are. It bears on the time alone.
+fn nodes_of_a_thread(tables: &[NodeTable]) -> usize {
+    let keys = match tables.first() {
+        Some(table) => table.keys(),
+        None => 1,
+    };
+    let triples = tables.len().saturating_mul(keys as usize);
+    (TRIPLES_OF_A_THREAD / triples.max(1)).max(1)
+}
+
+// What several nodes come to together.
+fn joined_all(parts: &[Figures]) -> Figures
+    requires few { length parts.now ≤ 4096 }
+    requires bound { All (λ f. f.stale ≤ 4096 * 64) parts.now }
+    ensures stale { result.stale ≡ sum_below (length parts.now) (λ i. (figures_at parts.now i).stale) }
+    ensures greatest { result.greatest ≡ most_below (length parts.now) (λ i. (figures_at parts.now i).greatest) }
+{
+    let mut total = NOTHING_STALE;
+    for part in parts {
+        total = joined(total, *part);
+    }
+    total
+}
+
 /// The figures at the end of a round, down nodes included: how many keys of copies are below the
 /// last writes in their owners' lists, and the greatest number of rounds since the first write that
 /// one of them missed, that round included.
 ///
-/// It goes once through the items of each table and, for each table, once through the last writes
-/// of all lists. For each stale key it also goes from the version held to the next write of the key.
-/// It takes no memory.
-pub fn figures(tables: &[NodeTable], lists: &[OwnerList], round: u32) -> Result<Figures, Fault>
+/// It goes over the nodes in threads, where there are enough of them, and what it answers does not
+/// depend on how. It goes once through the items of each table and, for each table, once through the
+/// last writes of all lists. For each stale key there is one step more where the copy holds a write of
+/// the owner's, and a binary search among the keys where it holds none: the first write that was
+/// missed is read off a link. It takes memory for the figures of each node, and an error is want of
+/// that.
+pub fn figures(
+    rt: &(impl Threads + Sync),
+    alloc: Global,
+    tables: &[NodeTable],
+    lists: &[OwnerList],
+    round: u32,
+) -> Result<Figures, Fault>
     requires cluster { IsCluster tables.now }
     requires one_list_each { length lists.now ≡ length tables.now }
     requires own_parts { OwnPartsAreLastWrites tables.now lists.now }
@@ -145,9 +185,29 @@ pub fn figures(tables: &[NodeTable], lists: &[OwnerList], round: u32) -> Result<
     ensures figures { IfOk result (λ f. f ≡ figures_of round tables.now lists.now) }
     ensures only { IsOkUnless result OutOfMemory }
 {
-    let mut total = NOTHING_STALE;
-    for node in 0..tables.len() {
-        total = joined(total, lag_of_node(tables, lists, node, round));
-    }
-    Ok(total)
+    let of_nodes = figures_of_nodes(rt, alloc, tables, lists, round)?;
+    Ok(joined_all(&of_nodes))
+}
+
+// What each node's copies lag, by node.
+fn figures_of_nodes(
+    rt: &(impl Threads + Sync),
+    alloc: Global,
+    tables: &[NodeTable],
+    lists: &[OwnerList],
+    round: u32,
+) -> Result<Vec<Figures>, AllocError>
+    requires { AreCountable round tables.now lists.now }
+    ensures { IfOk result (λ parts. AllZip (IsCounted round tables.now lists.now) (range_with_len 0 (length tables.now)) parts.items) }
+{
+    (0..tables.len())
+        .into_par_iter()
+        .with_min_len(nodes_of_a_thread(tables))
+        .map(
+            |node: usize| -> Figures
+                requires { AreCountable round tables.now lists.now × (node < length tables.now) }
+                ensures { IsCounted round tables.entry.now lists.entry.now node result }
+            { lag_of_node(tables, lists, node, round) },
+        )
+        .collect(rt, alloc)
 }

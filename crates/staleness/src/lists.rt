@@ -1,14 +1,15 @@
 //! The writes of one owner, in order.
 
-ghost use Rattle.std.specs.Prelude.{◌≡◌, ℕ, ◌+◌, ◌^◌, ◌<◌, ◌≤◌, ◌==◌, ◌++◌, ◌∷◌, [], Result, Ok, Err, OnOk, OnErr, IfOk, IfErr, IsOkUnless, List, length, find, vec_len};
+ghost use Rattle.std.specs.Prelude.{◌≡◌, ℕ, ◌+◌, ◌^◌, ◌-◌, ◌<◌, ◌≤◌, ◌==◌, None, Some, ◌++◌, ◌∷◌, [], Result, Ok, Err, OnOk, OnErr, IfOk, IfErr, IsOkUnless, List, length, find, drop, slice_index_or, vec_len, vec_capacity};
 ghost use Rattle.std.specs.FinMap.{put as put_entry};
 ghost use Rattle.std.specs.Ordering.{nat_cmp};
-ghost use Rattle.staleness.specs.Writes.{is_of};
-ghost use Rattle.staleness.specs.Latest.{keyed, IsRising, IsAt, IsGapFor};
+ghost use Rattle.staleness.specs.Writes.{next_write, is_of, last_write, first_missed};
+ghost use Rattle.staleness.specs.Latest.{keyed, write_of, IsRising, IsAt, IsGapFor};
+ghost use Rattle.staleness.specs.Linked.{shown, version_or_zero, IsLinked};
 ghost use Rattle.bench_types.specs.declared.faults.Fault.TheVariants.{OutOfMemory};
 
 use bench_types::Fault;
-use std::alloc::{AllocFailed, Global};
+use std::alloc::Global;
 use std::marker::Model;
 
 /// One write of an owner, without its value.
@@ -21,11 +22,21 @@ pub struct Write {
     pub born: u32,
 }
 
-/// All writes of one owner so far.
+// A write as it is kept: its version is one more than its place.
+#[derive(Clone, Copy, Debug)]
+struct Link {
+    key: u32,
+    born: u32,
+    // The version of the next write of the key, 0 where there is none.
+    next: u32,
+}
+
+/// All writes of one owner so far, each linked to the next one of its key.
 #[derive(Drop)]
 pub struct OwnerList {
-    writes: Vec<Write>,
-    // The last write of each key, by key.
+    links: Vec<Link>,
+    // The first write of each key and the last one, by key.
+    firsts: Vec<Write>,
     latest: Vec<Write>,
 }
 
@@ -35,11 +46,11 @@ impl Model for OwnerList {
 
     ghost Value = { List Write };
 
-    ghost use Rattle.staleness.specs.Latest.{IsKept};
+    ghost use Rattle.staleness.specs.Linked.{shown, IsKept};
 
-    ghost view = { λ l. l.writes.items };
+    ghost view = { λ l. shown l.links.items };
 
-    ghost invariant = { λ l. IsKept l.writes.items l.latest.items };
+    ghost invariant = { λ l. IsKept l.links.items l.firsts.items l.latest.items };
 }
 
 impl OwnerList {
@@ -51,12 +62,14 @@ impl OwnerList {
         ensures { result ≡ [] }
     {
         OwnerList {
-            writes: Vec::new(alloc),
+            links: Vec::new(alloc),
+            firsts: Vec::new(alloc),
             latest: Vec::new(alloc),
         }
     }
 
-    /// The owner writes a key in a round: the version is one above the last one's.
+    /// The owner writes a key in a round: the version is one above the last one's. A binary search
+    /// among the keys that it has written. An error is want of memory, and then nothing was added.
     pub fn push(&mut self, key: u32, born: u32) -> Result<(), Fault>
         requires { length self.old + 1 < 2 ^ 32 }
         ensures ok { OnOk result (self.new ≡ self.old ++ next_write self.old key born ∷ []) }
@@ -65,9 +78,12 @@ impl OwnerList {
     {
         let version = self.len() + 1;
         let write = Write { key, version, born };
-        self.writes.reserve(1)?;
-        put(&mut self.latest, write)?;
-        self.writes.push(write).unwrap();
+        self.links.reserve(1)?;
+        self.firsts.reserve(1)?;
+        self.latest.reserve(1)?;
+        let before = put(&mut self.latest, write);
+        put_first(&mut self.firsts, before, write);
+        append(&mut self.links, before, write);
         Ok(())
     }
 
@@ -76,31 +92,25 @@ impl OwnerList {
         ensures value { result ≡ length self.now }
         ensures numbered { IsNumbered self.now }
     {
-        self.writes.len() as u32
+        self.links.len() as u32
     }
 
     /// Whether the owner has written nothing.
     pub fn is_empty(&self) -> bool
         ensures { result ≡ (length self.now == 0) }
     {
-        self.writes.is_empty()
+        self.links.is_empty()
     }
 
-    /// The writes, in order.
-    pub fn writes(&self) -> &[Write]
-        ensures value { result.now ≡ self.now }
-        ensures numbered { IsNumbered self.now }
-    {
-        &self.writes
-    }
-
-    /// The first write of a key above a version. The search begins behind the write of that version.
+    /// The first write of a key above a version. Where the write of that version has the key, this
+    /// is one step, and for version 0 a binary search among the keys. Else it is looked for behind
+    /// that version.
     pub(crate) fn first_missed(&self, key: u32, version: u32) -> Option<Write>
         ensures { result ≡ first_missed self.now key version }
     {
-        match self.writes.get(version as usize..) {
-            Some(later) => first_of(later, key),
-            None => None,
+        match version.checked_sub(1) {
+            Some(at) => missed_after(&self.links, key, at as usize),
+            None => write_in(&self.firsts, key),
         }
     }
 
@@ -113,34 +123,129 @@ impl OwnerList {
     }
 }
 
-// The first write of a key.
-fn first_of(writes: &[Write], key: u32) -> Option<Write>
-    ensures { result ≡ find (is_of key) writes.now }
+// The first write of a key behind the one at a place.
+fn missed_after(links: &[Link], key: u32, at: usize) -> Option<Write>
+    requires few { length links.now < 2 ^ 32 }
+    requires linked { IsLinked links.now }
+    ensures { result ≡ first_missed (shown links.now) key (at + 1) }
 {
-    writes.iter().copied().find(|write| write.key == key)
+    match links.get(at) {
+        Some(held) if held.key == key => linked_to(links, held.next),
+        Some(_) => first_from(links, key, at + 1),
+        None => None,
+    }
 }
 
-// Where the last write of a key is, or where it would go.
-fn search(latest: &[Write], key: u32) -> Result<usize, usize>
-    requires { IsRising latest.now }
-    ensures found { IfOk result (IsAt latest.now key) }
-    ensures absent { IfErr result (IsGapFor latest.now key) }
+// The write of a version, none for 0.
+fn linked_to(links: &[Link], version: u32) -> Option<Write>
+    requires few { length links.now < 2 ^ 32 }
+    requires within { version ≤ length links.now }
+    ensures none { version ≡ 0 → result ≡ None }
+    ensures some { (d : Write) → 0 < version → result ≡ Some (slice_index_or (shown links.now) (version - 1) d) }
 {
-    latest.binary_search_by_key(&key, |write| write.key)
+    match version.checked_sub(1) {
+        Some(at) => Some(write_at(links, at as usize)),
+        None => None,
+    }
 }
 
-// Puts a write in the place of its key's earlier one, or where it goes.
-fn put(latest: &mut Vec<Write>, write: Write) -> Result<(), AllocFailed<Write>>
-    requires { IsRising latest.old.items }
-    ensures ok { OnOk result (put_entry nat_cmp write.key write (keyed latest.old.items) ≡ keyed latest.new.items) }
-    ensures rising { IsRising latest.new.items }
-    ensures err { OnErr result (latest.new.items ≡ latest.old.items) }
+// The first write of a key from a place on.
+fn first_from(links: &[Link], key: u32, from: usize) -> Option<Write>
+    requires few { length links.now < 2 ^ 32 }
+    ensures { result ≡ find (is_of key) (drop from (shown links.now)) }
 {
-    match search(latest, write.key) {
-        Ok(at) => {
-            latest[at] = write;
-            Ok(())
+    for at in from..links.len() {
+        if links[at].key == key {
+            return Some(write_at(links, at));
         }
-        Err(at) => latest.insert(at, write),
+    }
+    None
+}
+
+fn write_at(links: &[Link], at: usize) -> Write
+    requires few { length links.now < 2 ^ 32 }
+    requires at { at < length links.now }
+    ensures { (d : Write) → slice_index_or (shown links.now) at d ≡ result }
+{
+    let link = links[at];
+    Write {
+        key: link.key,
+        version: at as u32 + 1,
+        born: link.born,
+    }
+}
+
+// Adds the next write, and links the last one of its key to it, which has this version, or 0 where
+// there is none.
+fn append(links: &mut Vec<Link>, before: u32, write: Write)
+    requires room { vec_len links.old < vec_capacity links.old }
+    requires linked { IsLinked links.old.items }
+    requires before { before ≡ version_or_zero (last_write (shown links.old.items) write.key) }
+    requires next { write ≡ next_write (shown links.old.items) write.key write.born }
+    ensures shown { shown links.new.items ≡ shown links.old.items ++ write ∷ [] }
+    ensures linked { IsLinked links.new.items }
+{
+    if let Some(at) = before.checked_sub(1) {
+        links[at as usize].next = write.version;
+    }
+    let link = Link {
+        key: write.key,
+        born: write.born,
+        next: 0,
+    };
+    links.push(link).unwrap();
+}
+
+// Where the write of a key is, or where it would go.
+fn search(writes: &[Write], key: u32) -> Result<usize, usize>
+    requires { IsRising writes.now }
+    ensures found { IfOk result (IsAt writes.now key) }
+    ensures absent { IfErr result (IsGapFor writes.now key) }
+{
+    writes.binary_search_by_key(&key, |write| write.key)
+}
+
+// The write of a key.
+fn write_in(writes: &[Write], key: u32) -> Option<Write>
+    requires { IsRising writes.now }
+    ensures { result ≡ write_of writes.now key }
+{
+    match search(writes, key) {
+        Ok(at) => Some(writes[at]),
+        Err(_) => None,
+    }
+}
+
+// Puts a write where it goes, if its key has no earlier one: the last of those has this version.
+fn put_first(firsts: &mut Vec<Write>, before: u32, write: Write)
+    requires rising { IsRising firsts.old.items }
+    requires room { vec_len firsts.old < vec_capacity firsts.old }
+    ensures put { before ≡ 0 → put_entry nat_cmp write.key write (keyed firsts.old.items) ≡ keyed firsts.new.items }
+    ensures same { 0 < before → firsts.new.items ≡ firsts.old.items }
+{
+    if before == 0 {
+        put(firsts, write);
+    }
+}
+
+// Puts a write in the place of its key's, and answers the version of that, or where it goes, and
+// answers 0.
+fn put(writes: &mut Vec<Write>, write: Write) -> u32
+    requires rising { IsRising writes.old.items }
+    requires room { vec_len writes.old < vec_capacity writes.old }
+    ensures put { put_entry nat_cmp write.key write (keyed writes.old.items) ≡ keyed writes.new.items }
+    ensures rising { IsRising writes.new.items }
+    ensures before { result ≡ version_or_zero (write_of writes.old.items write.key) }
+{
+    match search(writes, write.key) {
+        Ok(at) => {
+            let before = writes[at].version;
+            writes[at] = write;
+            before
+        }
+        Err(at) => {
+            writes.insert(at, write).unwrap();
+            0
+        }
     }
 }

@@ -4,12 +4,13 @@ ghost use Rattle.std.specs.Prelude.{◌≡◌, ℕ, ◌+◌, ◌<◌, ◌≤◌,
 ghost use Rattle.staleness.specs.Writes.{AreBornBy};
 ghost use Rattle.staleness.specs.Cluster.{OwnPartIsLastWrites};
 
-use crate::{OwnerList, Write, figures};
+use crate::{OwnerList, figures};
 use bench_types::{Entry, Fault, Figures, Item};
 use node_table::NodeTable;
 use std::alloc::Global;
 use std::process::Abort;
 use std::test::Fail;
+use std::thread::Threads;
 
 // A node of two that wrote its one key in each round up to the last.
 fn writer(
@@ -37,7 +38,12 @@ fn writer(
 }
 
 // The figures after the last round, where the other node holds this version of the key, 0 for none.
-fn lagging(rt: &impl Abort, alloc: Global, last: u32, held: u32) -> Result<Figures, Fault>
+fn lagging(
+    rt: &(impl Abort + Threads + Sync),
+    alloc: Global,
+    last: u32,
+    held: u32,
+) -> Result<Figures, Fault>
     requires { last < 1000 }
 {
     let (owner, written) = writer(rt, alloc, 0, last)?;
@@ -53,7 +59,7 @@ fn lagging(rt: &impl Abort, alloc: Global, last: u32, held: u32) -> Result<Figur
         copy.reserve_for(&items)?;
         copy.apply(&items);
     }
-    figures(&[owner, copy], &[written, unwritten], last)
+    figures(rt, alloc, &[owner, copy], &[written, unwritten], last)
 }
 
 #[test]
@@ -72,13 +78,24 @@ fn a_list_keeps_its_writes(rt: HostRuntime) -> Result<(), Fail> {
     let mut list = OwnerList::new(rt.alloc());
     assert!(rt; list.is_empty());
     list.push(5, 2)?;
-    assert_eq!(rt; list.len(), 1);
+    list.push(3, 2)?;
     list.push(5, 4)?;
-    let second = Write {
-        key: 5,
-        version: 2,
-        born: 4,
-    };
-    assert_eq!(rt; list.writes().last(), Some(&second));
+    list.push(5, 7)?;
+    assert_eq!(rt; list.len(), 4);
+    // The key and the version that is held, and the version and the round of the first write above.
+    for (key, held, missed) in [
+        (5, 0, Some((1, 2))),
+        (5, 1, Some((3, 4))),
+        (5, 2, Some((3, 4))),
+        (5, 3, Some((4, 7))),
+        (5, 4, None),
+        (3, 0, Some((2, 2))),
+        (3, 2, None),
+        (4, 0, None),
+        (5, 9, None),
+    ] {
+        let first = list.first_missed(key, held);
+        assert_eq!(rt; first.map(|write| (write.version, write.born)), missed);
+    }
     Ok(())
 }

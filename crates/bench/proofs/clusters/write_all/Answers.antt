@@ -1,8 +1,9 @@
 use Rattle.std.proofs.Common.{◌≡◌, ◌+◌, ◌-◌, ◌<◌, length, get_or, ap, sym, ◌∙◌, subst, arith}
 use Rattle.std.proofs.lemmas.List.{get_or_default}
 use Rattle.staleness.proofs.OwnParts.{born-later}
+use Rattle.round_plan.proofs.Growth.{version-own_writes}
 use Rattle.bench.specs.Standing.{IsOwner}
-use Rattle.bench.proofs.Begun.{IsBegun, owner_next, begun_next, begun_all, version-own_writes}
+use Rattle.bench.proofs.Begun.{IsBegun, owner_next, begun_next, begun_all}
 use Rattle.bench.proofs.clusters.write_all.Goals as goal
 
 pub writes_of-writes-requires-clause-fits : goal.writes_of-writes-requires-clause-fits

@@ -1,32 +1,38 @@
-use Rattle.std.proofs.Common.{arith, refl, ◌≡◌, ◌+◌, ◌-◌, ◌<◌, ◌≤◌, ◌++◌, ◌∷◌, [], All, length, take, map, subst, sym, ap, ◌∙◌}
+use Rattle.std.proofs.Common.{arith, ◌≡◌, ◌+◌, ◌-◌, ◌≤◌, ◌<◌, ◌++◌, ◌∷◌, [], All, length, take, map, if◌then◌else◌, true, subst, sym, ap, ◌∙◌}
 use Rattle.std.specs.List.{range_with_len}
 use Rattle.std.proofs.Math.ListN.{length-set}
 use Rattle.std.proofs.lemmas.List.{take_more_set}
 use Rattle.std.proofs.lemmas.List.FromFn.{map-range_with_len_more}
-use Rattle.round_plan.specs.Writes.{writes_in, own_write, writes_upto, born_in}
+use Rattle.round_plan.specs.Outages.{is_up}
+use Rattle.round_plan.specs.Writes.{writes_in, own_write, write_of, writes_upto, born_in}
 use Rattle.round_plan.proofs.Growth.{writes_upto-grown, keys-own_writes}
 use Rattle.round_plan.proofs.owners.writes_of.Goals as goal
 
 pub loop-place-preserved : goal.loop-place-preserved
 loop-place-preserved c =
+    let s = c.args.scenario.now in
     let items = c.loop-place.items in
     let place = c.loop-place.place in
-    let front = map (own_write c.keys-keys.result) (range_with_len (c.args.count_before + 1) place) in
-    let lt : place < length items = omega (arith, c.loop-place.invariant.0) in (
-      length-set items place c.own_write.result ∙ c.loop-place.invariant.0,
-      take_more_set items place c.own_write.result lt
-          ∙ ap (λ xs. xs ++ c.own_write.result ∷ []) c.loop-place.invariant.1
-          ∙ ap (λ w. front ++ w ∷ []) c.own_write.ensures.value
-          ∙ sym (map-range_with_len_more (own_write c.keys-keys.result) (c.args.count_before + 1) place _ refl),
+    let before = c.args.count_before in
+    let ours = own_write s c.args.node c.args.round before in
+    let lt : place < length items = omega (arith, c.loop-place.invariant.0) in
+    let number = c.numbers_of-numbers.ensures.1 place (omega arith) in
+    let write : c.write_of.result ≡ ours place = c.write_of.ensures.value ∙ (λ i. write_of (c.keys-keys.ensures.value i) (number i) (before + 1 + place)) in (
+      length-set items place c.write_of.result ∙ c.loop-place.invariant.0,
+      take_more_set items place c.write_of.result lt
+          ∙ (λ i. c.loop-place.invariant.1 i ++ write i ∷ [])
+          ∙ sym (map-range_with_len_more ours 0 place place (omega arith)),
     )
 
 pub returns-clause-value : goal.returns-clause-value
 returns-clause-value c =
+    let s = c.args.scenario.now in
+    let ours = own_write s c.args.node c.args.round c.args.count_before in
     let all : c.loop-place.place ≡ c.writes_in-count.result = omega arith in
-    let of_count = subst (λ n. take n c.loop-place.items ≡ map (own_write c.keys-keys.result) (range_with_len (c.args.count_before + 1) n)) all c.loop-place.invariant.1 in
-    of_count
-    ∙ ap (λ n. map (own_write c.keys-keys.result) (range_with_len (c.args.count_before + 1) n)) c.writes_in-count.ensures.value
-    ∙ ap (λ k. map (own_write k) (range_with_len (c.args.count_before + 1) (writes_in c.args.scenario.now c.args.round))) c.keys-keys.ensures.value
+    let up : is_up s c.args.node c.args.round ≡ true = sym c.is_up.ensures ∙ c.if-not-is_up.false in
+    subst (λ n. take n c.loop-place.items ≡ map ours (range_with_len 0 n)) all c.loop-place.invariant.1
+    ∙ ap (λ n. map ours (range_with_len 0 n)) c.writes_in-count.ensures.value
+    ∙ ap (λ b. if b then map ours (range_with_len 0 (writes_in s c.args.round)) else []) (sym up)
 
 pub returns-clause-keys : goal.returns-clause-keys
 returns-clause-keys c =

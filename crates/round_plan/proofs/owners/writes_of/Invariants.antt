@@ -1,4 +1,4 @@
-use Rattle.std.proofs.Common.{◌≡◌, ◌+◌, length, take, map}
+use Rattle.std.proofs.Common.{◌≡◌, length, take, map}
 use Rattle.std.specs.List.{range_with_len}
 use Rattle.bench_types.specs.declared.limits.TheConstants.{MOST_WRITES}
 use Rattle.round_plan.specs.Writes.{own_write}
@@ -6,4 +6,4 @@ use Rattle.round_plan.proofs.owners.writes_of.Given as goal
 
 abbrev pub invariant-loop-place : goal.invariant-loop-place
 invariant-loop-place l =
-    (length l.items ≡ MOST_WRITES) × (take l.place l.items ≡ map (own_write l.keys) (range_with_len (l.count_before + 1) l.place))
+    (length l.items ≡ MOST_WRITES) × (take l.place l.items ≡ map (own_write l.scenario l.node l.round l.count_before) (range_with_len 0 l.place))

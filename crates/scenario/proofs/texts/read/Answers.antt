@@ -1,13 +1,14 @@
 use Rattle.toml.specs.View.{table_view}
 use Rattle.scenario.proofs.OnlyReadFaults.{OnlyReadFaults-answer}
-use Rattle.scenario.proofs.Order.{Says-answer, first_of-answer}
+use Rattle.scenario.proofs.Order.{first_of-answer}
+use Rattle.scenario.proofs.Sayings.{Says-answer}
 use Rattle.scenario.proofs.texts.read.Goals as goal
 
 pub returns-clause-first : goal.returns-clause-first
-returns-clause-first c = rw c.in_ok-table.ensures.ok (first_of-answer (table_view c.in_ok-table.table) _ c.checked.ensures)
+returns-clause-first c = rw c.in_ok-table.ensures.ok (first_of-answer (table_view c.in_ok-table.table) _ c.checked.ensures.refused)
 
 pub returns-clause-says : goal.returns-clause-says
-returns-clause-says c = rw c.in_ok-table.ensures.ok (Says-answer (table_view c.in_ok-table.table) _ c.checked.ensures)
+returns-clause-says c = rw c.in_ok-table.ensures.ok (Says-answer (table_view c.in_ok-table.table) _ c.checked.ensures.ok)
 
 pub returns-clause-only : goal.returns-clause-only
-returns-clause-only c = OnlyReadFaults-answer (table_view c.in_ok-table.table) _ c.checked.ensures
+returns-clause-only c = OnlyReadFaults-answer (table_view c.in_ok-table.table) _ c.checked.ensures.refused

@@ -7,7 +7,8 @@ use Rattle.node_table.specs.View.{IsRising, pairs}
 use Rattle.staleness.specs.declared.lists.Write.{Write}
 use Rattle.staleness.specs.Figures.{staleness_of, stale_count, rounds_behind}
 use Rattle.staleness.specs.Walk.{IsPassed}
-use Rattle.staleness.proofs.Passing.{rising-items_of, version_at-items_of}
+use Rattle.node_table.proofs.Items.{rising-items_of}
+use Rattle.staleness.proofs.Passing.{version_at-items_of}
 use Rattle.staleness.proofs.Sums.{sum_below-le, stale_count-le}
 use Rattle.staleness.proofs.Lagging.{lagged_more, lagged_all, never_written, last_write-at, last_is_held}
 use Rattle.staleness.proofs.lags.lag_of_copy.Goals as goal

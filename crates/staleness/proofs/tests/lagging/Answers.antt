@@ -18,7 +18,7 @@ one_item node i other zero d lt = other
 one_item node i other (suc k) d lt = absurd (omega arith)
 
 pub figures-requires-clause-own_parts : goal.figures-requires-clause-own_parts
-figures-requires-clause-own_parts g c =
+figures-requires-clause-own_parts g c κs within =
     let none = c.in_ok-copy.ensures.own_part in
     let copy : OwnPartIsLastWrites c.if-held-gt0.copy.table c.in_ok-copy.unwritten = elim c.if-held-gt0.branch [
       | then-held-gt0+in_ok-reserve_for w ↦

@@ -1,0 +1,44 @@
+-- What an exchange never does to a table, whatever the mode, rotation, budget and losses are, and what it makes of
+-- both tables in a precise mode where nothing is lost or cut.
+-- Source: the LADIS 2008 paper, whose reconciliation keeps the entry with the greater version.
+use Rattle.std.specs.Prelude.{◌≡◌, ◌≢◌, ℕ, ◌<◌, ◌≤◌, ◌⊎◌, max, Some}
+use Rattle.bench_types.specs.declared.entries.Entry.{Entry}
+use Rattle.bench_types.specs.declared.exchanges.Exchange.{Exchange}
+use Rattle.bench_types.specs.declared.exchanges.Fate.TheVariants as fate
+use Rattle.bench_types.specs.declared.exchanges.Mode.{Mode}
+use Rattle.bench_types.specs.declared.exchanges.Mode.TheVariants.{ScuttleBreadth, ScuttleDepth, PreciseOldest, PreciseNewest}
+use Rattle.bench_types.specs.declared.exchanges.Record.{Record}
+use Rattle.node_table.specs.Table.{Table, entry_at, version_at, IsProper}
+
+-- the tables that may meet in an exchange
+pub record MayMeet (e : Exchange) (p q : Table) : Type 0 where
+  pub initiator : IsProper p
+  pub responder : IsProper q
+  pub nodes : p.nodes ≡ q.nodes
+  pub keys : p.keys ≡ q.keys
+  pub rotation : e.rotation < p.nodes
+
+-- no version goes down
+abbrev pub NoVersionFalls : Table → Table → Type 0
+NoVersionFalls old new = (owner key : ℕ) → version_at old owner key ≤ version_at new owner key
+
+-- each entry stood at its place in one of two tables
+abbrev pub StoodInEither : Table → Table → Table → Type 0
+StoodInEither p q new = (owner key : ℕ) (e : Entry) → entry_at new owner key ≡ Some e → (entry_at p owner key ≡ Some e) ⊎ (entry_at q owner key ≡ Some e)
+
+-- the modes that send exactly what is newer than the receiver's entry
+abbrev pub IsPreciseMode : Mode → Type 0
+IsPreciseMode ScuttleBreadth = ⊥
+IsPreciseMode ScuttleDepth = ⊥
+IsPreciseMode PreciseOldest = Unit {0}
+IsPreciseMode PreciseNewest = Unit {0}
+
+-- no message was lost and nothing was cut
+pub record IsWhole (r : Record) : Type 0 where
+  pub fate : r.fate ≡ fate.Ok
+  pub back : r.back_cut ≡ 0
+  pub forth : r.forth_cut ≡ 0
+
+-- of each owner but the table's own node it has, at each key, the greater of the versions of two tables
+abbrev pub HasTheGreater : Table → Table → Table → Type 0
+HasTheGreater p q new = (owner key : ℕ) → owner ≢ new.node → version_at new owner key ≡ max (version_at p owner key) (version_at q owner key)

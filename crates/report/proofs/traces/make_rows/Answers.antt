@@ -1,0 +1,7 @@
+use Rattle.std.proofs.Common.{arith}
+use Rattle.report.proofs.TraceFacts.{rows_more}
+use Rattle.report.proofs.traces.make_rows.Goals as goal
+
+pub loop-index-preserved : goal.loop-index-preserved
+loop-index-preserved c =
+    rows_more _ _ _ _ _ _ _ _ c.loop-index-test.true (omega (arith, c.loop-index-test.true, c.requires.one_each)) c.loop-index.invariant c.in_ok-put_row.ensures.between c.in_ok-put_row.ensures.line

@@ -1,0 +1,124 @@
+//! The trace: a header, and then for each round a row for each of its exchanges.
+
+ghost use Rattle.std.specs.Prelude.{◌≡◌, ◌≤◌, ◌⊎◌, ◌++◌, true, false, length, is_err, IsTrue, IfOk, OnOk, OnErr, IfErr, IsErrOf, IsOkUnless};
+ghost use Rattle.std.specs.Io.KnownBytes.{Appends};
+ghost use Rattle.report.specs.Cells.{is_plain, written, IsBetweenLines};
+ghost use Rattle.report.specs.Output.{AppendsFront};
+ghost use Rattle.round_plan.specs.declared.lists.TheConstants.{MOST_EXCHANGES};
+ghost use Rattle.report.specs.Trace.{trace_header_line, fate_name, trace_line, trace_lines};
+
+use crate::cells::{Cell, put_line};
+use crate::outputs::{write_line, write_text};
+use bench_types::{Exchange, Fate, Fault, Record, Sink};
+use csv::{Writer, WriterBuilder};
+use round_plan::RoundList;
+use std::alloc::Global;
+
+/// Writes the header of the trace, the names of its columns, and flushes.
+pub fn trace_header<W: Sink>(alloc: Global, writer: &mut W) -> Result<(), Fault>
+    ensures written { OnOk result (Appends (W.taken writer.old) (W.taken writer.new) trace_header_line) }
+    ensures sound { OnOk result (W.failed writer.new ≡ false) }
+    ensures only { IfErr result (λ fault. (fault ≡ Fault.OutOfMemory) ⊎ (fault ≡ Fault.WriteFailed)) }
+    ensures out_of_memory { IsErrOf result Fault.OutOfMemory → writer.new ≡ writer.old }
+    ensures failed { IsErrOf result Fault.WriteFailed → W.failed writer.new ≡ true }
+    ensures front { OnErr result (AppendsFront (W.taken writer.old) (W.taken writer.new) trace_header_line) }
+    ensures stays { W.failed writer.old ≡ true → (is_err result ≡ true) × (writer.new ≡ writer.old) }
+{
+    let columns = [
+        Cell::Text("round"),
+        Cell::Text("index"),
+        Cell::Text("initiator"),
+        Cell::Text("responder"),
+        Cell::Text("fate"),
+        Cell::Text("digest1"),
+        Cell::Text("digest2"),
+        Cell::Text("back"),
+        Cell::Text("forth"),
+        Cell::Text("back_cut"),
+        Cell::Text("forth_cut"),
+    ];
+    write_line(alloc, writer, &columns)
+}
+
+/// Writes the rows of one round, one for each exchange of its list, in order, and flushes. All rows
+/// are made in memory first.
+pub fn write_trace_rows<W: Sink>(
+    alloc: Global,
+    writer: &mut W,
+    round: u32,
+    list: &RoundList,
+    records: &[Record],
+) -> Result<(), Fault>
+    requires one_each { length records.now ≡ length list.now.exchanges }
+    ensures written { OnOk result (Appends (W.taken writer.old) (W.taken writer.new) (trace_lines round list.now.exchanges records.now)) }
+    ensures sound { OnOk result (W.failed writer.new ≡ false) }
+    ensures only { IfErr result (λ fault. (fault ≡ Fault.OutOfMemory) ⊎ (fault ≡ Fault.WriteFailed)) }
+    ensures out_of_memory { IsErrOf result Fault.OutOfMemory → writer.new ≡ writer.old }
+    ensures failed { IsErrOf result Fault.WriteFailed → W.failed writer.new ≡ true }
+    ensures front { OnErr result (AppendsFront (W.taken writer.old) (W.taken writer.new) (trace_lines round list.now.exchanges records.now)) }
+    ensures stays { W.failed writer.old ≡ true → (is_err result ≡ true) × (writer.new ≡ writer.old) }
+{
+    let rows = make_rows(alloc, round, list.exchanges(), records)?;
+    write_text(writer, rows.as_slice())
+}
+
+// The rows of exchanges with their records, which have the places 0 and up.
+fn make_rows(
+    alloc: Global,
+    round: u32,
+    exchanges: &[Exchange],
+    records: &[Record],
+) -> Result<Vec<u8>, Fault>
+    requires one_each { length records.now ≡ length exchanges.now }
+    requires few { length exchanges.now ≤ MOST_EXCHANGES }
+    ensures rows { IfOk result (λ rows. rows.items ≡ trace_lines round exchanges.now records.now) }
+    ensures only { IsOkUnless result Fault.OutOfMemory }
+{
+    let mut lines = WriterBuilder::new().from_writer(Vec::new(alloc));
+    for (index, exchange) in exchanges.iter().enumerate() {
+        put_row(alloc, &mut lines, round, index, exchange, &records[index])?;
+    }
+    lines.into_inner().map_err(|_| Fault::OutOfMemory)
+}
+
+// Adds one row to the lines so far.
+fn put_row(
+    alloc: Global,
+    lines: &mut Writer<Vec<u8>>,
+    round: u32,
+    index: usize,
+    exchange: &Exchange,
+    sent: &Record,
+) -> Result<(), Fault>
+    requires between { IsBetweenLines lines.old }
+    ensures between { OnOk result (IsBetweenLines lines.new) }
+    ensures line { OnOk result (written lines.new ≡ written lines.old ++ trace_line round index exchange.now sent.now) }
+    ensures only { IsOkUnless result Fault.OutOfMemory }
+{
+    let cells = [
+        Cell::Number(round.into()),
+        Cell::Number(index as u64),
+        Cell::Number(exchange.initiator.into()),
+        Cell::Number(exchange.responder.into()),
+        Cell::Text(name(sent.fate)),
+        Cell::Number(sent.digest1.into()),
+        Cell::Number(sent.digest2.into()),
+        Cell::Number(sent.back.into()),
+        Cell::Number(sent.forth.into()),
+        Cell::Number(sent.back_cut.into()),
+        Cell::Number(sent.forth_cut.into()),
+    ];
+    put_line(alloc, lines, &cells)
+}
+
+fn name(fate: Fate) -> &'static str
+    ensures name { result.now ≡ fate_name fate }
+    ensures plain { IsTrue (is_plain result.now) }
+{
+    match fate {
+        Fate::Ok => "ok",
+        Fate::Lost1 => "lost1",
+        Fate::Lost2 => "lost2",
+        Fate::Lost3 => "lost3",
+    }
+}

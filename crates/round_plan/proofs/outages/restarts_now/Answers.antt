@@ -1,0 +1,13 @@
+use Rattle.std.proofs.Common.{ap, ◌∙◌, rules, tests}
+use Rattle.std.specs.List.{list_any}
+use Rattle.std.proofs.lemmas.Iterator.{YieldsList-from_slice}
+use Rattle.std.proofs.lemmas.Iterator.Search.{any_from_yields_List}
+use Rattle.round_plan.specs.Outages.{restarts_now, restarts_in}
+use Rattle.round_plan.proofs.outages.restarts_now.Goals as goal
+
+pub returns : goal.returns
+unfolding restarts_now
+returns c =
+    let restarts = restarts_in c.args.node c.args.round in
+    any_from_yields_List restarts _ _ _ c.any.ensures.ran (YieldsList-from_slice c.restarts.result.now cc) (λ x b q k. search (rules, tests))
+    ∙ ap (list_any restarts) c.restarts.ensures.value

@@ -1,0 +1,7 @@
+use Rattle.std.proofs.Common.{◌≡◌, ℕ, ◌+◌, ◌<◌, length, get_or}
+use Rattle.bench_types.specs.declared.limits.TheConstants.{MOST_WRITES}
+use Rattle.round_plan.proofs.owners.numbers_of.Given as goal
+
+abbrev pub invariant-loop-place : goal.invariant-loop-place
+invariant-loop-place l =
+    (length l.numbers ≡ MOST_WRITES) × ((k : ℕ) → k < l.place → get_or l.numbers k 0 ≡ l.count_before + k)

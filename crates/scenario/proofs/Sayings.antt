@@ -1,0 +1,168 @@
+-- What the check of a document gives is what the document says.
+use Rattle.std.proofs.Common.{◌≡◌, ℕ, ◌+◌, ◌-◌, ◌⊎◌, inl, inr, pos, Bool, true, false, nat_le, List, [], ◌∷◌, length, map, Option, None, Some, Result, Ok, Err, IfOk, refl, sym, ap, subst}
+use Rattle.std.specs.List.{AllZip}
+use Rattle.toml.specs.Data as toml
+use Rattle.toml.specs.Data.{Data, integer, string, Items, Members, get_member}
+use Rattle.bench_types.specs.declared.faults.Fault.{Fault}
+use Rattle.bench_types.specs.declared.fields.Field.{Field}
+use Rattle.bench_types.specs.declared.fields.Field.TheVariants as field
+use Rattle.bench_types.specs.declared.fields.TableName.{TableName}
+use Rattle.bench_types.specs.declared.fields.TableName.TheVariants as name
+use Rattle.bench_types.specs.declared.limits.TheConstants.{MOST_ROUNDS, MOST_WRITES, MOST_ELEMENTS}
+use Rattle.scenario.specs.declared.elements.Partition.{Partition}
+use Rattle.scenario.specs.declared.elements.Restart.{Restart}
+use Rattle.scenario.specs.declared.elements.Load.{Load}
+use Rattle.scenario.specs.Checked.{checked, size_checked, unknown_checked}
+use Rattle.scenario.specs.Elements.{list_of, array_of, few, elements_of, each, ascending, apart_at, partition_of, restart_of, load_of, partitions_at, restarts_at, loads_at, elements_have_only, only_elements, partition_fields, restart_fields, load_fields}
+use Rattle.scenario.specs.Fields.{◌>>=◌, number_of, number_at, present, text_of, only, only_fields, has_only}
+use Rattle.scenario.specs.Order.{SaysPartition, SaysRestart, SaysLoad, Says}
+use Rattle.scenario.specs.Settings.{Settings}
+use Rattle.scenario.specs.Top.{format_at, nodes_at, keys_at, rounds_at, seed_at, mode_at, budget_at, peers_at, rotation_at, choice_at, loss_ppm_at, writes_at, top_fields}
+use Rattle.scenario.specs.Words.{taken, mode_of, peers_of, rotation_of, choice_of}
+use Rattle.scenario.proofs.Steps.{passed, same_ok, kept, number_found_at}
+
+-- a number that was read stands in the document
+number_found : (f : Field) (low high n : ℕ) (o : Option Data) → (present f o >>= number_of f low high) ≡ Ok n → o ≡ Some (integer (pos n))
+number_found f low high n None e = absurd cc
+number_found f low high n (Some value) e = ap (λ v. Some v) (number_found_at f low high n value e)
+
+word_meant : {A : Type 0} (f : Field) (x : A) (o : Option A) → taken f o ≡ Ok x → o ≡ Some x
+word_meant f x None e = cc
+word_meant f x (Some y) e = cc
+
+-- a word that was read stands in the document
+word_found : {A : Type 0} (f : Field) (meaning : List ℕ → Option A) (x : A) (o : Option Data)
+    → (present f o >>= text_of f >>= (λ word. taken f (meaning word))) ≡ Ok x → (word : List ℕ) × (o ≡ Some (string word)) × (meaning word ≡ Some x)
+word_found f meaning x None e = absurd cc
+word_found f meaning x (Some (string word)) e = (word, refl, word_meant f x (meaning word) e)
+word_found f meaning x (Some _) e = absurd cc
+
+only_known : (name : TableName) (b : Bool) (u : Unit {0}) → only name b ≡ Ok u → b ≡ true
+only_known name true u e = refl
+only_known name false u e = absurd cc
+
+-- the numbers of an ascending array are its values
+numbers_are : (f : Field) (low high : ℕ) (values : List Data) (ns : List ℕ) → ascending f low high values ≡ Ok ns → values ≡ map (λ n. integer (pos n)) ns
+numbers_are f low high [] ns e = ap (map (λ n. integer (pos n))) (same_ok [] ns e)
+numbers_are f low high (value ∷ others) ns e =
+    passed (number_of f low high value) _ ns e (λ n is_n e.
+    passed (ascending f (n + 1) high others) _ ns e (λ more is_more e.
+    let here = number_found_at f low high n value is_n in
+    let after = numbers_are f (n + 1) high others more is_more in
+    let whole = same_ok (n ∷ more) ns e in
+    rw (← whole, here, after)))
+
+-- numbers that were read stand in the document
+numbers_found : (f : Field) (high : ℕ) (ns : List ℕ) (o : Option Data)
+    → (present f o >>= array_of f >>= ascending f 0 high) ≡ Ok ns → (items : Items) × (o ≡ Some (toml.array items)) × (list_of items ≡ map (λ n. integer (pos n)) ns)
+numbers_found f high ns None e = absurd cc
+numbers_found f high ns (Some (toml.array items)) e = (items, refl, numbers_are f 0 high (list_of items) ns e)
+numbers_found f high ns (Some _) e = absurd cc
+
+-- elements that were read stand in the document
+elements_say : {X : Type 0} (SaysElement : Data → X → Type 0) (check : Data → Result X Fault) → ((value : Data) (x : X) → check value ≡ Ok x → SaysElement value x)
+    → (values : List Data) (xs : List X) → each check values ≡ Ok xs → AllZip SaysElement values xs
+elements_say SaysElement check says [] xs e = subst (AllZip SaysElement []) (same_ok [] xs e) tt
+elements_say SaysElement check says (value ∷ others) xs e =
+    passed (check value) _ xs e (λ x is_x e.
+    passed (each check others) _ xs e (λ more is_more e.
+    subst (AllZip SaysElement (value ∷ others)) (same_ok (x ∷ more) xs e) (says value x is_x, elements_say SaysElement check says others more is_more)))
+
+elements_found : {X : Type 0} (f : Field) (SaysElement : Data → X → Type 0) (check : Data → Result X Fault) → ((value : Data) (x : X) → check value ≡ Ok x → SaysElement value x)
+    → (xs : List X) (o : Option Data) → (elements_of f o >>= each check) ≡ Ok xs
+    → ((o ≡ None) × (xs ≡ [])) ⊎ ((items : Items) × (o ≡ Some (toml.array items)) × AllZip SaysElement (list_of items) xs)
+elements_found f SaysElement check says xs None e = inl (refl, sym (same_ok [] xs e))
+elements_found f SaysElement check says xs (Some (toml.array items)) e =
+    passed (few f (list_of items)) _ xs e (λ values is_values e.
+    let same = (kept (nat_le (length (list_of items)) MOST_ELEMENTS) (list_of items) values _ is_values).1 in
+    inr (items, refl, subst (λ vs. AllZip SaysElement vs xs) (sym same) (elements_say SaysElement check says values xs e)))
+elements_found f SaysElement check says xs (Some _) e = absurd cc
+
+partition_says : (nodes : ℕ) (value : Data) (p : Partition) → partition_of nodes value ≡ Ok p → SaysPartition value p
+partition_says nodes (toml.table members) p all =
+    passed (number_at field.PartitionFrom 1 MOST_ROUNDS members) _ p all (λ from is_from e.
+    passed (number_at field.PartitionTo from MOST_ROUNDS members) _ p e (λ to is_to e.
+    passed (apart_at nodes members) _ p e (λ apart is_apart e.
+    subst (SaysPartition (toml.table members)) (same_ok _ p e) (record {
+      is_table = refl;
+      from = number_found field.PartitionFrom _ _ _ _ is_from;
+      to = number_found field.PartitionTo _ _ _ _ is_to;
+      apart = numbers_found field.PartitionApart _ _ _ is_apart;
+    }))))
+partition_says nodes _ p all = absurd cc
+
+restart_says : (nodes : ℕ) (value : Data) (r : Restart) → restart_of nodes value ≡ Ok r → SaysRestart value r
+restart_says nodes (toml.table members) r all =
+    passed (number_at field.RestartNode 0 (nodes - 1) members) _ r all (λ node is_node e.
+    passed (number_at field.RestartRound 1 MOST_ROUNDS members) _ r e (λ round is_round e.
+    passed (number_at field.RestartDown 0 MOST_ROUNDS members) _ r e (λ down is_down e.
+    subst (SaysRestart (toml.table members)) (same_ok _ r e) (record {
+      is_table = refl;
+      node = number_found field.RestartNode _ _ _ _ is_node;
+      round = number_found field.RestartRound _ _ _ _ is_round;
+      down = number_found field.RestartDown _ _ _ _ is_down;
+    }))))
+restart_says nodes _ r all = absurd cc
+
+load_says : (value : Data) (l : Load) → load_of value ≡ Ok l → SaysLoad value l
+load_says (toml.table members) l all =
+    passed (number_at field.LoadFrom 1 MOST_ROUNDS members) _ l all (λ from is_from e.
+    passed (number_at field.LoadTo from MOST_ROUNDS members) _ l e (λ to is_to e.
+    passed (number_at field.LoadWrites 0 MOST_WRITES members) _ l e (λ writes is_writes e.
+    subst (SaysLoad (toml.table members)) (same_ok _ l e) (record {
+      is_table = refl;
+      from = number_found field.LoadFrom _ _ _ _ is_from;
+      to = number_found field.LoadTo _ _ _ _ is_to;
+      writes = number_found field.LoadWrites _ _ _ _ is_writes;
+    }))))
+load_says _ l all = absurd cc
+
+-- what the check gives is what the document says
+pub Says-checked : (table : Members) (s : Settings) → checked table ≡ Ok s → Says table s
+Says-checked table s all =
+    passed (format_at table) _ s all (λ format is_format e.
+    passed (nodes_at table) _ s e (λ nodes is_nodes e.
+    passed (keys_at table) _ s e (λ keys is_keys e.
+    passed (size_checked nodes keys) _ s e (λ _ _ e.
+    passed (rounds_at table) _ s e (λ rounds is_rounds e.
+    passed (seed_at table) _ s e (λ seed is_seed e.
+    passed (mode_at table) _ s e (λ mode is_mode e.
+    passed (budget_at table) _ s e (λ budget is_budget e.
+    passed (peers_at table) _ s e (λ peers is_peers e.
+    passed (rotation_at table) _ s e (λ rotation is_rotation e.
+    passed (choice_at table) _ s e (λ choice is_choice e.
+    passed (loss_ppm_at table) _ s e (λ loss_ppm is_loss_ppm e.
+    passed (writes_at table) _ s e (λ writes is_writes e.
+    passed (partitions_at nodes table) _ s e (λ partitions is_partitions e.
+    passed (restarts_at nodes table) _ s e (λ restarts is_restarts e.
+    passed (loads_at table) _ s e (λ loads is_loads e.
+    passed (unknown_checked table) _ s e (λ u is_known e.
+    passed (only_fields name.Top top_fields table) _ u is_known (λ _ is_top known.
+    passed (only_elements name.Partition field.Partition partition_fields table) _ u known (λ _ is_partition known.
+    passed (only_elements name.Restart field.Restart restart_fields table) _ u known (λ _ is_restart is_load.
+    subst (Says table) (same_ok _ s e) (record {
+      format = number_found field.Format _ _ _ _ is_format;
+      nodes = number_found field.Nodes _ _ _ _ is_nodes;
+      keys = number_found field.Keys _ _ _ _ is_keys;
+      rounds = number_found field.Rounds _ _ _ _ is_rounds;
+      seed = number_found field.Seed _ _ _ _ is_seed;
+      mode = word_found field.Mode mode_of _ _ is_mode;
+      budget = number_found field.Budget _ _ _ _ is_budget;
+      peers = word_found field.Peers peers_of _ _ is_peers;
+      rotation = word_found field.Rotation rotation_of _ _ is_rotation;
+      choice = word_found field.Choice choice_of _ _ is_choice;
+      loss_ppm = number_found field.LossPpm _ _ _ _ is_loss_ppm;
+      writes = number_found field.Writes _ _ _ _ is_writes;
+      partitions = elements_found field.Partition SaysPartition (partition_of nodes) (partition_says nodes) partitions _ is_partitions;
+      restarts = elements_found field.Restart SaysRestart (restart_of nodes) (restart_says nodes) restarts _ is_restarts;
+      loads = elements_found field.Load SaysLoad load_of load_says loads _ is_loads;
+      others = only_known name.Top (has_only top_fields table) _ is_top;
+      others_of_partitions = only_known name.Partition (elements_have_only field.Partition partition_fields table) _ is_partition;
+      others_of_restarts = only_known name.Restart (elements_have_only field.Restart restart_fields table) _ is_restart;
+      others_of_loads = only_known name.Load (elements_have_only field.Load load_fields table) _ is_load;
+    })))))))))))))))))))))
+
+-- the same of an answer, `Ok` or `Err`
+pub Says-answer : (table : Members) (answer : Result Settings Fault) → IfOk answer (λ s. checked table ≡ Ok s) → IfOk answer (λ s. Says table s)
+Says-answer table (Ok s) e = Says-checked table s e
+Says-answer table (Err fault) e = tt

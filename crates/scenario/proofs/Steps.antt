@@ -1,0 +1,43 @@
+-- Checks one after another, and what a check that passed has found.
+use Rattle.std.proofs.Common.{◌≡◌, ℕ, pos, negsuc, Bool, true, false, nat_le, ◌&&◌, cond, List, [], length, Option, None, Some, Result, Ok, Err, refl, ap}
+use Rattle.toml.specs.Data.{Data, integer, array}
+use Rattle.bench_types.specs.declared.faults.Fault.{Fault}
+use Rattle.bench_types.specs.declared.fields.Field.{Field}
+use Rattle.bench_types.specs.declared.limits.TheConstants.{MOST_ELEMENTS}
+use Rattle.scenario.specs.Elements.{list_of, array_of, elements_of, values_of}
+use Rattle.scenario.specs.Fields.{◌>>=◌, present, number_of}
+
+-- where all checks pass, each of them does
+pub passed : {A B C : Type 0} (r : Result A Fault) (next : A → Result B Fault) (y : B) → (r >>= next) ≡ Ok y → ((x : A) → r ≡ Ok x → next x ≡ Ok y → C) → C
+passed (Ok x) next y e rest = rest x refl e
+passed (Err fault) next y e rest = absurd cc
+
+abbrev accepted : {A : Type 0} → A → Result A Fault
+accepted x = Ok x
+
+pub same_ok : {A : Type 0} (x y : A) → accepted x ≡ accepted y → x ≡ y
+same_ok x y e = cc
+
+-- a value that is answered under a test
+pub kept : {A : Type 0} (b : Bool) (x y : A) (fault : Fault) → cond b (Ok x) (Err fault) ≡ Ok y → (b ≡ true) × (x ≡ y)
+kept true x y fault e = (refl, same_ok x y e)
+kept false x y fault e = absurd cc
+
+-- a number that was read is the value
+pub number_found_at : (f : Field) (low high n : ℕ) (value : Data) → number_of f low high value ≡ Ok n → value ≡ integer (pos n)
+number_found_at f low high n (integer (pos m)) e =
+    ap (λ k. integer (pos k)) (kept (nat_le low m && nat_le m high) m n _ e).1
+number_found_at f low high n (integer (negsuc m)) e = absurd cc
+number_found_at f low high n _ e = absurd cc
+
+-- the values of an array that was read
+pub array_found : (f : Field) (o : Option Data) (values : List Data) → (present f o >>= array_of f) ≡ Ok values → values_of o ≡ values
+array_found f None values e = absurd cc
+array_found f (Some (array items)) values e = same_ok (list_of items) values e
+array_found f (Some _) values e = absurd cc
+
+-- the elements of an array that was read
+pub elements_found : (f : Field) (o : Option Data) (values : List Data) → elements_of f o ≡ Ok values → values_of o ≡ values
+elements_found f None values e = same_ok [] values e
+elements_found f (Some (array items)) values e = (kept (nat_le (length (list_of items)) MOST_ELEMENTS) (list_of items) values _ e).1
+elements_found f (Some _) values e = absurd cc

@@ -1,0 +1,124 @@
+-- The arrays of a document, whose elements are tables, and the fields of each. An array that is
+-- absent has no elements. Source: this project.
+use Rattle.std.specs.Prelude.{ℕ, ◌+◌, ◌-◌, Bool, true, List, [], ◌∷◌, length, Option, None, Some, Result, Ok, Err, nat_le, if◌then◌else◌}
+use Rattle.std.specs.List.{list_all}
+use Rattle.toml.specs.Data as toml
+use Rattle.toml.specs.Data.{Data, Items, no_items, item, Members, get_member}
+use Rattle.bench_types.specs.declared.faults.Fault.{Fault}
+use Rattle.bench_types.specs.declared.faults.Fault.TheVariants.{WrongType, OutOfRange}
+use Rattle.bench_types.specs.declared.fields.Field.{Field}
+use Rattle.bench_types.specs.declared.fields.Field.TheVariants as field
+use Rattle.bench_types.specs.declared.fields.TableName.{TableName}
+use Rattle.bench_types.specs.declared.limits.TheConstants.{MOST_ROUNDS, MOST_WRITES, MOST_ELEMENTS}
+use Rattle.scenario.specs.declared.elements.Partition.{Partition}
+use Rattle.scenario.specs.declared.elements.Restart.{Restart}
+use Rattle.scenario.specs.declared.elements.Load.{Load}
+use Rattle.scenario.specs.Fields.{◌>>=◌, name_of, value_at, number_of, number_at, has_only, only}
+
+-- the items of an array, as a list
+abbrev pub list_of : Items → List Data
+list_of no_items = []
+list_of (item value others) = value ∷ list_of others
+
+abbrev pub array_of : Field → Data → Result (List Data) Fault
+array_of f (toml.array items) = Ok (list_of items)
+array_of f _ = Err (WrongType f)
+
+abbrev pub table_of : Field → Data → Result Members Fault
+table_of f (toml.table table) = Ok table
+table_of f _ = Err (WrongType f)
+
+-- an array of tables has only so many elements
+abbrev pub few : Field → List Data → Result (List Data) Fault
+few f values = if nat_le (length values) MOST_ELEMENTS then Ok values else Err (OutOfRange f)
+
+abbrev pub elements_of : Field → Option Data → Result (List Data) Fault
+elements_of f None = Ok []
+elements_of f (Some value) = array_of f value >>= few f
+
+-- the elements of an array of tables
+abbrev pub elements_at : Field → Members → Result (List Data) Fault
+elements_at f table = elements_of f (get_member (name_of f) table)
+
+-- what each element comes to, one after another
+abbrev pub each : {A : Type 0} → (Data → Result A Fault) → List Data → Result (List A) Fault
+each check [] = Ok []
+each check (value ∷ others) = check value >>= (λ x. each check others >>= (λ xs. Ok (x ∷ xs)))
+
+-- the numbers of an array from low to high, each above the one before
+abbrev pub ascending : Field → ℕ → ℕ → List Data → Result (List ℕ) Fault
+ascending f low high [] = Ok []
+ascending f low high (value ∷ others) =
+    number_of f low high value >>= (λ n. ascending f (n + 1) high others >>= (λ ns. Ok (n ∷ ns)))
+
+-- the nodes of one side of a partition, among so many
+abbrev pub apart_at : ℕ → Members → Result (List ℕ) Fault
+apart_at nodes table =
+    value_at field.PartitionApart table >>= array_of field.PartitionApart >>= ascending field.PartitionApart 0 (nodes - 1)
+
+abbrev pub partition_of : ℕ → Data → Result Partition Fault
+partition_of nodes value = do
+  table ← table_of field.Partition value
+  from ← number_at field.PartitionFrom 1 MOST_ROUNDS table
+  to ← number_at field.PartitionTo from MOST_ROUNDS table
+  apart ← apart_at nodes table
+  Ok (record { from = from; to = to; apart = apart })
+
+abbrev pub restart_of : ℕ → Data → Result Restart Fault
+restart_of nodes value = do
+  table ← table_of field.Restart value
+  node ← number_at field.RestartNode 0 (nodes - 1) table
+  round ← number_at field.RestartRound 1 MOST_ROUNDS table
+  down ← number_at field.RestartDown 0 MOST_ROUNDS table
+  Ok (record { node = node; round = round; down = down })
+
+abbrev pub load_of : Data → Result Load Fault
+load_of value = do
+  table ← table_of field.Load value
+  from ← number_at field.LoadFrom 1 MOST_ROUNDS table
+  to ← number_at field.LoadTo from MOST_ROUNDS table
+  writes ← number_at field.LoadWrites 0 MOST_WRITES table
+  Ok (record { from = from; to = to; writes = writes })
+
+-- an array of tables, each of which comes to what `check` says
+abbrev pub array_at : {A : Type 0} → Field → (Data → Result A Fault) → Members → Result (List A) Fault
+array_at f check table = elements_at f table >>= each check
+
+abbrev pub partitions_at : ℕ → Members → Result (List Partition) Fault
+partitions_at nodes = array_at field.Partition (partition_of nodes)
+
+abbrev pub restarts_at : ℕ → Members → Result (List Restart) Fault
+restarts_at nodes = array_at field.Restart (restart_of nodes)
+
+abbrev pub loads_at : Members → Result (List Load) Fault
+loads_at = array_at field.Load load_of
+
+-- all fields of an element, in order
+abbrev pub partition_fields : List Field
+partition_fields = field.PartitionFrom ∷ field.PartitionTo ∷ field.PartitionApart ∷ []
+
+abbrev pub restart_fields : List Field
+restart_fields = field.RestartNode ∷ field.RestartRound ∷ field.RestartDown ∷ []
+
+abbrev pub load_fields : List Field
+load_fields = field.LoadFrom ∷ field.LoadTo ∷ field.LoadWrites ∷ []
+
+-- the values of an array, and none where there is no array
+abbrev pub values_of : Option Data → List Data
+values_of (Some (toml.array items)) = list_of items
+values_of _ = []
+
+abbrev pub values_at : Field → Members → List Data
+values_at f table = values_of (get_member (name_of f) table)
+
+-- the table has no key but those of the fields
+abbrev pub table_has_only : List Field → Data → Bool
+table_has_only fields (toml.table table) = has_only fields table
+table_has_only fields _ = true
+
+abbrev pub elements_have_only : Field → List Field → Members → Bool
+elements_have_only f fields table = list_all (table_has_only fields) (values_at f table)
+
+-- the fault of an array with a table that has another key
+abbrev pub only_elements : TableName → Field → List Field → Members → Result (Unit {0}) Fault
+only_elements name f fields table = only name (elements_have_only f fields table)

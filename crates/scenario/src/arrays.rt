@@ -1,0 +1,137 @@
+//! Reading an array of tables.
+
+ghost use Rattle.std.specs.Prelude.{◌≡◌, ◌≢◌, ◌≤◌, map, IfOk, IfErr};
+ghost use Rattle.std.specs.List.{list_all};
+ghost use Rattle.toml.specs.View.{view, table_view};
+ghost use Rattle.scenario.specs.Elements.{array_of, table_of, elements_at, array_at, values_of, table_has_only, elements_have_only, only_elements};
+
+use crate::fields::{found, has_only};
+use bench_types::limits::MOST_ELEMENTS;
+use bench_types::{Fault, Field, TableName};
+use std::alloc::Global;
+use toml::{Table, Value};
+
+/// An element of an array of tables.
+pub(crate) trait Element: Drop {
+    ghost use Rattle.std.specs.Prelude.{ℕ, Result};
+    ghost use Rattle.bench_types.specs.declared.faults.Fault.{Fault};
+    ghost use Rattle.toml.specs.Data.{Data};
+
+    ghost checked: { ℕ → Data → Result Self Fault };
+
+    /// The element that the value says, in a scenario of so many nodes.
+    fn of(alloc: Global, value: &Value, nodes: u32) -> Result<Self, Fault>
+        requires { 2 ≤ nodes }
+        ensures ok { IfOk result (λ element. checked nodes (view value.now) ≡ Ok element) }
+        ensures refused { IfErr result (λ fault.
+            fault ≢ Fault.OutOfMemory → checked nodes (view value.now) ≡ Err fault) };
+}
+
+pub(crate) fn array_of(value: &Value, field: Field) -> Result<&[Value], Fault>
+    ensures ok { IfOk result (λ values.
+        array_of field (view value.now) ≡ Ok (map view values.now)) }
+    ensures fault { IfErr result (λ fault. array_of field (view value.now) ≡ Err fault) }
+{
+    match value {
+        Value::Array(array) => Ok(array.as_slice()),
+        _ => Err(Fault::WrongType(field)),
+    }
+}
+
+pub(crate) fn table_of(value: &Value, field: Field) -> Result<&Table, Fault>
+    ensures ok { IfOk result (λ table.
+        table_of field (view value.now) ≡ Ok (table_view table.now)) }
+    ensures fault { IfErr result (λ fault. table_of field (view value.now) ≡ Err fault) }
+{
+    match value {
+        Value::Table(table) => Ok(table),
+        _ => Err(Fault::WrongType(field)),
+    }
+}
+
+fn elements_at(table: &Table, field: Field) -> Result<&[Value], Fault>
+    ensures ok { IfOk result (λ values.
+        elements_at field (table_view table.now) ≡ Ok (map view values.now)) }
+    ensures fault { IfErr result (λ fault. elements_at field (table_view table.now) ≡ Err fault) }
+{
+    let Some(value) = found(table, field) else {
+        return Ok(&[]);
+    };
+    let values = array_of(value, field)?;
+    if values.len() <= MOST_ELEMENTS {
+        Ok(values)
+    } else {
+        Err(Fault::OutOfRange(field))
+    }
+}
+
+/// The elements of an array of tables. One that is absent has none, and one with too many is out of
+/// range, whatever they are.
+pub(crate) fn array_at<T: Element>(
+    alloc: Global,
+    table: &Table,
+    field: Field,
+    nodes: u32,
+) -> Result<Vec<T>, Fault>
+    requires { 2 ≤ nodes }
+    ensures ok { IfOk result (λ elements.
+        array_at field (T.checked nodes) (table_view table.now) ≡ Ok elements.items) }
+    ensures refused { IfErr result (λ fault. fault ≢ Fault.OutOfMemory →
+        array_at field (T.checked nodes) (table_view table.now) ≡ Err fault) }
+{
+    let values = elements_at(table, field)?;
+    let mut elements = Vec::new(alloc);
+    for value in values {
+        elements.push(T::of(alloc, value, nodes)?)?;
+    }
+    Ok(elements)
+}
+
+fn table_has_only(value: &Value, fields: &[Field]) -> bool
+    ensures { result ≡ table_has_only fields.now (view value.now) }
+{
+    match value {
+        Value::Table(table) => has_only(table, fields),
+        _ => true,
+    }
+}
+
+fn all_have_only(values: &[Value], fields: &[Field]) -> bool
+    ensures { result ≡ list_all (λ value. table_has_only fields.now (view value)) values.now }
+{
+    values.iter().all(|value| table_has_only(value, fields))
+}
+
+fn tables_have_only(value: &Value, fields: &[Field]) -> bool
+    ensures { result ≡ list_all (table_has_only fields.now) (values_of (Some (view value.now))) }
+{
+    match value {
+        Value::Array(array) => all_have_only(array.as_slice(), fields),
+        _ => true,
+    }
+}
+
+fn elements_have_only(table: &Table, field: Field, fields: &[Field]) -> bool
+    ensures { result ≡ elements_have_only field fields.now (table_view table.now) }
+{
+    match found(table, field) {
+        None => true,
+        Some(value) => tables_have_only(value, fields),
+    }
+}
+
+/// Checks that no table of the array has a key but those of the fields.
+pub(crate) fn only_elements(
+    table: &Table,
+    name: TableName,
+    field: Field,
+    fields: &[Field],
+) -> Result<(), Fault>
+    ensures { result ≡ only_elements name field fields.now (table_view table.now) }
+{
+    if elements_have_only(table, field, fields) {
+        Ok(())
+    } else {
+        Err(Fault::UnknownField(name))
+    }
+}

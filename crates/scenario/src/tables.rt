@@ -1,0 +1,118 @@
+//! Reading the elements of a scenario's arrays.
+
+ghost use Rattle.std.specs.Prelude.{◌≡◌, ◌≢◌, ◌≤◌, IfOk, IfErr};
+ghost use Rattle.toml.specs.View.{table_view};
+ghost use Rattle.scenario.specs.Elements.{apart_at, partitions_at, restarts_at, loads_at};
+ghost use Rattle.scenario.specs.Settings.{AreLawful, IsLawfulPartition, IsLawfulRestart, IsLawfulLoad};
+
+use crate::arrays::{Element, array_at, array_of, table_of};
+use crate::elements::{Load, Partition, Restart};
+use crate::fields::{number_at, number_of, value_at};
+use bench_types::limits::{MOST_ROUNDS, MOST_WRITES};
+use bench_types::{Fault, Field};
+use std::alloc::Global;
+use toml::{Table, Value};
+
+impl Element for Partition {
+    ghost use Rattle.scenario.specs.Elements.{partition_of};
+
+    ghost checked = { partition_of };
+
+    fn of(alloc: Global, value: &Value, nodes: u32) -> Result<Partition, Fault> {
+        let table = table_of(value, Field::Partition)?;
+        let from = number_at(table, Field::PartitionFrom, 1, MOST_ROUNDS)?;
+        let to = number_at(table, Field::PartitionTo, from, MOST_ROUNDS)?;
+        let apart = apart_at(alloc, table, nodes)?;
+        Ok(Partition { from, to, apart })
+    }
+}
+
+impl Element for Restart {
+    ghost use Rattle.scenario.specs.Elements.{restart_of};
+
+    ghost checked = { restart_of };
+
+    fn of(_alloc: Global, value: &Value, nodes: u32) -> Result<Restart, Fault> {
+        let table = table_of(value, Field::Restart)?;
+        let node = number_at(table, Field::RestartNode, 0, nodes - 1)?;
+        let round = number_at(table, Field::RestartRound, 1, MOST_ROUNDS)?;
+        let down = number_at(table, Field::RestartDown, 0, MOST_ROUNDS)?;
+        Ok(Restart { node, round, down })
+    }
+}
+
+impl Element for Load {
+    ghost use Rattle.scenario.specs.Elements.{load_of};
+
+    ghost checked = { λ _. load_of };
+
+    fn of(_alloc: Global, value: &Value, _nodes: u32) -> Result<Load, Fault> {
+        let table = table_of(value, Field::Load)?;
+        let from = number_at(table, Field::LoadFrom, 1, MOST_ROUNDS)?;
+        let to = number_at(table, Field::LoadTo, from, MOST_ROUNDS)?;
+        let writes = number_at(table, Field::LoadWrites, 0, MOST_WRITES)?;
+        Ok(Load { from, to, writes })
+    }
+}
+
+// The nodes of one side of a partition, among so many.
+fn apart_at(alloc: Global, table: &Table, nodes: u32) -> Result<Vec<u32>, Fault>
+    requires { 2 ≤ nodes }
+    ensures ok { IfOk result (λ apart. apart_at nodes (table_view table.now) ≡ Ok apart.items) }
+    ensures refused { IfErr result (λ fault.
+        fault ≢ Fault.OutOfMemory → apart_at nodes (table_view table.now) ≡ Err fault) }
+{
+    let value = value_at(table, Field::PartitionApart)?;
+    let values = array_of(value, Field::PartitionApart)?;
+    let mut apart = Vec::new(alloc);
+    let mut least = 0;
+    for value in values {
+        let node = number_of(value, Field::PartitionApart, least, nodes - 1)?;
+        apart.push(node)?;
+        least = node + 1;
+    }
+    Ok(apart)
+}
+
+/// The partitions of a text, in order.
+pub(crate) fn partitions_at(
+    alloc: Global,
+    table: &Table,
+    nodes: u32,
+) -> Result<Vec<Partition>, Fault>
+    requires { 2 ≤ nodes }
+    ensures ok { IfOk result (λ partitions.
+        partitions_at nodes (table_view table.now) ≡ Ok partitions.items) }
+    ensures lawful { IfOk result (λ partitions.
+        AreLawful (IsLawfulPartition nodes) partitions.items) }
+    ensures refused { IfErr result (λ fault.
+        fault ≢ Fault.OutOfMemory → partitions_at nodes (table_view table.now) ≡ Err fault) }
+{
+    array_at(alloc, table, Field::Partition, nodes)
+}
+
+/// The restarts of a text, in order.
+pub(crate) fn restarts_at(alloc: Global, table: &Table, nodes: u32) -> Result<Vec<Restart>, Fault>
+    requires { 2 ≤ nodes }
+    ensures ok { IfOk result (λ restarts.
+        restarts_at nodes (table_view table.now) ≡ Ok restarts.items) }
+    ensures lawful { IfOk result (λ restarts.
+        AreLawful (IsLawfulRestart nodes) restarts.items) }
+    ensures refused { IfErr result (λ fault.
+        fault ≢ Fault.OutOfMemory → restarts_at nodes (table_view table.now) ≡ Err fault) }
+{
+    array_at(alloc, table, Field::Restart, nodes)
+}
+
+/// The loads of a text, in order.
+pub(crate) fn loads_at(alloc: Global, table: &Table, nodes: u32) -> Result<Vec<Load>, Fault>
+    requires { 2 ≤ nodes }
+    ensures ok { IfOk result (λ loads.
+        loads_at (table_view table.now) ≡ Ok loads.items) }
+    ensures lawful { IfOk result (λ loads.
+        AreLawful IsLawfulLoad loads.items) }
+    ensures refused { IfErr result (λ fault.
+        fault ≢ Fault.OutOfMemory → loads_at (table_view table.now) ≡ Err fault) }
+{
+    array_at(alloc, table, Field::Load, nodes)
+}

@@ -1,0 +1,23 @@
+use Rattle.std.proofs.Common.{◌≡◌, ◌<◌, ◌-◌, length, ap, subst, ◌∙◌, arith}
+use Rattle.std.specs.List.{AllZip, range_with_len}
+use Rattle.rayon.specs.Numbers.{nat_range}
+use Rattle.rayon.proofs.ListFacts.{IfOk-then}
+use Rattle.rayon.proofs.ToStd.{nat_range-All}
+use Rattle.staleness.specs.Cluster.{IsCounted}
+use Rattle.staleness.proofs.lags.figures_of_nodes.Goals as goal
+
+pub collect-requires-clause-ready : goal.collect-requires-clause-ready
+collect-requires-clause-ready g c κs within =
+    let ends = c.into_par_iter.ensures in
+    let inside = nat_range-All (λ i. i < length c.args.tables.now) 0 (length c.args.tables.now) (λ i low high. high) in
+    rw (c.map.ensures.base, c.map.ensures.f, c.with_min_len.ensures.base, ends.0, ends.1) (λ k d lt. ((c.requires, inside k d lt), λ y p. tt))
+
+pub returns : goal.returns
+returns g c =
+    let ends = c.into_par_iter.ensures in
+    let n = length c.args.tables.now in
+    let whole : n - 0 ≡ n = omega arith in
+    IfOk-then c.collect.result _ _ c.collect.ensures (λ v h.
+    let chain = rw (c.map.ensures.base, c.map.ensures.f, c.with_min_len.ensures.base) at h.1 in
+    let nodes = chain.1 ∙ (λ i. nat_range (ends.0 i) (ends.1 i)) ∙ ap (range_with_len 0) whole in
+    rw h.2 (subst (λ ns. AllZip (IsCounted c.args.round c.args.tables.now c.args.lists.now) ns h.0) nodes chain.2))

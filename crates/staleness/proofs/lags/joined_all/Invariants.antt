@@ -1,0 +1,10 @@
+use Rattle.std.proofs.Common.{◌≡◌, ◌*◌, ◌≤◌}
+use Rattle.staleness.specs.Figures.{sum_below, most_below, figures_at}
+use Rattle.staleness.proofs.lags.joined_all.Given as goal
+
+abbrev pub invariant-loop-part : goal.invariant-loop-part
+invariant-loop-part l = record {
+  few : l.total.stale ≤ l.part-index * 262144;
+  stale_is : l.total.stale ≡ sum_below l.part-index (λ i. (figures_at l.parts i).stale);
+  greatest_is : l.total.greatest ≡ most_below l.part-index (λ i. (figures_at l.parts i).greatest);
+}

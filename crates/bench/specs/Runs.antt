@@ -1,9 +1,10 @@
 -- What a run reads and writes, and what stands where it fails. A run writes a report and a trace: both headers, the
 -- report's first, and then for each round the lines of the trace and the row of the report. Source: this project.
-use Rattle.std.specs.Prelude.{◌≡◌, ◌≢◌, ℕ, ◌+◌, ◌<◌, ◌⊎◌, ◌++◌, [], List, Option, Result, Ok, take}
+use Rattle.std.specs.Prelude.{◌≡◌, ◌≢◌, ℕ, ◌+◌, ◌<◌, ◌≤◌, ◌⊎◌, ◌++◌, [], List, Option, Result, Ok, length, take}
 use Rattle.std.specs.Io.KnownBytes.{Consumes, IsAtEnd, Appends}
 use Rattle.bench_types.specs.declared.faults.Fault.{Fault}
 use Rattle.bench_types.specs.declared.faults.Fault.TheVariants as fault
+use Rattle.bench_types.specs.declared.limits.TheConstants.{MOST_BYTES}
 use Rattle.report.specs.Report.{report_header_line, report_line, report_lines}
 use Rattle.report.specs.Trace.{trace_header_line}
 use Rattle.scenario.specs.Settings.{Settings}
@@ -11,10 +12,11 @@ use Rattle.scenario.specs.Checked.{text_checked}
 use Rattle.scenario.specs.ReadFault.{IsReadFault}
 use Rattle.bench.specs.Reports.{row_in, rows_upto, trace_in, traces_upto, report_text, trace_text}
 
--- a source was read to its end, and the check of its text answers this
+-- a source was read to its end, its text isn't too long, and the check of the text answers this
 pub record IsRead (old new : Option (List ℕ)) (answer : Result Settings Fault) : Type 0 where
   pub text : List ℕ
   pub given : Consumes old new text
+  pub within : length text ≤ MOST_BYTES
   pub whole : IsAtEnd new
   pub checked : text_checked text ≡ answer
 

@@ -1,6 +1,6 @@
 //! Reading an input whole.
 
-ghost use Rattle.std.specs.Prelude.{◌≡◌, ◌<◌, ◌≤◌, ◌+◌, ◌↔◌, ◌⊎◌, true, length, IfSome, IfOk, OnOk, IfErr, IsErrOf};
+ghost use Rattle.std.specs.Prelude.{◌≡◌, ◌≢◌, ◌<◌, ◌≤◌, ◌+◌, ◌↔◌, ◌⊎◌, true, length, IfSome, IfOk, OnOk, IfErr, IsErrOf};
 ghost use Rattle.std.specs.Io.KnownBytes.{Consumes, IsAtEnd};
 ghost use Rattle.bench.specs.Inputs.{Gave, GaveUpTo};
 
@@ -20,7 +20,7 @@ pub fn read_all<R: Source>(alloc: Global, reader: &mut R) -> Result<Vec<u8>, Fau
     ensures whole { IfOk result (λ text. IfSome (R.left reader.old) (λ bytes. text.items ≡ bytes)) }
     ensures too_long { IsErrOf result Fault.TooLong → Gave (R.left reader.old) (R.left reader.new) (MOST_BYTES + 1) }
     ensures longer { IsErrOf result Fault.TooLong → IfSome (R.left reader.old) (λ bytes. MOST_BYTES < length bytes) }
-    ensures other_faults { IsErrOf result Fault.OutOfMemory ⊎ IsErrOf result Fault.ReadFailed → GaveUpTo (R.left reader.old) (R.left reader.new) MOST_BYTES }
+    ensures other_faults { IfErr result (λ fault. fault ≢ Fault.TooLong → GaveUpTo (R.left reader.old) (R.left reader.new) MOST_BYTES) }
     ensures failed { IsErrOf result Fault.ReadFailed ↔ (R.failed reader.new ≡ true) }
     ensures stays { R.failed reader.old ≡ true → IsErrOf result Fault.ReadFailed × (reader.new ≡ reader.old) }
     ensures only { IfErr result (λ fault. (fault ≡ Fault.OutOfMemory) ⊎ ((fault ≡ Fault.TooLong) ⊎ (fault ≡ Fault.ReadFailed))) }

@@ -3,7 +3,7 @@
 ghost use Rattle.std.specs.Prelude.{◌≡◌, ◌≢◌, ◌↔◌, ◌⊎◌, ◌+◌, ℕ, true, false, Ok, Err, IfOk, OnOk, OnErr, IfErr, IsErrOf};
 ghost use Rattle.report.specs.Report.{report_lines};
 ghost use Rattle.bench.specs.Reports.{rows_upto, traces_upto};
-ghost use Rattle.bench.specs.Inputs.{Gave};
+ghost use Rattle.bench.specs.Inputs.{Gave, GaveUpTo};
 ghost use Rattle.bench.specs.Runs.{IsRead, IsReported, AppendsBoth, IsCutAfter, IsCutShort, IsInputFault, IsCheckFault, taken_by};
 
 use crate::inputs::read_all;
@@ -30,7 +30,10 @@ pub fn run<H: Threads + Sync, R: Source, W: Sink, X: Sink>(
     ensures unwritten { IfErr result (λ fault. fault ≢ Fault.OutOfMemory → fault ≢ Fault.WriteFailed → (writer.new ≡ writer.old) × (trace.new ≡ trace.old)) }
     ensures cut_short { OnErr result (((writer.new ≡ writer.old) × (trace.new ≡ trace.old)) ⊎ IsCutShort (R.left reader.old) (R.left reader.new) (taken_by (W.taken writer.old) (X.taken trace.old)) (taken_by (W.taken writer.new) (X.taken trace.new))) }
     ensures too_long { IsErrOf result Fault.TooLong → Gave (R.left reader.old) (R.left reader.new) (MOST_BYTES + 1) }
+    ensures other_faults { IfErr result (λ fault. fault ≢ Fault.TooLong → GaveUpTo (R.left reader.old) (R.left reader.new) MOST_BYTES) }
     ensures read_failed { IsErrOf result Fault.ReadFailed ↔ (R.failed reader.new ≡ true) }
+    ensures sound { OnOk result ((W.failed writer.new ≡ false) × (X.failed trace.new ≡ false)) }
+    ensures flushed { OnOk result ((W.flushed writer.new ≡ true) × (X.flushed trace.new ≡ true)) }
     ensures write_failed { IsErrOf result Fault.WriteFailed → (W.failed writer.new ≡ true) ⊎ (X.failed trace.new ≡ true) }
     ensures only { IfErr result (λ fault. IsInputFault fault ⊎ (fault ≡ Fault.WriteFailed)) }
 {
@@ -49,6 +52,7 @@ pub fn check_input<R: Source>(alloc: Global, reader: &mut R) -> Result<Scenario,
     ensures accepted { IfOk result (λ s. IsRead (R.left reader.old) (R.left reader.new) (Ok s)) }
     ensures refused { IfErr result (λ fault. IsCheckFault fault → IsRead (R.left reader.old) (R.left reader.new) (Err fault)) }
     ensures too_long { IsErrOf result Fault.TooLong → Gave (R.left reader.old) (R.left reader.new) (MOST_BYTES + 1) }
+    ensures other_faults { IfErr result (λ fault. fault ≢ Fault.TooLong → GaveUpTo (R.left reader.old) (R.left reader.new) MOST_BYTES) }
     ensures read_failed { IsErrOf result Fault.ReadFailed ↔ (R.failed reader.new ≡ true) }
     ensures only { IfErr result IsInputFault }
 {
@@ -66,8 +70,12 @@ fn write_rounds<H: Threads + Sync, W: Sink, X: Sink>(
 ) -> Result<(), Fault>
     requires unbroken { sim.old.broken ≡ false }
     requires first { sim.old.rounds_done ≡ 0 }
+    requires sound { (W.failed writer.old ≡ false) × (X.failed trace.old ≡ false) }
+    requires flushed { (W.flushed writer.old ≡ true) × (X.flushed trace.old ≡ true) }
     ensures written { OnOk result (AppendsBoth (taken_by (W.taken writer.old) (X.taken trace.old)) (taken_by (W.taken writer.new) (X.taken trace.new)) (report_lines (rows_upto sim.old.settings sim.old.settings.rounds)) (traces_upto sim.old.settings sim.old.settings.rounds)) }
     ensures cut { OnErr result (IsCutAfter sim.old.settings (taken_by (W.taken writer.old) (X.taken trace.old)) (taken_by (W.taken writer.new) (X.taken trace.new))) }
+    ensures sound { OnOk result ((W.failed writer.new ≡ false) × (X.failed trace.new ≡ false)) }
+    ensures flushed { OnOk result ((W.flushed writer.new ≡ true) × (X.flushed trace.new ≡ true)) }
     ensures write_failed { IsErrOf result Fault.WriteFailed → (W.failed writer.new ≡ true) ⊎ (X.failed trace.new ≡ true) }
     ensures only { IfErr result (λ fault. (fault ≡ Fault.OutOfMemory) ⊎ (fault ≡ Fault.WriteFailed)) }
 {

@@ -1,6 +1,6 @@
 //! Where bytes go to.
 
-ghost use Rattle.std.specs.Prelude.{◌≡◌, ℕ, ◌<◌, ◌≤◌, Bool, true, false, List, Option, None, length, take, is_err, IfOk, OnErr};
+ghost use Rattle.std.specs.Prelude.{◌≡◌, ℕ, ◌<◌, ◌≤◌, Bool, true, false, List, Option, None, length, take, is_err, IfOk, OnOk, OnErr};
 ghost use Rattle.std.specs.Io.KnownBytes.{Appends, Keeps};
 
 use crate::sources::Failed;
@@ -12,6 +12,9 @@ pub trait Sink {
     ghost taken: { Self → Option (List ℕ) };
 
     ghost failed: { Self → Bool };
+
+    // Whether nothing was taken since the last flush.
+    ghost flushed: { Self → Bool };
 
     /// Takes some bytes from the front and answers how many: at least one of some bytes.
     fn push(&mut self, bytes: &[u8]) -> Result<usize, Failed>
@@ -25,6 +28,7 @@ pub trait Sink {
     /// Passes on what was taken.
     fn flush(&mut self) -> Result<(), Failed>
         ensures kept { Keeps (taken self.old) (taken self.new) }
+        ensures passes_on { OnOk result (flushed self.new ≡ true) }
         ensures fails { failed self.new ≡ is_err result }
         ensures stays { failed self.old ≡ true → (is_err result ≡ true) × (self.new ≡ self.old) };
 }
@@ -35,6 +39,7 @@ pub trait Sink {
 pub struct Push<W> {
     writer: W,
     failed: bool,
+    flushed: bool,
 }
 
 impl<W: Write> Push<W> {
@@ -45,6 +50,7 @@ impl<W: Write> Push<W> {
         Push {
             writer,
             failed: false,
+            flushed: false,
         }
     }
 
@@ -52,7 +58,7 @@ impl<W: Write> Push<W> {
     pub fn into_inner(self) -> W
         ensures { W.contents result ≡ ⟦<Push<W> as Sink>⟧.taken self }
     {
-        let Push { writer, failed: _ } = self;
+        let Push { writer, .. } = self;
         writer
     }
 }
@@ -62,12 +68,17 @@ impl<W: Write> Sink for Push<W> {
 
     ghost failed = { λ sink. sink.failed };
 
+    ghost flushed = { λ sink. sink.flushed };
+
     fn push(&mut self, bytes: &[u8]) -> Result<usize, Failed> {
         if self.failed {
             return Err(Failed);
         }
         match self.writer.write(bytes) {
-            Ok(count) if count > 0 || bytes.is_empty() => Ok(count),
+            Ok(count) if count > 0 || bytes.is_empty() => {
+                self.flushed = false;
+                Ok(count)
+            }
             _ => {
                 self.failed = true;
                 Err(Failed)
@@ -80,7 +91,10 @@ impl<W: Write> Sink for Push<W> {
             return Err(Failed);
         }
         match self.writer.flush() {
-            Ok(()) => Ok(()),
+            Ok(()) => {
+                self.flushed = true;
+                Ok(())
+            }
             Err(_) => {
                 self.failed = true;
                 Err(Failed)
@@ -97,6 +111,8 @@ impl Sink for Discard {
     ghost taken = { λ _. None };
 
     ghost failed = { λ _. false };
+
+    ghost flushed = { λ _. true };
 
     fn push(&mut self, bytes: &[u8]) -> Result<usize, Failed> {
         Ok(bytes.len())

@@ -21,6 +21,7 @@ pub(crate) fn write_line<W: Sink>(
     requires plain { IsTrue (list_all is_plain_cell cells.now) }
     ensures written { OnOk result (Appends (W.taken writer.old) (W.taken writer.new) (line_of (map cell_text cells.now))) }
     ensures sound { OnOk result (W.failed writer.new ≡ false) }
+    ensures flushed { OnOk result (W.flushed writer.new ≡ true) }
     ensures only { IfErr result (λ fault. (fault ≡ Fault.OutOfMemory) ⊎ (fault ≡ Fault.WriteFailed)) }
     ensures out_of_memory { IsErrOf result Fault.OutOfMemory → writer.new ≡ writer.old }
     ensures failed { IsErrOf result Fault.WriteFailed → W.failed writer.new ≡ true }
@@ -35,6 +36,7 @@ pub(crate) fn write_line<W: Sink>(
 pub(crate) fn write_text<W: Sink>(writer: &mut W, text: &[u8]) -> Result<(), Fault>
     ensures written { OnOk result (Appends (W.taken writer.old) (W.taken writer.new) text.now) }
     ensures sound { OnOk result (W.failed writer.new ≡ false) }
+    ensures flushed { OnOk result (W.flushed writer.new ≡ true) }
     ensures only { IsOkUnless result Fault.WriteFailed }
     ensures failed { OnErr result (W.failed writer.new ≡ true) }
     ensures front { OnErr result (AppendsFront (W.taken writer.old) (W.taken writer.new) text.now) }

@@ -14,6 +14,7 @@ use std::alloc::Global;
 pub fn report_header<W: Sink>(alloc: Global, writer: &mut W) -> Result<(), Fault>
     ensures written { OnOk result (Appends (W.taken writer.old) (W.taken writer.new) report_header_line) }
     ensures sound { OnOk result (W.failed writer.new ≡ false) }
+    ensures flushed { OnOk result (W.flushed writer.new ≡ true) }
     ensures only { IfErr result (λ fault. (fault ≡ Fault.OutOfMemory) ⊎ (fault ≡ Fault.WriteFailed)) }
     ensures out_of_memory { IsErrOf result Fault.OutOfMemory → writer.new ≡ writer.old }
     ensures failed { IsErrOf result Fault.WriteFailed → W.failed writer.new ≡ true }
@@ -37,6 +38,7 @@ pub fn report_header<W: Sink>(alloc: Global, writer: &mut W) -> Result<(), Fault
 pub fn write_report_row<W: Sink>(alloc: Global, writer: &mut W, row: &Row) -> Result<(), Fault>
     ensures written { OnOk result (Appends (W.taken writer.old) (W.taken writer.new) (report_line row.now)) }
     ensures sound { OnOk result (W.failed writer.new ≡ false) }
+    ensures flushed { OnOk result (W.flushed writer.new ≡ true) }
     ensures only { IfErr result (λ fault. (fault ≡ Fault.OutOfMemory) ⊎ (fault ≡ Fault.WriteFailed)) }
     ensures out_of_memory { IsErrOf result Fault.OutOfMemory → writer.new ≡ writer.old }
     ensures failed { IsErrOf result Fault.WriteFailed → W.failed writer.new ≡ true }

@@ -38,6 +38,7 @@ struct Fragile {
     bytes: Vec<u8>,
     calls: usize,
     failed: bool,
+    flushed: bool,
 }
 
 impl Fragile {
@@ -46,6 +47,7 @@ impl Fragile {
             bytes: Vec::from_slice(alloc, HELD)?,
             calls,
             failed: false,
+            flushed: false,
         })
     }
 }
@@ -54,6 +56,8 @@ impl Sink for Fragile {
     ghost taken = { λ sink. Some sink.bytes.items };
 
     ghost failed = { λ sink. sink.failed };
+
+    ghost flushed = { λ sink. sink.flushed };
 
     fn push(&mut self, bytes: &[u8]) -> Result<usize, Failed> {
         if self.failed {
@@ -67,6 +71,7 @@ impl Sink for Fragile {
             return Err(Failed);
         }
         self.calls -= 1;
+        self.flushed = false;
         Ok(1)
     }
 
@@ -79,6 +84,7 @@ impl Sink for Fragile {
             return Err(Failed);
         }
         self.calls -= 1;
+        self.flushed = true;
         Ok(())
     }
 }

@@ -18,6 +18,7 @@ use std::alloc::Global;
 pub fn trace_header<W: Sink>(alloc: Global, writer: &mut W) -> Result<(), Fault>
     ensures written { OnOk result (Appends (W.taken writer.old) (W.taken writer.new) trace_header_line) }
     ensures sound { OnOk result (W.failed writer.new ≡ false) }
+    ensures flushed { OnOk result (W.flushed writer.new ≡ true) }
     ensures only { IfErr result (λ fault. (fault ≡ Fault.OutOfMemory) ⊎ (fault ≡ Fault.WriteFailed)) }
     ensures out_of_memory { IsErrOf result Fault.OutOfMemory → writer.new ≡ writer.old }
     ensures failed { IsErrOf result Fault.WriteFailed → W.failed writer.new ≡ true }
@@ -52,6 +53,7 @@ pub fn write_trace_rows<W: Sink>(
     requires one_each { length records.now ≡ length list.now.exchanges }
     ensures written { OnOk result (Appends (W.taken writer.old) (W.taken writer.new) (trace_lines round list.now.exchanges records.now)) }
     ensures sound { OnOk result (W.failed writer.new ≡ false) }
+    ensures flushed { OnOk result (W.flushed writer.new ≡ true) }
     ensures only { IfErr result (λ fault. (fault ≡ Fault.OutOfMemory) ⊎ (fault ≡ Fault.WriteFailed)) }
     ensures out_of_memory { IsErrOf result Fault.OutOfMemory → writer.new ≡ writer.old }
     ensures failed { IsErrOf result Fault.WriteFailed → W.failed writer.new ≡ true }

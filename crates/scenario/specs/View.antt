@@ -1,4 +1,4 @@
--- What contracts see of a scenario.
+-- What contracts see of a scenario. Source: this project.
 use Rattle.scenario.specs.Settings.{Settings}
 use Rattle.scenario.specs.declared.scenarios.Scenario.TheInside.{Inside}
 

@@ -2,7 +2,7 @@ use Rattle.std.proofs.Common.{arith, ◌≡◌, ◌≤◌, ◌+◌, length, subs
 use Rattle.std.proofs.lemmas.List.{length-take}
 use Rattle.bench.specs.Inputs.{Gave}
 use Rattle.bench_types.specs.declared.limits.TheConstants.{MOST_BYTES}
-use Rattle.bench.proofs.InputFacts.{gave_more, gave_up_to}
+use Rattle.bench.proofs.InputFacts.{gave_more, gave_up_to, if_err}
 use Rattle.bench.proofs.inputs.read_all.Goals as goal
 
 pub returns-then-count-space-clause-too_long : goal.returns-then-count-space-clause-too_long
@@ -16,4 +16,4 @@ pub returns-in_err-extend_from_slice-clause-other_faults : goal.returns-in_err-e
 returns-in_err-extend_from_slice-clause-other_faults g c =
     let gave = gave_more _ _ _ c.loop-count.text.items c.pull.new.buf c.in-Ok.count c.loop-count.invariant.given c.in-Ok.ensures.bytes c.in-Ok.ensures.bound in
     let bound : length c.loop-count.text.items + c.in-Ok.count ≤ MOST_BYTES = omega (arith, c.loop-count.text.ok.0) in
-    λ _. gave_up_to _ _ _ _ gave bound
+    if_err c.from_residual.result _ (λ _ _. gave_up_to _ _ _ _ gave bound)

@@ -5,6 +5,7 @@ use Rattle.report.specs.Trace.{trace_header_line}
 use Rattle.scenario.specs.Settings.{Settings}
 use Rattle.bench.specs.Reports.{rows_upto, traces_upto}
 use Rattle.bench.specs.Runs.{taken_by, AppendsBoth, IsCutAfter}
+use Rattle.bench.proofs.InputFacts.{if_err, read_within}
 use Rattle.bench.proofs.Reporting.{on_err, reported_whole}
 use Rattle.bench.proofs.runs.run.Goals as goal
 
@@ -47,3 +48,12 @@ returns-in_err-trace_header-clause-cut_short g c =
       read = c.in_ok-scenario.ensures.accepted;
       written = inl (inr (front.0, record { report = c.in_ok-report_header.ensures.written; trace = front.1 }));
     }))
+
+pub returns-clause-other_faults : goal.returns-clause-other_faults
+returns-clause-other_faults g c = if_err c.write_rounds.result _ (λ _ _. read_within _ _ _ c.in_ok-scenario.ensures.accepted)
+
+pub returns-in_err-report_header-clause-other_faults : goal.returns-in_err-report_header-clause-other_faults
+returns-in_err-report_header-clause-other_faults g c = if_err c.from_residual-in_err-report_header.result _ (λ _ _. read_within _ _ _ c.in_ok-scenario.ensures.accepted)
+
+pub returns-in_err-trace_header-clause-other_faults : goal.returns-in_err-trace_header-clause-other_faults
+returns-in_err-trace_header-clause-other_faults g c = if_err c.from_residual-in_err-trace_header.result _ (λ _ _. read_within _ _ _ c.in_ok-scenario.ensures.accepted)

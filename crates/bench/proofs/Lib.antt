@@ -10,3 +10,4 @@ pub mod Stepping
 pub mod Reporting
 pub mod OwnWrites
 pub mod Soundness
+pub mod Comparison

@@ -6,6 +6,7 @@ pub mod Rows
 pub mod Played
 pub mod Reports
 pub mod Runs
+pub mod Comparisons
 pub use Rattle.exchange.specs.Exchanged
 pub use Rattle.exchange.specs.Folds
 pub use Rattle.exchange.specs.Owns

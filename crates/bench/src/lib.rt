@@ -1,8 +1,9 @@
-//! The simulation, from a scenario's bytes to those of its report and its trace: reading, rounds in
-//! order, lines.
+//! The simulation, from a scenario's bytes to those of its report and its trace, or of the comparison
+//! of the modes: reading, rounds in order, lines.
 #![tactic(auto)]
 
 mod clusters;
+mod comparing;
 mod inputs;
 mod laws;
 mod rounds;
@@ -11,6 +12,7 @@ mod sims;
 #[cfg(test)]
 mod tests;
 
+pub use comparing::compare;
 pub use inputs::read_all;
 pub use laws::every_run_is_sound;
 pub use rounds::Round;

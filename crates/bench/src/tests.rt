@@ -275,3 +275,69 @@ fn a_run_without_a_trace(rt: HostRuntime) {
     assert_eq!(rt; answer, Ok(()));
     assert!(rt; writer.into_inner().as_slice() == TWO_NODES_REPORT.as_bytes());
 }
+
+const TWO_ROUNDS: &str = "format = 1\n\
+    nodes = 2\n\
+    keys = 3\n\
+    rounds = 2\n\
+    seed = 0\n\
+    mode = \"scuttle-breadth\"\n\
+    budget = 1\n\
+    peers = \"ring\"\n\
+    rotation = \"none\"\n\
+    choice = \"cycle\"\n\
+    loss_ppm = 0\n\
+    writes = 3\n\
+    [[load]]\n\
+    from = 2\n\
+    to = 2\n\
+    writes = 1\n";
+
+// The same but for its mode.
+const TWO_ROUNDS_NEWEST: &str = "format = 1\n\
+    nodes = 2\n\
+    keys = 3\n\
+    rounds = 2\n\
+    seed = 0\n\
+    mode = \"precise-newest\"\n\
+    budget = 1\n\
+    peers = \"ring\"\n\
+    rotation = \"none\"\n\
+    choice = \"cycle\"\n\
+    loss_ppm = 0\n\
+    writes = 3\n\
+    [[load]]\n\
+    from = 2\n\
+    to = 2\n\
+    writes = 1\n";
+
+const TWO_ROUNDS_COMPARED: &str = "mode,round,exchanges,unreached,lost,entries,cut,stale,greatest\n\
+    scuttle-breadth,1,2,0,0,4,6,2,1\n\
+    scuttle-breadth,2,2,0,0,4,2,0,0\n\
+    scuttle-depth,1,2,0,0,4,6,2,1\n\
+    scuttle-depth,2,2,0,0,4,2,0,0\n\
+    precise-oldest,1,2,0,0,4,6,2,1\n\
+    precise-oldest,2,2,0,0,4,2,0,0\n\
+    precise-newest,1,2,0,0,4,6,2,1\n\
+    precise-newest,2,2,0,0,2,0,0,0\n";
+
+#[test]
+fn comparison_of_the_modes(rt: HostRuntime) {
+    let alloc = rt.alloc();
+    for text in [TWO_ROUNDS, TWO_ROUNDS_NEWEST] {
+        let mut reader = Pull::new(text.as_bytes());
+        let mut writer = Push::new(Vec::new(alloc));
+        let answer = compare(&rt, alloc, &mut reader, &mut writer);
+        assert_eq!(rt; answer, Ok(()));
+        assert!(rt; writer.into_inner().as_slice() == TWO_ROUNDS_COMPARED.as_bytes());
+    }
+}
+
+#[test]
+fn nothing_compared(rt: HostRuntime) {
+    let alloc = rt.alloc();
+    let mut writer = Push::new(Vec::new(alloc));
+    let answer = compare(&rt, alloc, &mut Pull::new(b"".as_slice()), &mut writer);
+    assert_eq!(rt; answer, Err(Fault::Missing(Field::Format)));
+    assert!(rt; writer.into_inner().is_empty());
+}

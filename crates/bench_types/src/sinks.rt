@@ -13,7 +13,7 @@ pub trait Sink {
 
     ghost failed: { Self → Bool };
 
-    // Whether nothing was taken since the last flush.
+    // Whether what was taken has been passed on. A flush makes it so.
     ghost flushed: { Self → Bool };
 
     /// Takes some bytes from the front and answers how many: at least one of some bytes.

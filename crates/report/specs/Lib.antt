@@ -3,3 +3,4 @@ pub mod Report
 pub mod Output
 pub mod Cells
 pub mod Trace
+pub mod Compare

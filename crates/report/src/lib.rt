@@ -3,10 +3,12 @@
 #![tactic(auto)]
 
 mod cells;
+mod comparisons;
 mod outputs;
 mod reports;
 mod traces;
 
+pub use comparisons::{compare_header, write_compare_row};
 pub use reports::{report_header, write_report_row};
 pub use traces::{trace_header, write_trace_rows};
 

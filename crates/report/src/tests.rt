@@ -3,7 +3,7 @@
 ghost use Rattle.std.specs.Prelude.{◌≡◌, Some, IfOk, length};
 
 use super::*;
-use bench_types::{Exchange, Failed, Fate, Fault, Push, Record, Row, Sink};
+use bench_types::{Exchange, Failed, Fate, Fault, Mode, Push, Record, Row, Sink};
 use round_plan::RoundList;
 use std::alloc::{AllocError, Global};
 use std::process::Abort;
@@ -296,5 +296,30 @@ fn trace_rows_to_sinks_that_fail(rt: HostRuntime) -> Result<(), Fail> {
             "after {calls} calls"
         );
     }
+    Ok(())
+}
+
+#[test]
+fn comparison_of_two_nodes(rt: HostRuntime) -> Result<(), Fail> {
+    let mut comparison = Push::new(Vec::new(rt.alloc()));
+    compare_header(rt.alloc(), &mut comparison)?;
+    for mode in [
+        Mode::ScuttleBreadth,
+        Mode::ScuttleDepth,
+        Mode::PreciseOldest,
+        Mode::PreciseNewest,
+    ] {
+        write_compare_row(rt.alloc(), &mut comparison, mode, &TWO_NODES)?;
+    }
+    let text = comparison.into_inner();
+    assert_eq!(rt;
+        text.as_slice(),
+        b"mode,round,exchanges,unreached,lost,entries,cut,stale,greatest\n\
+        scuttle-breadth,1,2,0,0,2,0,0,0\n\
+        scuttle-depth,1,2,0,0,2,0,0,0\n\
+        precise-oldest,1,2,0,0,2,0,0,0\n\
+        precise-newest,1,2,0,0,2,0,0,0\n"
+            .as_slice()
+    );
     Ok(())
 }

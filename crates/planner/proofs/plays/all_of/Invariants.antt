@@ -1,0 +1,8 @@
+use Rattle.std.proofs.Common.{◌≡◌, ◌++◌}
+use Rattle.std.specs.List.{filter_map}
+use Rattle.std.specs.Vec.Iter.{into_iter_items}
+use Rattle.planner.specs.Places.{itself}
+use Rattle.planner.proofs.plays.all_of.Given as goal
+
+abbrev pub invariant-loop-place : goal.invariant-loop-place
+invariant-loop-place g l = (l.yielded ++ into_iter_items l.place-iterator ≡ l.fn.places.items) × (l.all.items ≡ filter_map itself l.yielded)

@@ -1,0 +1,13 @@
+pub mod Sharing
+pub mod Schedules
+pub mod Neighbours
+pub mod Dependencies
+pub mod States
+pub mod Stages
+pub mod ListOrder
+pub mod Plays
+pub mod Places
+pub use Rattle.exchange.specs.Exchanged
+pub use Rattle.exchange.specs.Folds
+pub use Rattle.exchange.specs.Clusters
+pub use Rattle.round_plan.specs.Plan

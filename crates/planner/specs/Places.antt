@@ -1,0 +1,60 @@
+-- The tables and records that are kept while a schedule is carried out, and the state that they show.
+-- Source: this project.
+use Rattle.std.specs.Prelude.{◌≡◌, ℕ, List, length, slice_index_or, Option, None, Some}
+use Rattle.bench_types.specs.declared.exchanges.Exchange.{Exchange}
+use Rattle.node_table.specs.Table.{Table}
+use Rattle.node_table.specs.Kept.{Kept}
+use Rattle.round_plan.specs.Plan.{Plan}
+use Rattle.planner.specs.declared.plays.Pair.{Pair}
+use Rattle.planner.specs.declared.plays.Places.{Places}
+use Rattle.planner.specs.Sharing.{exchange_at}
+use Rattle.planner.specs.States.{Taken, State}
+
+-- tables without their room
+abbrev pub table_of : Option Kept → Option Table
+table_of None = None
+table_of (Some kept) = Some kept.table
+
+abbrev pub taken_of : Option Pair → Option Taken
+taken_of None = None
+taken_of (Some pair) = Some (record { initiator = pair.initiator.table; responder = pair.responder.table })
+
+abbrev pub state_in : Places → State
+state_in places = record {
+  home = λ n. table_of (slice_index_or places.homes.items n None);
+  out = λ i. taken_of (slice_index_or places.out.items i None);
+  records = λ i. slice_index_or places.records.items i None;
+}
+
+-- a place for each node, and two for each exchange
+pub record HasPlaces (plan : Plan) (places : Places) : Type 0 where
+  pub homes : length places.homes.items ≡ plan.nodes
+  pub out : length places.out.items ≡ length plan.exchanges
+  pub records : length places.records.items ≡ length plan.exchanges
+
+-- a table of this node, among so many nodes with so many keys each
+pub record IsOf (node_count key_count n : ℕ) (t : Table) : Type 0 where
+  pub node : t.node ≡ n
+  pub nodes : t.nodes ≡ node_count
+  pub keys : t.keys ≡ key_count
+
+pub record IsPairOf (node_count key_count : ℕ) (e : Exchange) (taken : Taken) : Type 0 where
+  pub initiator : IsOf node_count key_count e.initiator taken.initiator
+  pub responder : IsOf node_count key_count e.responder taken.responder
+
+-- each table is in its own place, or taken out by an exchange of its node
+pub record AreInPlace (nodes keys : ℕ) (es : List Exchange) (s : State) : Type 0 where
+  pub home : (n : ℕ) (t : Table) → s.home n ≡ Some t → IsOf nodes keys n t
+  pub out : (i : ℕ) (taken : Taken) → s.out i ≡ Some taken → IsPairOf nodes keys (exchange_at es i) taken
+
+-- a table in its place
+abbrev pub in_place : Kept → Option Kept
+in_place kept = Some kept
+
+abbrev pub pair_of : Option Kept → Option Kept → Option Pair
+pair_of (Some p) (Some q) = Some (record { initiator = p; responder = q })
+pair_of (Some p) None = None
+pair_of None q = None
+
+abbrev pub itself : {A : Type 0} → Option A → Option A
+itself x = x

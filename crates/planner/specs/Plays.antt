@@ -1,0 +1,46 @@
+-- What playing a schedule comes to. Source: this project.
+use Rattle.std.specs.Prelude.{◌≡◌, ℕ, ◌<◌, false, List, length, map, take, slice_get, Some}
+use Rattle.bench_types.specs.declared.exchanges.Exchange.{Exchange}
+use Rattle.bench_types.specs.declared.exchanges.Record.{Record}
+use Rattle.bench_types.specs.declared.exchanges.Rules.{Rules}
+use Rattle.bench_types.specs.declared.faults.Fault.{Fault}
+use Rattle.bench_types.specs.declared.faults.Fault.TheVariants as fault
+use Rattle.node_table.specs.Table.{Table}
+use Rattle.node_table.specs.Kept.{Kept}
+use Rattle.exchange.specs.Folds.{fold_of}
+use Rattle.exchange.specs.Clusters.{AreTablesInOrder}
+use Rattle.planner.specs.declared.events.Event.{Event}
+use Rattle.planner.specs.declared.events.Event.TheVariants.{Start, Finish}
+use Rattle.planner.specs.Schedules.{is_running, MayStart, IsLawful, AreFinished}
+use Rattle.planner.specs.States.{state_of}
+
+-- the tables in memory, without their room
+abbrev pub tables_of : List Kept → List Table
+tables_of kept = map (λ k. k.table) kept
+
+-- the tables of all nodes in order
+abbrev pub IsCluster : ℕ → List Kept → Type 0
+IsCluster nodes kept = (keys : ℕ) × AreTablesInOrder nodes keys (tables_of kept)
+
+-- a whole schedule was carried out: these are the tables in their places at its end, and the records
+pub record IsPlayed (rules : Rules) (es : List Exchange) (events : List Event) (before after : List Table) (records : List Record) : Type 0 where
+  pub lawful : IsLawful es events
+  pub finished : AreFinished es events
+  pub size : length after ≡ length before
+  pub home : (node : ℕ) → node < length before → (state_of rules before es events).home node ≡ slice_get after node
+  pub kept : (i : ℕ) → i < length es → (state_of rules before es events).records i ≡ slice_get records i
+  -- and so the end of list order
+  pub tables : after ≡ (fold_of rules before es).tables
+  pub given : records ≡ (fold_of rules before es).records
+
+-- the events before a place are a lawful schedule, and there stands this one
+pub record IsEventAt (es : List Exchange) (events : List Event) (k : ℕ) (e : Event) : Type 0 where
+  pub lawful : IsLawful es (take k events)
+  pub event : slice_get events k ≡ Some e
+
+-- why a schedule was refused: the first event that isn't allowed, or behind the last event an exchange that isn't finished
+abbrev pub IsRefusal : List Exchange → List Event → Fault → Type 0
+IsRefusal es events fault.NotAllowed = (k i : ℕ) × IsEventAt es events k (Start i) × (¬ MayStart es (take k events) i)
+IsRefusal es events fault.NotRunning = (k i : ℕ) × IsEventAt es events k (Finish i) × (is_running (take k events) i ≡ false)
+IsRefusal es events fault.Unfinished = IsLawful es events × (¬ AreFinished es events)
+IsRefusal es events f = f ≡ fault.OutOfMemory

@@ -1,0 +1,185 @@
+//! Carrying out a schedule on one thread.
+
+ghost use Rattle.std.specs.Prelude.{◌≡◌, ◌<◌, ◌≤◌, ℕ, None, length, map, filter_map, slice_index_or, IfOk, IfErr, OnOk, IsOkUnless};
+ghost use Rattle.bench_types.specs.declared.exchanges.Rules.{Rules};
+ghost use Rattle.bench_types.specs.declared.faults.Fault.TheVariants.{OutOfMemory};
+ghost use Rattle.planner.specs.declared.events.Event.TheVariants.{Start, Finish};
+ghost use Rattle.planner.specs.Stages.{not_started};
+ghost use Rattle.planner.specs.States.{after_event};
+ghost use Rattle.planner.specs.Places.{state_in, HasPlaces, AreInPlace, itself, in_place, pair_of};
+ghost use Rattle.planner.specs.Plays.{tables_of, IsCluster, IsPlayed, IsRefusal};
+
+use crate::deps::Deps;
+use crate::events::Event;
+use crate::schedules::Schedule;
+use bench_types::{Fault, Record, Rules};
+use exchange::exchange;
+use node_table::NodeTable;
+use round_plan::RoundList;
+use std::alloc::Global;
+
+// The tables that a running exchange has taken out.
+#[derive(Drop)]
+struct Pair {
+    initiator: NodeTable,
+    responder: NodeTable,
+}
+
+// The tables at home, by node; what is taken out, and the records, by exchange.
+#[derive(Drop)]
+struct Places {
+    homes: Vec<Option<NodeTable>>,
+    out: Vec<Option<Pair>>,
+    records: Vec<Option<Record>>,
+}
+
+/// Carries out a schedule: each start takes the tables of two nodes out, and each finish carries out
+/// the exchange and puts back what it leaves of them. The answer is the tables, by node, and the
+/// records, in list order. After a fault the tables are given up.
+///
+/// Beside the exchanges and the dependencies it costs a step for each node and each event and a few
+/// for each exchange. The tables are moved, never copied.
+pub fn play(
+    alloc: Global,
+    list: &RoundList,
+    tables: Vec<NodeTable>,
+    events: &[Event],
+    rules: &Rules,
+) -> Result<(Vec<NodeTable>, Vec<Record>), Fault>
+    requires cluster { IsCluster list.now.nodes tables.items }
+    requires budget { 1 ≤ rules.now.budget }
+    ensures played { IfOk result (λ p. IsPlayed rules.now list.now.exchanges events.now (tables_of tables.items) (tables_of p.0.items) p.1.items) }
+    ensures refused { IfErr result (IsRefusal list.now.exchanges events.now) }
+{
+    let mut schedule = opened(alloc, list)?;
+    let mut places = all_at_home(alloc, list, tables)?;
+    for event in events {
+        match *event {
+            Event::Start(i) => {
+                schedule.start(i)?;
+                take_out(&mut places, list, i);
+            }
+            Event::Finish(i) => {
+                schedule.finish(i)?;
+                put_back(alloc, &mut places, list, i, rules)?;
+            }
+        }
+    }
+    if schedule.done_count() < list.len() {
+        return Err(Fault::Unfinished);
+    }
+    let Places {
+        homes,
+        out: _,
+        records,
+    } = places;
+    Ok((all_of(alloc, homes)?, all_of(alloc, records)?))
+}
+
+// A schedule of the list of which nothing is started.
+fn opened(alloc: Global, list: &RoundList) -> Result<Schedule, Fault>
+    ensures value { IfOk result (λ s. s ≡ not_started list.now) }
+    ensures only { IsOkUnless result OutOfMemory }
+{
+    let deps = Deps::new(alloc, list)?;
+    match Schedule::new(alloc, deps) {
+        Ok(schedule) => Ok(schedule),
+        Err((fault, _)) => Err(fault),
+    }
+}
+
+// All tables in their places, and nothing taken out.
+fn all_at_home(alloc: Global, list: &RoundList, tables: Vec<NodeTable>) -> Result<Places, Fault>
+    ensures homes { IfOk result (λ p. p.homes.items ≡ map in_place tables.items) }
+    ensures out { IfOk result (λ p. (length p.out.items ≡ length list.now.exchanges) × ((i : ℕ) → slice_index_or p.out.items i None ≡ None)) }
+    ensures records { IfOk result (λ p. (length p.records.items ≡ length list.now.exchanges) × ((i : ℕ) → slice_index_or p.records.items i None ≡ None)) }
+    ensures only { IsOkUnless result OutOfMemory }
+{
+    let mut homes = Vec::with_capacity(alloc, tables.len())?;
+    for table in tables {
+        homes.push(Some(table))?;
+    }
+    let mut out = Vec::with_capacity(alloc, list.len() as usize)?;
+    let mut records = Vec::with_capacity(alloc, list.len() as usize)?;
+    for _ in 0..list.len() {
+        out.push(None)?;
+        records.push(None)?;
+    }
+    Ok(Places {
+        homes,
+        out,
+        records,
+    })
+}
+
+// The tables of an exchange's nodes leave their places.
+fn take_out(places: &mut Places, list: &RoundList, i: u32)
+    requires within { i < length list.now.exchanges }
+    requires places { HasPlaces list.now places.old }
+    ensures places { HasPlaces list.now places.new }
+    ensures state { (rules : Rules) → after_event rules list.now.exchanges (state_in places.old) (Start i) ≡ state_in places.new }
+{
+    let plan = list.exchanges()[i as usize];
+    let initiator = places.homes[plan.initiator as usize].take();
+    let responder = places.homes[plan.responder as usize].take();
+    places.out[i as usize] = both(initiator, responder);
+}
+
+// Two tables as a pair, where both are there.
+fn both(initiator: Option<NodeTable>, responder: Option<NodeTable>) -> Option<Pair>
+    ensures { result ≡ pair_of initiator responder }
+{
+    match (initiator, responder) {
+        (Some(initiator), Some(responder)) => Some(Pair {
+            initiator,
+            responder,
+        }),
+        _ => None,
+    }
+}
+
+// The tables that an exchange has taken out are exchanged and come back into their places.
+fn put_back(
+    alloc: Global,
+    places: &mut Places,
+    list: &RoundList,
+    i: u32,
+    rules: &Rules,
+) -> Result<(), Fault>
+    requires within { i < length list.now.exchanges }
+    requires budget { 1 ≤ rules.now.budget }
+    requires places { HasPlaces list.now places.old }
+    requires tables { (keys : ℕ) × AreInPlace list.now.nodes keys list.now.exchanges (state_in places.old) }
+    ensures places { OnOk result (HasPlaces list.now places.new) }
+    ensures state { OnOk result (after_event rules.now list.now.exchanges (state_in places.old) (Finish i) ≡ state_in places.new) }
+    ensures only { IsOkUnless result OutOfMemory }
+{
+    let plan = list.exchanges()[i as usize];
+    if let Some(mut pair) = places.out[i as usize].take() {
+        let record = exchange(
+            alloc,
+            &mut pair.initiator,
+            &mut pair.responder,
+            &plan,
+            rules,
+        )?;
+        places.homes[plan.initiator as usize] = Some(pair.initiator);
+        places.homes[plan.responder as usize] = Some(pair.responder);
+        places.records[i as usize] = Some(record);
+    }
+    Ok(())
+}
+
+// What stands in the places, in order, without the empty ones.
+fn all_of<T: Drop>(alloc: Global, places: Vec<Option<T>>) -> Result<Vec<T>, Fault>
+    ensures value { IfOk result (λ v. v.items ≡ filter_map itself places.items) }
+    ensures only { IsOkUnless result OutOfMemory }
+{
+    let mut all = Vec::with_capacity(alloc, places.len())?;
+    for place in places {
+        if let Some(x) = place {
+            all.push(x)?;
+        }
+    }
+    Ok(all)
+}

@@ -1,0 +1,11 @@
+use Rattle.report.specs.Line.{line_of}
+use Rattle.report.specs.Compare.{compare_header_line}
+use Rattle.report.proofs.comparisons.compare_header.Goals as goal
+
+pub returns-clause-written : goal.returns-clause-written
+unfolding compare_header_line line_of
+returns-clause-written g c = c.write_line.ensures.written
+
+pub returns-clause-front : goal.returns-clause-front
+unfolding compare_header_line line_of
+returns-clause-front g c = c.write_line.ensures.front

@@ -1,44 +1,49 @@
 -- How far a comparison of the modes has been written.
-use Rattle.std.proofs.Common.{◌≡◌, ℕ, ◌+◌, ◌<◌, ◌++◌, ◌∷◌, [], List, Option, length, take, drop, get_or, refl, sym, ap, ◌∙◌, subst, arith, add-one, drop-cons, take-append-drop}
-use Rattle.std.specs.Prelude.{false}
-use Rattle.std.specs.Io.KnownBytes.{Appends}
-use Rattle.std.proofs.KnownBytes.{Appends-trans}
+use Rattle.std.proofs.Common.{◌≡◌, ℕ, ◌+◌, ◌<◌, ◌++◌, ◌∷◌, [], List, length, take, drop, get_or, refl, sym, ap, ◌∙◌, subst, append_assoc, arith, add-one, drop-cons, take-append-drop}
+use Rattle.std.specs.Prelude.{true, false}
+use Rattle.std.proofs.KnownBytes.{Appends-nil}
 use Rattle.std.proofs.lemmas.Grind.{flat_map-append}
 use Rattle.std.proofs.lemmas.List.{append-nil, take_more}
 use Rattle.std.proofs.lemmas.List.FromFn.{map-range_with_len_more}
 use Rattle.bench_types.specs.declared.exchanges.Mode.{Mode}
+use Rattle.bench_types.specs.declared.faults.Fault.{Fault}
+use Rattle.bench_types.specs.declared.faults.Fault.TheVariants.{OutOfMemory}
 use Rattle.bench_types.specs.declared.rows.Row.{Row}
+use Rattle.bench_types.specs.declared.sinks.Sink.{Ghosts as Sink}
+use Rattle.bench_types.specs.Mode.{modes}
 use Rattle.report.specs.Compare.{compare_header_line, compare_line, compare_lines}
-use Rattle.report.specs.Output.{AppendsFront}
+use Rattle.report.specs.Output.{IsWritten, IsWriteFault}
 use Rattle.scenario.specs.Settings.{Settings, with_mode}
-use Rattle.bench.specs.Comparisons.{modes, lines_upto, lines_under, lines_of_modes, comparison_text, IsCutInRounds, IsCutInModes}
-use Rattle.bench.specs.Played.{Played}
-use Rattle.bench.specs.Reports.{row_in, rows_upto}
-use Rattle.bench.specs.Simulation.{Simulation, IsPlayed}
+use Rattle.bench.specs.Comparisons.{lines_upto, lines_under, lines_of_modes, comparison_text, IsFaultInRounds, IsFaultInModes}
+use Rattle.simulation.specs.RoundView.{RoundView}
+use Rattle.simulation.specs.Outcomes.{row_in}
+use Rattle.bench.specs.Reports.{rows_upto}
+use Rattle.bench.specs.Runs.{IsFaultAfter}
+use Rattle.simulation.specs.Simulation.{SimView, PlaysNext}
+use Rattle.bench.proofs.Reporting.{written_then, fault_behind}
+
+-- nothing was written to a sink that is sound and flushed
+pub nothing_written : {W : Type 0} (sink : Sink W) (now : W) → sink.failed now ≡ false → sink.flushed now ≡ true → IsWritten sink now now []
+nothing_written sink now sound flushed = record { taken = Appends-nil (sink.taken now); flushed = flushed; sound = sound; was_sound = sound }
 
 -- the lines of so many rounds of a scenario are written
-pub record AreRoundsWritten (s : Settings) (before now : Option (List ℕ)) (sim : Simulation) (rounds : ℕ) : Type 0 where
+pub record AreRoundsWritten {W : Type 0} (sink : Sink W) (old now : W) (s : Settings) (sim : SimView) (rounds : ℕ) : Type 0 where
   pub settings : sim.settings ≡ s
   pub unbroken : sim.broken ≡ false
   pub done : sim.rounds_done ≡ rounds
-  pub written : Appends before now (lines_upto s rounds)
+  pub written : IsWritten sink old now (lines_upto s rounds)
 
--- nothing of the next round was written
-pub cut_at_once : (s : Settings) (before now : Option (List ℕ)) (rounds : ℕ) → rounds < s.rounds → Appends before now (lines_upto s rounds) → IsCutInRounds s before now
-cut_at_once s before now rounds more written = record {
-  rounds = rounds;
-  within = more;
-  front = 0;
-  written = subst (Appends before now) (sym (append-nil (lines_upto s rounds))) written;
-}
+-- the next round wasn't played
+pub stops_before : {W : Type 0} (sink : Sink W) (old now : W) (s : Settings) (rounds : ℕ) → rounds < s.rounds → IsWritten sink old now (lines_upto s rounds) → IsFaultInRounds sink old now [] s OutOfMemory
+stops_before sink old now s rounds more written = record { rounds = rounds; within = more; stops = (now, written, refl) }
 
--- the round that was played, and its line
-module _ (s : Settings) (before now : Option (List ℕ)) (sim sim' : Simulation) (rounds : ℕ) (round : Played) (so_far : AreRoundsWritten s before now sim rounds) (played : IsPlayed sim sim' round) where
-  row_is : round.row ≡ row_in s (rounds + 1)
-  row_is = ap (λ (r : Played). r.row) played.played ∙ (λ i. row_in ((played.settings ∙ so_far.settings) i) ((played.done ∙ ap (λ n. n + 1) so_far.done) i))
+-- the next round was played
+module _ {W : Type 0} (sink : Sink W) (old now : W) (s : Settings) (sim sim' : SimView) (rounds : ℕ) (round : RoundView) (so_far : AreRoundsWritten sink old now s sim rounds) (played : PlaysNext sim sim' round) (mode : Mode) (mode_is : mode ≡ s.mode) (row : Row) (row_is : row ≡ round.row) where
+  row_here : row ≡ row_in s (rounds + 1)
+  row_here = row_is ∙ ap (λ (r : RoundView). r.row) played.played ∙ (λ i. row_in ((played.settings ∙ so_far.settings) i) ((played.done ∙ ap (λ n. n + 1) so_far.done) i))
 
-  line_is : (mode : Mode) (row : Row) → mode ≡ s.mode → row ≡ round.row → compare_line mode row ≡ compare_line s.mode (row_in s (rounds + 1))
-  line_is mode row mode_given row_given = λ i. compare_line (mode_given i) ((row_given ∙ row_is) i)
+  line_is : compare_line mode row ≡ compare_line s.mode (row_in s (rounds + 1))
+  line_is = λ i. compare_line (mode_is i) (row_here i)
 
   lines : lines_upto s (rounds + 1) ≡ lines_upto s rounds ++ compare_line s.mode (row_in s (rounds + 1))
   lines =
@@ -46,29 +51,28 @@ module _ (s : Settings) (before now : Option (List ℕ)) (sim sim' : Simulation)
       ∙ flat_map-append (compare_line s.mode) (rows_upto s rounds) (row_in s (rounds + 1) ∷ [])
       ∙ ap (λ l. lines_upto s rounds ++ l) (append-nil (compare_line s.mode (row_in s (rounds + 1))))
 
-  pub cut_in_line : (mode : Mode) (row : Row) (after : Option (List ℕ)) → mode ≡ s.mode → row ≡ round.row → rounds < s.rounds → AppendsFront now after (compare_line mode row) → IsCutInRounds s before after
-  cut_in_line mode row after mode_given row_given more front = record {
+  pub stops_in_line : (after : W) (fault : Fault) → rounds < s.rounds → IsWriteFault sink now after (compare_line mode row) fault → IsFaultInRounds sink old after [] s fault
+  stops_in_line after fault more stop = record {
     rounds = rounds;
     within = more;
-    front = front.0;
-    written = Appends-trans before now after (lines_upto s rounds) (take front.0 (compare_line s.mode (row_in s (rounds + 1)))) so_far.written (subst (λ l. Appends now after (take front.0 l)) (line_is mode row mode_given row_given) front.1);
+    stops = (now, so_far.written, subst (λ l. IsWriteFault sink now after l fault) line_is stop);
   }
 
-  pub rounds_more : (mode : Mode) (row : Row) (after : Option (List ℕ)) → mode ≡ s.mode → row ≡ round.row → Appends now after (compare_line mode row) → AreRoundsWritten s before after sim' (rounds + 1)
-  rounds_more mode row after mode_given row_given line = record {
+  pub rounds_more : (after : W) → IsWritten sink now after (compare_line mode row) → AreRoundsWritten sink old after s sim' (rounds + 1)
+  rounds_more after line = record {
     settings = played.settings ∙ so_far.settings;
     unbroken = played.still;
     done = played.done ∙ ap (λ n. n + 1) so_far.done;
-    written = subst (Appends before after) (sym lines) (Appends-trans before now after (lines_upto s rounds) (compare_line s.mode (row_in s (rounds + 1))) so_far.written (subst (Appends now after) (line_is mode row mode_given row_given) line));
+    written = subst (IsWritten sink old after) (sym lines) (written_then sink old now after (lines_upto s rounds) (compare_line s.mode (row_in s (rounds + 1))) so_far.written (subst (IsWritten sink now after) line_is line));
   }
 
 -- the lines of so many modes are written, and the scenario at hand differs in its mode alone
-pub record AreModesWritten (s : Settings) (ms : List Mode) (before now : Option (List ℕ)) (current : Settings) (i : ℕ) : Type 0 where
+pub record AreModesWritten {W : Type 0} (sink : Sink W) (old now : W) (s : Settings) (ms : List Mode) (current : Settings) (i : ℕ) : Type 0 where
   pub same : (mode : Mode) → with_mode current mode ≡ with_mode s mode
-  pub written : Appends before now (lines_of_modes s (take i ms))
+  pub written : IsWritten sink old now (lines_of_modes s (take i ms))
 
 -- the next mode
-module _ (s : Settings) (ms : List Mode) (before now after : Option (List ℕ)) (current under : Settings) (i : ℕ) (d : Mode) (so_far : AreModesWritten s ms before now current i) (below : i < length ms) (under_is : under ≡ with_mode current (get_or ms i d)) where
+module _ {W : Type 0} (sink : Sink W) (old now after : W) (s : Settings) (ms : List Mode) (current under : Settings) (i : ℕ) (d : Mode) (so_far : AreModesWritten sink old now s ms current i) (below : i < length ms) (under_is : under ≡ with_mode current (get_or ms i d)) where
   is_under : under ≡ with_mode s (get_or ms i d)
   is_under = under_is ∙ so_far.same (get_or ms i d)
 
@@ -81,27 +85,47 @@ module _ (s : Settings) (ms : List Mode) (before now after : Option (List ℕ)) 
       ∙ flat_map-append (lines_under s) (take i ms) (get_or ms i d ∷ [])
       ∙ ap (λ l. lines_of_modes s (take i ms) ++ l) (append-nil (lines_under s (get_or ms i d)))
 
-  pub cut_in_mode : IsCutInRounds under now after → IsCutInModes s ms before after
-  cut_in_mode cut = record {
-    whole = take i ms;
-    next = get_or ms i d;
-    rest = drop (i + 1) ms;
-    order = parted;
-    between = now;
-    written = so_far.written;
-    cut = subst (λ (t : Settings). IsCutInRounds t now after) is_under cut;
-  }
+  pub stops_in_mode : (fault : Fault) → IsFaultInRounds sink now after [] under fault → IsFaultInModes sink old after [] s ms fault
+  stops_in_mode fault stop =
+      let here = subst (λ (t : Settings). IsFaultInRounds sink now after [] t fault) is_under stop in
+      record {
+        done = take i ms;
+        next = get_or ms i d;
+        rest = drop (i + 1) ms;
+        order = parted;
+        stops = record {
+          rounds = here.rounds;
+          within = here.within;
+          stops = fault_behind sink old now after (lines_of_modes s (take i ms)) _ _ fault so_far.written here.stops;
+        };
+      }
 
-  pub modes_more : (back : Settings) → back ≡ under → Appends now after (lines_upto under under.rounds) → AreModesWritten s ms before after back (i + 1)
+  pub modes_more : (back : Settings) → back ≡ under → IsWritten sink now after (lines_upto under under.rounds) → AreModesWritten sink old after s ms back (i + 1)
   modes_more back back_is lines = record {
     same = λ mode. ap (λ (t : Settings). with_mode t mode) (back_is ∙ is_under);
-    written = subst (Appends before after) (sym lines_more) (Appends-trans before now after (lines_of_modes s (take i ms)) (lines_under s (get_or ms i d)) so_far.written (subst (λ (t : Settings). Appends now after (lines_upto t t.rounds)) is_under lines));
+    written = subst (IsWritten sink old after) (sym lines_more) (written_then sink old now after (lines_of_modes s (take i ms)) (lines_under s (get_or ms i d)) so_far.written (subst (λ (t : Settings). IsWritten sink now after (lines_upto t t.rounds)) is_under lines));
   }
 
+-- behind the header
+pub stops_behind_header : {W : Type 0} (sink : Sink W) (old now new : W) (s : Settings) (fault : Fault) → IsWritten sink old now compare_header_line → IsFaultInModes sink now new [] s modes fault → IsFaultInModes sink old new compare_header_line s modes fault
+stops_behind_header sink old now new s fault header stop = record {
+  done = stop.done;
+  next = stop.next;
+  rest = stop.rest;
+  order = stop.order;
+  stops = record {
+    rounds = stop.stops.rounds;
+    within = stop.stops.within;
+    stops = subst (λ whole. IsFaultAfter sink old new whole (compare_line stop.next (row_in (with_mode s stop.next) (stop.stops.rounds + 1))) fault)
+        (sym (append_assoc compare_header_line (lines_of_modes s stop.done) (lines_upto (with_mode s stop.next) stop.stops.rounds)))
+        (fault_behind sink old now new compare_header_line _ _ fault header stop.stops.stops);
+  };
+}
+
 -- the header and all lines are the comparison
-pub compared_whole : (s : Settings) (before headed after : Option (List ℕ)) → Appends before headed compare_header_line → Appends headed after (lines_of_modes s modes) → Appends before after (comparison_text s)
+pub compared_whole : {W : Type 0} (sink : Sink W) (old now new : W) (s : Settings) → IsWritten sink old now compare_header_line → IsWritten sink now new (lines_of_modes s modes) → IsWritten sink old new (comparison_text s)
 unfolding comparison_text
-compared_whole s before headed after header lines = Appends-trans before headed after compare_header_line (lines_of_modes s modes) header lines
+compared_whole sink old now new s header lines = written_then sink old now new compare_header_line (lines_of_modes s modes) header lines
 
 -- under another mode it is the same
 pub own_mode : (s : Settings) (mode : Mode) → comparison_text (with_mode s mode) ≡ comparison_text s

@@ -1,13 +1,3 @@
-pub mod Writing
-pub mod Pairs
 pub mod InputFacts
-pub mod Turns
-pub mod Begun
-pub mod Restarting
-pub mod Standing
-pub mod Lags
-pub mod Stepping
 pub mod Reporting
-pub mod OwnWrites
-pub mod Soundness
 pub mod Comparison

@@ -1,41 +1,58 @@
 -- How far the report and the trace have been written.
-use Rattle.std.proofs.Common.{◌≡◌, ℕ, ◌+◌, ◌<◌, ◌++◌, ◌∷◌, [], inl, inr, List, Option, Result, Ok, Err, OnErr, take, sym, ap, ◌∙◌, subst, arith}
-use Rattle.std.specs.Prelude.{false}
-use Rattle.std.specs.Io.KnownBytes.{Appends}
+use Rattle.std.proofs.Common.{◌≡◌, ℕ, ◌+◌, ◌<◌, ◌++◌, ◌∷◌, [], List, refl, sym, ap, ◌∙◌, subst, append_assoc, arith}
+use Rattle.std.specs.Prelude.{false, Result, IfErr, IsErrAnd}
 use Rattle.std.proofs.KnownBytes.{Appends-trans}
 use Rattle.std.proofs.lemmas.Grind.{flat_map-append}
 use Rattle.std.specs.List.{range_with_len}
 use Rattle.std.proofs.lemmas.List.{append-nil, map-id}
 use Rattle.std.proofs.lemmas.List.FromFn.{map-range_with_len_more}
 use Rattle.bench_types.specs.declared.exchanges.Record.{Record}
+use Rattle.bench_types.specs.declared.faults.Fault.{Fault}
+use Rattle.bench_types.specs.declared.faults.Fault.TheVariants.{OutOfMemory}
 use Rattle.bench_types.specs.declared.rows.Row.{Row}
-use Rattle.round_plan.specs.Plan.{Plan}
-use Rattle.report.specs.Output.{AppendsFront}
+use Rattle.bench_types.specs.declared.sinks.Sink.{Ghosts as Sink}
+use Rattle.round_plan.specs.Plan.{RoundListView}
+use Rattle.report.specs.Output.{IsWritten, IsWriteFault}
 use Rattle.report.specs.Trace.{trace_header_line, trace_lines}
 use Rattle.report.specs.Report.{report_header_line, report_line, report_lines}
 use Rattle.scenario.specs.Settings.{Settings}
-use Rattle.bench.specs.Played.{Played}
-use Rattle.bench.specs.Reports.{row_in, rows_upto, trace_in, traces_upto, report_text, trace_text}
-use Rattle.bench.specs.Simulation.{Simulation, IsPlayed}
-use Rattle.bench.specs.Runs.{Taken, taken_by, AppendsBoth, IsCutAfter}
+use Rattle.simulation.specs.RoundView.{RoundView}
+use Rattle.simulation.specs.Outcomes.{row_in}
+use Rattle.simulation.specs.Simulation.{SimView, PlaysNext}
+use Rattle.bench.specs.Reports.{rows_upto, trace_in, traces_upto, report_upto, trace_upto, report_text, trace_text}
+use Rattle.bench.specs.Runs.{IsFaultAfter, AreWritten, IsWritingFault, StoppingPlace, StopsAt, lines_after, row_after}
+use Rattle.bench.proofs.InputFacts.{at_fault}
 
-pub record IsReportedUpto (s : Settings) (before now : Taken) (sim : Simulation) (rounds : ℕ) : Type 0 where
+-- one text behind another
+pub written_then : {W : Type 0} (sink : Sink W) (old now new : W) (text next : List ℕ) → IsWritten sink old now text → IsWritten sink now new next → IsWritten sink old new (text ++ next)
+written_then sink old now new text next first second = record {
+  taken = Appends-trans (sink.taken old) (sink.taken now) (sink.taken new) text next first.taken second.taken;
+  flushed = second.flushed;
+  sound = second.sound;
+  was_sound = first.was_sound;
+}
+
+-- a fault behind a text
+pub fault_behind : {W : Type 0} (sink : Sink W) (old now new : W) (text whole next : List ℕ) (fault : Fault) → IsWritten sink old now text → IsFaultAfter sink now new whole next fault → IsFaultAfter sink old new (text ++ whole) next fault
+fault_behind sink old now new text whole next fault first stop = (stop.0, written_then sink old now stop.0 text whole first stop.1, stop.2)
+
+-- both texts after so many rounds
+pub record AreWrittenUpto {W X : Type 0} (sink : Sink W) (old now : W) (sink' : Sink X) (old' now' : X) (s : Settings) (sim : SimView) (rounds : ℕ) : Type 0 where
   pub settings : sim.settings ≡ s
   pub unbroken : sim.broken ≡ false
   pub done : sim.rounds_done ≡ rounds
-  pub written : AppendsBoth before now (report_lines (rows_upto s rounds)) (traces_upto s rounds)
+  pub report : IsWritten sink old now (report_upto s rounds)
+  pub trace : IsWritten sink' old' now' (trace_upto s rounds)
 
-pub on_err : {A E : Type 0} (r : Result A E) (P : Type 0) → P → OnErr r P
-on_err (Ok x) P holds = tt
-on_err (Err e) P holds = holds
-
--- nothing of the next round was written, or a front of it
-pub cut_before : (s : Settings) (before now : Taken) (sim : Simulation) (rounds : ℕ) → IsReportedUpto s before now sim rounds → rounds < s.rounds → IsCutAfter s before now
-cut_before s before now sim rounds so_far more = record {
-  rounds = rounds;
-  within = more;
-  front = 0;
-  written = inl (record { report = so_far.written.report; trace = subst (Appends before.trace now.trace) (sym (append-nil (traces_upto s rounds))) so_far.written.trace });
+-- the headers alone
+pub headers_written : {W X : Type 0} (sink : Sink W) (old now : W) (sink' : Sink X) (old' now' : X) (sim : SimView) → sim.broken ≡ false → sim.rounds_done ≡ 0
+    → IsWritten sink old now report_header_line → IsWritten sink' old' now' trace_header_line → AreWrittenUpto sink old now sink' old' now' sim.settings sim 0
+headers_written sink old now sink' old' now' sim unbroken first header header' = record {
+  settings = refl;
+  unbroken = unbroken;
+  done = first;
+  report = subst (IsWritten sink old now) (sym (append-nil report_header_line)) header;
+  trace = subst (IsWritten sink' old' now') (sym (append-nil trace_header_line)) header';
 }
 
 range_more : (n : ℕ) → range_with_len 1 (n + 1) ≡ range_with_len 1 n ++ ((n + 1) ∷ [])
@@ -44,80 +61,72 @@ range_more n =
     ∙ map-range_with_len_more (λ (x : ℕ). x) 1 n (n + 1) (omega arith)
     ∙ ap (λ xs. xs ++ ((n + 1) ∷ [])) (map-id (range_with_len 1 n))
 
+report_more : (s : Settings) (rounds : ℕ) → report_upto s (rounds + 1) ≡ report_upto s rounds ++ report_line (row_in s (rounds + 1))
+report_more s rounds =
+    ap (λ rows. report_header_line ++ report_lines rows) (map-range_with_len_more (row_in s) 1 rounds (rounds + 1) (omega arith))
+    ∙ ap (λ lines. report_header_line ++ lines) (flat_map-append report_line (rows_upto s rounds) (row_in s (rounds + 1) ∷ []))
+    ∙ sym (append_assoc report_header_line (report_lines (rows_upto s rounds)) (report_line (row_in s (rounds + 1)) ++ []))
+    ∙ ap (λ line. report_upto s rounds ++ line) (append-nil (report_line (row_in s (rounds + 1))))
+
+trace_more : (s : Settings) (rounds : ℕ) → trace_upto s (rounds + 1) ≡ trace_upto s rounds ++ trace_in s (rounds + 1)
+trace_more s rounds =
+    ap (λ rs. trace_header_line ++ Rattle.std.specs.Prelude.flat_map (trace_in s) rs) (range_more rounds)
+    ∙ ap (λ lines. trace_header_line ++ lines) (flat_map-append (trace_in s) (range_with_len 1 rounds) ((rounds + 1) ∷ []))
+    ∙ sym (append_assoc trace_header_line (traces_upto s rounds) (trace_in s (rounds + 1) ++ []))
+    ∙ ap (λ lines. trace_upto s rounds ++ lines) (append-nil (trace_in s (rounds + 1)))
+
 -- the lines of a round in the trace, from what it came to
-abbrev pub lines_of : Played → List ℕ
+abbrev pub lines_of : RoundView → List ℕ
 lines_of p = trace_lines p.row.round p.list.exchanges p.records
 
-pub lines_given : (round : Played) (row : Row) (list : Plan) (records : List Record) → row ≡ round.row → list ≡ round.list → records ≡ round.records → trace_lines row.round list.exchanges records ≡ lines_of round
+pub lines_given : (round : RoundView) (row : Row) (list : RoundListView) (records : List Record) → row ≡ round.row → list ≡ round.list → records ≡ round.records → trace_lines row.round list.exchanges records ≡ lines_of round
 lines_given round row list records row_is list_is records_are = λ i. trace_lines (row_is i).round (list_is i).exchanges (records_are i)
 
--- the round that was played
-module _ (s : Settings) (before now : Taken) (sim sim' : Simulation) (rounds : ℕ) (round : Played) (so_far : IsReportedUpto s before now sim rounds) (played : IsPlayed sim sim' round) where
-  row_is : round.row ≡ row_in s (rounds + 1)
-  row_is = ap (λ (r : Played). r.row) played.played ∙ (λ i. row_in ((played.settings ∙ so_far.settings) i) ((played.done ∙ ap (λ n. n + 1) so_far.done) i))
+-- a fault that is handed on
+pub stopped_at : {W X : Type 0} (sink : Sink W) (old new : W) (sink' : Sink X) (old' new' : X) (s : Settings) (r : Result (Unit {0}) Fault) (fault : Fault) (place : StoppingPlace)
+    → IsErrAnd r (λ handed. handed ≡ fault) → StopsAt sink old new sink' old' new' s fault place → IfErr r (IsWritingFault sink old new sink' old' new' s)
+stopped_at sink old new sink' old' new' s r fault place handed stops =
+    at_fault r fault (IsWritingFault sink old new sink' old' new' s) handed (record { place = place; stops = stops })
 
-  lines_are : lines_of round ≡ trace_in s (rounds + 1)
-  lines_are = ap lines_of played.played ∙ (λ i. trace_in ((played.settings ∙ so_far.settings) i) ((played.done ∙ ap (λ n. n + 1) so_far.done) i))
+module _ {W X : Type 0} (sink : Sink W) (old now : W) (sink' : Sink X) (old' now' : X) (s : Settings) (sim : SimView) (rounds : ℕ) (so_far : AreWrittenUpto sink old now sink' old' now' s sim rounds) where
+  -- the next round wasn't played
+  pub stops_before : rounds < s.rounds → StopsAt sink old now sink' old' now' s OutOfMemory (lines_after rounds)
+  stops_before more = (more, so_far.report, (now', so_far.trace, refl))
 
-  pub cut_in_trace : (after : Option (List ℕ)) → rounds < s.rounds → AppendsFront now.trace after (lines_of round) → IsCutAfter s before (taken_by now.report after)
-  cut_in_trace after more front = record {
-    rounds = rounds;
-    within = more;
-    front = front.0;
-    written = inl (record {
-      report = so_far.written.report;
-      trace = Appends-trans before.trace now.trace after (traces_upto s rounds) (take front.0 (trace_in s (rounds + 1))) so_far.written.trace (subst (λ l. Appends now.trace after (take front.0 l)) lines_are front.1);
-    });
+  -- all rounds were
+  pub all_written : rounds ≡ s.rounds → AreWritten sink old now sink' old' now' s
+  unfolding report_text trace_text
+  all_written all = record {
+    report = subst (λ n. IsWritten sink old now (report_upto s n)) all so_far.report;
+    trace = subst (λ n. IsWritten sink' old' now' (trace_upto s n)) all so_far.trace;
   }
 
-  traces : traces_upto s (rounds + 1) ≡ traces_upto s rounds ++ trace_in s (rounds + 1)
-  traces =
-      ap (λ rs. Rattle.std.specs.Prelude.flat_map (trace_in s) rs) (range_more rounds)
-      ∙ flat_map-append (trace_in s) (range_with_len 1 rounds) ((rounds + 1) ∷ [])
-      ∙ ap (λ l. traces_upto s rounds ++ l) (append-nil (trace_in s (rounds + 1)))
+  -- the next round was played
+  module _ (sim' : SimView) (round : RoundView) (played : PlaysNext sim sim' round) (lines : List ℕ) (lines_are : lines ≡ lines_of round) where
+    lines_here : lines ≡ trace_in s (rounds + 1)
+    lines_here = lines_are ∙ ap lines_of played.played ∙ (λ i. trace_in ((played.settings ∙ so_far.settings) i) ((played.done ∙ ap (λ n. n + 1) so_far.done) i))
 
-  traced : (after : Option (List ℕ)) → Appends now.trace after (lines_of round) → Appends before.trace after (traces_upto s (rounds + 1))
-  traced after written = subst (Appends before.trace after) (sym traces) (Appends-trans before.trace now.trace after (traces_upto s rounds) (trace_in s (rounds + 1)) so_far.written.trace (subst (Appends now.trace after) lines_are written))
+    row_here : (row : Row) → row ≡ round.row → row ≡ row_in s (rounds + 1)
+    row_here row row_is = row_is ∙ ap (λ (r : RoundView). r.row) played.played ∙ (λ i. row_in ((played.settings ∙ so_far.settings) i) ((played.done ∙ ap (λ n. n + 1) so_far.done) i))
 
-  pub cut_in_row : (after_trace after : Option (List ℕ)) → rounds < s.rounds → Appends now.trace after_trace (lines_of round) → AppendsFront now.report after (report_line round.row) → IsCutAfter s before (taken_by after after_trace)
-  cut_in_row after_trace after more lines front = record {
-    rounds = rounds;
-    within = more;
-    front = front.0;
-    written = inr (record {
-      report = Appends-trans before.report now.report after (report_lines (rows_upto s rounds)) (take front.0 (report_line (row_in s (rounds + 1)))) so_far.written.report (subst (λ r. Appends now.report after (take front.0 (report_line r))) row_is front.1);
-      trace = traced after_trace lines;
-    });
-  }
+    traced : (after' : X) → IsWritten sink' now' after' lines → IsWritten sink' old' after' (trace_upto s (rounds + 1))
+    traced after' written =
+        subst (IsWritten sink' old' after') (sym (trace_more s rounds)) (written_then sink' old' now' after' (trace_upto s rounds) (trace_in s (rounds + 1)) so_far.trace (subst (IsWritten sink' now' after') lines_here written))
 
-  pub reported_more : (after_trace after : Option (List ℕ)) → Appends now.trace after_trace (lines_of round) → Appends now.report after (report_line round.row) → IsReportedUpto s before (taken_by after after_trace) sim' (rounds + 1)
-  reported_more after_trace after lines written = record {
-    settings = played.settings ∙ so_far.settings;
-    unbroken = played.still;
-    done = played.done ∙ ap (λ n. n + 1) so_far.done;
-    written = record {
-      report = subst (Appends before.report after) (sym row_lines) (Appends-trans before.report now.report after (report_lines (rows_upto s rounds)) (report_line (row_in s (rounds + 1))) so_far.written.report (subst (λ r. Appends now.report after (report_line r)) row_is written));
-      trace = traced after_trace lines;
-    };
-  }
-    where
-      rows : rows_upto s (rounds + 1) ≡ rows_upto s rounds ++ row_in s (rounds + 1) ∷ []
-      rows = map-range_with_len_more (row_in s) 1 rounds (rounds + 1) (omega arith)
+    pub stops_in_lines : (after' : X) (fault : Fault) → rounds < s.rounds → IsWriteFault sink' now' after' lines fault → StopsAt sink old now sink' old' after' s fault (lines_after rounds)
+    stops_in_lines after' fault more stop = (more, so_far.report, (now', so_far.trace, subst (λ l. IsWriteFault sink' now' after' l fault) lines_here stop))
 
-      row_lines : report_lines (rows_upto s (rounds + 1)) ≡ report_lines (rows_upto s rounds) ++ report_line (row_in s (rounds + 1))
-      row_lines = ap report_lines rows ∙ flat_map-append report_line (rows_upto s rounds) (row_in s (rounds + 1) ∷ []) ∙ ap (λ l. report_lines (rows_upto s rounds) ++ l) (append-nil (report_line (row_in s (rounds + 1))))
+    pub stops_in_row : (row : Row) → row ≡ round.row → (after : W) (after' : X) (fault : Fault) → rounds < s.rounds → IsWritten sink' now' after' lines
+        → IsWriteFault sink now after (report_line row) fault → StopsAt sink old after sink' old' after' s fault (row_after rounds)
+    stops_in_row row row_is after after' fault more written stop =
+        (more, (now, so_far.report, subst (λ r. IsWriteFault sink now after (report_line r) fault) (row_here row row_is) stop), traced after' written)
 
--- both headers and all lines are the two texts
-report_whole : (s : Settings) (before headed after : Option (List ℕ)) → Appends before headed report_header_line → Appends headed after (report_lines (rows_upto s s.rounds)) → Appends before after (report_text s)
-unfolding report_text
-report_whole s before headed after header rows = Appends-trans before headed after report_header_line (report_lines (rows_upto s s.rounds)) header rows
-
-trace_whole : (s : Settings) (before headed after : Option (List ℕ)) → Appends before headed trace_header_line → Appends headed after (traces_upto s s.rounds) → Appends before after (trace_text s)
-unfolding trace_text
-trace_whole s before headed after header lines = Appends-trans before headed after trace_header_line (traces_upto s s.rounds) header lines
-
-pub reported_whole : (s : Settings) (before headed after : Taken) → AppendsBoth before headed report_header_line trace_header_line → AppendsBoth headed after (report_lines (rows_upto s s.rounds)) (traces_upto s s.rounds) → AppendsBoth before after (report_text s) (trace_text s)
-reported_whole s before headed after headers lines = record {
-  report = report_whole s before.report headed.report after.report headers.report lines.report;
-  trace = trace_whole s before.trace headed.trace after.trace headers.trace lines.trace;
-}
+    pub one_more : (row : Row) → row ≡ round.row → (after : W) (after' : X) → IsWritten sink' now' after' lines → IsWritten sink now after (report_line row)
+        → AreWrittenUpto sink old after sink' old' after' s sim' (rounds + 1)
+    one_more row row_is after after' written row_written = record {
+      settings = played.settings ∙ so_far.settings;
+      unbroken = played.still;
+      done = played.done ∙ ap (λ n. n + 1) so_far.done;
+      report = subst (IsWritten sink old after) (sym (report_more s rounds)) (written_then sink old now after (report_upto s rounds) (report_line (row_in s (rounds + 1))) so_far.report (subst (λ r. IsWritten sink now after (report_line r)) (row_here row row_is) row_written));
+      trace = traced after' written;
+    }

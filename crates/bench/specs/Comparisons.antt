@@ -1,17 +1,19 @@
 -- The comparison of the modes: the header, and for each mode, in order, a line for each round of the scenario under
--- that mode. Source: this project.
-use Rattle.std.specs.Prelude.{◌≡◌, ℕ, ◌+◌, ◌<◌, ◌⊎◌, ◌++◌, ◌∷◌, [], List, Option, Ok, flat_map, take}
-use Rattle.std.specs.Io.KnownBytes.{Appends}
+-- that mode. `source` and `sink` have the words of the two ends; `old` and `new` are states before and after the call.
+-- Source: this project.
+use Rattle.std.specs.Prelude.{◌≡◌, ℕ, ◌+◌, ◌<◌, ◌⊎◌, ◌++◌, ◌∷◌, List, Ok, flat_map}
 use Rattle.bench_types.specs.declared.exchanges.Mode.{Mode}
-use Rattle.bench_types.specs.declared.exchanges.Mode.TheVariants.{ScuttleBreadth, ScuttleDepth, PreciseOldest, PreciseNewest}
+use Rattle.bench_types.specs.Mode.{modes}
+use Rattle.bench_types.specs.declared.faults.Fault.{Fault}
+use Rattle.bench_types.specs.declared.sinks.Sink.{Ghosts as Sink}
+use Rattle.bench_types.specs.declared.sources.Source.{Ghosts as Source}
 use Rattle.report.specs.Compare.{compare_header_line, compare_line, compare_lines}
-use Rattle.report.specs.Output.{AppendsFront}
+use Rattle.report.specs.Output.{IsWritten, IsWriteFault}
 use Rattle.scenario.specs.Settings.{Settings, with_mode}
-use Rattle.bench.specs.Reports.{row_in, rows_upto}
-use Rattle.bench.specs.Runs.{IsRead}
-
-abbrev pub modes : List Mode
-modes = ScuttleBreadth ∷ ScuttleDepth ∷ PreciseOldest ∷ PreciseNewest ∷ []
+use Rattle.simulation.specs.Outcomes.{row_in}
+use Rattle.bench.specs.Inputs.{IsRead, IsInputFault}
+use Rattle.bench.specs.Reports.{rows_upto}
+use Rattle.bench.specs.Runs.{IsFaultAfter}
 
 -- the lines of the first so many rounds of a scenario
 abbrev pub lines_upto : Settings → ℕ → List ℕ
@@ -27,33 +29,47 @@ lines_of_modes s ms = flat_map (lines_under s) ms
 unfoldable pub comparison_text : Settings → List ℕ
 comparison_text s = compare_header_line ++ lines_of_modes s modes
 
--- the comparison of the scenario that was read was written, and nothing else; the scenario's own mode has no effect on it
-pub record IsCompared (old new before after : Option (List ℕ)) : Type 0 where
-  pub settings : Settings
-  pub read : IsRead old new (Ok settings)
-  pub written : Appends before after (comparison_text settings)
-  pub own_mode : (mode : Mode) → comparison_text (with_mode settings mode) ≡ comparison_text settings
-
--- the lines of so many rounds of a scenario were written, and then a front of the next round's
-pub record IsCutInRounds (s : Settings) (before after : Option (List ℕ)) : Type 0 where
+-- the text `whole` and the lines of the first so many rounds of a scenario were written, and then writing the line of
+-- the next round came to this fault
+pub record IsFaultInRounds {W : Type 0} (sink : Sink W) (old new : W) (whole : List ℕ) (s : Settings) (fault : Fault) : Type 0 where
   pub rounds : ℕ
   pub within : rounds < s.rounds
-  pub front : ℕ
-  pub written : Appends before after (lines_upto s rounds ++ take front (compare_line s.mode (row_in s (rounds + 1))))
+  pub stops : IsFaultAfter sink old new (whole ++ lines_upto s rounds) (compare_line s.mode (row_in s (rounds + 1))) fault
 
--- the lines of the first of these modes were written whole, and those of the next one were cut
-pub record IsCutInModes (s : Settings) (ms : List Mode) (before after : Option (List ℕ)) : Type 0 where
-  pub whole : List Mode
+-- the text `whole` and all lines of the first of these modes were written, and then writing those of the next mode
+-- came to this fault
+pub record IsFaultInModes {W : Type 0} (sink : Sink W) (old new : W) (whole : List ℕ) (s : Settings) (ms : List Mode) (fault : Fault) : Type 0 where
+  pub done : List Mode
   pub next : Mode
   pub rest : List Mode
-  pub order : ms ≡ whole ++ (next ∷ rest)
-  pub between : Option (List ℕ)
-  pub written : Appends before between (lines_of_modes s whole)
-  pub cut : IsCutInRounds (with_mode s next) between after
+  pub order : ms ≡ done ++ (next ∷ rest)
+  pub stops : IsFaultInRounds sink old new (whole ++ lines_of_modes s done) (with_mode s next) fault
 
--- a front of the comparison was written: it ends in the header, or in a line of a round
-pub record IsComparedInPart (old new before after : Option (List ℕ)) : Type 0 where
-  pub settings : Settings
-  pub read : IsRead old new (Ok settings)
-  pub written : AppendsFront before after compare_header_line
-      ⊎ ((headed : Option (List ℕ)) × Appends before headed compare_header_line × IsCutInModes settings modes headed after)
+-- the fault of writing the comparison: at the header, or behind it
+abbrev pub IsComparingFault : {W : Type 0} → Sink W → W → W → Settings → Fault → Type 0
+IsComparingFault sink old new s fault =
+    IsWriteFault sink old new compare_header_line fault
+    ⊎ IsFaultInModes sink old new compare_header_line s modes fault
+
+module _ {R W : Type 0} (source : Source R) (reader reader' : R) (sink : Sink W) (old new : W) where
+  -- a scenario was read, and its comparison was written; its own mode has no effect on it
+  pub record IsCompared : Type 0 where
+    pub settings : Settings
+    pub read : IsRead source reader reader' (Ok settings)
+    pub written : IsWritten sink old new (comparison_text settings)
+    pub own_mode : (mode : Mode) → comparison_text (with_mode settings mode) ≡ comparison_text settings
+
+  -- reading a scenario came to this fault, and nothing was written
+  pub record IsNothingCompared (fault : Fault) : Type 0 where
+    pub input : IsInputFault source reader reader' fault
+    pub same : new ≡ old
+
+  -- a scenario was read, and then writing its comparison came to this fault
+  pub record IsComparisonStopped (fault : Fault) : Type 0 where
+    pub settings : Settings
+    pub read : IsRead source reader reader' (Ok settings)
+    pub written : IsComparingFault sink old new settings fault
+
+  -- the fault of a comparison
+  abbrev pub IsCompareFault : Fault → Type 0
+  IsCompareFault fault = IsNothingCompared fault ⊎ IsComparisonStopped fault

@@ -1,22 +1,4 @@
-pub mod Rounds
-pub mod Soundness
-pub mod Lists
-pub mod Standing
-pub mod Rows
-pub mod Played
+pub mod Inputs
 pub mod Reports
 pub mod Runs
 pub mod Comparisons
-pub use Rattle.exchange.specs.Exchanged
-pub use Rattle.exchange.specs.Folds
-pub use Rattle.exchange.specs.Owns
-pub use Rattle.round_plan.specs.Plan
-pub use Rattle.round_plan.specs.Writes
-pub use Rattle.staleness.specs.Figures
-pub use Rattle.staleness.specs.Cluster
-pub use Rattle.staleness.specs.Writes as OwnerLists
-pub use Rattle.scenario.specs.Settings
-pub use Rattle.node_table.specs.Table
-pub use Rattle.node_table.specs.Kept
-pub mod Inputs
-pub mod Simulation

@@ -1,70 +1,77 @@
--- What a run reads and writes, and what stands where it fails. A run writes a report and a trace: both headers, the
--- report's first, and then for each round the lines of the trace and the row of the report. Source: this project.
-use Rattle.std.specs.Prelude.{◌≡◌, ◌≢◌, ℕ, ◌+◌, ◌<◌, ◌≤◌, ◌⊎◌, ◌++◌, [], List, Option, Result, Ok, length, take}
-use Rattle.std.specs.Io.KnownBytes.{Consumes, IsAtEnd, Appends}
+-- What a run writes, and what stands where it fails. It writes a report and a trace: both headers, the report's
+-- first, and then for each round the lines of the trace and the row of the report. `sink` has the words of the sink of
+-- the report, and `old` and `new` are its states before and after the call; with a prime they are those of the trace.
+-- Source: this project.
+use Rattle.std.specs.Prelude.{◌≡◌, ℕ, ◌+◌, ◌<◌, ◌⊎◌, List, Ok}
 use Rattle.bench_types.specs.declared.faults.Fault.{Fault}
-use Rattle.bench_types.specs.declared.faults.Fault.TheVariants as fault
-use Rattle.bench_types.specs.declared.limits.TheConstants.{MOST_BYTES}
-use Rattle.report.specs.Report.{report_header_line, report_line, report_lines}
+use Rattle.bench_types.specs.declared.sinks.Sink.{Ghosts as Sink}
+use Rattle.bench_types.specs.declared.sources.Source.{Ghosts as Source}
+use Rattle.report.specs.Output.{IsWritten, IsWriteFault}
+use Rattle.report.specs.Report.{report_header_line, report_line}
 use Rattle.report.specs.Trace.{trace_header_line}
 use Rattle.scenario.specs.Settings.{Settings}
-use Rattle.scenario.specs.Checked.{text_checked}
-use Rattle.scenario.specs.ReadFault.{IsReadFault}
-use Rattle.bench.specs.Reports.{row_in, rows_upto, trace_in, traces_upto, report_text, trace_text}
+use Rattle.simulation.specs.Outcomes.{row_in}
+use Rattle.bench.specs.Inputs.{IsRead, IsInputFault}
+use Rattle.bench.specs.Reports.{trace_in, report_upto, trace_upto, report_text, trace_text}
 
--- a source was read to its end, its text isn't too long, and the check of the text answers this
-pub record IsRead (old new : Option (List ℕ)) (answer : Result Settings Fault) : Type 0 where
-  pub text : List ℕ
-  pub given : Consumes old new text
-  pub within : length text ≤ MOST_BYTES
-  pub whole : IsAtEnd new
-  pub checked : text_checked text ≡ answer
+-- the text `whole` was written, and then writing `next` came to this fault
+abbrev pub IsFaultAfter : {W : Type 0} → Sink W → W → W → List ℕ → List ℕ → Fault → Type 0
+IsFaultAfter {W} sink old new whole next fault =
+    (between : W) × IsWritten sink old between whole × IsWriteFault sink between new next fault
 
--- what the sinks of the report and of the trace have taken
-pub record Taken : Type 0 where
-  pub report : Option (List ℕ)
-  pub trace : Option (List ℕ)
+-- the report and the trace of these settings were written
+pub record AreWritten {W X : Type 0} (sink : Sink W) (old new : W) (sink' : Sink X) (old' new' : X) (s : Settings) : Type 0 where
+  pub report : IsWritten sink old new (report_text s)
+  pub trace : IsWritten sink' old' new' (trace_text s)
 
-abbrev pub taken_by : Option (List ℕ) → Option (List ℕ) → Taken
-taken_by report trace = record { report = report; trace = trace }
+-- where writing stops: at a header, or in a round, at the lines of the trace or at the row of the report behind
+-- them; the number is that of the rounds before
+pub data StoppingPlace : Type 0 where
+  report_header : StoppingPlace
+  trace_header : StoppingPlace
+  lines_after : ℕ → StoppingPlace
+  row_after : ℕ → StoppingPlace
 
--- both took these texts, and nothing else
-pub record AppendsBoth (before after : Taken) (rows lines : List ℕ) : Type 0 where
-  pub report : Appends before.report after.report rows
-  pub trace : Appends before.trace after.trace lines
+module _ {W X : Type 0} (sink : Sink W) (old new : W) (sink' : Sink X) (old' new' : X) (s : Settings) (fault : Fault) where
+  -- all that stands before this place was written, and then writing what stands there came to the fault
+  abbrev pub StopsAt : StoppingPlace → Type 0
+  StopsAt report_header = IsWriteFault sink old new report_header_line fault × (new' ≡ old')
+  StopsAt trace_header =
+      IsWritten sink old new report_header_line
+      × IsWriteFault sink' old' new' trace_header_line fault
+  StopsAt (lines_after rounds) =
+      (rounds < s.rounds)
+      × IsWritten sink old new (report_upto s rounds)
+      × IsFaultAfter sink' old' new' (trace_upto s rounds) (trace_in s (rounds + 1)) fault
+  StopsAt (row_after rounds) =
+      (rounds < s.rounds)
+      × IsFaultAfter sink old new (report_upto s rounds) (report_line (row_in s (rounds + 1))) fault
+      × IsWritten sink' old' new' (trace_upto s (rounds + 1))
 
--- the report and the trace of the scenario that was read were written, and nothing else
-pub record IsReported (old new : Option (List ℕ)) (before after : Taken) : Type 0 where
-  pub settings : Settings
-  pub read : IsRead old new (Ok settings)
-  pub written : AppendsBoth before after (report_text settings) (trace_text settings)
+  -- the fault of writing the report and the trace
+  pub record IsWritingFault : Type 0 where
+    pub place : StoppingPlace
+    pub stops : StopsAt place
 
--- both headers were begun: that of the report, or that of the trace behind it
-abbrev pub IsCutInHeaders : Taken → Taken → Type 0
-IsCutInHeaders before after =
-    ((front : ℕ) × AppendsBoth before after (take front report_header_line) [])
-    ⊎ ((front : ℕ) × AppendsBoth before after report_header_line (take front trace_header_line))
+module _ {R W X : Type 0} (source : Source R) (reader reader' : R) (sink : Sink W) (old new : W) (sink' : Sink X) (old' new' : X) where
+  -- a scenario was read, and its report and its trace were written
+  pub record IsReported : Type 0 where
+    pub settings : Settings
+    pub read : IsRead source reader reader' (Ok settings)
+    pub written : AreWritten sink old new sink' old' new' settings
 
--- the lines of so many rounds were written, and then a front of the next round's: of the trace, or of the report behind it
-pub record IsCutAfter (s : Settings) (before after : Taken) : Type 0 where
-  pub rounds : ℕ
-  pub within : rounds < s.rounds
-  pub front : ℕ
-  pub written :
-      AppendsBoth before after (report_lines (rows_upto s rounds)) (traces_upto s rounds ++ take front (trace_in s (rounds + 1)))
-      ⊎ AppendsBoth before after (report_lines (rows_upto s rounds) ++ take front (report_line (row_in s (rounds + 1)))) (traces_upto s (rounds + 1))
+  -- reading a scenario came to this fault, and nothing was written
+  pub record IsUnwritten (fault : Fault) : Type 0 where
+    pub input : IsInputFault source reader reader' fault
+    pub report : new ≡ old
+    pub trace : new' ≡ old'
 
--- a front of both texts was written
-pub record IsCutShort (old new : Option (List ℕ)) (before after : Taken) : Type 0 where
-  pub settings : Settings
-  pub read : IsRead old new (Ok settings)
-  pub written : IsCutInHeaders before after
-      ⊎ ((headed : Taken) × AppendsBoth before headed report_header_line trace_header_line × IsCutAfter settings headed after)
+  -- a scenario was read, and then writing its report and its trace came to this fault
+  pub record IsStopped (fault : Fault) : Type 0 where
+    pub settings : Settings
+    pub read : IsRead source reader reader' (Ok settings)
+    pub written : IsWritingFault sink old new sink' old' new' settings fault
 
--- the faults of reading a scenario whole
-abbrev pub IsInputFault : Fault → Type 0
-IsInputFault f = IsReadFault f ⊎ ((f ≡ fault.TooLong) ⊎ (f ≡ fault.ReadFailed))
-
--- the fault of a check of the text, and of nothing before it
-abbrev pub IsCheckFault : Fault → Type 0
-IsCheckFault f = IsReadFault f × (f ≢ fault.OutOfMemory)
+  -- the fault of a run
+  abbrev pub IsRunFault : Fault → Type 0
+  IsRunFault fault = IsUnwritten fault ⊎ IsStopped fault

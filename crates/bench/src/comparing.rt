@@ -1,50 +1,32 @@
 //! The modes beside each other, from bytes to bytes.
 
-ghost use Rattle.std.specs.Prelude.{◌≡◌, ◌≢◌, ◌↔◌, ◌⊎◌, ◌+◌, true, false, Err, IfOk, OnOk, OnErr, IfErr, IsErrOf};
-ghost use Rattle.std.specs.Io.KnownBytes.{Appends};
-ghost use Rattle.bench.specs.Comparisons.{lines_upto, lines_of_modes, IsCompared, IsComparedInPart, IsCutInRounds, IsCutInModes};
-ghost use Rattle.bench.specs.Inputs.{Gave, GaveUpTo};
-ghost use Rattle.bench.specs.Runs.{IsRead, IsInputFault, IsCheckFault};
+ghost use Rattle.std.specs.Prelude.{◌≡◌, [], true, false, IfOk, OnOk, IfErr};
+ghost use Rattle.report.specs.Output.{IsWritten};
+ghost use Rattle.bench.specs.Comparisons.{lines_upto, lines_of_modes, IsFaultInRounds, IsFaultInModes, IsCompared, IsCompareFault};
 
 use crate::runs::check_input;
-use crate::sims::Sim;
-use bench_types::limits::MOST_BYTES;
 use bench_types::{Fault, Mode, Sink, Source};
 use report::{compare_header, write_compare_row};
 use scenario::Scenario;
+use simulation::Sim;
 use std::alloc::Global;
 use std::thread::Threads;
 
 /// Reads a scenario, and writes the comparison of the modes: the header, and for each mode, in the
-/// order of `Mode`, the row of each round of the scenario under that mode. The scenario's own mode has
-/// no effect. Nothing is written where the scenario is at fault or reading failed.
+/// order of `Mode::ALL`, the row of each round of the scenario under that mode. The scenario's own
+/// mode has no effect. Nothing is written where the scenario is at fault or reading failed.
 pub fn compare<H: Threads + Sync, R: Source, W: Sink>(
     rt: &H,
     alloc: Global,
     reader: &mut R,
     writer: &mut W,
 ) -> Result<(), Fault>
-    ensures compared { OnOk result (IsCompared (R.left reader.old) (R.left reader.new) (W.taken writer.old) (W.taken writer.new)) }
-    ensures refused { IfErr result (λ fault. IsCheckFault fault → IsRead (R.left reader.old) (R.left reader.new) (Err fault)) }
-    ensures unwritten { IfErr result (λ fault. fault ≢ Fault.OutOfMemory → fault ≢ Fault.WriteFailed → writer.new ≡ writer.old) }
-    ensures cut_short { OnErr result ((writer.new ≡ writer.old) ⊎ IsComparedInPart (R.left reader.old) (R.left reader.new) (W.taken writer.old) (W.taken writer.new)) }
-    ensures too_long { IsErrOf result Fault.TooLong → Gave (R.left reader.old) (R.left reader.new) (MOST_BYTES + 1) }
-    ensures other_faults { IfErr result (λ fault. fault ≢ Fault.TooLong → GaveUpTo (R.left reader.old) (R.left reader.new) MOST_BYTES) }
-    ensures read_failed { IsErrOf result Fault.ReadFailed ↔ (R.failed reader.new ≡ true) }
-    ensures sound { OnOk result (W.failed writer.new ≡ false) }
-    ensures flushed { OnOk result (W.flushed writer.new ≡ true) }
-    ensures write_failed { IsErrOf result Fault.WriteFailed → W.failed writer.new ≡ true }
-    ensures only { IfErr result (λ fault. IsInputFault fault ⊎ (fault ≡ Fault.WriteFailed)) }
+    ensures compared { OnOk result (IsCompared R.Source reader.old reader.new W.Sink writer.old writer.new) }
+    ensures fault { IfErr result (IsCompareFault R.Source reader.old reader.new W.Sink writer.old writer.new) }
 {
     let scenario = check_input(alloc, reader)?;
     compare_header(alloc, writer)?;
-    let modes = [
-        Mode::ScuttleBreadth,
-        Mode::ScuttleDepth,
-        Mode::PreciseOldest,
-        Mode::PreciseNewest,
-    ];
-    write_modes(rt, alloc, scenario, &modes, writer)
+    write_modes(rt, alloc, scenario, &Mode::ALL, writer)
 }
 
 // All rounds of a scenario under each of these modes in turn.
@@ -57,12 +39,8 @@ fn write_modes<H: Threads + Sync, W: Sink>(
 ) -> Result<(), Fault>
     requires sound { W.failed writer.old ≡ false }
     requires flushed { W.flushed writer.old ≡ true }
-    ensures written { OnOk result (Appends (W.taken writer.old) (W.taken writer.new) (lines_of_modes scenario modes.now)) }
-    ensures cut { OnErr result (IsCutInModes scenario modes.now (W.taken writer.old) (W.taken writer.new)) }
-    ensures sound { OnOk result (W.failed writer.new ≡ false) }
-    ensures flushed { OnOk result (W.flushed writer.new ≡ true) }
-    ensures write_failed { IsErrOf result Fault.WriteFailed → W.failed writer.new ≡ true }
-    ensures only { IfErr result (λ fault. (fault ≡ Fault.OutOfMemory) ⊎ (fault ≡ Fault.WriteFailed)) }
+    ensures written { OnOk result (IsWritten W.Sink writer.old writer.new (lines_of_modes scenario modes.now)) }
+    ensures fault { IfErr result (IsFaultInModes W.Sink writer.old writer.new [] scenario modes.now) }
 {
     for mode in modes {
         scenario = write_all_rounds(rt, alloc, scenario.with_mode(*mode), writer)?;
@@ -80,12 +58,8 @@ fn write_all_rounds<H: Threads + Sync, W: Sink>(
     requires sound { W.failed writer.old ≡ false }
     requires flushed { W.flushed writer.old ≡ true }
     ensures same { IfOk result (λ s. s ≡ scenario) }
-    ensures written { OnOk result (Appends (W.taken writer.old) (W.taken writer.new) (lines_upto scenario scenario.rounds)) }
-    ensures cut { OnErr result (IsCutInRounds scenario (W.taken writer.old) (W.taken writer.new)) }
-    ensures sound { OnOk result (W.failed writer.new ≡ false) }
-    ensures flushed { OnOk result (W.flushed writer.new ≡ true) }
-    ensures write_failed { IsErrOf result Fault.WriteFailed → W.failed writer.new ≡ true }
-    ensures only { IfErr result (λ fault. (fault ≡ Fault.OutOfMemory) ⊎ (fault ≡ Fault.WriteFailed)) }
+    ensures written { OnOk result (IsWritten W.Sink writer.old writer.new (lines_upto scenario scenario.rounds)) }
+    ensures fault { IfErr result (IsFaultInRounds W.Sink writer.old writer.new [] scenario) }
 {
     let mode = scenario.mode();
     let rounds = scenario.rounds();

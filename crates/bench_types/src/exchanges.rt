@@ -1,6 +1,18 @@
 //! How two nodes reconcile, and what is counted of it.
 
-/// Which entries are sent, and in which order.
+ghost use Rattle.std.specs.Prelude.{◌≡◌, Some, find, bytes_eq};
+ghost use Rattle.bench_types.specs.Mode.{told_by, mode_name, mode_named};
+
+/// What a digest tells of a table.
+#[derive(Clone, Copy, Debug, PartialEq, Eq)]
+pub enum Telling {
+    /// The greatest version that is held of each owner.
+    Greatest,
+    /// Each version that is held, of each owner and key.
+    Each,
+}
+
+/// Which entries are sent, which follows from what digests tell, and in which order.
 #[derive(Clone, Copy, Debug, PartialEq, Eq)]
 pub enum Mode {
     /// What is above the receiver's greatest version of the owner, one entry of each owner in turn.
@@ -11,6 +23,53 @@ pub enum Mode {
     PreciseOldest,
     /// What is newer than the receiver's entry, the latest round first.
     PreciseNewest,
+}
+
+impl Mode {
+    /// All modes, in the order of a comparison.
+    pub const ALL: [Mode; 4] = [
+        Mode::ScuttleBreadth,
+        Mode::ScuttleDepth,
+        Mode::PreciseOldest,
+        Mode::PreciseNewest,
+    ];
+
+    /// What a digest tells in this mode.
+    pub fn told_by(self) -> Telling
+        ensures { result ≡ told_by self }
+    {
+        match self {
+            Mode::ScuttleBreadth | Mode::ScuttleDepth => Telling::Greatest,
+            Mode::PreciseOldest | Mode::PreciseNewest => Telling::Each,
+        }
+    }
+
+    /// Its name in scenarios and comparisons, by which it is found.
+    pub fn name(self) -> &'static str
+        ensures name { result.now ≡ mode_name self }
+        ensures found { mode_named (mode_name self) ≡ Some self }
+    {
+        match self {
+            Mode::ScuttleBreadth => "scuttle-breadth",
+            Mode::ScuttleDepth => "scuttle-depth",
+            Mode::PreciseOldest => "precise-oldest",
+            Mode::PreciseNewest => "precise-newest",
+        }
+    }
+
+    /// The mode of this name, if there is one.
+    pub fn named(word: &str) -> Option<Mode>
+        ensures { result ≡ mode_named word.now }
+    {
+        named_among(&Mode::ALL, word)
+    }
+}
+
+// The first of these modes that has the name.
+fn named_among(modes: &[Mode], word: &str) -> Option<Mode>
+    ensures { result ≡ find (λ mode. bytes_eq word.now (mode_name mode)) modes.now }
+{
+    modes.iter().copied().find(|mode| word == mode.name())
 }
 
 /// The rules that all exchanges of a run share.

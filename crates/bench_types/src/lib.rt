@@ -11,11 +11,9 @@ pub mod limits;
 mod rows;
 mod sinks;
 mod sources;
-#[cfg(test)]
-mod tests;
 
 pub use entries::{Entry, Item};
-pub use exchanges::{Exchange, Fate, Mode, Record, Rules};
+pub use exchanges::{Exchange, Fate, Mode, Record, Rules, Telling};
 pub use faults::Fault;
 pub use fields::{Field, TableName};
 pub use rows::{Figures, Row};

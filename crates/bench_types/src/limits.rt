@@ -1,5 +1,7 @@
 //! The limits of a scenario.
 
+ghost use Rattle.std.specs.Prelude.{◌≡◌};
+
 pub const LEAST_NODES: u32 = 2;
 
 pub const MOST_NODES: u32 = 4096;
@@ -25,3 +27,18 @@ pub const MOST_ELEMENTS: usize = 1000;
 pub const MOST_BYTES: usize = 1_048_576;
 /// The most threads of a run.
 pub const MOST_WORKERS: u32 = 64;
+
+/// The limits in numbers, as the document on formats has them. The call does nothing.
+pub fn limits_of_format_one()
+    ensures nodes { (LEAST_NODES ≡ 2) × (MOST_NODES ≡ 4096) }
+    ensures keys { (LEAST_KEYS ≡ 1) × (MOST_KEYS ≡ 64) }
+    ensures entries { MOST_ENTRIES ≡ 268435456 }
+    ensures rounds { MOST_ROUNDS ≡ 100000 }
+    ensures budget { MOST_BUDGET ≡ 65535 }
+    ensures loss { MOST_LOSS ≡ 1000000 }
+    ensures writes { MOST_WRITES ≡ 8 }
+    ensures seed { MOST_SEED ≡ 9223372036854775807 }
+    ensures elements { MOST_ELEMENTS ≡ 1000 }
+    ensures bytes { MOST_BYTES ≡ 1048576 }
+    ensures workers { MOST_WORKERS ≡ 64 }
+{}

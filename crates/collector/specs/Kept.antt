@@ -4,7 +4,7 @@ use Rattle.std.specs.Prelude.{◌≡◌, ◌^◌, ◌<◌, ◌≤◌, [], Option
 use Rattle.std.specs.declared.alloc.Global.{Global}
 use Rattle.bench_types.specs.declared.exchanges.Record.{Record}
 
-pub record IsKept (outcomes : Vec (Option Record) Global) (room : Vec Record Global) : Type 0 where
+pub record IsCollector (outcomes : Vec (Option Record) Global) (room : Vec Record Global) : Type 0 where
   pub few : vec_len outcomes < 2 ^ 32
   pub empty : room.items ≡ []
   pub fits : vec_len outcomes ≤ vec_capacity room

@@ -26,13 +26,13 @@ pub struct Collector {
 impl Model for Collector {
     ghost use Rattle.std.specs.Prelude.{List, Option};
     ghost use Rattle.bench_types.specs.declared.exchanges.Record.{Record};
-    ghost use Rattle.collector.specs.Kept.{IsKept};
+    ghost use Rattle.collector.specs.Kept.{IsCollector};
 
     ghost Value = { List (Option Record) };
 
     ghost view = { λ c. c.outcomes.items };
 
-    ghost invariant = { λ c. IsKept c.outcomes c.room };
+    ghost invariant = { λ c. IsCollector c.outcomes c.room };
 }
 
 impl Collector {

@@ -2,7 +2,5 @@
 #![tactic(auto)]
 
 mod collectors;
-#[cfg(test)]
-mod tests;
 
 pub use collectors::{Collector, Stamped};

@@ -5,9 +5,10 @@ use Rattle.bench_types.specs.declared.exchanges.Fate.{Fate}
 use Rattle.bench_types.specs.declared.exchanges.Fate.TheVariants as fate
 use Rattle.bench_types.specs.declared.exchanges.Record.{Record}
 use Rattle.bench_types.specs.declared.exchanges.Rules.{Rules}
+use Rattle.bench_types.specs.Mode.{told_by}
 use Rattle.node_table.specs.Table.{Table, applied}
-use Rattle.reconcile.specs.Digests.{Told, IsDigestOf, digest_size}
-use Rattle.reconcile.specs.Deltas.{Sent}
+use Rattle.reconcile.specs.Digests.{DigestView, IsDigestOf, digest_size}
+use Rattle.reconcile.specs.Deltas.{DeltaView}
 use Rattle.exchange.specs.Exchanged.{Exchanged, exchanged, delta_between, fate_of, initiator_after, responder_after, sent_until}
 
 module _ (rules : Rules) (e : Exchange) (p q : Table) where
@@ -15,25 +16,25 @@ module _ (rules : Rules) (e : Exchange) (p q : Table) where
   ended f =
       let back = delta_between rules e.rotation q p in
       let forth = delta_between rules e.rotation p q in
-      record { initiator = initiator_after f p back; responder = responder_after f q forth; sent = sent_until f (digest_size rules.mode p) (digest_size rules.mode q) back forth }
+      record { initiator = initiator_after f p back; responder = responder_after f q forth; sent = sent_until f (digest_size (told_by rules.mode) p) (digest_size (told_by rules.mode) q) back forth }
 
   ended-fate : (f : Fate) → fate_of e ≡ f → exchanged rules e p q ≡ ended f
   unfolding ended
   ended-fate f is = ap ended is
 
-  size_is : (t : Table) (told : Told) → IsDigestOf rules.mode t told → digest_size rules.mode t ≡ told.size
+  size_is : (t : Table) (told : DigestView) → IsDigestOf (told_by rules.mode) t told → digest_size (told_by rules.mode) t ≡ told.size
   size_is t told is = sym is.size
 
-  pub lost1_case : (d1 : Told) (r : Record) → IsDigestOf rules.mode p d1 → e.lost1 ≡ true → ((n : ℕ) (back forth : Sent) → r ≡ sent_until fate.Lost1 d1.size n back forth) → exchanged rules e p q ≡ record { initiator = p; responder = q; sent = r }
+  pub lost1_case : (d1 : DigestView) (r : Record) → IsDigestOf (told_by rules.mode) p d1 → e.lost1 ≡ true → ((n : ℕ) (back forth : DeltaView) → r ≡ sent_until fate.Lost1 d1.size n back forth) → exchanged rules e p q ≡ record { initiator = p; responder = q; sent = r }
   unfolding ended
   lost1_case d1 r is lost sent =
       ended-fate fate.Lost1 (ap (λ b. if b then fate.Lost1 else (if e.lost2 then fate.Lost2 else (if e.lost3 then fate.Lost3 else fate.Ok))) lost)
       ∙ ap (λ (s : Record). record { initiator = p; responder = q; sent = s })
-      (ap (λ n. sent_until fate.Lost1 n (digest_size rules.mode q) (delta_between rules e.rotation q p) (delta_between rules e.rotation p q)) (size_is p d1 is)
-      ∙ sym (sent (digest_size rules.mode q) (delta_between rules e.rotation q p) (delta_between rules e.rotation p q)))
+      (ap (λ n. sent_until fate.Lost1 n (digest_size (told_by rules.mode) q) (delta_between rules e.rotation q p) (delta_between rules e.rotation p q)) (size_is p d1 is)
+      ∙ sym (sent (digest_size (told_by rules.mode) q) (delta_between rules e.rotation q p) (delta_between rules e.rotation p q)))
 
-  module _ (d1 d2 : Told) (is1 : IsDigestOf rules.mode p d1) (is2 : IsDigestOf rules.mode q d2) (first_came : e.lost1 ≡ false) (back : Sent) (back_is : back ≡ delta_between rules e.rotation q p) where
-    pub lost2_case : (r : Record) → e.lost2 ≡ true → ((forth : Sent) → r ≡ sent_until fate.Lost2 d1.size d2.size back forth) → exchanged rules e p q ≡ record { initiator = p; responder = q; sent = r }
+  module _ (d1 d2 : DigestView) (is1 : IsDigestOf (told_by rules.mode) p d1) (is2 : IsDigestOf (told_by rules.mode) q d2) (first_came : e.lost1 ≡ false) (back : DeltaView) (back_is : back ≡ delta_between rules e.rotation q p) where
+    pub lost2_case : (r : Record) → e.lost2 ≡ true → ((forth : DeltaView) → r ≡ sent_until fate.Lost2 d1.size d2.size back forth) → exchanged rules e p q ≡ record { initiator = p; responder = q; sent = r }
     unfolding ended
     lost2_case r lost sent =
         ended-fate fate.Lost2 (λ i. if first_came i then fate.Lost1 else (if lost i then fate.Lost2 else (if e.lost3 then fate.Lost3 else fate.Ok)))
@@ -41,13 +42,13 @@ module _ (rules : Rules) (e : Exchange) (p q : Table) where
         ((λ i. sent_until fate.Lost2 (size_is p d1 is1 i) (size_is q d2 is2 i) (sym back_is i) (delta_between rules e.rotation p q))
         ∙ sym (sent (delta_between rules e.rotation p q)))
 
-    module _ (second_came : e.lost2 ≡ false) (forth : Sent) (forth_is : forth ≡ delta_between rules e.rotation p q) (p' : Table) (p'_is : p' ≡ applied p back.items) where
+    module _ (second_came : e.lost2 ≡ false) (forth : DeltaView) (forth_is : forth ≡ delta_between rules e.rotation p q) (p' : Table) (p'_is : p' ≡ applied p back.items) where
       pub lost3_case : (r : Record) → e.lost3 ≡ true → r ≡ sent_until fate.Lost3 d1.size d2.size back forth → exchanged rules e p q ≡ record { initiator = p'; responder = q; sent = r }
       unfolding ended
       lost3_case r lost sent =
           ended-fate fate.Lost3 (λ i. if first_came i then fate.Lost1 else (if second_came i then fate.Lost2 else (if lost i then fate.Lost3 else fate.Ok)))
           ∙ (λ i. record {
-            initiator = (ap (λ (d : Sent). applied p d.items) (sym back_is) ∙ sym p'_is) i;
+            initiator = (ap (λ (d : DeltaView). applied p d.items) (sym back_is) ∙ sym p'_is) i;
             responder = q;
             sent = ((λ j. sent_until fate.Lost3 (size_is p d1 is1 j) (size_is q d2 is2 j) (sym back_is j) (sym forth_is j)) ∙ sym sent) i;
           })
@@ -57,19 +58,19 @@ module _ (rules : Rules) (e : Exchange) (p q : Table) where
       ok_case r q' q'_is third_came sent =
           ended-fate fate.Ok (λ i. if first_came i then fate.Lost1 else (if second_came i then fate.Lost2 else (if third_came i then fate.Lost3 else fate.Ok)))
           ∙ (λ i. record {
-            initiator = (ap (λ (d : Sent). applied p d.items) (sym back_is) ∙ sym p'_is) i;
-            responder = (ap (λ (d : Sent). applied q d.items) (sym forth_is) ∙ sym q'_is) i;
+            initiator = (ap (λ (d : DeltaView). applied p d.items) (sym back_is) ∙ sym p'_is) i;
+            responder = (ap (λ (d : DeltaView). applied q d.items) (sym forth_is) ∙ sym q'_is) i;
             sent = ((λ j. sent_until fate.Ok (size_is p d1 is1 j) (size_is q d2 is2 j) (sym back_is j) (sym forth_is j)) ∙ sym sent) i;
           })
 
 -- what holds of a table before an exchange and with what it receives holds after the exchange
-pub initiator_after-either : (P : Table → Type 0) (f : Fate) (p : Table) (back : Sent) → P p → P (applied p back.items) → P (initiator_after f p back)
+pub initiator_after-either : (P : Table → Type 0) (f : Fate) (p : Table) (back : DeltaView) → P p → P (applied p back.items) → P (initiator_after f p back)
 initiator_after-either P fate.Lost1 p back old new = old
 initiator_after-either P fate.Lost2 p back old new = old
 initiator_after-either P fate.Lost3 p back old new = new
 initiator_after-either P fate.Ok p back old new = new
 
-pub responder_after-either : (P : Table → Type 0) (f : Fate) (q : Table) (forth : Sent) → P q → P (applied q forth.items) → P (responder_after f q forth)
+pub responder_after-either : (P : Table → Type 0) (f : Fate) (q : Table) (forth : DeltaView) → P q → P (applied q forth.items) → P (responder_after f q forth)
 responder_after-either P fate.Lost1 q forth old new = old
 responder_after-either P fate.Lost2 q forth old new = old
 responder_after-either P fate.Lost3 q forth old new = old

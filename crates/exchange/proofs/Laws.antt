@@ -5,28 +5,29 @@ use Rattle.bench_types.specs.declared.exchanges.Exchange.{Exchange}
 use Rattle.bench_types.specs.declared.exchanges.Fate.{Fate}
 use Rattle.bench_types.specs.declared.exchanges.Fate.TheVariants as fate
 use Rattle.bench_types.specs.declared.exchanges.Rules.{Rules}
+use Rattle.bench_types.specs.Mode.{told_by}
 use Rattle.node_table.specs.Table.{Table, IsProper}
 use Rattle.node_table.proofs.Versions.{version_at-le-applied}
 use Rattle.reconcile.specs.Candidates.{IsScuttleMode, candidates}
-use Rattle.reconcile.specs.Deltas.{Sent}
+use Rattle.reconcile.specs.Deltas.{DeltaView}
 use Rattle.reconcile.specs.Digests.{digest_size}
 use Rattle.reconcile.proofs.Laws.{cut-none}
 use Rattle.exchange.specs.Exchanged.{exchanged, delta_between, fate_of, sent_until, initiator_after, responder_after}
-use Rattle.exchange.specs.Laws.{MayMeet, NoVersionFalls, StoodInEither, IsPreciseMode, IsWhole, HasTheGreater}
+use Rattle.exchange.specs.Laws.{MayMeet, NoVersionFalls, StoodInEither, IsPreciseMode, LosesAndCutsNothing, HasTheGreater}
 use Rattle.exchange.specs.Copies.{OwnParts, WritesBy, AreLastOf, HoldsWrites, HasNoGap}
 use Rattle.exchange.proofs.Cases.{initiator_after-either, responder_after-either}
 use Rattle.exchange.proofs.Received.{received-either, received-writes, received-proper, received-greater, received-no_gap}
 
 -- an exchange without loss or cut came to its end, and cut neither delta
-whole_ended : (f : Fate) (d1 d2 : ℕ) (back forth : Sent) → IsWhole (sent_until f d1 d2 back forth) → (f ≡ fate.Ok) × (back.cut ≡ 0) × (forth.cut ≡ 0)
+whole_ended : (f : Fate) (d1 d2 : ℕ) (back forth : DeltaView) → LosesAndCutsNothing (sent_until f d1 d2 back forth) → (f ≡ fate.Ok) × (back.cut ≡ 0) × (forth.cut ≡ 0)
 whole_ended fate.Lost1 d1 d2 back forth is = let e = is.fate in cc
 whole_ended fate.Lost2 d1 d2 back forth is = let e = is.fate in cc
 whole_ended fate.Lost3 d1 d2 back forth is = let e = is.fate in cc
 whole_ended fate.Ok d1 d2 back forth is = (refl, is.back, is.forth)
 
 -- where no message is lost a budget for all candidates cuts none
-pub whole_within_budget : (rules : Rules) (e : Exchange) (p q : Table) → e.lost1 ≡ false → e.lost2 ≡ false → e.lost3 ≡ false → length (candidates rules.mode q p) ≤ rules.budget → length (candidates rules.mode p q) ≤ rules.budget → IsWhole (exchanged rules e p q).sent
-whole_within_budget rules e p q came1 came2 came3 back_fits forth_fits = subst (λ f. IsWhole (sent_until f (digest_size rules.mode p) (digest_size rules.mode q) (delta_between rules e.rotation q p) (delta_between rules e.rotation p q)))
+pub whole_within_budget : (rules : Rules) (e : Exchange) (p q : Table) → e.lost1 ≡ false → e.lost2 ≡ false → e.lost3 ≡ false → length (candidates rules.mode q p) ≤ rules.budget → length (candidates rules.mode p q) ≤ rules.budget → LosesAndCutsNothing (exchanged rules e p q).sent
+whole_within_budget rules e p q came1 came2 came3 back_fits forth_fits = subst (λ f. LosesAndCutsNothing (sent_until f (digest_size (told_by rules.mode) p) (digest_size (told_by rules.mode) q) (delta_between rules e.rotation q p) (delta_between rules e.rotation p q)))
     (sym (λ i. if came1 i then fate.Lost1 else (if came2 i then fate.Lost2 else (if came3 i then fate.Lost3 else fate.Ok)))) (record {
       fate = refl;
       back = cut-none rules.mode q p e.rotation rules.budget back_fits;
@@ -42,10 +43,10 @@ module _ (rules : Rules) (e : Exchange) (p q : Table) where
   responder_rises = responder_after-either (NoVersionFalls q) (fate_of e) q (delta_between rules e.rotation p q) (λ owner key. omega arith) (version_at-le-applied q (delta_between rules e.rotation p q).items)
 
 module _ (rules : Rules) (e : Exchange) (p q : Table) (meet : MayMeet e p q) where
-  back : Sent
+  back : DeltaView
   back = delta_between rules e.rotation q p
 
-  forth : Sent
+  forth : DeltaView
   forth = delta_between rules e.rotation p q
 
   in_responder : e.rotation < q.nodes
@@ -92,10 +93,10 @@ module _ (rules : Rules) (e : Exchange) (p q : Table) (meet : MayMeet e p q) whe
           (received-no_gap rules e.rotation p q meet.initiator meet.nodes meet.keys meet.responder scuttle meet.rotation writes own (subst (λ n. AreLastOf n writes own) meet.nodes last) q_writes p_writes q_gapless p_gapless)
 
   -- in a precise mode an exchange without loss or cut leaves each side, of all owners but itself, with the greater versions
-  module _ (precise : IsPreciseMode rules.mode) (whole : IsWhole (exchanged rules e p q).sent) where
+  module _ (precise : IsPreciseMode rules.mode) (whole : LosesAndCutsNothing (exchanged rules e p q).sent) where
     ended : (fate_of e ≡ fate.Ok) × (back.cut ≡ 0) × (forth.cut ≡ 0)
     unfolding back forth
-    ended = whole_ended (fate_of e) (digest_size rules.mode p) (digest_size rules.mode q) back forth whole
+    ended = whole_ended (fate_of e) (digest_size (told_by rules.mode) p) (digest_size (told_by rules.mode) q) back forth whole
 
     pub initiator_greater : HasTheGreater p q (exchanged rules e p q).initiator
     unfolding back

@@ -1,8 +1,6 @@
 -- Laws of the definitions, for the crates above.
 pub mod Laws
 pub mod OwnParts
-pub mod FoldLaws
-pub mod BeginLaws
 -- What they and the proofs of this crate's functions rest on.
 pub mod Cases
 pub mod Received

@@ -6,16 +6,16 @@ use Rattle.std.proofs.lemmas.List.Elements.{All-filter, All-contains, All-contai
 use Rattle.bench_types.specs.declared.entries.Entry.{Entry}
 use Rattle.bench_types.specs.declared.entries.Item.{Item}
 use Rattle.bench_types.specs.declared.exchanges.Mode.{Mode}
-use Rattle.bench_types.specs.declared.exchanges.Mode.TheVariants.{ScuttleBreadth, ScuttleDepth, PreciseOldest, PreciseNewest}
 use Rattle.bench_types.specs.declared.exchanges.Rules.{Rules}
 use Rattle.bench_types.specs.Entry.{version_of}
+use Rattle.bench_types.specs.Mode.{told_by}
 use Rattle.node_table.specs.Table.{Table, applied, entry_at, version_at, greatest_version, items_of, IsProper}
 use Rattle.node_table.specs.View.{IsItemInPlace}
 use Rattle.node_table.specs.Applied.{stands_at, greatest_at}
 use Rattle.node_table.specs.Runs.{greatest_among}
 use Rattle.node_table.proofs.Items.{entry_at-items_of, Contains-items_of}
 use Rattle.node_table.proofs.Laws.{entry_at-applied_from, proper-applied}
-use Rattle.node_table.proofs.Versions.{version_at-applied, version_at-le-applied, version_at-le-greatest_version, greatest_version-applied}
+use Rattle.node_table.proofs.Versions.{version_at-applied, version_at-le-applied, version_at-le-greatest_version, greatest_version-applied, greatest_among-own, greatest_among-other}
 use Rattle.reconcile.specs.Candidates.{IsScuttleMode, known_version, candidates}
 use Rattle.reconcile.specs.Order.{sending_order}
 use Rattle.reconcile.specs.Picks.{before_count}
@@ -68,40 +68,22 @@ greatest_among-from owner (i ∷ is) = elim (cases_eq i.owner owner) [
   | inl own ↦ elim (cases_lt i.entry.version (greatest_among owner is)) [
     | inl less ↦ elim (greatest_among-from owner is) [
       | inl none ↦ absurd (omega arith)
-      | inr (d, one) ↦ inr (d, ((suc one.0.0, omega (arith, one.0.1), one.0.2), one.1, omega (arith, one.2, among own)))
+      | inr (d, one) ↦ inr (d, ((suc one.0.0, omega (arith, one.0.1), one.0.2), one.1, omega (arith, one.2, greatest_among-own i is owner own)))
     ]
-    | inr at_least ↦ inr (i, ((0, omega arith, refl), own, omega (arith, among own)))
+    | inr at_least ↦ inr (i, ((0, omega arith, refl), own, omega (arith, greatest_among-own i is owner own)))
   ]
   | inr other ↦ elim (greatest_among-from owner is) [
-    | inl none ↦ inl (omega (arith, passed other))
-    | inr (d, one) ↦ inr (d, ((suc one.0.0, omega (arith, one.0.1), one.0.2), one.1, omega (arith, one.2, passed other)))
+    | inl none ↦ inl (omega (arith, greatest_among-other i is owner other))
+    | inr (d, one) ↦ inr (d, ((suc one.0.0, omega (arith, one.0.1), one.0.2), one.1, omega (arith, one.2, greatest_among-other i is owner other)))
   ]
 ]
-  where
-    among : i.owner ≡ owner → greatest_among owner (i ∷ is) ≡ max i.entry.version (greatest_among owner is)
-    among own = ap (λ b. if b then max i.entry.version (greatest_among owner is) else greatest_among owner is) (eq-eqb i.owner owner own)
-
-    passed : i.owner ≢ owner → greatest_among owner (i ∷ is) ≡ greatest_among owner is
-    passed other = ap (λ b. if b then max i.entry.version (greatest_among owner is) else greatest_among owner is) (ne_eqb i.owner owner other)
-
-known-scuttle : (mode : Mode) → IsScuttleMode mode → (to : Table) (i : Item) → known_version mode to i ≡ greatest_version to i.owner
-known-scuttle ScuttleBreadth is to i = refl
-known-scuttle ScuttleDepth is to i = refl
-known-scuttle PreciseOldest is to i = absurd is
-known-scuttle PreciseNewest is to i = absurd is
-
-known-precise : (mode : Mode) → IsPreciseMode mode → (to : Table) (i : Item) → known_version mode to i ≡ version_at to i.owner i.entry.key
-known-precise ScuttleBreadth is to i = absurd is
-known-precise ScuttleDepth is to i = absurd is
-known-precise PreciseOldest is to i = refl
-known-precise PreciseNewest is to i = refl
 
 -- a held entry that the receiver doesn't know is a candidate
-candidate : (mode : Mode) (from to : Table) (owner key : ℕ) (e : Entry) → entry_at from owner key ≡ Some e → owner ≢ to.node → known_version mode to (record { owner = owner; entry = e }) < e.version → Contains (candidates mode from to) (record { owner = owner; entry = e })
+candidate : (mode : Mode) (from to : Table) (owner key : ℕ) (e : Entry) → entry_at from owner key ≡ Some e → owner ≢ to.node → known_version (told_by mode) to (record { owner = owner; entry = e }) < e.version → Contains (candidates mode from to) (record { owner = owner; entry = e })
 candidate mode from to owner key e held other newer =
     let i : Item = record { owner = owner; entry = e } in
-    Contains-filter (λ (x : Item). not (eqb x.owner to.node) && ltb (known_version mode to x) x.entry.version) (items_of from) i (Contains-items_of from owner key e held)
-    ((λ n. not (ne_eqb owner to.node other n) && ltb (known_version mode to i) e.version) ∙ lt-ltb (known_version mode to i) e.version newer)
+    Contains-filter (λ (x : Item). not (eqb x.owner to.node) && ltb (known_version (told_by mode) to x) x.entry.version) (items_of from) i (Contains-items_of from owner key e held)
+    ((λ n. not (ne_eqb owner to.node other n) && ltb (known_version (told_by mode) to i) e.version) ∙ lt-ltb (known_version (told_by mode) to i) e.version newer)
 
 -- where none is counted each fails
 count_by-none : (q : Item → Bool) (xs : List Item) → count_by q xs ≡ 0 → (x : Item) → Contains xs x → q x ≡ false
@@ -147,12 +129,12 @@ module _ (rules : Rules) (rotation : ℕ) (from to : Table) (proper : IsProper f
   -- each is held by the sender
   sent-held : (d : Item) → Contains items d → entry_at from d.owner d.entry.key ≡ Some d.entry
   sent-held d there =
-      entry_at-items_of from d proper (filter-Contains (λ (x : Item). not (eqb x.owner to.node) && ltb (known_version rules.mode to x) x.entry.version) (items_of from) d (sent-candidate rules.mode from to rotation rules.budget d there)).0
+      entry_at-items_of from d proper (filter-Contains (λ (x : Item). not (eqb x.owner to.node) && ltb (known_version (told_by rules.mode) to x) x.entry.version) (items_of from) d (sent-candidate rules.mode from to rotation rules.budget d there)).0
 
   sent-in_place : All (λ (i : Item). (i.owner ≢ to.node) × IsItemInPlace from.nodes from.keys i) items
   sent-in_place =
       All-sent (λ (i : Item). (i.owner ≢ to.node) × IsItemInPlace from.nodes from.keys i) (sending_order rules.mode from.nodes rotation (candidates rules.mode from to)) (candidates rules.mode from to) rules.budget
-      (candidates-in_place from (known_version rules.mode to) to.node proper)
+      (candidates-in_place from (known_version (told_by rules.mode) to) to.node proper)
 
   -- no version goes down
   received-rises : NoVersionFalls to received
@@ -204,7 +186,7 @@ module _ (rules : Rules) (rotation : ℕ) (from to : Table) (proper : IsProper f
         comes e held newer =
             let i : Item = record { owner = owner; entry = e } in
             let keyed = (proper.in_place owner key e held).keyed in
-            let unknown : known_version rules.mode to i < e.version = omega (arith, newer, known-precise rules.mode precise to i, ap (version_at to owner) keyed) in
+            let unknown : known_version (told_by rules.mode) to i < e.version = omega (arith, newer, ap (λ kind. known_version kind to i) precise, ap (version_at to owner) keyed) in
             sent-le owner key e keyed (sent-uncut rules rotation from to proper in_nodes none i (candidate rules.mode from to owner key e held other unknown))
 
         at_least : version_at from owner key ≤ version_at received owner key
@@ -243,7 +225,7 @@ module _ (rules : Rules) (rotation : ℕ) (from to : Table) (proper : IsProper f
             elim (cases_lt e.version d.entry.version) [
               | inl older ↦
                   let other : owner ≢ to.node = subst (λ r. r ≢ to.node) own_item (All-contains (λ (x : Item). (x.owner ≢ to.node) × IsItemInPlace from.nodes from.keys x) items d sent-in_place there).0 in
-                  let unknown : known_version rules.mode to i < e.version = omega (arith, newer, known-scuttle rules.mode scuttle to i) in
+                  let unknown : known_version (told_by rules.mode) to i < e.version = omega (arith, newer, ap (λ kind. known_version kind to i) scuttle) in
                   sent-no_gap rules.mode from to rotation rules.budget scuttle proper in_nodes i d (candidate rules.mode from to owner key e held other unknown) there (sym own_item) older
               | inr as_old ↦
                   let same : d.entry ≡ e = (last owner (subst (λ n. owner < n) nodes (proper.in_place owner key e held).owner_below)).apart d.entry e (from_writes owner d.entry.key d.entry sent).0 (from_writes owner key e held).0 (omega (arith, e_upto, as_old)) in

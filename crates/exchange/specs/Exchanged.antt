@@ -3,16 +3,19 @@
 -- exchange. Where the first message is lost nothing further is sent; where the second is, neither side changes
 -- and the third isn't sent; where the third is, only p changes. The fate is that of the first lost message.
 -- The record counts what was sent. Source: the LADIS 2008 paper; losses and records are this project's.
-use Rattle.std.specs.Prelude.{ℕ, length, if◌then◌else◌}
+use Rattle.std.specs.Prelude.{◌≡◌, ◌≢◌, ℕ, List, All, length, if◌then◌else◌}
+use Rattle.bench_types.specs.declared.entries.Item.{Item}
 use Rattle.bench_types.specs.declared.exchanges.Exchange.{Exchange}
 use Rattle.bench_types.specs.declared.exchanges.Fate.{Fate}
 use Rattle.bench_types.specs.declared.exchanges.Fate.TheVariants as fate
 use Rattle.bench_types.specs.declared.exchanges.Record.{Record}
 use Rattle.bench_types.specs.declared.exchanges.Rules.{Rules}
+use Rattle.bench_types.specs.Mode.{told_by}
 use Rattle.node_table.specs.Table.{Table, applied}
+use Rattle.node_table.specs.View.{IsItemInPlace}
 use Rattle.reconcile.specs.Candidates.{candidates}
-use Rattle.reconcile.specs.Digests.{digest_size}
-use Rattle.reconcile.specs.Deltas.{Sent, delta_of}
+use Rattle.reconcile.specs.Digests.{DigestView, IsDigestOf, digest_size}
+use Rattle.reconcile.specs.Deltas.{DeltaView, delta_of}
 
 -- both tables after an exchange, and its record
 pub record Exchanged : Type 0 where
@@ -24,25 +27,34 @@ abbrev pub fate_of : Exchange → Fate
 fate_of e = if e.lost1 then fate.Lost1 else (if e.lost2 then fate.Lost2 else (if e.lost3 then fate.Lost3 else fate.Ok))
 
 -- the delta from one table to another
-abbrev pub delta_between : Rules → ℕ → Table → Table → Sent
+abbrev pub delta_between : Rules → ℕ → Table → Table → DeltaView
 delta_between rules rotation from to = delta_of rules.mode from.nodes rotation rules.budget (candidates rules.mode from to)
 
+-- the delta to any table of that node with that digest
+abbrev pub IsAnswer : Rules → ℕ → Table → ℕ → DigestView → DeltaView → Type 0
+IsAnswer rules rotation from receiver told delta =
+    (to : Table) → IsDigestOf (told_by rules.mode) to told → to.node ≡ receiver → delta ≡ delta_between rules rotation from to
+
+-- items that a node may take: none is its own, and each is in its place among so many nodes with so many keys
+abbrev pub MayTake : ℕ → ℕ → ℕ → List Item → Type 0
+MayTake node nodes keys items = All (λ (i : Item). (i.owner ≢ node) × IsItemInPlace nodes keys i) items
+
 -- what was sent up to the first lost message
-abbrev pub sent_until : Fate → ℕ → ℕ → Sent → Sent → Record
+abbrev pub sent_until : Fate → ℕ → ℕ → DeltaView → DeltaView → Record
 sent_until fate.Lost1 d1 d2 b f = record { digest1 = d1; digest2 = 0; back = 0; forth = 0; back_cut = 0; forth_cut = 0; fate = fate.Lost1 }
 sent_until fate.Lost2 d1 d2 b f = record { digest1 = d1; digest2 = d2; back = length b.items; forth = 0; back_cut = b.cut; forth_cut = 0; fate = fate.Lost2 }
 sent_until fate.Lost3 d1 d2 b f = record { digest1 = d1; digest2 = d2; back = length b.items; forth = length f.items; back_cut = b.cut; forth_cut = f.cut; fate = fate.Lost3 }
 sent_until fate.Ok d1 d2 b f = record { digest1 = d1; digest2 = d2; back = length b.items; forth = length f.items; back_cut = b.cut; forth_cut = f.cut; fate = fate.Ok }
 
 -- the initiator changes where the second message came
-abbrev pub initiator_after : Fate → Table → Sent → Table
+abbrev pub initiator_after : Fate → Table → DeltaView → Table
 initiator_after fate.Lost1 p back = p
 initiator_after fate.Lost2 p back = p
 initiator_after fate.Lost3 p back = applied p back.items
 initiator_after fate.Ok p back = applied p back.items
 
 -- and the responder where the third did
-abbrev pub responder_after : Fate → Table → Sent → Table
+abbrev pub responder_after : Fate → Table → DeltaView → Table
 responder_after fate.Lost1 q forth = q
 responder_after fate.Lost2 q forth = q
 responder_after fate.Lost3 q forth = q
@@ -52,8 +64,9 @@ abbrev pub exchanged : Rules → Exchange → Table → Table → Exchanged
 exchanged rules e p q =
     let back = delta_between rules e.rotation q p in
     let forth = delta_between rules e.rotation p q in
+    let telling = told_by rules.mode in
     record {
       initiator = initiator_after (fate_of e) p back;
       responder = responder_after (fate_of e) q forth;
-      sent = sent_until (fate_of e) (digest_size rules.mode p) (digest_size rules.mode q) back forth;
+      sent = sent_until (fate_of e) (digest_size telling p) (digest_size telling q) back forth;
     }

@@ -6,8 +6,9 @@ use Rattle.bench_types.specs.declared.entries.Entry.{Entry}
 use Rattle.bench_types.specs.declared.exchanges.Exchange.{Exchange}
 use Rattle.bench_types.specs.declared.exchanges.Fate.TheVariants as fate
 use Rattle.bench_types.specs.declared.exchanges.Mode.{Mode}
-use Rattle.bench_types.specs.declared.exchanges.Mode.TheVariants.{ScuttleBreadth, ScuttleDepth, PreciseOldest, PreciseNewest}
 use Rattle.bench_types.specs.declared.exchanges.Record.{Record}
+use Rattle.bench_types.specs.declared.exchanges.Telling.TheVariants.{Each}
+use Rattle.bench_types.specs.Mode.{told_by}
 use Rattle.node_table.specs.Table.{Table, entry_at, version_at, IsProper}
 
 -- the tables that may meet in an exchange
@@ -28,13 +29,10 @@ StoodInEither p q new = (owner key : ℕ) (e : Entry) → entry_at new owner key
 
 -- the modes that send exactly what is newer than the receiver's entry
 abbrev pub IsPreciseMode : Mode → Type 0
-IsPreciseMode ScuttleBreadth = ⊥
-IsPreciseMode ScuttleDepth = ⊥
-IsPreciseMode PreciseOldest = Unit {0}
-IsPreciseMode PreciseNewest = Unit {0}
+IsPreciseMode mode = told_by mode ≡ Each
 
 -- no message was lost and nothing was cut
-pub record IsWhole (r : Record) : Type 0 where
+pub record LosesAndCutsNothing (r : Record) : Type 0 where
   pub fate : r.fate ≡ fate.Ok
   pub back : r.back_cut ≡ 0
   pub forth : r.forth_cut ≡ 0

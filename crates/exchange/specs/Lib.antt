@@ -1,14 +1,11 @@
 pub mod Exchanged
-pub mod Folds
 pub mod Owns
 pub mod Laws
 pub mod Copies
-pub mod Clusters
-pub mod Begins
 pub use Rattle.reconcile.specs.Candidates
 pub use Rattle.reconcile.specs.Order
 pub use Rattle.reconcile.specs.Picks
 pub use Rattle.reconcile.specs.Digests
 pub use Rattle.reconcile.specs.Deltas
 pub use Rattle.node_table.specs.Table
-pub use Rattle.node_table.specs.Kept
+pub use Rattle.node_table.specs.NodeTableView

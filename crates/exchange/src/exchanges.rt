@@ -1,13 +1,12 @@
 //! The exchange of an initiator and a responder.
 
-ghost use Rattle.std.specs.Prelude.{◌≡◌, ◌≢◌, ℕ, ◌^◌, ◌<◌, ◌≤◌, All, IfOk, OnErr, IsOkUnless, length};
+ghost use Rattle.std.specs.Prelude.{◌≡◌, ℕ, ◌^◌, ◌<◌, ◌≤◌, IfOk, OnErr, IsOkUnless, length};
 ghost use Rattle.bench_types.specs.declared.faults.Fault.TheVariants.{OutOfMemory};
-ghost use Rattle.node_table.specs.Table.{Table};
 ghost use Rattle.bench_types.specs.declared.exchanges.Fate.TheVariants as fate;
-ghost use Rattle.node_table.specs.View.{IsItemInPlace};
-ghost use Rattle.reconcile.specs.Digests.{IsDigestOf, IsOfKind};
-ghost use Rattle.reconcile.specs.Deltas.{Sent};
-ghost use Rattle.exchange.specs.Exchanged.{exchanged, delta_between, sent_until};
+ghost use Rattle.bench_types.specs.Mode.{told_by};
+ghost use Rattle.reconcile.specs.Digests.{IsOfKind};
+ghost use Rattle.reconcile.specs.Deltas.{DeltaView};
+ghost use Rattle.exchange.specs.Exchanged.{exchanged, sent_until, IsAnswer, MayTake};
 
 use bench_types::{Exchange, Fate, Fault, Record, Rules};
 use node_table::NodeTable;
@@ -70,15 +69,15 @@ fn answer(
     plan: &Exchange,
     rules: &Rules,
 ) -> Result<Delta, Fault>
-    requires kind { IsOfKind rules.now.mode digest.now }
+    requires kind { IsOfKind (told_by rules.now.mode) digest.now }
     requires budget { 1 ≤ rules.now.budget }
     requires nodes { digest.now.nodes ≡ sender.now.table.nodes }
     requires keys { digest.now.keys ≡ sender.now.table.keys }
     requires receiver { receiver < sender.now.table.nodes }
     requires rotation { plan.now.rotation < sender.now.table.nodes }
-    ensures delta { IfOk result (λ d. (to : Table) → IsDigestOf rules.now.mode to digest.now → to.node ≡ receiver → d ≡ delta_between rules.now plan.now.rotation sender.now.table to) }
+    ensures delta { IfOk result (IsAnswer rules.now plan.now.rotation sender.now.table receiver digest.now) }
     ensures few { IfOk result (λ d. length d.items < 2 ^ 32) }
-    ensures sound { IfOk result (λ d. All (λ i. (i.owner ≢ receiver) × IsItemInPlace sender.now.table.nodes sender.now.table.keys i) d.items) }
+    ensures sound { IfOk result (λ d. MayTake receiver sender.now.table.nodes sender.now.table.keys d.items) }
     ensures only { IsOkUnless result OutOfMemory }
 {
     delta(
@@ -94,7 +93,7 @@ fn answer(
 
 // The record where the first message was lost.
 fn sent_before_an_answer(digest1: &Digest) -> Record
-    ensures { (size2 : ℕ) (back forth : Sent) → result ≡ sent_until fate.Lost1 digest1.now.size size2 back forth }
+    ensures { (size2 : ℕ) (back forth : DeltaView) → result ≡ sent_until fate.Lost1 digest1.now.size size2 back forth }
 {
     Record {
         digest1: digest1.size(),
@@ -110,7 +109,7 @@ fn sent_before_an_answer(digest1: &Digest) -> Record
 // The record where the second message was lost.
 fn sent_back(digest1: &Digest, digest2: &Digest, back: &Delta) -> Record
     requires { length back.now.items < 2 ^ 32 }
-    ensures { (forth : Sent) → result ≡ sent_until fate.Lost2 digest1.now.size digest2.now.size back.now forth }
+    ensures { (forth : DeltaView) → result ≡ sent_until fate.Lost2 digest1.now.size digest2.now.size back.now forth }
 {
     Record {
         digest1: digest1.size(),

@@ -2,7 +2,5 @@
 #![tactic(auto)]
 
 mod exchanges;
-#[cfg(test)]
-mod tests;
 
 pub use exchanges::exchange;

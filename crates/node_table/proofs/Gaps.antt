@@ -13,7 +13,7 @@ use Rattle.node_table.specs.View.{place_of, pairs, IsRising}
 use Rattle.node_table.specs.Places.{IsAt, IsGapFor}
 use Rattle.node_table.specs.Walks.{around, IsBelowAll}
 use Rattle.node_table.proofs.Order.{place_turned}
-use Rattle.node_table.proofs.Rising.{first, second, both}
+use Rattle.node_table.proofs.Comparing.{first, second, both}
 
 below_front : (p : Place) (front back : List Item) → T (below_all place_cmp p (pairs (front ++ back))) → T (below_all place_cmp p (pairs front))
 below_front p [] back h = tt

@@ -1,7 +1,5 @@
 -- The greatest version of an owner, by look-ups and over a list of items.
 use Rattle.std.proofs.Common.{◌≡◌, ℕ, zero, suc, ◌<◌, ◌≤◌, max, true, false, cond, eqb, List, [], ◌∷◌, length, get_or, drop, Some, None, All, ◌⊎◌, inl, inr, if◌then◌else◌, refl, sym, ap, ◌∙◌, subst, arith}
-use lib.Dec.{T}
-use Rattle.std.specs.declared.cmp.Ordering.{Ordering}
 use Rattle.std.specs.declared.cmp.Ordering.TheVariants.{Less, Equal, Greater}
 use Rattle.std.specs.Ordering.{nat_cmp, ordering_then, is_eq}
 use Rattle.std.specs.Cmp.{ranked, tied_itself}
@@ -16,6 +14,7 @@ use Rattle.node_table.specs.Places.{IsAt, IsGapFor}
 use Rattle.node_table.specs.Runs.{greatest_run, greatest_among}
 use Rattle.node_table.proofs.Order.{place_total, place_same, place_turned}
 use Rattle.node_table.proofs.Rising.{rising_at, rising_tail, find_behind, place_at, below_place}
+use Rattle.node_table.proofs.Comparing.{equal}
 
 -- a place below another has an owner below, or the same owner and a key below
 pub place_less : (p q : Place) → place_cmp p q ≡ Less → (p.0 < q.0) ⊎ ((p.0 ≡ q.0) × (p.1 < q.1))
@@ -58,11 +57,6 @@ found-le-greatest_among (x ∷ xs) owner key =
         | false ↦ found-le-greatest_among xs owner key
       ]
     ] refl
-  where
-    equal : (r : Ordering) → is_eq r ≡ true → r ≡ Equal
-    equal Less h = absurd (subst (λ b. T (Rattle.std.specs.Prelude.not b)) h tt)
-    equal Equal h = refl
-    equal Greater h = absurd (subst (λ b. T (Rattle.std.specs.Prelude.not b)) h tt)
 
 -- the greatest item of an owner, where there is one, is what is found at its key
 abbrev IsFoundOr0 : List Item → ℕ → ℕ → ℕ → Type 0

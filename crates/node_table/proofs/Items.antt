@@ -15,8 +15,10 @@ use Rattle.node_table.specs.Table.{Place, place_cmp, Table, entry_at, item_of, i
 use Rattle.node_table.specs.View.{place_of, pair_of, pairs, IsRising}
 use Rattle.node_table.specs.Applied.{stands_at, items_at}
 use Rattle.node_table.proofs.Order.{place_total, place_turned}
-use Rattle.node_table.proofs.Rising.{first, second, less, rising_at}
+use Rattle.node_table.proofs.Comparing.{first, second, less}
+use Rattle.node_table.proofs.Rising.{rising_at}
 use Rattle.node_table.proofs.Laws.{place_tied, tied-stands_at, items_at-none}
+use Rattle.std.proofs.lemmas.Option.{same_Some}
 
 -- an entry of a list in order is what is found at its place
 found_there : (es : List (Place × Entry)) (k : ℕ) (d : Place × Entry) → T (is_sorted place_cmp es) → k < length es → find place_cmp (get_or es k d).0 es ≡ Some (get_or es k d).1
@@ -64,16 +66,13 @@ entry_at-items_of t i proper (k, lt, is) =
 pub Contains-items_of : (t : Table) (owner key : ℕ) (e : Entry) → entry_at t owner key ≡ Some e → Contains (items_of t) (record { owner = owner; entry = e })
 Contains-items_of t owner key e held = among (entries t.held) (sym (get-entries t.held (owner, key)) ∙ held)
   where
-    some_same : (x : Entry) → Some x ≡ Some e → x ≡ e
-    some_same x h = cc
-
     among : (es : List (Place × Entry)) → find place_cmp (owner, key) es ≡ Some e → Contains (map item_of es) (record { owner = owner; entry = e })
     among [] found = absurd (nothing found)
       where
         nothing : None ≡ Some e → ⊥
         nothing h = cc
     among (f ∷ fs) found = let rest = among fs in elim (eq_by_cmp place_cmp (owner, key) f.0) as (λ b. eq_by_cmp place_cmp (owner, key) f.0 ≡ b → cond b (Some f.1) (find place_cmp (owner, key) fs) ≡ Some e → Contains (map item_of (f ∷ fs)) (record { owner = owner; entry = e })) [
-      | true ↦ λ tie here. (0, omega arith, λ n. record { owner = (sym (ap (λ (p : Place). p.0) (place_tied (owner, key) f.0 tie))) n; entry = some_same f.1 here n })
+      | true ↦ λ tie here. (0, omega arith, λ n. record { owner = (sym (ap (λ (p : Place). p.0) (place_tied (owner, key) f.0 tie))) n; entry = same_Some f.1 e here n })
       | false ↦ λ _ later. let at = rest later in (suc at.0, omega (arith, at.1), at.2)
     ] refl found
 

@@ -1,25 +1,21 @@
 -- Laws of tables: what each place holds after a write, after a list of items and after a restart.
 use Rattle.std.proofs.Common.{◌≡◌, ◌≢◌, ℕ, suc, ◌<◌, ◌≤◌, Bool, true, false, cond, ◌==◌, List, [], ◌∷◌, get_or, Option, Some, None, All, fold, ◌⊎◌, inl, inr, if◌then◌else◌, refl, sym, ap, ◌∙◌, subst, arith}
-use Rattle.std.specs.declared.cmp.Ordering.{Ordering}
-use Rattle.std.specs.declared.cmp.Ordering.TheVariants.{Less, Equal, Greater}
 use Rattle.std.specs.Ordering.{is_eq, eq_by_cmp}
 use Rattle.std.specs.Cmp.{tied_itself}
 use Rattle.std.specs.List.{filter, Contains}
 use Rattle.std.specs.FinMap.{FinMap, get, insert, retain_keys, empty, get-insert, get-empty, get-retain_keys, same_map}
-use Rattle.std.proofs.lemmas.Bool.{cases_eq, and_parts, and_from, and_left, eq-eqb, ne_eqb, eqb-true, both_ways}
+use Rattle.std.proofs.lemmas.Bool.{cases_eq, and_parts, and_from, and_left, eq-eqb, ne_eqb, eqb-true}
 use Rattle.std.proofs.lemmas.List.Elements.{All-head, All-tail, All-contains}
 use Rattle.bench_types.specs.declared.entries.Entry.{Entry}
 use Rattle.bench_types.specs.declared.entries.Item.{Item}
+use Rattle.bench_types.specs.declared.limits.TheConstants.{LEAST_KEYS, MOST_NODES, MOST_KEYS}
 use Rattle.bench_types.specs.Entry.{newer}
 use Rattle.node_table.specs.Table.{Place, place_cmp, Held, Table, empty_table, entry_at, held_with, applied, own_write, with_own_write, without_others, IsInPlace, IsProper}
 use Rattle.node_table.specs.View.{place_of, IsItemInPlace}
 use Rattle.node_table.specs.Applied.{stands_at, items_at, newest_of}
 use Rattle.node_table.proofs.Order.{place_total, place_same}
-
-pub equal : (r : Ordering) → is_eq r ≡ true → r ≡ Equal
-equal Less h = absurd (both_ways false refl h)
-equal Equal h = refl
-equal Greater h = absurd (both_ways false refl h)
+use Rattle.node_table.proofs.Comparing.{equal}
+use Rattle.std.proofs.lemmas.Option.{same_Some}
 
 -- places that tie are one place
 pub place_tied : (p q : Place) → eq_by_cmp place_cmp p q ≡ true → p ≡ q
@@ -129,12 +125,9 @@ came (i ∷ is) m owner key e found = elim (came is (held_with m i) owner key e 
         let place = place_from owner key i at in
         ((0, omega arith, λ n. record { owner = (sym (ap (λ (p : Place). p.0) place)) n; entry = same n }), ap (λ (x : Entry). x.key) (sym same) ∙ sym (ap (λ (p : Place). p.1) place))
 
-    some_same : (x : Entry) → Some x ≡ Some e → x ≡ e
-    some_same x h = cc
-
     first : get (held_with m i) (owner, key) ≡ Some e → (get m (owner, key) ≡ Some e) ⊎ CameWith (i ∷ is) owner key e
     first before = elim (stands_at owner key i) as (λ b. stands_at owner key i ≡ b → cond b (Some (newer (get m (owner, key)) i.entry)) (get m (owner, key)) ≡ Some e → (get m (owner, key) ≡ Some e) ⊎ CameWith (i ∷ is) owner key e) [
-      | true ↦ λ at kept. elim (newer_either (get m (owner, key)) i.entry e (some_same _ kept)) [ inl held ↦ inl held | inr same ↦ inr (here at same) ]
+      | true ↦ λ at kept. elim (newer_either (get m (owner, key)) i.entry e (same_Some _ e kept)) [ inl held ↦ inl held | inr same ↦ inr (here at same) ]
       | false ↦ λ at kept. inl kept
     ] refl (sym (get-held_with m i owner key) ∙ before)
 
@@ -172,7 +165,7 @@ pub entry_at-empty_table : (n ns ks owner key : ℕ) → entry_at (empty_table n
 entry_at-empty_table n ns ks owner key = get-empty place_cmp (owner, key)
 
 -- the tables that start, and what changes a table, keep it proper
-pub proper-empty_table : (n ns ks : ℕ) → n < ns → ns ≤ 4096 → 1 ≤ ks → ks ≤ 64 → IsProper (empty_table n ns ks)
+pub proper-empty_table : (n ns ks : ℕ) → n < ns → ns ≤ MOST_NODES → LEAST_KEYS ≤ ks → ks ≤ MOST_KEYS → IsProper (empty_table n ns ks)
 proper-empty_table n ns ks below limit some most = record {
   node_below = below;
   nodes_limit = limit;
@@ -211,16 +204,13 @@ proper-with_own_write t k v b proper below = record {
   ];
 }
   where
-    some_same : (x e : Entry) → Some x ≡ Some e → x ≡ e
-    some_same x e h = cc
-
     written : IsInPlace t.nodes t.keys t.node k (own_write t k v b)
     written = record { owner_below = proper.node_below; key_below = below; keyed = refl; written = omega arith }
 
     at_place : (owner key : ℕ) (e : Entry) → owner ≡ t.node → key ≡ k → entry_at (with_own_write t k v b) owner key ≡ Some e → IsInPlace t.nodes t.keys owner key e
     at_place owner key e own same found =
         let there : entry_at (with_own_write t k v b) t.node k ≡ Some e = subst (λ n. entry_at (with_own_write t k v b) n k ≡ Some e) own (subst (λ j. entry_at (with_own_write t k v b) owner j ≡ Some e) same found) in
-        let is : own_write t k v b ≡ e = some_same _ _ (sym (entry_at-own_write t k v b) ∙ there) in
+        let is : own_write t k v b ≡ e = same_Some _ _ (sym (entry_at-own_write t k v b) ∙ there) in
         subst (λ n. IsInPlace t.nodes t.keys n key e) (sym own) (subst (λ j. IsInPlace t.nodes t.keys t.node j e) (sym same) (subst (IsInPlace t.nodes t.keys t.node k) is written))
 
 pub proper-without_others : (t : Table) → IsProper t → IsProper (without_others t)

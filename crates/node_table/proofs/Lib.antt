@@ -4,6 +4,7 @@ pub mod Versions
 pub mod Items
 pub mod Proper
 -- What the proofs of this crate's functions rest on.
+pub mod Comparing
 pub mod Order
 pub mod Rising
 pub mod Sound

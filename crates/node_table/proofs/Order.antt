@@ -1,19 +1,14 @@
 -- Places are in a total order, in which only equal places tie.
-use Rattle.std.proofs.Common.{◌≡◌, refl, ap, ◌∙◌}
+use Rattle.std.proofs.Common.{◌≡◌, ap, ◌∙◌}
 use Rattle.std.specs.declared.cmp.Ordering.{Ordering}
-use Rattle.std.specs.declared.cmp.Ordering.TheVariants.{Less, Equal, Greater}
-use Rattle.std.specs.Ordering.{nat_cmp, ordering_then, ordering_reverse}
+use Rattle.std.specs.Ordering.{nat_cmp, ordering_reverse}
 use Rattle.std.specs.Cmp.{IsTotalOrder, nat_cmp_total, on_total, then_total}
 use Rattle.std.specs.FinMap.{IsAntisymmetric, nat_cmp-IsAntisymmetric}
 use Rattle.node_table.specs.Table.{Place, place_cmp}
+use Rattle.node_table.proofs.Comparing.{both_equal}
 
 pub place_total : IsTotalOrder place_cmp
 place_total = then_total (on_total (λ (p : Place). p.0) nat_cmp_total) (on_total (λ (p : Place). p.1) nat_cmp_total)
-
-both_equal : (a b : Ordering) → ordering_then a b ≡ Equal → (a ≡ Equal) × (b ≡ Equal)
-both_equal Less b e = cc
-both_equal Equal b e = (refl, e)
-both_equal Greater b e = cc
 
 pub place_same : IsAntisymmetric place_cmp
 place_same p q e =

@@ -5,6 +5,7 @@ use Rattle.std.specs.FinMap.{same_entries_map}
 use Rattle.std.proofs.Math.Nat.{mul-le-mul_right, mul-le-mul_left}
 use Rattle.std.proofs.lemmas.List.{get_or_default}
 use Rattle.bench_types.specs.declared.entries.Item.{Item}
+use Rattle.bench_types.specs.declared.limits.TheConstants.{MOST_NODES, MOST_KEYS}
 use Rattle.node_table.specs.Table.{Place, place_cmp, Table, items_of, greatest_version, IsProper}
 use Rattle.node_table.specs.View.{place_of, held_of, table_of, IsRising, IsItemInPlace, IsSound}
 use Rattle.node_table.specs.Runs.{greatest_among}
@@ -77,9 +78,9 @@ module _ (ns ks : ℕ) (xs : List Item) (rising : IsRising xs) (in_place : All (
       bounded (suc n) e = omega (arith, index-le-number none n (omega arith), number-lt none n (omega arith))
 
 -- so a sound list is short enough to count in 32 bits
-pub length-le-limit : (n ns ks : ℕ) (xs : List Item) → IsSound n ns ks xs → length xs ≤ 262144
+pub length-le-limit : (n ns ks : ℕ) (xs : List Item) → IsSound n ns ks xs → length xs ≤ MOST_NODES * MOST_KEYS
 length-le-limit n ns ks xs sound =
     let places = length-le-places ns ks xs sound.rising sound.in_place in
-    let nodes : ns * ks ≤ 4096 * ks = mul-le-mul_right ks sound.nodes_limit in
-    let keys : 4096 * ks ≤ 4096 * 64 = mul-le-mul_left 4096 sound.keys_limit in
+    let nodes : ns * ks ≤ MOST_NODES * ks = mul-le-mul_right ks sound.nodes_limit in
+    let keys : MOST_NODES * ks ≤ MOST_NODES * MOST_KEYS = mul-le-mul_left MOST_NODES sound.keys_limit in
     omega (arith, places, nodes, keys)

@@ -13,23 +13,7 @@ use Rattle.node_table.specs.Table.{Place, place_cmp}
 use Rattle.node_table.specs.View.{place_of, pair_of, pairs, held_of, IsRising}
 use Rattle.node_table.specs.Places.{IsAt, IsGapFor}
 use Rattle.node_table.proofs.Order.{place_total, place_turned}
-
-pub first : (a b : Bool) → T (a && b) → T a
-first true b p = tt
-first false b p = absurd p
-
-pub second : (a b : Bool) → T (a && b) → T b
-second true b p = p
-second false b p = absurd p
-
-pub both : (a b : Bool) → T a → T b → T (a && b)
-both true b p q = q
-both false b p q = p
-
-pub less : (o : Ordering) → T (is_lt o) → o ≡ Less
-less Less p = refl
-less Equal p = absurd p
-less Greater p = absurd p
+use Rattle.node_table.proofs.Comparing.{first, second, less, equal}
 
 below_at : (p : Place) (xs : List Item) (i : ℕ) (d : Item) → T (below_all place_cmp p (pairs xs)) → i < length xs → place_cmp p (place_of (get_or xs i d)) ≡ Less
 below_at p [] i d h lt = absurd (omega arith)
@@ -136,10 +120,5 @@ rising_tail x xs rising = second _ _ rising
 pub find_behind : (x : Item) (xs : List Item) (p : Place) → IsRising (x ∷ xs) → is_eq (place_cmp p (place_of x)) ≡ true → find place_cmp p (pairs xs) ≡ None
 find_behind x xs p rising tie = find_none xs p (λ j d lt. ap is_eq (above j d lt))
   where
-    equal : (r : Ordering) → is_eq r ≡ true → r ≡ Equal
-    equal Less h = absurd (subst (λ b. T (Rattle.std.specs.Prelude.not b)) h tt)
-    equal Equal h = refl
-    equal Greater h = absurd (subst (λ b. T (Rattle.std.specs.Prelude.not b)) h tt)
-
     above : (j : ℕ) (d : Item) → j < length xs → place_cmp (place_of (get_or xs j d)) p ≡ Greater
     above j d lt = place_turned p (place_of (get_or xs j d)) Less (place_total.congr p (place_of x) (place_of (get_or xs j d)) (equal _ tie) ∙ below_at (place_of x) xs j d (first _ _ rising) lt)

@@ -1,11 +1,7 @@
 -- What is known of the table that a sound list of items is seen as.
 use Rattle.std.proofs.Common.{◌≡◌, ℕ, true, false, cond, List, [], ◌∷◌, length, map, Some, All, refl, sym, ap, ◌∙◌, subst}
-use lib.Dec.{T}
-use Rattle.std.specs.declared.cmp.Ordering.{Ordering}
-use Rattle.std.specs.declared.cmp.Ordering.TheVariants.{Less, Equal, Greater}
 use Rattle.std.specs.Ordering.{is_eq}
-use Rattle.std.specs.List.{insert}
-use Rattle.std.specs.FinMap.{find, entries, get, get-from_sorted, len-entries}
+use Rattle.std.specs.FinMap.{find, get-from_sorted, len-entries}
 use Rattle.std.proofs.lemmas.List.{length-map}
 use Rattle.std.proofs.lemmas.List.Elements.{All-head, All-tail}
 use Rattle.bench_types.specs.declared.entries.Entry.{Entry}
@@ -14,11 +10,7 @@ use Rattle.node_table.specs.Table.{Place, place_cmp, item_of, items_of, count_of
 use Rattle.node_table.specs.View.{place_of, pair_of, pairs, held_of, table_of, IsItemInPlace, IsSound}
 use Rattle.node_table.proofs.Order.{place_same}
 use Rattle.node_table.proofs.Rising.{entries_of_held}
-
-equal : (r : Ordering) → is_eq r ≡ true → r ≡ Equal
-equal Less h = absurd (subst (λ b. T (Rattle.std.specs.Prelude.not b)) h tt)
-equal Equal h = refl
-equal Greater h = absurd (subst (λ b. T (Rattle.std.specs.Prelude.not b)) h tt)
+use Rattle.node_table.proofs.Comparing.{equal}
 
 -- what is found stands in its place
 pub found_in_place : (ns ks : ℕ) (xs : List Item) (p : Place) (e : Entry) → All (IsItemInPlace ns ks) xs → find place_cmp p (pairs xs) ≡ Some e → IsInPlace ns ks p.0 p.1 e

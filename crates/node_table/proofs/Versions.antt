@@ -73,6 +73,13 @@ greatest_at-le-among (i ∷ is) owner key =
       | false ↦ rest
     ]
 
+-- one item more, the owner's or another's
+pub greatest_among-own : (i : Item) (is : List Item) (owner : ℕ) → i.owner ≡ owner → greatest_among owner (i ∷ is) ≡ max i.entry.version (greatest_among owner is)
+greatest_among-own i is owner own = ap (λ b. if b then max i.entry.version (greatest_among owner is) else greatest_among owner is) (eq-eqb i.owner owner own)
+
+pub greatest_among-other : (i : Item) (is : List Item) (owner : ℕ) → i.owner ≢ owner → greatest_among owner (i ∷ is) ≡ greatest_among owner is
+greatest_among-other i is owner other = ap (λ b. if b then max i.entry.version (greatest_among owner is) else greatest_among owner is) (ne_eqb i.owner owner other)
+
 -- the greatest version of an owner's items is that of a key's
 pub greatest_among-at : (ns ks : ℕ) (added : List Item) (owner : ℕ) → All (IsItemInPlace ns ks) added → (greatest_among owner added ≡ 0) ⊎ ((key : ℕ) × (key < ks) × (greatest_at owner key added ≡ greatest_among owner added))
 greatest_among-at ns ks [] owner all = inl refl
@@ -82,22 +89,16 @@ greatest_among-at ns ks (i ∷ is) owner all =
       | inl own ↦ elim (cases_lt i.entry.version (greatest_among owner is)) [
         | inl less ↦ elim rest [
           | inl none ↦ absurd (omega arith)
-          | inr (key, lt, is_at) ↦ inr (key, lt, omega (arith, among own, greatest_at-le-among (i ∷ is) owner key, tail_le key))
+          | inr (key, lt, is_at) ↦ inr (key, lt, omega (arith, greatest_among-own i is owner own, greatest_at-le-among (i ∷ is) owner key, tail_le key))
         ]
-        | inr at_least ↦ inr (i.entry.key, (All-head (IsItemInPlace ns ks) i is all).key_below, omega (arith, among own, at_key own, greatest_at-le-among is owner i.entry.key))
+        | inr at_least ↦ inr (i.entry.key, (All-head (IsItemInPlace ns ks) i is all).key_below, omega (arith, greatest_among-own i is owner own, at_key own, greatest_at-le-among is owner i.entry.key))
       ]
       | inr other ↦ elim rest [
-        | inl none ↦ inl (omega (arith, passed other))
-        | inr (key, lt, is_at) ↦ inr (key, lt, omega (arith, passed other, missed other key))
+        | inl none ↦ inl (omega (arith, greatest_among-other i is owner other))
+        | inr (key, lt, is_at) ↦ inr (key, lt, omega (arith, greatest_among-other i is owner other, missed other key))
       ]
     ]
   where
-    among : i.owner ≡ owner → greatest_among owner (i ∷ is) ≡ max i.entry.version (greatest_among owner is)
-    among own = ap (λ b. if b then max i.entry.version (greatest_among owner is) else greatest_among owner is) (eq-eqb i.owner owner own)
-
-    passed : i.owner ≢ owner → greatest_among owner (i ∷ is) ≡ greatest_among owner is
-    passed other = ap (λ b. if b then max i.entry.version (greatest_among owner is) else greatest_among owner is) (ne_eqb i.owner owner other)
-
     missed : i.owner ≢ owner → (key : ℕ) → greatest_at owner key (i ∷ is) ≡ greatest_at owner key is
     missed other key = ap (λ b. if b && eqb i.entry.key key then max i.entry.version (greatest_at owner key is) else greatest_at owner key is) (ne_eqb i.owner owner other)
 

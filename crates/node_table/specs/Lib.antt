@@ -1,5 +1,5 @@
 pub mod Table
-pub mod Kept
+pub mod NodeTableView
 pub mod View
 pub mod Places
 pub mod Runs

@@ -7,6 +7,7 @@ use Rattle.std.specs.declared.cmp.Ordering.{Ordering}
 use Rattle.std.specs.FinMap.{FinMap, get, insert, retain_keys, entries, empty, len}
 use Rattle.bench_types.specs.declared.entries.Entry.{Entry}
 use Rattle.bench_types.specs.declared.entries.Item.{Item}
+use Rattle.bench_types.specs.declared.limits.TheConstants.{LEAST_KEYS, MOST_NODES, MOST_KEYS}
 use Rattle.bench_types.specs.Entry.{version_of, newer}
 
 -- an owner and one of its keys
@@ -86,7 +87,7 @@ pub record IsInPlace (nodes keys owner key : ℕ) (e : Entry) : Type 0 where
 -- what every node's table keeps
 pub record IsProper (t : Table) : Type 0 where
   pub node_below : t.node < t.nodes
-  pub nodes_limit : t.nodes ≤ 4096
-  pub some_key : 1 ≤ t.keys
-  pub keys_limit : t.keys ≤ 64
+  pub nodes_limit : t.nodes ≤ MOST_NODES
+  pub some_key : LEAST_KEYS ≤ t.keys
+  pub keys_limit : t.keys ≤ MOST_KEYS
   pub in_place : (owner key : ℕ) (e : Entry) → entry_at t owner key ≡ Some e → IsInPlace t.nodes t.keys owner key e

@@ -4,6 +4,7 @@ use lib.Dec.{T}
 use Rattle.std.specs.FinMap.{from_sorted, is_sorted}
 use Rattle.bench_types.specs.declared.entries.Entry.{Entry}
 use Rattle.bench_types.specs.declared.entries.Item.{Item}
+use Rattle.bench_types.specs.declared.limits.TheConstants.{LEAST_KEYS, MOST_NODES, MOST_KEYS}
 use Rattle.node_table.specs.Table.{Place, place_cmp, Held, Table, IsInPlace}
 
 abbrev pub place_of : Item → Place
@@ -30,8 +31,8 @@ IsRising xs = T (is_sorted place_cmp (pairs xs))
 
 pub record IsSound (node nodes keys : ℕ) (items : List Item) : Type 0 where
   pub node_below : node < nodes
-  pub nodes_limit : nodes ≤ 4096
-  pub some_key : 1 ≤ keys
-  pub keys_limit : keys ≤ 64
+  pub nodes_limit : nodes ≤ MOST_NODES
+  pub some_key : LEAST_KEYS ≤ keys
+  pub keys_limit : keys ≤ MOST_KEYS
   pub rising : IsRising items
   pub in_place : All (IsItemInPlace nodes keys) items

@@ -5,7 +5,5 @@
 mod merges;
 mod searches;
 mod tables;
-#[cfg(test)]
-mod tests;
 
 pub use tables::NodeTable;

@@ -1,6 +1,6 @@
 //! The table, as one vector of items that rises by owner and then by key.
 
-ghost use Rattle.std.specs.Prelude.{◌≡◌, ◌≢◌, ℕ, ◌+◌, ◌^◌, ◌<◌, ◌≤◌, All, IfOk, IsOk, OnOk, OnErr, IsOkUnless, vec_len, vec_capacity};
+ghost use Rattle.std.specs.Prelude.{◌≡◌, ◌≢◌, ◌↔◌, ℕ, ◌+◌, ◌^◌, ◌<◌, ◌≤◌, All, IfOk, IsOk, IsTrue, OnOk, OnErr, IsOkUnless, vec_len, vec_capacity};
 ghost use Rattle.std.specs.FinMap.{put as put_entry};
 ghost use Rattle.node_table.specs.Table.{place_cmp};
 ghost use Rattle.node_table.specs.View.{IsRising, IsItemInPlace, place_of, pairs};
@@ -9,6 +9,7 @@ ghost use Rattle.bench_types.specs.declared.faults.Fault.TheVariants.{OutOfMemor
 
 use crate::merges::{merge, order_by_place};
 use crate::searches::search;
+use bench_types::limits::{LEAST_KEYS, MOST_KEYS, MOST_NODES};
 use bench_types::{Entry, Fault, Item};
 use std::alloc::{AllocFailed, Global};
 use std::marker::Model;
@@ -26,10 +27,10 @@ pub struct NodeTable {
 
 impl Model for NodeTable {
     ghost use Rattle.std.specs.Prelude.{◌-◌, min, vec_len, vec_capacity};
-    ghost use Rattle.node_table.specs.Kept.{Kept, kept_code};
+    ghost use Rattle.node_table.specs.NodeTableView.{NodeTableView, kept_code};
     ghost use Rattle.node_table.specs.View.{table_of, IsSound};
 
-    ghost Value = { Kept };
+    ghost Value = { NodeTableView };
 
     ghost coded = { kept_code };
 
@@ -40,15 +41,15 @@ impl Model for NodeTable {
 
 impl NodeTable {
     ghost use Rattle.node_table.specs.Table.{empty_table, entry_at, greatest_version, count_of, items_of, with_own_write, applied, without_others, IsProper};
-    ghost use Rattle.node_table.specs.Kept.{HasRoom};
+    ghost use Rattle.node_table.specs.NodeTableView.{HasRoom, MayApply, MayReceive};
     ghost use Rattle.node_table.specs.View.{IsItemInPlace};
 
     /// The empty table of a node. It takes no memory, so it always succeeds.
     pub fn new(alloc: Global, node: u32, nodes: u32, keys: u32) -> Result<NodeTable, Fault>
         requires node { node < nodes }
-        requires nodes { nodes ≤ 4096 }
-        requires some_key { 1 ≤ keys }
-        requires keys { keys ≤ 64 }
+        requires nodes { nodes ≤ MOST_NODES }
+        requires some_key { LEAST_KEYS ≤ keys }
+        requires keys { keys ≤ MOST_KEYS }
         ensures succeeds { IsOk result }
         ensures empty { IfOk result (λ t. t.table ≡ empty_table node nodes keys) }
         ensures only { IsOkUnless result OutOfMemory }
@@ -179,10 +180,30 @@ impl NodeTable {
         merge(&mut self.items, added, &mut self.order);
     }
 
+    /// Whether `apply` takes these items, for a caller that doesn't know it. One walk over the list.
+    pub fn may_apply(&self, added: &[Item]) -> bool
+        ensures { IsTrue result ↔ MayApply self.now added.now }
+    {
+        let room = self.items.capacity() - self.items.len();
+        added.len() <= room.min(self.order.capacity())
+            && added.iter().all(|item| self.may_receive(*item))
+    }
+
+    // Whether an item is another node's and in its place.
+    fn may_receive(&self, item: Item) -> bool
+        ensures { IsTrue result ↔ MayReceive self.now.table item }
+    {
+        item.owner != self.node
+            && item.owner < self.nodes
+            && item.entry.key < self.keys
+            && item.entry.version > 0
+    }
+
     /// Drops the entries of all other owners, as a restart does. One walk over the table, in place:
     /// it takes no memory and gives none back.
     pub fn forget_others(&mut self)
-        ensures { self.new.table ≡ without_others self.old.table }
+        ensures table { self.new.table ≡ without_others self.old.table }
+        ensures keeps_room { self.old.spare ≤ self.new.spare }
     {
         let node = self.node;
         self.items.retain(|item| item.owner == node);

@@ -1,14 +1,14 @@
 -- Every lawful schedule gives the tables and records of list order.
-use Rattle.std.proofs.Common.{◌≡◌, ◌≢◌, ◌∙◌, ℕ, suc, ◌+◌, ◌<◌, ◌≤◌, ◌⊎◌, Bool, true, false, ◌==◌, if◌then◌else◌, List, [], ◌∷◌, ◌++◌, length, inl, inr, Option, None, Some, refl, sym, ap, subst, arith, add-one}
+use Rattle.std.proofs.Common.{◌≡◌, ◌≢◌, ◌∙◌, ℕ, suc, ◌+◌, ◌<◌, ◌≤◌, ◌⊎◌, Bool, true, false, if◌then◌else◌, List, [], ◌∷◌, ◌++◌, length, inl, inr, Option, None, Some, refl, sym, ap, subst, arith, add-one}
 use Rattle.std.specs.Prelude.{slice_get}
-use Rattle.std.proofs.lemmas.Bool.{cases_Bool, cases_lt, cases_eq, and_from, false_from_ne_true, false≢true, eqb-true, eq-eqb}
+use Rattle.std.proofs.lemmas.Bool.{cases_Bool, cases_lt, cases_eq, and_from, false_from_ne_true, false≢true}
 use Rattle.std.proofs.lemmas.List.Sums.{fold_push}
 use Rattle.std.proofs.lemmas.Option.{slice_get-get_or}
 use Rattle.bench_types.specs.declared.exchanges.Exchange.{Exchange}
 use Rattle.bench_types.specs.declared.exchanges.Rules.{Rules}
 use Rattle.node_table.specs.Table.{Table, empty_table}
 use Rattle.exchange.specs.Exchanged.{Exchanged}
-use Rattle.exchange.specs.Folds.{fold_of}
+use Rattle.cluster.specs.Folds.{fold_of}
 use Rattle.planner.specs.declared.events.Event.{Event}
 use Rattle.planner.specs.declared.events.Event.TheVariants.{Start, Finish}
 use Rattle.planner.specs.Sharing.{exchange_at, takes_part, share_node}
@@ -19,21 +19,8 @@ use Rattle.planner.proofs.Predecessors.{share_from}
 use Rattle.planner.proofs.Sharers.{share_sym, initiator_part, responder_part, not_initiator, not_responder, part_cases}
 use Rattle.planner.proofs.Histories.{on_schedules, started-finish, finished-start, IsHistory, history_of}
 use Rattle.planner.proofs.Moments.{started_now, finished_now, started_stays, started_cases, finished_cases, finish_other, running_started, running_unfinished, running_from, starts_once, finishes_once}
+use Rattle.planner.proofs.Maps.{with_at-same, with_at-other, with_two-neither, with_two-first}
 use Rattle.planner.proofs.Moves.{table_before, done_at, record_kept, table_at_end, among_at, initiator_left, responder_left, table_upto, upto_quiet, upto_same}
-
--- a map changed at one place
-pub at_place : {A : Type 0} (f : ℕ → A) (place n : ℕ) (x : A) → n ≡ place → with_at f place x n ≡ x
-at_place f place n x same = ap (λ (b : Bool). if b then x else f n) (eq-eqb n place same)
-
-pub at_other : {A : Type 0} (f : ℕ → A) (place n : ℕ) (x : A) → n ≢ place → with_at f place x n ≡ f n
-at_other f place n x other = ap (λ (b : Bool). if b then x else f n) (false_from_ne_true (n == place) (λ same. other (eqb-true n place same)))
-
--- a map changed at two places
-at_neither : {A : Type 0} (f : ℕ → A) (p q n : ℕ) (x y : A) → n ≢ p → n ≢ q → with_at (with_at f p x) q y n ≡ f n
-at_neither f p q n x y not_p not_q = at_other (with_at f p x) q n y not_q ∙ at_other f p n x not_p
-
-at_first : {A : Type 0} (f : ℕ → A) (p q n : ℕ) (x y : A) → n ≡ p → n ≢ q → with_at (with_at f p x) q y n ≡ x
-at_first f p q n x y is_p not_q = at_other (with_at f p x) q n y not_q ∙ at_place f p n x is_p
 
 -- running exchanges share no node
 module _ (es : List Exchange) (events : List Event) (history : IsHistory es events) where
@@ -81,10 +68,10 @@ pub record Follows (rules : Rules) (ts : List Table) (es : List Exchange) (event
 
 both_none : (f : ℕ → Option Table) (p q node : ℕ) → (p ≡ node) ⊎ (q ≡ node) → with_at (with_at f p None) q None node ≡ None
 both_none f p q node (inl first) = elim (cases_eq node q) [
-  | inl second ↦ at_place (with_at f p None) q node None second
-  | inr other ↦ at_first f p q node None None (sym first) other
+  | inl second ↦ with_at-same (with_at f p None) q node None second
+  | inr other ↦ with_two-first f p q node None None (sym first) other
 ]
-both_none f p q node (inr second) = at_place (with_at f p None) q node None (sym second)
+both_none f p q node (inr second) = with_at-same (with_at f p None) q node None (sym second)
 
 module _ (rules : Rules) (ts : List Table) (es : List Exchange) (among : AreAmong ts es) where
   module _ (before : List Event) (history : IsHistory es before) (s : State) (so_far : Follows rules ts es before s) (i : ℕ) where
@@ -123,17 +110,17 @@ module _ (rules : Rules) (ts : List Table) (es : List Exchange) (among : AreAmon
       pub follows_start : Follows rules ts es (before ++ Start i ∷ []) (after_event rules es s (Start i))
       follows_start = record {
         taken = λ k runs. elim (cases_eq k i) [
-          | inl here ↦ at_place s.out i k (both_of (s.home p) (s.home q)) here ∙ both ∙ ap (λ n. Some (taken_before rules ts es n)) (sym here)
-          | inr other ↦ at_other s.out i k (both_of (s.home p) (s.home q)) other ∙ so_far.taken k (was_running k runs other)
+          | inl here ↦ with_at-same s.out i k (both_of (s.home p) (s.home q)) here ∙ both ∙ ap (λ n. Some (taken_before rules ts es n)) (sym here)
+          | inr other ↦ with_at-other s.out i k (both_of (s.home p) (s.home q)) other ∙ so_far.taken k (was_running k runs other)
         ];
         away = λ k node runs part. elim (cases_Bool (takes_part es node i)) [
           | inl in_i ↦ both_none s.home p q node (part_cases es node i in_i)
-          | inr out ↦ at_neither s.home p q node None None (not_initiator es node i out) (not_responder es node i out)
+          | inr out ↦ with_two-neither s.home p q node None None (not_initiator es node i out) (not_responder es node i out)
               ∙ so_far.away k node (was_running k runs (λ here. false≢true (sym out ∙ subst (λ n. takes_part es node n ≡ true) here part))) part
         ];
         home = λ node lt none.
             let out = none i now_running in
-            at_neither s.home p q node None None (not_initiator es node i out) (not_responder es node i out)
+            with_two-neither s.home p q node None None (not_initiator es node i out) (not_responder es node i out)
             ∙ so_far.home node lt (λ k runs. none k (still_running k runs))
             ∙ ap (λ n. Some (table_before rules ts es node n)) (sym (upto_same es before (before ++ Start i ∷ []) node (length es) (λ j _. finished-start before j i)));
         records = λ k finished. so_far.records k (sym (finished-start before k i) ∙ finished);
@@ -177,12 +164,12 @@ module _ (rules : Rules) (ts : List Table) (es : List Exchange) (among : AreAmon
       left_home : (node : ℕ) → node < length ts → ((k : ℕ) → is_running (before ++ Finish i ∷ []) k ≡ true → takes_part es node k ≡ false) → left.home node ≡ Some (table_left rules ts es (before ++ Finish i ∷ []) node)
       left_home node lt none = elim (cases_eq node q) [
         | inl second ↦ subst (λ n. left.home n ≡ Some (table_left rules ts es (before ++ Finish i ∷ []) n)) (sym second)
-            (at_place (with_at s.home p (Some done.initiator)) q q (Some done.responder) refl ∙ ap Some (sym (ap (table_before rules ts es q) (last_of q (responder_part es i)) ∙ responder_left rules ts es among i in_list)))
+            (with_at-same (with_at s.home p (Some done.initiator)) q q (Some done.responder) refl ∙ ap Some (sym (ap (table_before rules ts es q) (last_of q (responder_part es i)) ∙ responder_left rules ts es among i in_list)))
         | inr not_q ↦ elim (cases_eq node p) [
           | inl first ↦ subst (λ n. left.home n ≡ Some (table_left rules ts es (before ++ Finish i ∷ []) n)) (sym first)
-              (at_first s.home p q p (Some done.initiator) (Some done.responder) refl (among_at rules ts es among i in_list).apart ∙ ap Some (sym (ap (table_before rules ts es p) (last_of p (initiator_part es i)) ∙ initiator_left rules ts es among i in_list)))
+              (with_two-first s.home p q p (Some done.initiator) (Some done.responder) refl (among_at rules ts es among i in_list).apart ∙ ap Some (sym (ap (table_before rules ts es p) (last_of p (initiator_part es i)) ∙ initiator_left rules ts es among i in_list)))
           | inr not_p ↦
-              at_neither s.home p q node (Some done.initiator) (Some done.responder) not_p not_q
+              with_two-neither s.home p q node (Some done.initiator) (Some done.responder) not_p not_q
               ∙ so_far.home node lt (λ k runs_k. elim (cases_eq k i) [
                 | inl here ↦ subst (λ n. takes_part es node n ≡ false) (sym here) (out not_p not_q)
                 | inr other ↦ none k (runs_on k other runs_k)
@@ -199,15 +186,15 @@ module _ (rules : Rules) (ts : List Table) (es : List Exchange) (among : AreAmon
 
       pub follows_finish : Follows rules ts es (before ++ Finish i ∷ []) (after_event rules es s (Finish i))
       follows_finish = subst (Follows rules ts es (before ++ Finish i ∷ [])) (ap (put_back rules (exchange_at es i) i s) (sym (so_far.taken i runs))) (record {
-        taken = λ k runs_k. at_other s.out i k None (not_now k runs_k) ∙ so_far.taken k (ran k runs_k);
+        taken = λ k runs_k. with_at-other s.out i k None (not_now k runs_k) ∙ so_far.taken k (ran k runs_k);
         away = λ k node runs_k part.
             let out : takes_part es node i ≡ false = false_from_ne_true (takes_part es node i) (λ in_i. false≢true (sym (running_apart es before history i k (λ same. not_now k runs_k (sym same)) runs (ran k runs_k)) ∙ share_from es node i k in_i part)) in
-            at_neither s.home (exchange_at es i).initiator (exchange_at es i).responder node (Some (done_at rules ts es i).initiator) (Some (done_at rules ts es i).responder) (not_initiator es node i out) (not_responder es node i out)
+            with_two-neither s.home (exchange_at es i).initiator (exchange_at es i).responder node (Some (done_at rules ts es i).initiator) (Some (done_at rules ts es i).responder) (not_initiator es node i out) (not_responder es node i out)
             ∙ so_far.away k node (ran k runs_k) part;
         home = left_home;
         records = λ k finished. elim (cases_eq k i) [
-          | inl here ↦ at_place s.records i k (Some (done_at rules ts es i).sent) here ∙ sym (record_kept rules ts es i in_list) ∙ ap (slice_get (fold_of rules ts es).records) (sym here)
-          | inr other ↦ at_other s.records i k (Some (done_at rules ts es i).sent) other ∙ so_far.records k (sym (finish_other before i k other) ∙ finished)
+          | inl here ↦ with_at-same s.records i k (Some (done_at rules ts es i).sent) here ∙ sym (record_kept rules ts es i in_list) ∙ ap (slice_get (fold_of rules ts es).records) (sym here)
+          | inr other ↦ with_at-other s.records i k (Some (done_at rules ts es i).sent) other ∙ so_far.records k (sym (finish_other before i k other) ∙ finished)
         ];
       })
 

@@ -6,6 +6,7 @@ pub mod Sets
 pub mod Histories
 pub mod Moments
 pub mod Sharers
+pub mod Maps
 pub mod Moves
 pub mod Standings
 pub mod Passes

@@ -11,8 +11,10 @@ use Rattle.bench_types.specs.declared.exchanges.Exchange.{Exchange}
 use Rattle.bench_types.specs.declared.exchanges.Rules.{Rules}
 use Rattle.node_table.specs.Table.{Table, empty_table}
 use Rattle.exchange.specs.Exchanged.{Exchanged, exchanged}
-use Rattle.exchange.specs.Folds.{Folded, table_of_node, exchange_in, fold_of, tables_before}
-use Rattle.exchange.specs.Clusters.{IsAmong}
+use Rattle.cluster.specs.Tables.{table_of_node}
+use Rattle.cluster.proofs.FoldLaws.{fold_counts_records, fold_counts_tables}
+use Rattle.cluster.specs.Folds.{Folded, exchange_in, fold_of, tables_before}
+use Rattle.bench_types.specs.Exchange.{IsPlanned}
 use Rattle.planner.specs.declared.events.Event.{Event}
 use Rattle.planner.specs.Sharing.{no_exchange, exchange_at, takes_part}
 use Rattle.planner.specs.Schedules.{is_finished}
@@ -30,18 +32,6 @@ fold_keeps_records rules (x ∷ xs) s j lt =
     ∙ slice_get-get_or t.records j sent more
     ∙ ap Some (get_or_append_left s.records (sent ∷ []) sent j lt)
     ∙ sym (slice_get-get_or s.records j sent lt)
-
-fold_counts_records : (rules : Rules) (xs : List Exchange) (s : Folded) → length (fold (exchange_in rules) s xs).records ≡ length s.records + length xs
-fold_counts_records rules [] s = omega arith
-fold_counts_records rules (x ∷ xs) s =
-    let sent = (exchanged rules x (table_of_node s.tables x.initiator) (table_of_node s.tables x.responder)).sent in
-    omega (arith, fold_counts_records rules xs (exchange_in rules s x), length-append s.records (sent ∷ []))
-
-fold_counts_tables : (rules : Rules) (xs : List Exchange) (s : Folded) → length (fold (exchange_in rules) s xs).tables ≡ length s.tables
-fold_counts_tables rules [] s = refl
-fold_counts_tables rules (x ∷ xs) s =
-    let done = exchanged rules x (table_of_node s.tables x.initiator) (table_of_node s.tables x.responder) in
-    fold_counts_tables rules xs (exchange_in rules s x) ∙ length-set (set s.tables x.initiator done.initiator) x.responder done.responder ∙ length-set s.tables x.initiator done.initiator
 
 module _ (rules : Rules) (ts : List Table) (es : List Exchange) where
   -- a node's table before an exchange
@@ -90,8 +80,8 @@ module _ (rules : Rules) (ts : List Table) (es : List Exchange) where
       ∙ ap (λ xs. Some (table_of_node xs node)) (sym tables_at_end)
 
   module _ (among : AreAmong ts es) where
-    pub among_at : (i : ℕ) → i < length es → IsAmong (length ts) (exchange_at es i)
-    among_at i lt = All-get_or (IsAmong (length ts)) es i no_exchange lt among
+    pub among_at : (i : ℕ) → i < length es → IsPlanned (length ts) (exchange_at es i)
+    among_at i lt = All-get_or (IsPlanned (length ts)) es i no_exchange lt among
 
     pub initiator_left : (i : ℕ) → i < length es → table_before (exchange_at es i).initiator (i + 1) ≡ (done_at i).initiator
     initiator_left i lt =

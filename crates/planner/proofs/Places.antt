@@ -1,7 +1,7 @@
 -- What stands in the places, and how starts and finishes change it.
-use Rattle.std.proofs.Common.{◌≡◌, ◌≢◌, ℕ, zero, suc, ◌<◌, ◌==◌, List, [], ◌∷◌, ◌++◌, length, get_or, set, map, fold, Option, None, Some, inl, inr, refl, sym, ap, ◌∙◌, subst, arith}
+use Rattle.std.proofs.Common.{◌≡◌, ◌≢◌, ℕ, zero, suc, ◌<◌, List, [], ◌∷◌, ◌++◌, length, get_or, set, map, fold, Option, None, Some, inl, inr, refl, sym, ap, ◌∙◌, subst, arith}
 use Rattle.std.specs.List.{slice_get, filter_map, cons_option}
-use Rattle.std.proofs.lemmas.Bool.{cases_eq, eq-eqb, ne_eqb, cond-true, cond-false}
+use Rattle.std.proofs.lemmas.Bool.{cases_eq}
 use Rattle.std.proofs.lemmas.List.{get_or-set_same, get_or-set_other, length-set, get_or_read, append_assoc, append-nil}
 use Rattle.std.proofs.lemmas.List.Elements.{filter_map-append}
 use Rattle.std.proofs.lemmas.Option.{same_Some, none-some, slice_get_within, get_or_from_slice_get}
@@ -9,31 +9,24 @@ use Rattle.bench_types.specs.declared.exchanges.Exchange.{Exchange}
 use Rattle.bench_types.specs.declared.exchanges.Record.{Record}
 use Rattle.bench_types.specs.declared.exchanges.Rules.{Rules}
 use Rattle.node_table.specs.Table.{Table, empty_table}
-use Rattle.node_table.specs.Kept.{Kept}
+use Rattle.node_table.specs.NodeTableView.{NodeTableView}
 use Rattle.exchange.specs.Exchanged.{Exchanged, exchanged}
-use Rattle.exchange.specs.Owns.{KeepsOwn}
-use Rattle.exchange.specs.Clusters.{IsTableOf, AreTablesInOrder}
+use Rattle.cluster.specs.Tables.{tables_in, IsTableOf, AreTablesInOrder}
+use Rattle.cluster.proofs.Tables.{still_table_of}
 use Rattle.exchange.proofs.OwnParts.{initiator_keeps_own, responder_keeps_own}
 use Rattle.planner.specs.declared.events.Event.{Event}
 use Rattle.planner.specs.declared.events.Event.TheVariants.{Start, Finish}
 use Rattle.planner.specs.declared.plays.Pair.{Pair}
 use Rattle.planner.specs.Sharing.{exchange_at}
 use Rattle.planner.specs.States.{Taken, State, with_at, both_of, opened, put_back, after_event, state_of}
-use Rattle.planner.specs.Places.{table_of, taken_of, in_place, itself, pair_of, IsOf, IsPairOf, AreInPlace}
-use Rattle.planner.specs.Plays.{tables_of}
-
--- a map changed at one place
-pub with_at-same : {A : Type 0} (f : ℕ → A) (place : ℕ) (x : A) (n : ℕ) → n ≡ place → with_at f place x n ≡ x
-with_at-same f place x n same = cond-true (n == place) x (f n) (eq-eqb n place same)
-
-pub with_at-other : {A : Type 0} (f : ℕ → A) (place : ℕ) (x : A) (n : ℕ) → n ≢ place → with_at f place x n ≡ f n
-with_at-other f place x n other = cond-false (n == place) x (f n) (ne_eqb n place other)
+use Rattle.planner.proofs.Maps.{with_at-same, with_at-other}
+use Rattle.planner.specs.Places.{table_of, taken_of, in_place, itself, pair_of, IsPairOf, AreInPlace}
 
 -- a list changed at one place, as a map
 pub seen-set : {A B : Type 0} (f : A → B) (xs : List A) (d : A) (place : ℕ) (x : A) → place < length xs → (n : ℕ) → with_at (λ m. f (get_or xs m d)) place (f x) n ≡ f (get_or (set xs place x) n d)
 seen-set f xs d place x lt n = elim (cases_eq n place) [
-  | inl same ↦ with_at-same (λ m. f (get_or xs m d)) place (f x) n same ∙ ap f (sym (ap (λ m. get_or (set xs place x) m d) same ∙ get_or-set_same xs place x d lt))
-  | inr other ↦ with_at-other (λ m. f (get_or xs m d)) place (f x) n other ∙ ap f (sym (get_or-set_other xs place n x d other))
+  | inl same ↦ with_at-same (λ m. f (get_or xs m d)) place n (f x) same ∙ ap f (sym (ap (λ m. get_or (set xs place x) m d) same ∙ get_or-set_same xs place x d lt))
+  | inr other ↦ with_at-other (λ m. f (get_or xs m d)) place n (f x) other ∙ ap f (sym (get_or-set_other xs place n x d other))
 ]
 
 -- and at two
@@ -42,7 +35,7 @@ seen-set_both f xs d p q x y in_p in_q n =
     (λ i. with_at (λ m. seen-set f xs d p x in_p m i) q (f y) n)
     ∙ seen-set f (set xs p x) d q y (omega (arith, length-set xs p x)) n
 
-pub pair-both : (p q : Option Kept) → both_of (table_of p) (table_of q) ≡ taken_of (pair_of p q)
+pub pair-both : (p q : Option NodeTableView) → both_of (table_of p) (table_of q) ≡ taken_of (pair_of p q)
 pair-both None None = refl
 pair-both None (Some q) = refl
 pair-both (Some p) None = refl
@@ -52,18 +45,14 @@ pair-both (Some p) (Some q) = refl
 pub same_state : (s t : State) → ((n : ℕ) → s.home n ≡ t.home n) → ((i : ℕ) → s.out i ≡ t.out i) → ((i : ℕ) → s.records i ≡ t.records i) → s ≡ t
 same_state s t home out records = λ i. record { home = λ n. home n i; out = λ n. out n i; records = λ n. records n i }
 
--- an exchange keeps node, nodes and keys of both tables
-kept_of : (nodes keys n : ℕ) (t u : Table) → IsOf nodes keys n t → KeepsOwn t u → IsOf nodes keys n u
-kept_of nodes keys n t u is own = record { node = own.node ∙ is.node; nodes = own.nodes ∙ is.nodes; keys = own.keys ∙ is.keys }
-
 module _ (nodes keys : ℕ) (es : List Exchange) where
   with_at-each : {A : Type 0} (P : ℕ → A → Type 0) (f : ℕ → Option A) (place : ℕ) (x : Option A) → ((n : ℕ) (t : A) → f n ≡ Some t → P n t) → ((t : A) → x ≡ Some t → P place t) → (n : ℕ) (t : A) → with_at f place x n ≡ Some t → P n t
   with_at-each P f place x others here n t is = elim (cases_eq n place) [
-    | inl same ↦ subst (λ m. P m t) (sym same) (here t (sym (with_at-same f place x n same) ∙ is))
-    | inr other ↦ others n t (sym (with_at-other f place x n other) ∙ is)
+    | inl same ↦ subst (λ m. P m t) (sym same) (here t (sym (with_at-same f place n x same) ∙ is))
+    | inr other ↦ others n t (sym (with_at-other f place n x other) ∙ is)
   ]
 
-  both : (e : Exchange) (p q : Option Table) → ((t : Table) → p ≡ Some t → IsOf nodes keys e.initiator t) → ((t : Table) → q ≡ Some t → IsOf nodes keys e.responder t) → (taken : Taken) → both_of p q ≡ Some taken → IsPairOf nodes keys e taken
+  both : (e : Exchange) (p q : Option Table) → ((t : Table) → p ≡ Some t → IsTableOf nodes keys e.initiator t) → ((t : Table) → q ≡ Some t → IsTableOf nodes keys e.responder t) → (taken : Taken) → both_of p q ≡ Some taken → IsPairOf nodes keys e taken
   both e None None first second taken is = absurd (none-some taken is)
   both e None (Some q) first second taken is = absurd (none-some taken is)
   both e (Some p) None first second taken is = absurd (none-some taken is)
@@ -76,10 +65,10 @@ module _ (nodes keys : ℕ) (es : List Exchange) where
       let both_are = pair taken refl in
       let done = exchanged rules e taken.initiator taken.responder in
       record {
-        home = with_at-each (IsOf nodes keys) (with_at s.home e.initiator (Some done.initiator)) e.responder (Some done.responder)
-            (with_at-each (IsOf nodes keys) s.home e.initiator (Some done.initiator) placed.home
-            (λ t is. subst (IsOf nodes keys e.initiator) (same_Some done.initiator t is) (kept_of nodes keys e.initiator taken.initiator done.initiator both_are.initiator (initiator_keeps_own rules e taken.initiator taken.responder))))
-            (λ t is. subst (IsOf nodes keys e.responder) (same_Some done.responder t is) (kept_of nodes keys e.responder taken.responder done.responder both_are.responder (responder_keeps_own rules e taken.initiator taken.responder)));
+        home = with_at-each (IsTableOf nodes keys) (with_at s.home e.initiator (Some done.initiator)) e.responder (Some done.responder)
+            (with_at-each (IsTableOf nodes keys) s.home e.initiator (Some done.initiator) placed.home
+            (λ t is. subst (IsTableOf nodes keys e.initiator) (same_Some done.initiator t is) (still_table_of (initiator_keeps_own rules e taken.initiator taken.responder) both_are.initiator)))
+            (λ t is. subst (IsTableOf nodes keys e.responder) (same_Some done.responder t is) (still_table_of (responder_keeps_own rules e taken.initiator taken.responder) both_are.responder));
         out = with_at-each (λ j t. IsPairOf nodes keys (exchange_at es j) t) s.out i None placed.out (λ t is. absurd (none-some t is));
       }
 
@@ -87,8 +76,8 @@ module _ (nodes keys : ℕ) (es : List Exchange) where
   in_place_then rules s (Start i) placed =
       let e = exchange_at es i in
       record {
-        home = with_at-each (IsOf nodes keys) (with_at s.home e.initiator None) e.responder None
-            (with_at-each (IsOf nodes keys) s.home e.initiator None placed.home (λ t is. absurd (none-some t is)))
+        home = with_at-each (IsTableOf nodes keys) (with_at s.home e.initiator None) e.responder None
+            (with_at-each (IsTableOf nodes keys) s.home e.initiator None placed.home (λ t is. absurd (none-some t is)))
             (λ t is. absurd (none-some t is));
         out = with_at-each (λ j t. IsPairOf nodes keys (exchange_at es j) t) s.out i (both_of (s.home e.initiator) (s.home e.responder)) placed.out
             (both e (s.home e.initiator) (s.home e.responder) (placed.home e.initiator) (placed.home e.responder));
@@ -104,19 +93,19 @@ module _ (nodes keys : ℕ) (es : List Exchange) where
   always_in_place rules ts events placed = in_place_after rules events (opened ts) placed
 
 -- the state that such lists show
-abbrev pub state_with : List (Option Kept) → List (Option Pair) → List (Option Record) → State
+abbrev pub state_with : List (Option NodeTableView) → List (Option Pair) → List (Option Record) → State
 state_with homes out records = record {
   home = λ n. table_of (get_or homes n None);
   out = λ i. taken_of (get_or out i None);
   records = λ i. get_or records i None;
 }
 
-module _ (rules : Rules) (es read : List Exchange) (same : read ≡ es) (i : ℕ) (homes : List (Option Kept)) (out : List (Option Pair)) (records : List (Option Record)) (in_p : (exchange_at read i).initiator < length homes) (in_q : (exchange_at read i).responder < length homes) (apart : (exchange_at read i).initiator ≢ (exchange_at read i).responder) (in_out : i < length out) where
+module _ (rules : Rules) (es read : List Exchange) (same : read ≡ es) (i : ℕ) (homes : List (Option NodeTableView)) (out : List (Option Pair)) (records : List (Option Record)) (in_p : (exchange_at read i).initiator < length homes) (in_q : (exchange_at read i).responder < length homes) (apart : (exchange_at read i).initiator ≢ (exchange_at read i).responder) (in_out : i < length out) where
   abbrev e : Exchange
   e = exchange_at read i
 
   -- both tables taken out
-  pub taken_out : (a b x y : Option Kept) (z : Option Pair) → a ≡ get_or homes e.initiator a → x ≡ None → b ≡ get_or (set homes e.initiator x) e.responder b → y ≡ None → z ≡ pair_of a b → after_event rules es (state_with homes out records) (Start i) ≡ state_with (set (set homes e.initiator x) e.responder y) (set out i z) records
+  pub taken_out : (a b x y : Option NodeTableView) (z : Option Pair) → a ≡ get_or homes e.initiator a → x ≡ None → b ≡ get_or (set homes e.initiator x) e.responder b → y ≡ None → z ≡ pair_of a b → after_event rules es (state_with homes out records) (Start i) ≡ state_with (set (set homes e.initiator x) e.responder y) (set out i z) records
   taken_out a b x y z read_a empty_x read_b empty_y pair =
       ap (λ l. after_event rules l (state_with homes out records) (Start i)) (sym same)
       ∙ same_state (after_event rules read (state_with homes out records) (Start i)) (state_with (set (set homes e.initiator x) e.responder y) (set out i z) records)
@@ -134,7 +123,7 @@ module _ (rules : Rules) (es read : List Exchange) (same : read ≡ es) (i : ℕ
       there = pair-both (get_or homes e.initiator None) (get_or homes e.responder None) ∙ (λ k. taken_of (pair_of (first k) (second k))) ∙ ap taken_of (sym pair)
 
   -- both tables put back, and the record kept
-  pub come_back : (in_records : i < length records) (pair : Pair) (x y : Kept) (r : Record) (z : Option Pair) → get_or out i None ≡ Some pair → exchanged rules e pair.initiator.table pair.responder.table ≡ record { initiator = x.table; responder = y.table; sent = r } → z ≡ None → after_event rules es (state_with homes out records) (Finish i) ≡ state_with (set (set homes e.initiator (Some x)) e.responder (Some y)) (set out i z) (set records i (Some r))
+  pub come_back : (in_records : i < length records) (pair : Pair) (x y : NodeTableView) (r : Record) (z : Option Pair) → get_or out i None ≡ Some pair → exchanged rules e pair.initiator.table pair.responder.table ≡ record { initiator = x.table; responder = y.table; sent = r } → z ≡ None → after_event rules es (state_with homes out records) (Finish i) ≡ state_with (set (set homes e.initiator (Some x)) e.responder (Some y)) (set out i z) (set records i (Some r))
   come_back in_records pair x y r z was done empty =
       ap (λ l. after_event rules l (state_with homes out records) (Finish i)) (sym same)
       ∙ ap (λ t. put_back rules e i (state_with homes out records) (taken_of t)) was
@@ -159,7 +148,7 @@ pub taken_there : {A : Type 0} (xs : List (Option A)) (i : ℕ) (a b : Option A)
 taken_there xs i a b x lt same read is = sym (get_or_read xs i b lt read None) ∙ sym same ∙ is
 
 -- the two tables that an exchange has taken out are its nodes' own
-pub met : (nodes keys : ℕ) (es read : List Exchange) (i : ℕ) (homes : List (Option Kept)) (out : List (Option Pair)) (records : List (Option Record)) (a b : Option Pair) (pair : Pair) → read ≡ es → AreInPlace nodes keys es (state_with homes out records) → i < length out → a ≡ b → b ≡ get_or out i b → a ≡ Some pair → IsPairOf nodes keys (exchange_at read i) (record { initiator = pair.initiator.table; responder = pair.responder.table })
+pub met : (nodes keys : ℕ) (es read : List Exchange) (i : ℕ) (homes : List (Option NodeTableView)) (out : List (Option Pair)) (records : List (Option Record)) (a b : Option Pair) (pair : Pair) → read ≡ es → AreInPlace nodes keys es (state_with homes out records) → i < length out → a ≡ b → b ≡ get_or out i b → a ≡ Some pair → IsPairOf nodes keys (exchange_at read i) (record { initiator = pair.initiator.table; responder = pair.responder.table })
 met nodes keys es read i homes out records a b pair same placed lt moved stood is =
     subst (λ l. IsPairOf nodes keys (exchange_at l i) (record { initiator = pair.initiator.table; responder = pair.responder.table })) (sym same)
     (placed.out i (record { initiator = pair.initiator.table; responder = pair.responder.table }) (ap taken_of (taken_there out i a b pair lt moved stood is)))
@@ -172,33 +161,31 @@ none_more (x ∷ xs) none zero = none 0
 none_more (x ∷ xs) none (suc i) = none_more xs (λ j. none (suc j)) i
 
 -- the state before the first event
-opened_home : (ks : List Kept) (n : ℕ) → slice_get (tables_of ks) n ≡ table_of (get_or (map in_place ks) n None)
+opened_home : (ks : List NodeTableView) (n : ℕ) → slice_get (tables_in ks) n ≡ table_of (get_or (map in_place ks) n None)
 opened_home [] n = refl
 opened_home (k ∷ ks) zero = refl
 opened_home (k ∷ ks) (suc n) = opened_home ks n
 
-pub opened_state : (ks : List Kept) (homes : List (Option Kept)) (out : List (Option Pair)) (records : List (Option Record)) → homes ≡ map in_place ks → ((i : ℕ) → get_or out i None ≡ None) → ((i : ℕ) → get_or records i None ≡ None) → opened (tables_of ks) ≡ state_with homes out records
+pub opened_state : (ks : List NodeTableView) (homes : List (Option NodeTableView)) (out : List (Option Pair)) (records : List (Option Record)) → homes ≡ map in_place ks → ((i : ℕ) → get_or out i None ≡ None) → ((i : ℕ) → get_or records i None ≡ None) → opened (tables_in ks) ≡ state_with homes out records
 opened_state ks homes out records is no_pair no_record =
-    same_state (opened (tables_of ks)) (state_with homes out records)
+    same_state (opened (tables_in ks)) (state_with homes out records)
     (λ n. opened_home ks n ∙ ap (λ l. table_of (get_or l n None)) (sym is))
     (λ i. ap taken_of (sym (no_pair i)))
     (λ i. sym (no_record i))
 
 pub opened_in_place : (nodes keys : ℕ) (es : List Exchange) (ts : List Table) → AreTablesInOrder nodes keys ts → AreInPlace nodes keys es (opened ts)
 opened_in_place nodes keys es ts ordered = record {
-  home = λ n t is.
-      let there : IsTableOf nodes keys n t = subst (IsTableOf nodes keys n) (get_or_from_slice_get ts n t (empty_table 0 0 0) is) (ordered.tables n (omega (arith, slice_get_within ts n t is, ordered.size))) in
-      record { node = there.node; nodes = there.nodes; keys = there.keys };
+  home = λ n t is. subst (IsTableOf nodes keys n) (get_or_from_slice_get ts n t (empty_table 0 0 0) is) (ordered.tables n (omega (arith, slice_get_within ts n t is, ordered.size)));
   out = λ i t is. absurd (none-some t is);
 }
 
 -- where each place has what stands in a list, so has what comes out of the places
-pub all_tables : (homes : List (Option Kept)) (ts : List Table) → length homes ≡ length ts → ((n : ℕ) → n < length ts → slice_get ts n ≡ table_of (get_or homes n None)) → tables_of (filter_map itself homes) ≡ ts
+pub all_tables : (homes : List (Option NodeTableView)) (ts : List Table) → length homes ≡ length ts → ((n : ℕ) → n < length ts → slice_get ts n ≡ table_of (get_or homes n None)) → tables_in (filter_map itself homes) ≡ ts
 all_tables [] [] same each = refl
 all_tables [] (t ∷ ts) same each = absurd (omega arith)
 all_tables (h ∷ homes) [] same each = absurd (omega arith)
 all_tables (None ∷ homes) (t ∷ ts) same each = absurd (none-some t (sym (each 0 (omega arith))))
-all_tables (Some k ∷ homes) (t ∷ ts) same each = ap (λ u. u ∷ tables_of (filter_map itself homes)) (sym (same_Some t k.table (each 0 (omega arith)))) ∙ ap (λ l. t ∷ l) (all_tables homes ts (omega arith) (λ n lt. each (suc n) (omega arith)))
+all_tables (Some k ∷ homes) (t ∷ ts) same each = ap (λ u. u ∷ tables_in (filter_map itself homes)) (sym (same_Some t k.table (each 0 (omega arith)))) ∙ ap (λ l. t ∷ l) (all_tables homes ts (omega arith) (λ n lt. each (suc n) (omega arith)))
 
 pub all_records : {A : Type 0} (places : List (Option A)) (xs : List A) → length places ≡ length xs → ((n : ℕ) → n < length xs → slice_get xs n ≡ get_or places n None) → filter_map itself places ≡ xs
 all_records [] [] same each = refl

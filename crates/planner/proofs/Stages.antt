@@ -5,13 +5,13 @@ use Rattle.std.proofs.lemmas.Bool.{cases_eq, cases_lt, cases_Bool, eq-eqb, ne_eq
 use Rattle.std.proofs.lemmas.List.{get_or-set_same, get_or-set_other, length-set, length-map, get_or_past}
 use Rattle.std.proofs.lemmas.List.Sums.{sum_by-cons, count_by-le-length}
 use Rattle.bench_types.specs.declared.exchanges.Exchange.{Exchange}
-use Rattle.round_plan.specs.Plan.{Plan}
+use Rattle.round_plan.specs.Plan.{RoundListView}
 use Rattle.planner.specs.declared.events.Event.{Event}
 use Rattle.planner.specs.declared.events.Event.TheVariants.{Start, Finish}
 use Rattle.planner.specs.declared.schedules.Stage.{Stage}
 use Rattle.planner.specs.declared.schedules.Stage.TheVariants.{Waiting, Running, Done}
 use Rattle.planner.specs.Schedules.{is_started, is_finished, is_running, MayStart, IsLawful, AreFinished}
-use Rattle.planner.specs.Stages.{Standing, standing_of, stage_in, stage_after, CanStart, with_stage, waiting_at_first, not_started, is_over}
+use Rattle.planner.specs.Stages.{ScheduleView, standing_of, stage_in, stage_after, CanStart, with_stage, waiting_at_first, not_started, is_over}
 use Rattle.planner.proofs.Histories.{or_none, lawful_none, lawful_push, started-start, started-finish, finished-start, finished-finish, history_of}
 
 -- the stage, from whether an exchange is finished and whether it is started
@@ -64,7 +64,7 @@ module _ (before : List Event) (i j : ℕ) where
   stage-finish_other other = λ k. stage_by ((finished-finish before j i ∙ others (is_finished before j) other) k) (started-finish before j i k)
 
 -- a schedule of a plan that stands where these events lead
-pub record IsAt (plan : Plan) (before : List Event) (s : Standing) : Type 0 where
+pub record IsAt (plan : RoundListView) (before : List Event) (s : ScheduleView) : Type 0 where
   pub planned : s.plan ≡ plan
   pub size : length s.stages ≡ length plan.exchanges
   pub lawful : IsLawful plan.exchanges before
@@ -75,7 +75,7 @@ waiting_all [] j = refl
 waiting_all (e ∷ es) zero = refl
 waiting_all (e ∷ es) (suc j) = waiting_all es j
 
-pub at_first : (plan : Plan) (s : Standing) → s ≡ not_started plan → IsAt plan [] s
+pub at_first : (plan : RoundListView) (s : ScheduleView) → s ≡ not_started plan → IsAt plan [] s
 at_first plan s is = subst (IsAt plan []) (sym is) (record {
   planned = refl;
   size = length-map plan.exchanges waiting_at_first;
@@ -103,7 +103,7 @@ most_over (x ∷ xs) each =
     let first : worth x ≡ worth Done = ap worth (each 0 (omega arith)) in
     omega (arith, count-cons x xs, first, most_over xs (λ j lt. each (suc j) (omega arith)))
 
-module _ (plan : Plan) (before : List Event) (s : Standing) (at : IsAt plan before s) where
+module _ (plan : RoundListView) (before : List Event) (s : ScheduleView) (at : IsAt plan before s) where
   -- the schedule and the events agree on what may start, what runs and what is done
   pub may_start : (i : ℕ) → CanStart s i → MayStart plan.exchanges before i
   may_start i can =
@@ -149,7 +149,7 @@ module _ (plan : Plan) (before : List Event) (s : Standing) (at : IsAt plan befo
   are_counted finished = omega (arith, at.size, most_over s.stages (λ j lt. at.stages j ∙ cond-true (is_finished before j) Done (stage_by false (is_started before j)) (finished j (omega (arith, at.size)))))
 
   -- one more event
-  pub at_start : (t : Standing) (i : ℕ) → CanStart s i → t ≡ with_stage s i Running → IsAt plan (before ++ Start i ∷ []) t
+  pub at_start : (t : ScheduleView) (i : ℕ) → CanStart s i → t ≡ with_stage s i Running → IsAt plan (before ++ Start i ∷ []) t
   at_start t i can is = subst (IsAt plan (before ++ Start i ∷ [])) (sym is) (record {
     planned = at.planned;
     size = length-set s.stages i Running ∙ at.size;
@@ -163,7 +163,7 @@ module _ (plan : Plan) (before : List Event) (s : Standing) (at : IsAt plan befo
       may : MayStart plan.exchanges before i
       may = may_start i can
 
-  pub at_finish : (t : Standing) (i : ℕ) → stage_in s.stages i ≡ Running → t ≡ with_stage s i Done → IsAt plan (before ++ Finish i ∷ []) t
+  pub at_finish : (t : ScheduleView) (i : ℕ) → stage_in s.stages i ≡ Running → t ≡ with_stage s i Done → IsAt plan (before ++ Finish i ∷ []) t
   at_finish t i running is = subst (IsAt plan (before ++ Finish i ∷ [])) (sym is) (record {
     planned = at.planned;
     size = length-set s.stages i Done ∙ at.size;

@@ -13,7 +13,7 @@ use Rattle.planner.specs.Sharing.{share_node}
 use Rattle.planner.specs.Schedules.{is_started, is_finished}
 use Rattle.planner.specs.Neighbours.{as_list, predecessors_of, predecessors}
 use Rattle.planner.specs.ListOrder.{AreClosed, schedule_of}
-use Rattle.planner.specs.Stages.{Standing, IsStanding, HasSchedule, CanStart, stage_in, with_stage, runs, is_over, none_or_over}
+use Rattle.planner.specs.Stages.{ScheduleView, IsSchedule, HasSchedule, CanStart, stage_in, with_stage, runs, is_over, none_or_over}
 use Rattle.planner.proofs.Predecessors.{predecessors_earlier, earlier_from_predecessors}
 use Rattle.planner.proofs.Sets.{schedule_from}
 
@@ -50,7 +50,7 @@ stage_by_sets Running = refl
 stage_by_sets Done = refl
 
 -- each standing is that of a lawful schedule
-module _ (s : Standing) (standing : IsStanding s) where
+module _ (s : ScheduleView) (standing : IsSchedule s) where
   earlier_over : (i : ℕ) → i < length s.plan.exchanges → stage_in s.stages i ≢ Waiting → All (λ j. over_in s.stages j ≡ true) (predecessors s.plan.exchanges i)
   earlier_over i within begun =
       predecessors_earlier s.plan.exchanges (λ j. over_in s.stages j ≡ true) i (λ j less shared. ap is_over (standing.closed i j less within begun shared))
@@ -129,7 +129,7 @@ each_over stages (Some a) (Some b) all =
 done_begun : (stage : Stage) → stage ≡ Done → stage ≢ Waiting
 done_begun stage is = over_begun stage (ap is_over is)
 
-module _ (s : Standing) (standing : IsStanding s) (i : ℕ) (within : i < length s.plan.exchanges) (before : Before) (is : before ≡ predecessors_of s.plan.exchanges i) where
+module _ (s : ScheduleView) (standing : IsSchedule s) (i : ℕ) (within : i < length s.plan.exchanges) (before : Before) (is : before ≡ predecessors_of s.plan.exchanges i) where
   pub free_from_both : none_or_over s.stages before.first ≡ true → none_or_over s.stages before.second ≡ true → (j : ℕ) → j < i → share_node s.plan.exchanges i j ≡ true → stage_in s.stages j ≡ Done
   free_from_both of_first of_second =
       earlier_from_predecessors s.plan.exchanges (IsOverIn s.stages) i
@@ -142,7 +142,7 @@ module _ (s : Standing) (standing : IsStanding s) (i : ℕ) (within : i < length
       (subst (λ (b : Before). All (IsOverIn s.stages) (as_list b.first ++ as_list b.second)) (sym is) (predecessors_earlier s.plan.exchanges (IsOverIn s.stages) i free))
 
 -- what may start keeps the standing when it starts
-pub standing_started : (s : Standing) (i : ℕ) → IsStanding s → CanStart s i → IsStanding (with_stage s i Running)
+pub standing_started : (s : ScheduleView) (i : ℕ) → IsSchedule s → CanStart s i → IsSchedule (with_stage s i Running)
 standing_started s i standing can = record {
   planned = standing.planned;
   size = length-set s.stages i Running ∙ standing.size;

@@ -5,9 +5,12 @@ pub mod Dependencies
 pub mod States
 pub mod Stages
 pub mod ListOrder
+pub mod Laws
 pub mod Plays
 pub mod Places
 pub use Rattle.exchange.specs.Exchanged
-pub use Rattle.exchange.specs.Folds
-pub use Rattle.exchange.specs.Clusters
+pub use Rattle.cluster.specs.Tables
+pub use Rattle.cluster.specs.Folds
+pub use Rattle.cluster.specs.Clusters
 pub use Rattle.round_plan.specs.Plan
+pub use Rattle.bench_types.specs.Exchange

@@ -4,8 +4,9 @@ use Rattle.std.specs.List.{range_with_len, filter}
 use Rattle.bench_types.specs.declared.exchanges.Exchange.{Exchange}
 use Rattle.bench_types.specs.declared.exchanges.Rules.{Rules}
 use Rattle.node_table.specs.Table.{Table}
-use Rattle.exchange.specs.Folds.{table_of_node, fold_of, tables_before}
-use Rattle.exchange.specs.Clusters.{IsAmong}
+use Rattle.cluster.specs.Tables.{table_of_node}
+use Rattle.cluster.specs.Folds.{fold_of, tables_before}
+use Rattle.bench_types.specs.Exchange.{IsPlanned}
 use Rattle.planner.specs.declared.events.Event.{Event}
 use Rattle.planner.specs.declared.events.Event.TheVariants.{Start, Finish}
 use Rattle.planner.specs.Sharing.{exchange_at, takes_part, share_node}
@@ -49,7 +50,7 @@ pub record IsWhole (rules : Rules) (ts : List Table) (es : List Exchange) (s : S
 
 -- the exchanges of a list are of two of so many nodes each
 abbrev pub AreAmong : List Table → List Exchange → Type 0
-AreAmong ts es = All (IsAmong (length ts)) es
+AreAmong ts es = All (IsPlanned (length ts)) es
 
 -- some exchange is running or may start
 abbrev pub CanGoOn : List Exchange → List Event → Type 0

@@ -3,15 +3,16 @@
 use Rattle.std.specs.Prelude.{◌≡◌, ℕ, List, length, slice_index_or, Option, None, Some}
 use Rattle.bench_types.specs.declared.exchanges.Exchange.{Exchange}
 use Rattle.node_table.specs.Table.{Table}
-use Rattle.node_table.specs.Kept.{Kept}
-use Rattle.round_plan.specs.Plan.{Plan}
+use Rattle.node_table.specs.NodeTableView.{NodeTableView}
+use Rattle.round_plan.specs.Plan.{RoundListView}
+use Rattle.cluster.specs.Tables.{IsTableOf}
 use Rattle.planner.specs.declared.plays.Pair.{Pair}
 use Rattle.planner.specs.declared.plays.Places.{Places}
 use Rattle.planner.specs.Sharing.{exchange_at}
 use Rattle.planner.specs.States.{Taken, State}
 
 -- tables without their room
-abbrev pub table_of : Option Kept → Option Table
+abbrev pub table_of : Option NodeTableView → Option Table
 table_of None = None
 table_of (Some kept) = Some kept.table
 
@@ -27,31 +28,25 @@ state_in places = record {
 }
 
 -- a place for each node, and two for each exchange
-pub record HasPlaces (plan : Plan) (places : Places) : Type 0 where
+pub record HasPlaces (plan : RoundListView) (places : Places) : Type 0 where
   pub homes : length places.homes.items ≡ plan.nodes
   pub out : length places.out.items ≡ length plan.exchanges
   pub records : length places.records.items ≡ length plan.exchanges
 
--- a table of this node, among so many nodes with so many keys each
-pub record IsOf (node_count key_count n : ℕ) (t : Table) : Type 0 where
-  pub node : t.node ≡ n
-  pub nodes : t.nodes ≡ node_count
-  pub keys : t.keys ≡ key_count
-
 pub record IsPairOf (node_count key_count : ℕ) (e : Exchange) (taken : Taken) : Type 0 where
-  pub initiator : IsOf node_count key_count e.initiator taken.initiator
-  pub responder : IsOf node_count key_count e.responder taken.responder
+  pub initiator : IsTableOf node_count key_count e.initiator taken.initiator
+  pub responder : IsTableOf node_count key_count e.responder taken.responder
 
 -- each table is in its own place, or taken out by an exchange of its node
 pub record AreInPlace (nodes keys : ℕ) (es : List Exchange) (s : State) : Type 0 where
-  pub home : (n : ℕ) (t : Table) → s.home n ≡ Some t → IsOf nodes keys n t
+  pub home : (n : ℕ) (t : Table) → s.home n ≡ Some t → IsTableOf nodes keys n t
   pub out : (i : ℕ) (taken : Taken) → s.out i ≡ Some taken → IsPairOf nodes keys (exchange_at es i) taken
 
 -- a table in its place
-abbrev pub in_place : Kept → Option Kept
+abbrev pub in_place : NodeTableView → Option NodeTableView
 in_place kept = Some kept
 
-abbrev pub pair_of : Option Kept → Option Kept → Option Pair
+abbrev pub pair_of : Option NodeTableView → Option NodeTableView → Option Pair
 pair_of (Some p) (Some q) = Some (record { initiator = p; responder = q })
 pair_of (Some p) None = None
 pair_of None q = None

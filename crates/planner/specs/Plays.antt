@@ -1,26 +1,19 @@
 -- What playing a schedule comes to. Source: this project.
-use Rattle.std.specs.Prelude.{◌≡◌, ℕ, ◌<◌, false, List, length, map, take, slice_get, Some}
+use Rattle.std.specs.Prelude.{◌≡◌, ℕ, ◌<◌, false, List, length, take, slice_get, Some}
 use Rattle.bench_types.specs.declared.exchanges.Exchange.{Exchange}
 use Rattle.bench_types.specs.declared.exchanges.Record.{Record}
 use Rattle.bench_types.specs.declared.exchanges.Rules.{Rules}
 use Rattle.bench_types.specs.declared.faults.Fault.{Fault}
 use Rattle.bench_types.specs.declared.faults.Fault.TheVariants as fault
 use Rattle.node_table.specs.Table.{Table}
-use Rattle.node_table.specs.Kept.{Kept}
-use Rattle.exchange.specs.Folds.{fold_of}
-use Rattle.exchange.specs.Clusters.{AreTablesInOrder}
+use Rattle.node_table.specs.NodeTableView.{NodeTableView}
+use Rattle.round_plan.specs.Plan.{RoundListView}
+use Rattle.cluster.specs.Tables.{tables_in}
+use Rattle.cluster.specs.Folds.{fold_of}
 use Rattle.planner.specs.declared.events.Event.{Event}
 use Rattle.planner.specs.declared.events.Event.TheVariants.{Start, Finish}
 use Rattle.planner.specs.Schedules.{is_running, MayStart, IsLawful, AreFinished}
 use Rattle.planner.specs.States.{state_of}
-
--- the tables in memory, without their room
-abbrev pub tables_of : List Kept → List Table
-tables_of kept = map (λ k. k.table) kept
-
--- the tables of all nodes in order
-abbrev pub IsCluster : ℕ → List Kept → Type 0
-IsCluster nodes kept = (keys : ℕ) × AreTablesInOrder nodes keys (tables_of kept)
 
 -- a whole schedule was carried out: these are the tables in their places at its end, and the records
 pub record IsPlayed (rules : Rules) (es : List Exchange) (events : List Event) (before after : List Table) (records : List Record) : Type 0 where
@@ -32,6 +25,10 @@ pub record IsPlayed (rules : Rules) (es : List Exchange) (events : List Event) (
   -- and so the end of list order
   pub tables : after ≡ (fold_of rules before es).tables
   pub given : records ≡ (fold_of rules before es).records
+
+-- and so with the tables in memory
+abbrev pub ArePlayed : Rules → RoundListView → List Event → List NodeTableView → List NodeTableView → List Record → Type 0
+ArePlayed rules plan events before after records = IsPlayed rules plan.exchanges events (tables_in before) (tables_in after) records
 
 -- the events before a place are a lawful schedule, and there stands this one
 pub record IsEventAt (es : List Exchange) (events : List Event) (k : ℕ) (e : Event) : Type 0 where

@@ -1,7 +1,7 @@
 -- How far each exchange of a list is. Source: this project.
 use Rattle.std.specs.Prelude.{◌≡◌, ◌≢◌, ℕ, ◌<◌, Bool, true, false, if◌then◌else◌, List, Option, None, Some, length, map, slice_index_or, slice_set}
 use Rattle.bench_types.specs.declared.exchanges.Exchange.{Exchange}
-use Rattle.round_plan.specs.Plan.{Plan, IsRoundPlan}
+use Rattle.round_plan.specs.Plan.{RoundListView, IsRoundPlan}
 use Rattle.planner.specs.declared.events.Event.{Event}
 use Rattle.planner.specs.declared.schedules.Stage.{Stage}
 use Rattle.planner.specs.declared.schedules.Stage.TheVariants.{Waiting, Running, Done}
@@ -9,11 +9,11 @@ use Rattle.planner.specs.Sharing.{share_node}
 use Rattle.planner.specs.Schedules.{is_started, is_finished, IsLawful}
 
 -- a plan, and the stage of each of its exchanges
-pub record Standing : Type 0 where
-  pub plan : Plan
+pub record ScheduleView : Type 0 where
+  pub plan : RoundListView
   pub stages : List Stage
 
-abbrev pub standing_of : Plan → List Stage → Standing
+abbrev pub standing_of : RoundListView → List Stage → ScheduleView
 standing_of plan stages = record { plan = plan; stages = stages }
 
 abbrev pub stage_in : List Stage → ℕ → Stage
@@ -24,24 +24,24 @@ abbrev pub stage_after : List Event → ℕ → Stage
 stage_after events i = if is_finished events i then Done else if is_started events i then Running else Waiting
 
 -- where an exchange runs or is done, each earlier one that shares a node with it is done
-pub record IsStanding (s : Standing) : Type 0 where
+pub record IsSchedule (s : ScheduleView) : Type 0 where
   pub planned : IsRoundPlan s.plan
   pub size : length s.stages ≡ length s.plan.exchanges
   pub closed : (i j : ℕ) → j < i → i < length s.plan.exchanges → stage_in s.stages i ≢ Waiting → share_node s.plan.exchanges i j ≡ true → stage_in s.stages j ≡ Done
 
-pub record CanStart (s : Standing) (i : ℕ) : Type 0 where
+pub record CanStart (s : ScheduleView) (i : ℕ) : Type 0 where
   pub within : i < length s.plan.exchanges
   pub waiting : stage_in s.stages i ≡ Waiting
   pub free : (j : ℕ) → j < i → share_node s.plan.exchanges i j ≡ true → stage_in s.stages j ≡ Done
 
-abbrev pub with_stage : Standing → ℕ → Stage → Standing
+abbrev pub with_stage : ScheduleView → ℕ → Stage → ScheduleView
 with_stage s i stage = standing_of s.plan (slice_set s.stages i stage)
 
 abbrev pub waiting_at_first : Exchange → Stage
 waiting_at_first e = Waiting
 
 -- nothing is started
-abbrev pub not_started : Plan → Standing
+abbrev pub not_started : RoundListView → ScheduleView
 not_started plan = standing_of plan (map waiting_at_first plan.exchanges)
 
 abbrev pub runs : Stage → Bool
@@ -55,7 +55,7 @@ is_over Running = false
 is_over Done = true
 
 -- some lawful schedule leads there
-pub record HasSchedule (s : Standing) : Type 0 where
+pub record HasSchedule (s : ScheduleView) : Type 0 where
   pub events : List Event
   pub lawful : IsLawful s.plan.exchanges events
   pub stages : (i : ℕ) → i < length s.plan.exchanges → stage_in s.stages i ≡ stage_after events i

@@ -1,13 +1,13 @@
 //! Which exchanges of a list wait for which others.
 
-ghost use Rattle.std.specs.Prelude.{◌≡◌, ◌<◌, ◌≤◌, ◌++◌, All, List, length, map, IfOk, IsOkUnless};
-ghost use Rattle.std.specs.List.{range_with_len};
+ghost use Rattle.std.specs.Prelude.{◌≡◌, ◌<◌, ◌≤◌, ◌++◌, All, List, length, IfOk, IsOkUnless};
 ghost use Rattle.bench_types.specs.declared.exchanges.Exchange.{Exchange};
 ghost use Rattle.bench_types.specs.declared.faults.Fault.TheVariants.{OutOfMemory};
-ghost use Rattle.round_plan.specs.Plan.{IsPlanned, IsRoundPlan};
+ghost use Rattle.bench_types.specs.Exchange.{IsPlanned};
+ghost use Rattle.round_plan.specs.Plan.{IsRoundPlan};
 ghost use Rattle.round_plan.specs.declared.lists.TheConstants.{MOST_EXCHANGES};
 ghost use Rattle.planner.specs.Sharing.{exchange_at};
-ghost use Rattle.planner.specs.Neighbours.{predecessors_of, successors, as_list, unless_same, pending_of, first_ready_of};
+ghost use Rattle.planner.specs.Neighbours.{predecessors_of, successors, all_predecessors, all_successors, as_list, unless_same, pending_of, first_ready_of};
 
 use bench_types::{Exchange, Fault};
 use round_plan::RoundList;
@@ -44,10 +44,10 @@ pub struct Deps {
 }
 
 impl Model for Deps {
-    ghost use Rattle.round_plan.specs.Plan.{Plan, plan_of, IsRoundPlan};
+    ghost use Rattle.round_plan.specs.Plan.{RoundListView, plan_of, IsRoundPlan};
     ghost use Rattle.planner.specs.Dependencies.{AreDependencies};
 
-    ghost Value = { Plan };
+    ghost Value = { RoundListView };
 
     ghost view = { λ d. plan_of d.nodes d.unreached d.exchanges.items };
 
@@ -129,7 +129,7 @@ impl Deps {
 fn all_before(alloc: Global, nodes: u32, exchanges: &[Exchange]) -> Result<Vec<Before>, Fault>
     requires planned { All (IsPlanned nodes) exchanges.now }
     requires few { length exchanges.now ≤ MOST_EXCHANGES }
-    ensures value { IfOk result (λ v. v.items ≡ map (predecessors_of exchanges.now) (range_with_len 0 (length exchanges.now))) }
+    ensures value { IfOk result (λ v. v.items ≡ all_predecessors exchanges.now) }
     ensures only { IsOkUnless result OutOfMemory }
 {
     let mut last: Vec<Option<u32>> = vec![in alloc; None; nodes as usize]?;
@@ -150,7 +150,7 @@ fn all_before(alloc: Global, nodes: u32, exchanges: &[Exchange]) -> Result<Vec<B
 fn all_after(alloc: Global, nodes: u32, exchanges: &[Exchange]) -> Result<Vec<After>, Fault>
     requires planned { All (IsPlanned nodes) exchanges.now }
     requires few { length exchanges.now ≤ MOST_EXCHANGES }
-    ensures value { IfOk result (λ v. v.items ≡ map (successors exchanges.now) (range_with_len 0 (length exchanges.now))) }
+    ensures value { IfOk result (λ v. v.items ≡ all_successors exchanges.now) }
     ensures only { IsOkUnless result OutOfMemory }
 {
     let none = After {
@@ -174,7 +174,7 @@ fn all_after(alloc: Global, nodes: u32, exchanges: &[Exchange]) -> Result<Vec<Af
 // The places of the exchanges that wait for none.
 fn free_places(alloc: Global, before: &[Before]) -> Result<Vec<u32>, Fault>
     requires few { length before.now ≤ MOST_EXCHANGES }
-    ensures value { IfOk result (λ v. (es : List Exchange) → before.now ≡ map (predecessors_of es) (range_with_len 0 (length es)) → v.items ≡ first_ready_of es) }
+    ensures value { IfOk result (λ v. (es : List Exchange) → before.now ≡ all_predecessors es → v.items ≡ first_ready_of es) }
     ensures only { IsOkUnless result OutOfMemory }
 {
     let mut free = Vec::new(alloc);

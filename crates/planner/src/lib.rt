@@ -7,8 +7,6 @@ mod events;
 pub mod laws;
 mod plays;
 mod schedules;
-#[cfg(test)]
-mod tests;
 
 pub use deps::{After, Deps};
 pub use events::Event;

@@ -7,7 +7,8 @@ ghost use Rattle.planner.specs.declared.events.Event.TheVariants.{Start, Finish}
 ghost use Rattle.planner.specs.Stages.{not_started};
 ghost use Rattle.planner.specs.States.{after_event};
 ghost use Rattle.planner.specs.Places.{state_in, HasPlaces, AreInPlace, itself, in_place, pair_of};
-ghost use Rattle.planner.specs.Plays.{tables_of, IsCluster, IsPlayed, IsRefusal};
+ghost use Rattle.cluster.specs.Tables.{tables_in, IsCluster};
+ghost use Rattle.planner.specs.Plays.{ArePlayed, IsRefusal};
 
 use crate::deps::Deps;
 use crate::events::Event;
@@ -46,9 +47,9 @@ pub fn play(
     events: &[Event],
     rules: &Rules,
 ) -> Result<(Vec<NodeTable>, Vec<Record>), Fault>
-    requires cluster { IsCluster list.now.nodes tables.items }
+    requires cluster { IsCluster list.now.nodes (tables_in tables.items) }
     requires budget { 1 ≤ rules.now.budget }
-    ensures played { IfOk result (λ p. IsPlayed rules.now list.now.exchanges events.now (tables_of tables.items) (tables_of p.0.items) p.1.items) }
+    ensures played { IfOk result (λ p. ArePlayed rules.now list.now events.now tables.items p.0.items p.1.items) }
     ensures refused { IfErr result (IsRefusal list.now.exchanges events.now) }
 {
     let mut schedule = opened(alloc, list)?;

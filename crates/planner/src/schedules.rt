@@ -3,7 +3,7 @@
 ghost use Rattle.std.specs.Prelude.{◌≡◌, ◌<◌, ◌↔◌, ℕ, None, true, length, replicate, slice_get, count_by, IfOk, IfErr, OnOk, OnErr, IfSome, IsTrue, IsOkUnless};
 ghost use Rattle.bench_types.specs.declared.faults.Fault.TheVariants.{OutOfMemory, NotAllowed, NotRunning};
 ghost use Rattle.planner.specs.Sharing.{share_node};
-ghost use Rattle.planner.specs.Stages.{IsStanding, stage_in, CanStart, with_stage, HasSchedule, not_started, runs, is_over, none_or_over};
+ghost use Rattle.planner.specs.Stages.{IsSchedule, stage_in, CanStart, with_stage, HasSchedule, not_started, runs, is_over, none_or_over};
 
 use crate::deps::Deps;
 use bench_types::Fault;
@@ -26,13 +26,13 @@ pub struct Schedule {
 }
 
 impl Model for Schedule {
-    ghost use Rattle.planner.specs.Stages.{Standing, IsStanding, standing_of};
+    ghost use Rattle.planner.specs.Stages.{ScheduleView, IsSchedule, standing_of};
 
-    ghost Value = { Standing };
+    ghost Value = { ScheduleView };
 
     ghost view = { λ s. standing_of s.deps s.stages.items };
 
-    ghost invariant = { λ s. IsStanding (standing_of s.deps s.stages.items) };
+    ghost invariant = { λ s. IsSchedule (standing_of s.deps s.stages.items) };
 }
 
 impl Schedule {
@@ -79,7 +79,7 @@ impl Schedule {
     pub fn may_start(&self, i: u32) -> bool
         ensures can_start { IsTrue result ↔ CanStart self.now i }
         ensures lawful { HasSchedule self.now }
-        ensures kept { IsStanding self.now }
+        ensures kept { IsSchedule self.now }
     {
         self.at(i) == Some(Stage::Waiting) && self.is_free(i)
     }
@@ -87,7 +87,7 @@ impl Schedule {
     pub fn is_running(&self, i: u32) -> bool
         ensures running { IsTrue result ↔ (stage_in self.now.stages i ≡ Stage.Running) }
         ensures lawful { HasSchedule self.now }
-        ensures kept { IsStanding self.now }
+        ensures kept { IsSchedule self.now }
     {
         self.at(i) == Some(Stage::Running)
     }
@@ -95,7 +95,7 @@ impl Schedule {
     pub fn is_done(&self, i: u32) -> bool
         ensures done { IsTrue result ↔ (stage_in self.now.stages i ≡ Stage.Done) }
         ensures lawful { HasSchedule self.now }
-        ensures kept { IsStanding self.now }
+        ensures kept { IsSchedule self.now }
     {
         self.at(i) == Some(Stage::Done)
     }
@@ -139,7 +139,7 @@ impl Schedule {
     // How far an exchange is, where it is in the list.
     fn at(&self, i: u32) -> Option<Stage>
         ensures value { result ≡ slice_get self.now.stages i }
-        ensures kept { IsStanding self.now }
+        ensures kept { IsSchedule self.now }
     {
         self.stages.get(i as usize).copied()
     }

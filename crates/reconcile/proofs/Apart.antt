@@ -2,7 +2,7 @@
 use Rattle.std.proofs.Common.{◌≡◌, ℕ, zero, suc, ◌+◌, ◌-◌, ◌%◌, ◌<◌, ◌≤◌, Bool, true, false, cond, ◌&&◌, eqb, List, [], ◌∷◌, length, get_or, All, ◌⊎◌, inl, inr, refl, sym, ap, ◌∙◌, subst, arith}
 use Rattle.std.specs.Prelude.{count_by, filter, IsPermutation}
 use Rattle.std.specs.declared.cmp.Ordering.{Ordering}
-use Rattle.std.specs.declared.cmp.Ordering.TheVariants.{Less, Equal, Greater}
+use Rattle.std.specs.declared.cmp.Ordering.TheVariants.{Less, Equal}
 use Rattle.std.specs.Ordering.{nat_cmp, ordering_then}
 use Rattle.std.specs.Cmp.{IsTotalOrder, nat_cmp_total, on_total, then_total, back_total, tied_itself}
 use Rattle.std.specs.FinMap.{nat_cmp-IsAntisymmetric}
@@ -17,8 +17,9 @@ use Rattle.node_table.specs.View.{place_of, IsRising}
 use Rattle.node_table.proofs.Order.{place_total}
 use Rattle.node_table.proofs.Rising.{rising_at, rising_tail}
 use Rattle.reconcile.specs.Order.{rotated, rank_among, owner_count, sending_order}
-use Rattle.reconcile.specs.Ranks.{no_item}
+use Rattle.node_table.specs.Walks.{no_item}
 use Rattle.reconcile.proofs.Counts.{count_by-cons_true, count_by-cons_false, count_by-stretch}
+use Rattle.node_table.proofs.Comparing.{both_equal}
 
 -- whether an item stands at the place
 abbrev stands_at : ℕ → ℕ → Item → Bool
@@ -121,11 +122,6 @@ rotated-injective ns s o p in_s in_o in_p e = elim (rotated-is ns s o in_s in_o)
   | inl a ↦ elim (rotated-is ns s p in_s in_p) [ inl b ↦ omega (arith, a.0, a.1, b.0, b.1, e) | inr b ↦ absurd (omega (arith, a.0, a.1, b.0, b.1, e)) ]
   | inr a ↦ elim (rotated-is ns s p in_s in_p) [ inl b ↦ absurd (omega (arith, a.0, a.1, b.0, b.1, e)) | inr b ↦ omega (arith, a.0, a.1, b.0, b.1, e) ]
 ]
-
-both_equal : (a b : Ordering) → ordering_then a b ≡ Equal → (a ≡ Equal) × (b ≡ Equal)
-both_equal Less b e = cc
-both_equal Equal b e = (refl, e)
-both_equal Greater b e = cc
 
 backwards_total : {X : Type 0} (f : X → ℕ) → IsTotalOrder (λ x y. nat_cmp (f y) (f x))
 backwards_total f = back_total (on_total f nat_cmp_total)

@@ -11,14 +11,15 @@ use Rattle.std.proofs.lemmas.List.Sorted.{IsPermutation-refl}
 use Rattle.bench_types.specs.declared.entries.Item.{Item}
 use Rattle.bench_types.specs.declared.exchanges.Mode.{Mode}
 use Rattle.bench_types.specs.declared.exchanges.Mode.TheVariants.{ScuttleBreadth, ScuttleDepth, PreciseOldest, PreciseNewest}
+use Rattle.bench_types.specs.Mode.{told_by}
 use Rattle.node_table.specs.Table.{Table, items_of, IsProper}
 use Rattle.node_table.proofs.Proper.{items_sound}
 use Rattle.reconcile.specs.Candidates.{IsScuttleMode, known_version, candidates}
 use Rattle.reconcile.specs.Order.{rotated, rank_among, owner_count, sending_order}
 use Rattle.reconcile.specs.Deltas.{delta_of}
-use Rattle.reconcile.specs.Ranks.{no_item}
+use Rattle.node_table.specs.Walks.{no_item}
 use Rattle.reconcile.proofs.Apart.{sending_total, sending_apart}
-use Rattle.reconcile.proofs.Ordered.{nat_cmp-less, nat_cmp-equal}
+use Rattle.node_table.proofs.Comparing.{nat_cmp-less, nat_cmp-equal}
 use Rattle.reconcile.proofs.Places.{count_by-lt, Contains-sent, before_count-lt, before_count-sent, before_count-lt-length, cut_count-none, sent-Contains, sent-before}
 use Rattle.reconcile.proofs.Sending.{owners_below}
 
@@ -29,7 +30,7 @@ sending_order-total mode nodes rotation cs = sending_total nodes rotation cs mod
 -- and strict: of the candidates of a proper table each ties with itself alone
 pub sending_order-strict : (mode : Mode) (from to : Table) (rotation : ℕ) → IsProper from → rotation < from.nodes → (c d : Item) → Contains (candidates mode from to) c → Contains (candidates mode from to) d → sending_order mode from.nodes rotation (candidates mode from to) c d ≡ Equal → c ≡ d
 sending_order-strict mode from to rotation proper in_nodes c d (j, in_j, is_c) (k, in_k, is_d) e =
-    let q : Item → Bool = λ i. not (eqb i.owner to.node) && ltb (known_version mode to i) i.entry.version in
+    let q : Item → Bool = λ i. not (eqb i.owner to.node) && ltb (known_version (told_by mode) to i) i.entry.version in
     let cs = candidates mode from to in
     let at_j = get_or_default cs j no_item c in_j ∙ is_c in
     let at_k = get_or_default cs k no_item d in_k ∙ is_d in
@@ -49,8 +50,8 @@ sending_order-ascending ScuttleDepth is nodes rotation cs c d stands owners olde
     λ i. ordering_then (nat_cmp-equal (owner_count cs d) (owner_count cs c) (ap (λ o. count_by (λ (x : Item). eqb x.owner o) cs) (sym owners)) i)
     (ordering_then (nat_cmp-equal (rotated nodes rotation c.owner) (rotated nodes rotation d.owner) (ap (rotated nodes rotation) owners) i)
     (ordering_then (nat_cmp-less c.entry.version d.entry.version older i) (nat_cmp c.entry.key d.entry.key)))
-sending_order-ascending PreciseOldest is nodes rotation cs c d stands owners older = absurd is
-sending_order-ascending PreciseNewest is nodes rotation cs c d stands owners older = absurd is
+sending_order-ascending PreciseOldest is nodes rotation cs c d stands owners older = cc
+sending_order-ascending PreciseNewest is nodes rotation cs c d stands owners older = cc
 
 module _ (mode : Mode) (from to : Table) (rotation budget : ℕ) where
   -- what is sent under the budget

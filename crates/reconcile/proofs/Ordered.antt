@@ -1,11 +1,11 @@
 -- Candidates sorted by their three numbers and by key are in the order of their mode.
-use Rattle.std.proofs.Common.{◌≡◌, ℕ, ◌+◌, ◌<◌, ◌^◌, Bool, cond, eqb, List, length, get_or, All, inl, inr, refl, sym, ap, ◌∙◌, arith}
+use Rattle.std.proofs.Common.{◌≡◌, ℕ, ◌+◌, ◌<◌, ◌^◌, Bool, eqb, List, length, get_or, All, inl, inr, refl, sym, ap, ◌∙◌, arith}
 use Rattle.std.specs.Prelude.{IsPermutation}
 use Rattle.std.specs.List.Sorted.{IsSorted, IsSortedBy}
 use Rattle.std.specs.declared.cmp.Ordering.{Ordering}
 use Rattle.std.specs.declared.cmp.Ordering.TheVariants.{Less, Equal, Greater}
 use Rattle.std.specs.Ordering.{nat_cmp, ordering_then, is_lt}
-use Rattle.std.proofs.lemmas.Bool.{cases_order, lt-ltb, le-ltb, eq-eqb, ne_eqb}
+use Rattle.std.proofs.lemmas.Bool.{cases_order}
 use Rattle.std.proofs.lemmas.List.{get_or-map, length-map}
 use Rattle.std.proofs.lemmas.List.Sums.{count_by-le-length}
 use Rattle.std.proofs.lemmas.List.Elements.{All-map}
@@ -17,6 +17,7 @@ use Rattle.reconcile.specs.declared.orders.Candidate.{Candidate}
 use Rattle.reconcile.specs.Order.{rotated, rank_among, owner_count, sending_order}
 use Rattle.reconcile.specs.Keys.{item_in, items_in, reversed, first_key, second_key, AllSet, AllFirst, without_first, rest_of}
 use Rattle.reconcile.proofs.Ranking.{no_candidate, All-unmap, items-permuted}
+use Rattle.node_table.proofs.Comparing.{nat_cmp-less, nat_cmp-equal, nat_cmp-greater}
 
 -- a list of candidates that is sorted by a test of their items is so as a list of items
 pub sorted_items : (lt : Item → Item → Bool) (cs : List Candidate) → IsSortedBy (λ c d. lt (item_in c) (item_in d)) cs → IsSortedBy lt (items_in cs)
@@ -46,15 +47,6 @@ sorted_in_four_turns a b c d xs sorted k e from in_range =
     ap is_lt (four_in_turn (a x y) (b x y) (c x y) (d x y)) ∙ sorted k e from in_range
 
 -- numbers that are taken from a greater one compare the other way round
-pub nat_cmp-less : (a b : ℕ) → a < b → nat_cmp a b ≡ Less
-nat_cmp-less a b lt = ap (λ t. cond t Less (cond (eqb a b) Equal Greater)) (lt-ltb a b lt)
-
-pub nat_cmp-equal : (a b : ℕ) → a ≡ b → nat_cmp a b ≡ Equal
-nat_cmp-equal a b e = (λ i. cond (le-ltb a b (omega arith) i) Less (cond (eq-eqb a b e i) Equal Greater))
-
-nat_cmp-greater : (a b : ℕ) → b < a → nat_cmp a b ≡ Greater
-nat_cmp-greater a b lt = (λ i. cond (le-ltb a b (omega arith) i) Less (cond (ne_eqb a b (λ e. absurd (omega arith)) i) Equal Greater))
-
 pub nat_cmp-reversed : (a b : ℕ) → a < 2 ^ 32 → b < 2 ^ 32 → nat_cmp (reversed a) (reversed b) ≡ nat_cmp b a
 nat_cmp-reversed a b in_a in_b = elim (cases_order a b) [
   | inl same ↦ nat_cmp-equal (reversed a) (reversed b) (omega arith) ∙ sym (nat_cmp-equal b a (omega arith))

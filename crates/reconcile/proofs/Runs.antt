@@ -9,7 +9,8 @@ use Rattle.std.proofs.lemmas.Bool.{cases_lt, eq-eqb, ne_eqb, lt-ltb, le-ltb}
 use Rattle.std.proofs.lemmas.List.Sorted.{sorted_far, ranks_by}
 use Rattle.bench_types.specs.declared.entries.Item.{Item}
 use Rattle.reconcile.specs.Order.{rank_among}
-use Rattle.reconcile.specs.Ranks.{version_order, no_item, item_at, IsRun}
+use Rattle.node_table.specs.Walks.{no_item}
+use Rattle.reconcile.specs.Ranks.{version_order, item_at, IsRun}
 use Rattle.reconcile.proofs.Counts.{count_by-stretch}
 
 version_total : IsTotalOrder version_order

@@ -14,10 +14,10 @@ use Rattle.node_table.specs.Table.{Table, items_of, IsProper}
 use Rattle.node_table.proofs.Proper.{items_sound, length-le-limit}
 use Rattle.reconcile.specs.Candidates.{items_above}
 use Rattle.reconcile.specs.Order.{sending_order}
-use Rattle.reconcile.specs.Deltas.{Sent, delta_of}
+use Rattle.reconcile.specs.Deltas.{DeltaView, delta_of}
 use Rattle.reconcile.specs.declared.orders.Candidate.{Candidate}
 use Rattle.reconcile.specs.Keys.{item_in, items_in}
-use Rattle.reconcile.specs.Ranks.{no_item}
+use Rattle.node_table.specs.Walks.{no_item}
 use Rattle.reconcile.proofs.Apart.{sending_total, sending_apart}
 use Rattle.reconcile.proofs.Picked.{sent-is, cut_count-is}
 
@@ -32,7 +32,7 @@ pub owners_below : (t : Table) → IsProper t → All (λ (i : Item). i.owner < 
 owners_below t proper k d lt = ((items_sound t proper).in_place k d lt).owner_below
 
 -- what is taken from the front of candidates in the order of a mode is the delta
-pub sorted_delta : (mode : Mode) (t : Table) (q : Item → Bool) (sorted : List Item) (s budget : ℕ) → IsProper t → s < t.nodes → IsPermutation (filter q (items_of t)) sorted → IsSorted (sending_order mode t.nodes s (filter q (items_of t))) sorted → ◌≡◌ {A = Sent} (record { items = take budget sorted; cut = length sorted - budget }) (delta_of mode t.nodes s budget (filter q (items_of t)))
+pub sorted_delta : (mode : Mode) (t : Table) (q : Item → Bool) (sorted : List Item) (s budget : ℕ) → IsProper t → s < t.nodes → IsPermutation (filter q (items_of t)) sorted → IsSorted (sending_order mode t.nodes s (filter q (items_of t))) sorted → ◌≡◌ {A = DeltaView} (record { items = take budget sorted; cut = length sorted - budget }) (delta_of mode t.nodes s budget (filter q (items_of t)))
 sorted_delta mode t q sorted s budget proper in_s same rises = λ i. record {
   items = sym (sent-is order (sending_total t.nodes s cs mode) cs sorted no_item same rises apart budget) i;
   cut = sym (cut_count-is order (sending_total t.nodes s cs mode) cs sorted no_item same rises apart budget) i;
@@ -48,7 +48,7 @@ sorted_delta mode t q sorted s budget proper in_s same rises = λ i. record {
     apart = sending_apart mode q (items_of t) sorted t.nodes s (items_sound t proper).rising (All-filter q (λ (i : Item). i.owner < t.nodes) (items_of t) (owners_below t proper)) in_s same
 
 -- the sorted candidates' first items, and how many are left, are the delta
-pub sorted_sent : (mode : Mode) (t : Table) (q : Item → Bool) (order sorted : List Candidate) (s budget len : ℕ) → IsProper t → s < t.nodes → items_in order ≡ filter q (items_of t) → IsPermutation (items_in order) (items_in sorted) → IsSorted (sending_order mode t.nodes s (items_in order)) (items_in sorted) → len ≡ length sorted → ◌≡◌ {A = Sent} (record { items = map item_in (take (min len budget) sorted); cut = len - min len budget }) (delta_of mode t.nodes s budget (filter q (items_of t)))
+pub sorted_sent : (mode : Mode) (t : Table) (q : Item → Bool) (order sorted : List Candidate) (s budget len : ℕ) → IsProper t → s < t.nodes → items_in order ≡ filter q (items_of t) → IsPermutation (items_in order) (items_in sorted) → IsSorted (sending_order mode t.nodes s (items_in order)) (items_in sorted) → len ≡ length sorted → ◌≡◌ {A = DeltaView} (record { items = map item_in (take (min len budget) sorted); cut = len - min len budget }) (delta_of mode t.nodes s budget (filter q (items_of t)))
 sorted_sent mode t q order sorted s budget len proper in_s is same rises e =
     (λ i. record {
       items = (sym (take-map item_in (min len budget) sorted) ∙ ap (λ m. take m (items_in sorted)) {x = min len budget} {y = min budget (length (items_in sorted))} (omega (arith, e, length-map sorted item_in)) ∙ take_min budget (items_in sorted)) i;

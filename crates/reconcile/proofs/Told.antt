@@ -7,12 +7,14 @@ use Rattle.std.proofs.lemmas.Bool.{eq-eqb}
 use Rattle.std.proofs.lemmas.List.Elements.{All-nil, All-cons, All-head, All-tail}
 use Rattle.bench_types.specs.declared.entries.Item.{Item}
 use Rattle.bench_types.specs.declared.exchanges.Mode.{Mode}
-use Rattle.bench_types.specs.declared.exchanges.Mode.TheVariants.{ScuttleBreadth, ScuttleDepth, PreciseOldest, PreciseNewest}
+use Rattle.bench_types.specs.declared.exchanges.Telling.{Telling}
+use Rattle.bench_types.specs.declared.exchanges.Telling.TheVariants as telling
+use Rattle.bench_types.specs.Mode.{told_by}
 use Rattle.node_table.specs.Table.{Table, items_of, IsProper}
 use Rattle.node_table.specs.View.{IsItemInPlace}
 use Rattle.node_table.proofs.Proper.{items_sound}
 use Rattle.reconcile.specs.Candidates.{items_above, candidates, known_version}
-use Rattle.reconcile.specs.Digests.{Told, Knowledge, Greatest, Each, IsGreatest, IsEach, IsDigestOf, greatest_in, each_in, known_in, told_version}
+use Rattle.reconcile.specs.Digests.{DigestView, Knowledge, Greatest, Each, telling_of, IsDigestOf, greatest_in, each_in, known_in, told_version}
 use Rattle.reconcile.specs.Picks.{at_place, sent}
 use Rattle.reconcile.proofs.Picked.{find_stands}
 use Rattle.reconcile.proofs.Sending.{owners_below}
@@ -25,27 +27,25 @@ filter-same p q (x ∷ xs) same =
     ∙ ap (λ ys. cond (q x) (x ∷ ys) ys) (filter-same p q xs (All-tail (λ (i : Item). p i ≡ q i) x xs same))
 
 -- what a digest knows of an item, by its kind
-known_in-greatest : (k : Knowledge) (i : Item) → IsGreatest k → known_in k i ≡ greatest_in k i.owner
+known_in-greatest : (k : Knowledge) (i : Item) → telling_of k ≡ telling.Greatest → known_in k i ≡ greatest_in k i.owner
 known_in-greatest (Greatest gs) i is = refl
-known_in-greatest (Each vs) i is = absurd is
+known_in-greatest (Each vs) i is = cc
 
-known_in-each : (k : Knowledge) (i : Item) → IsEach k → known_in k i ≡ each_in k i.owner i.entry.key
-known_in-each (Greatest gs) i is = absurd is
+known_in-each : (k : Knowledge) (i : Item) → telling_of k ≡ telling.Each → known_in k i ≡ each_in k i.owner i.entry.key
+known_in-each (Greatest gs) i is = cc
 known_in-each (Each vs) i is = refl
 
 -- a table's digest knows what the table does
-pub told_version-known : (mode : Mode) (to : Table) (told : Told) (i : Item) → IsDigestOf mode to told → i.owner < to.nodes → told_version told i ≡ known_version mode to i
-told_version-known ScuttleBreadth to told i is lt = known_in-greatest told.knowledge i is.kind ∙ is.tells i.owner lt
-told_version-known ScuttleDepth to told i is lt = known_in-greatest told.knowledge i is.kind ∙ is.tells i.owner lt
-told_version-known PreciseOldest to told i is lt = known_in-each told.knowledge i is.kind ∙ is.tells i.owner i.entry.key
-told_version-known PreciseNewest to told i is lt = known_in-each told.knowledge i is.kind ∙ is.tells i.owner i.entry.key
+pub told_version-known : (kind : Telling) (to : Table) (told : DigestView) (i : Item) → IsDigestOf kind to told → i.owner < to.nodes → told_version told i ≡ known_version kind to i
+told_version-known telling.Greatest to told i is lt = known_in-greatest told.knowledge i is.of_kind ∙ is.tells i.owner lt
+told_version-known telling.Each to told i is lt = known_in-each told.knowledge i is.of_kind ∙ is.tells i.owner i.entry.key
 
 -- what a table's digest does not tell are the candidates to that table
-pub candidates-told : (mode : Mode) (from to : Table) (told : Told) → IsProper from → IsDigestOf mode to told → told.nodes ≡ from.nodes → items_above (told_version told) to.node (items_of from) ≡ candidates mode from to
+pub candidates-told : (mode : Mode) (from to : Table) (told : DigestView) → IsProper from → IsDigestOf (told_by mode) to told → told.nodes ≡ from.nodes → items_above (told_version told) to.node (items_of from) ≡ candidates mode from to
 candidates-told mode from to told proper is nodes =
-    filter-same (λ i. not (eqb i.owner to.node) && ltb (told_version told i) i.entry.version) (λ i. not (eqb i.owner to.node) && ltb (known_version mode to i) i.entry.version) (items_of from)
+    filter-same (λ i. not (eqb i.owner to.node) && ltb (told_version told i) i.entry.version) (λ i. not (eqb i.owner to.node) && ltb (known_version (told_by mode) to i) i.entry.version) (items_of from)
     (λ k d lt. ap (λ v. not (eqb (get_or (items_of from) k d).owner to.node) && ltb v (get_or (items_of from) k d).entry.version)
-    (told_version-known mode to told (get_or (items_of from) k d) is (subst (λ n. (get_or (items_of from) k d).owner < n) (sym nodes ∙ is.nodes) (owners_below from proper k d lt))))
+    (told_version-known (told_by mode) to told (get_or (items_of from) k d) is (subst (λ n. (get_or (items_of from) k d).owner < n) (sym nodes ∙ is.nodes) (owners_below from proper k d lt))))
 
 -- none of the candidates is the receiver's own, and each has what all the sender's items have
 pub All-items_above : (P : Item → Type 0) (known : Item → ℕ) (receiver : ℕ) (xs : List Item) → All P xs → All (λ (i : Item). (i.owner ≢ receiver) × P i) (items_above known receiver xs)

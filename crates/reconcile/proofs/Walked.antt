@@ -9,7 +9,7 @@ use Rattle.node_table.specs.Table.{Place, place_cmp}
 use Rattle.node_table.specs.View.{place_of, IsRising}
 use Rattle.node_table.proofs.Order.{place_total, place_same}
 use Rattle.node_table.proofs.Rising.{rising_at}
-use Rattle.node_table.proofs.Laws.{equal}
+use Rattle.node_table.proofs.Comparing.{equal}
 use Rattle.reconcile.specs.declared.digests.KeyVersion.{KeyVersion}
 use Rattle.reconcile.specs.Digests.{Knowledge, Greatest, Each, version_in}
 use Rattle.reconcile.specs.Inside.{place_of_version, VersionsRise}

@@ -1,13 +1,13 @@
 -- Candidates on the way into their order: each beside three numbers, by which and by the key they are sorted.
 -- What comes later where it is greater stands as it is, and what comes earlier where it is greater is taken
 -- from the greatest number of 32 bits. Source: this project.
-use Rattle.std.specs.Prelude.{◌≡◌, ℕ, ◌-◌, ◌<◌, ◌^◌, List, All, map}
+use Rattle.std.specs.Prelude.{◌≡◌, ℕ, ◌-◌, ◌<◌, ◌^◌, List, All, map, IsSorted}
 use Rattle.std.specs.List.Sorted.{IsNonDecreasingBy}
 use Rattle.bench_types.specs.declared.entries.Item.{Item}
 use Rattle.bench_types.specs.declared.exchanges.Mode.{Mode}
 use Rattle.bench_types.specs.declared.exchanges.Mode.TheVariants.{ScuttleBreadth, ScuttleDepth, PreciseOldest, PreciseNewest}
 use Rattle.reconcile.specs.declared.orders.Candidate.{Candidate}
-use Rattle.reconcile.specs.Order.{rotated, rank_among, owner_count}
+use Rattle.reconcile.specs.Order.{rotated, rank_among, owner_count, sending_order}
 
 abbrev pub item_in : Candidate → Item
 item_in c = c.item
@@ -50,6 +50,11 @@ pub record IsSet (mode : Mode) (nodes rotation : ℕ) (c : Candidate) : Type 0 w
 
 abbrev pub AllSet : Mode → ℕ → ℕ → List Candidate → Type 0
 AllSet mode nodes rotation cs = All (IsSet mode nodes rotation) cs
+
+-- candidates that were set for so many nodes and a rotation now stand in the mode's order
+abbrev pub ComeInOrder : Mode → List Candidate → List Candidate → Type 0
+ComeInOrder mode old new =
+    (nodes rotation : ℕ) → AllSet mode nodes rotation old → IsSorted (sending_order mode nodes rotation (items_in old)) (items_in new)
 
 -- each has what its mode looks at first
 abbrev pub AllFirst : (Item → ℕ) → List Candidate → Type 0

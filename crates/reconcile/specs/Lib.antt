@@ -8,5 +8,5 @@ pub mod Deltas
 pub mod Keys
 pub mod Ranks
 pub use Rattle.node_table.specs.Table
-pub use Rattle.node_table.specs.Kept
+pub use Rattle.node_table.specs.NodeTableView
 pub use Rattle.bench_types.specs.Entry

@@ -4,13 +4,11 @@ use Rattle.std.specs.Prelude.{◌≡◌, ℕ, zero, suc, ◌<◌, ◌≤◌, Lis
 use Rattle.std.specs.Ordering.{nat_cmp, ordering_then}
 use Rattle.std.specs.declared.cmp.Ordering.{Ordering}
 use Rattle.bench_types.specs.declared.entries.Item.{Item}
+use Rattle.node_table.specs.Walks.{no_item}
 
 -- by owner, then by version, then by key
 abbrev pub version_order : Item → Item → Ordering
 version_order a b = ordering_then (nat_cmp a.owner b.owner) (ordering_then (nat_cmp a.entry.version b.entry.version) (nat_cmp a.entry.key b.entry.key))
-
-abbrev pub no_item : Item
-no_item = record { owner = 0; entry = record { key = 0; version = 0; value = 0; born = 0 } }
 
 abbrev pub item_at : List Item → ℕ → Item
 item_at items i = slice_index_or items i no_item

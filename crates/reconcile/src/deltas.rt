@@ -13,9 +13,9 @@ pub struct Delta {
 }
 
 impl Model for Delta {
-    ghost use Rattle.reconcile.specs.Deltas.{Sent};
+    ghost use Rattle.reconcile.specs.Deltas.{DeltaView};
 
-    ghost Value = { Sent };
+    ghost Value = { DeltaView };
 
     ghost view = { λ d. record { items = d.items.items; cut = d.cut } };
 }

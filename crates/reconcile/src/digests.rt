@@ -1,13 +1,13 @@
 //! Digests of tables.
 
-ghost use Rattle.std.specs.Prelude.{◌≡◌, ℕ, ◌^◌, ◌<◌, ◌≤◌, max, nat_lt, count_by, map, All, length, IfOk, IsOkUnless, slice_index};
-ghost use Rattle.node_table.specs.Runs.{greatest_among};
+ghost use Rattle.std.specs.Prelude.{◌≡◌, ◌^◌, ◌<◌, nat_lt, count_by, map, All, length, IfOk, IsOkUnless};
 ghost use Rattle.bench_types.specs.declared.faults.Fault.TheVariants.{OutOfMemory};
-ghost use Rattle.reconcile.specs.Digests.{IsDigestOf, IsScuttleDigest, IsPreciseDigest, version_in};
-ghost use Rattle.reconcile.specs.Inside.{VersionsRise, version_of_item};
+ghost use Rattle.bench_types.specs.Mode.{told_by};
+ghost use Rattle.reconcile.specs.Digests.{IsDigestOf, version_in};
+ghost use Rattle.reconcile.specs.Inside.{AreGreatest, AreRaised, VersionsRise, version_of_item};
 ghost use Rattle.reconcile.specs.Walks.{StandBelow};
 
-use bench_types::{Fault, Item, Mode};
+use bench_types::{Fault, Item, Mode, Telling};
 use node_table::NodeTable;
 use std::alloc::Global;
 use std::cmp::Ordering;
@@ -41,9 +41,9 @@ struct KeyVersion {
 
 impl Model for Digest {
     ghost use Rattle.std.specs.Prelude.{◌≡◌, length};
-    ghost use Rattle.reconcile.specs.Digests.{Told};
+    ghost use Rattle.reconcile.specs.Digests.{DigestView};
 
-    ghost Value = { Told };
+    ghost Value = { DigestView };
 
     ghost use Rattle.reconcile.specs.Inside.{knowledge_of, IsInOrder};
 
@@ -54,18 +54,18 @@ impl Model for Digest {
 
 impl Digest {
     ghost use Rattle.node_table.specs.View.{place_of};
-    ghost use Rattle.reconcile.specs.Digests.{IsScuttle, IsPrecise, told_greatest, told_each, told_version};
+    ghost use Rattle.reconcile.specs.Digests.{IsOfKind, told_greatest, told_each, told_version};
     ghost use Rattle.reconcile.specs.Walks.{IsWalked};
 
     /// The digest that a mode asks of a table: one pass over the table's entries. It takes memory
     /// for a number of each owner in a scuttle mode, and of each entry in a precise one.
     pub fn of(alloc: Global, table: &NodeTable, mode: Mode) -> Result<Digest, Fault>
-        ensures ok { IfOk result (IsDigestOf mode table.now.table) }
+        ensures ok { IfOk result (IsDigestOf (told_by mode) table.now.table) }
         ensures only { IsOkUnless result OutOfMemory }
     {
-        match mode {
-            Mode::ScuttleBreadth | Mode::ScuttleDepth => greatest_of_table(alloc, table),
-            Mode::PreciseOldest | Mode::PreciseNewest => each_of_table(alloc, table),
+        match mode.told_by() {
+            Telling::Greatest => greatest_of_table(alloc, table),
+            Telling::Each => each_of_table(alloc, table),
         }
     }
 
@@ -78,7 +78,7 @@ impl Digest {
 
     /// The greatest version that is held of an owner.
     pub fn greatest(&self, owner: u32) -> u32
-        requires kind { IsScuttle self.now }
+        requires kind { IsOfKind Telling.Greatest self.now }
         requires owner { owner < self.now.nodes }
         ensures { result ≡ told_greatest self.now owner }
     {
@@ -90,7 +90,7 @@ impl Digest {
 
     /// The version that is held of an owner's key, 0 where none is: a binary search.
     pub fn version(&self, owner: u32, key: u32) -> u32
-        requires kind { IsPrecise self.now }
+        requires kind { IsOfKind Telling.Each self.now }
         requires owner { owner < self.now.nodes }
         requires key { key < self.now.keys }
         ensures { result ≡ told_each self.now owner key }
@@ -123,7 +123,7 @@ impl Digest {
 
 // What the scuttle modes ask of a table.
 fn greatest_of_table(alloc: Global, table: &NodeTable) -> Result<Digest, Fault>
-    ensures ok { IfOk result (IsScuttleDigest table.now.table) }
+    ensures ok { IfOk result (IsDigestOf Telling.Greatest table.now.table) }
     ensures only { IsOkUnless result OutOfMemory }
 {
     let nodes = table.nodes();
@@ -138,7 +138,7 @@ fn greatest_of_table(alloc: Global, table: &NodeTable) -> Result<Digest, Fault>
 
 // What the precise modes ask of a table.
 fn each_of_table(alloc: Global, table: &NodeTable) -> Result<Digest, Fault>
-    ensures ok { IfOk result (IsPreciseDigest table.now.table) }
+    ensures ok { IfOk result (IsDigestOf Telling.Each table.now.table) }
     ensures only { IsOkUnless result OutOfMemory }
 {
     Ok(Digest {
@@ -153,7 +153,7 @@ fn each_of_table(alloc: Global, table: &NodeTable) -> Result<Digest, Fault>
 fn greatest_versions(alloc: Global, nodes: u32, items: &[Item]) -> Result<Vec<u32>, Fault>
     requires { All (λ i. i.owner < nodes) items.now }
     ensures len { IfOk result (λ v. length v.items ≡ nodes) }
-    ensures greatest { IfOk result (λ v. (owner : ℕ) → owner < nodes → slice_index v.items owner ≡ greatest_among owner items.now) }
+    ensures greatest { IfOk result (λ v. AreGreatest nodes items.now v.items) }
     ensures only { IsOkUnless result OutOfMemory }
 {
     let mut greatest = vec![in alloc; 0u32; nodes as usize]?;
@@ -172,7 +172,7 @@ fn count_positive(numbers: &[u32]) -> u32
 // Raises each owner's number to the greatest version of its items.
 fn raise_to(greatest: &mut [u32], items: &[Item])
     requires { All (λ i. i.owner < length greatest.old) items.now }
-    ensures { (owner : ℕ) → owner < length greatest.old → slice_index greatest.new owner ≡ max (slice_index greatest.old owner) (greatest_among owner items.now) }
+    ensures { AreRaised items.now greatest.old greatest.new }
 {
     for item in items {
         let slot = item.owner as usize;

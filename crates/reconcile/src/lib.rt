@@ -5,8 +5,6 @@
 mod deltas;
 mod digests;
 mod orders;
-#[cfg(test)]
-mod tests;
 
 pub use deltas::Delta;
 pub use digests::Digest;

@@ -1,14 +1,15 @@
 //! Which items answer a digest, and in which order.
 
-ghost use Rattle.std.specs.Prelude.{◌≡◌, ℕ, ◌+◌, ◌-◌, ◌%◌, ◌^◌, ◌<◌, ◌≤◌, ◌==◌, All, map, take, length, count_by, IfOk, IsOkUnless, IsPermutation, IsSorted};
+ghost use Rattle.std.specs.Prelude.{◌≡◌, ◌+◌, ◌-◌, ◌%◌, ◌^◌, ◌<◌, ◌≤◌, ◌==◌, All, map, take, length, count_by, IfOk, IsOkUnless, IsPermutation, IsSorted};
 ghost use Rattle.bench_types.specs.declared.faults.Fault.TheVariants.{OutOfMemory};
-ghost use Rattle.node_table.specs.Table.{items_of, IsProper};
+ghost use Rattle.bench_types.specs.Mode.{told_by};
+ghost use Rattle.node_table.specs.Table.{IsProper};
 ghost use Rattle.node_table.specs.View.{IsRising};
 ghost use Rattle.reconcile.specs.Candidates.{items_above};
-ghost use Rattle.reconcile.specs.Order.{sending_order, rank_among, owner_count};
-ghost use Rattle.reconcile.specs.Deltas.{delta_of};
+ghost use Rattle.reconcile.specs.Order.{rank_among, owner_count};
+ghost use Rattle.reconcile.specs.Deltas.{answer_of};
 ghost use Rattle.reconcile.specs.Digests.{told_version, IsOfKind};
-ghost use Rattle.reconcile.specs.Keys.{item_in, items_in, rest_of, age_key, first_key, second_key, reversed, AllSet, AllFirst, IsSet, OwnersRise};
+ghost use Rattle.reconcile.specs.Keys.{item_in, items_in, rest_of, age_key, first_key, second_key, reversed, AllSet, AllFirst, ComeInOrder, IsSet, OwnersRise};
 ghost use Rattle.reconcile.specs.Ranks.{version_order, IsRun, Follows};
 
 use crate::deltas::Delta;
@@ -43,13 +44,13 @@ pub fn delta(
     rotation: u32,
     budget: u32,
 ) -> Result<Delta, Fault>
-    requires kind { IsOfKind mode digest.now }
+    requires kind { IsOfKind (told_by mode) digest.now }
     requires nodes { digest.now.nodes ≡ table.now.table.nodes }
     requires keys { digest.now.keys ≡ table.now.table.keys }
     requires receiver { receiver < table.now.table.nodes }
     requires rotation { rotation < table.now.table.nodes }
     requires budget { 1 ≤ budget }
-    ensures ok { IfOk result (λ d. d ≡ delta_of mode table.now.table.nodes rotation budget (items_above (told_version digest.now) receiver (items_of table.now.table))) }
+    ensures ok { IfOk result (λ d. d ≡ answer_of mode rotation budget table.now.table receiver digest.now) }
     ensures within { IfOk result (λ d. length d.items ≤ budget) }
     ensures proper { IsProper table.now.table }
     ensures only { IsOkUnless result OutOfMemory }
@@ -154,7 +155,7 @@ fn version_key(mode: Mode, version: u32) -> u32
 fn sort_in_order(order: &mut [Candidate], mode: Mode)
     requires { length order.old < 2 ^ 32 }
     ensures same { IsPermutation (items_in order.old) (items_in order.new) }
-    ensures sorted { (nodes rotation : ℕ) → AllSet mode nodes rotation order.old → IsSorted (sending_order mode nodes rotation (items_in order.old)) (items_in order.new) }
+    ensures sorted { ComeInOrder mode order.old order.new }
 {
     set_first_keys(order, mode);
     order.sort_unstable_by_key(|c| (c.first, c.turn, c.second, c.item.entry.key));

@@ -1,9 +1,10 @@
 -- A text on its way into a sink.
-use Rattle.std.proofs.Common.{◌≡◌, ◌++◌, ◌∙◌, ℕ, List, Option, sym, ap, subst, take, drop, length, append_assoc, take-append-drop}
+use Rattle.std.proofs.Common.{◌≡◌, ◌++◌, ◌∙◌, ℕ, true, List, Option, sym, ap, subst, take, drop, length, append_assoc, take-append-drop}
 use lib.Seq.{take-append_seam}
 use Rattle.std.proofs.KnownBytes.{Appends-trans, Appends-kept}
 use Rattle.std.specs.Io.KnownBytes.{Appends, Keeps}
-use Rattle.report.specs.Output.{AppendsFront}
+use Rattle.bench_types.specs.declared.sinks.Sink.{Ghosts as Sink}
+use Rattle.report.specs.Output.{IsCut}
 
 -- the sink has taken the text up to `rest`
 pub record TakesUpTo (old now : Option (List ℕ)) (text rest : List ℕ) : Type 0 where
@@ -21,9 +22,14 @@ up_to_more old now new text rest n so_far more = record {
 }
 
 -- it stops here
-pub up_to_failure : (old now new : Option (List ℕ)) (text rest : List ℕ) → TakesUpTo old now text rest
-    → Keeps now new → AppendsFront old new text
-up_to_failure old now new text rest so_far kept =
+pub cut_here : {W : Type 0} (sink : Sink W) (old now new : W) (text rest : List ℕ) → TakesUpTo (sink.taken old) (sink.taken now) text rest
+    → Keeps (sink.taken now) (sink.taken new) → sink.failed new ≡ true → (sink.failed old ≡ true → new ≡ old) → IsCut sink old new text
+cut_here sink old now new text rest so_far kept failed stays =
     let seam : take (length so_far.front) text ≡ so_far.front =
     ap (take (length so_far.front)) so_far.whole ∙ take-append_seam so_far.front rest in
-    (length so_far.front, subst (Appends old new) (sym seam) (Appends-kept old now new so_far.front so_far.taken kept))
+    record {
+      count = length so_far.front;
+      taken = subst (Appends (sink.taken old) (sink.taken new)) (sym seam) (Appends-kept (sink.taken old) (sink.taken now) (sink.taken new) so_far.front so_far.taken kept);
+      failed = failed;
+      stays = stays;
+    }

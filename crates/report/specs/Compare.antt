@@ -2,19 +2,13 @@
 -- then the numbers of a row of the report, in plain decimal. Source: this project.
 use Rattle.std.specs.Prelude.{ℕ, List, ◌∷◌, codes, decimal, map, flat_map}
 use Rattle.bench_types.specs.declared.exchanges.Mode.{Mode}
-use Rattle.bench_types.specs.declared.exchanges.Mode.TheVariants.{ScuttleBreadth, ScuttleDepth, PreciseOldest, PreciseNewest}
 use Rattle.bench_types.specs.declared.rows.Row.{Row}
+use Rattle.bench_types.specs.Mode.{mode_name}
 use Rattle.report.specs.Line.{line_of}
 use Rattle.report.specs.Report.{report_numbers}
 
 unfoldable pub compare_header_line : List ℕ
 compare_header_line = codes "mode,round,exchanges,unreached,lost,entries,cut,stale,greatest\n"
-
-abbrev pub mode_name : Mode → List ℕ
-mode_name ScuttleBreadth = codes "scuttle-breadth"
-mode_name ScuttleDepth = codes "scuttle-depth"
-mode_name PreciseOldest = codes "precise-oldest"
-mode_name PreciseNewest = codes "precise-newest"
 
 unfoldable pub compare_line : Mode → Row → List ℕ
 compare_line mode row = line_of (mode_name mode ∷ map decimal (report_numbers row))

@@ -1,10 +1,8 @@
 //! The comparison of the modes: a header, and then for each mode a row for each round.
 
-ghost use Rattle.std.specs.Prelude.{◌≡◌, ◌⊎◌, true, false, is_err, IsTrue, OnOk, OnErr, IfErr, IsErrOf};
-ghost use Rattle.std.specs.Io.KnownBytes.{Appends};
-ghost use Rattle.report.specs.Cells.{is_plain};
-ghost use Rattle.report.specs.Compare.{compare_header_line, mode_name, compare_line};
-ghost use Rattle.report.specs.Output.{AppendsFront};
+ghost use Rattle.std.specs.Prelude.{OnOk, IfErr};
+ghost use Rattle.report.specs.Compare.{compare_header_line, compare_line};
+ghost use Rattle.report.specs.Output.{IsWritten, IsWriteFault};
 
 use crate::cells::Cell;
 use crate::outputs::write_line;
@@ -13,14 +11,8 @@ use std::alloc::Global;
 
 /// Writes the header of a comparison, the names of its columns, and flushes.
 pub fn compare_header<W: Sink>(alloc: Global, writer: &mut W) -> Result<(), Fault>
-    ensures written { OnOk result (Appends (W.taken writer.old) (W.taken writer.new) compare_header_line) }
-    ensures sound { OnOk result (W.failed writer.new ≡ false) }
-    ensures flushed { OnOk result (W.flushed writer.new ≡ true) }
-    ensures only { IfErr result (λ fault. (fault ≡ Fault.OutOfMemory) ⊎ (fault ≡ Fault.WriteFailed)) }
-    ensures out_of_memory { IsErrOf result Fault.OutOfMemory → writer.new ≡ writer.old }
-    ensures failed { IsErrOf result Fault.WriteFailed → W.failed writer.new ≡ true }
-    ensures front { OnErr result (AppendsFront (W.taken writer.old) (W.taken writer.new) compare_header_line) }
-    ensures stays { W.failed writer.old ≡ true → (is_err result ≡ true) × (writer.new ≡ writer.old) }
+    ensures written { OnOk result (IsWritten W.Sink writer.old writer.new compare_header_line) }
+    ensures fault { IfErr result (IsWriteFault W.Sink writer.old writer.new compare_header_line) }
 {
     let columns = [
         Cell::Text("mode"),
@@ -43,17 +35,11 @@ pub fn write_compare_row<W: Sink>(
     mode: Mode,
     row: &Row,
 ) -> Result<(), Fault>
-    ensures written { OnOk result (Appends (W.taken writer.old) (W.taken writer.new) (compare_line mode row.now)) }
-    ensures sound { OnOk result (W.failed writer.new ≡ false) }
-    ensures flushed { OnOk result (W.flushed writer.new ≡ true) }
-    ensures only { IfErr result (λ fault. (fault ≡ Fault.OutOfMemory) ⊎ (fault ≡ Fault.WriteFailed)) }
-    ensures out_of_memory { IsErrOf result Fault.OutOfMemory → writer.new ≡ writer.old }
-    ensures failed { IsErrOf result Fault.WriteFailed → W.failed writer.new ≡ true }
-    ensures front { OnErr result (AppendsFront (W.taken writer.old) (W.taken writer.new) (compare_line mode row.now)) }
-    ensures stays { W.failed writer.old ≡ true → (is_err result ≡ true) × (writer.new ≡ writer.old) }
+    ensures written { OnOk result (IsWritten W.Sink writer.old writer.new (compare_line mode row.now)) }
+    ensures fault { IfErr result (IsWriteFault W.Sink writer.old writer.new (compare_line mode row.now)) }
 {
     let cells = [
-        Cell::Text(name(mode)),
+        Cell::Text(mode.name()),
         Cell::Number(row.round.into()),
         Cell::Number(row.exchanges.into()),
         Cell::Number(row.unreached.into()),
@@ -64,16 +50,4 @@ pub fn write_compare_row<W: Sink>(
         Cell::Number(row.greatest.into()),
     ];
     write_line(alloc, writer, &cells)
-}
-
-fn name(mode: Mode) -> &'static str
-    ensures name { result.now ≡ mode_name mode }
-    ensures plain { IsTrue (is_plain result.now) }
-{
-    match mode {
-        Mode::ScuttleBreadth => "scuttle-breadth",
-        Mode::ScuttleDepth => "scuttle-depth",
-        Mode::PreciseOldest => "precise-oldest",
-        Mode::PreciseNewest => "precise-newest",
-    }
 }

@@ -11,6 +11,3 @@ mod traces;
 pub use comparisons::{compare_header, write_compare_row};
 pub use reports::{report_header, write_report_row};
 pub use traces::{trace_header, write_trace_rows};
-
-#[cfg(test)]
-mod tests;

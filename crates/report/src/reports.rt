@@ -1,8 +1,7 @@
 //! The report: a header, and then a row for each round.
 
-ghost use Rattle.std.specs.Prelude.{◌≡◌, ◌⊎◌, true, false, is_err, OnOk, OnErr, IfErr, IsErrOf};
-ghost use Rattle.std.specs.Io.KnownBytes.{Appends};
-ghost use Rattle.report.specs.Output.{AppendsFront};
+ghost use Rattle.std.specs.Prelude.{OnOk, IfErr};
+ghost use Rattle.report.specs.Output.{IsWritten, IsWriteFault};
 ghost use Rattle.report.specs.Report.{report_header_line, report_line};
 
 use crate::cells::Cell;
@@ -12,14 +11,8 @@ use std::alloc::Global;
 
 /// Writes the header of the report, the names of its columns, and flushes.
 pub fn report_header<W: Sink>(alloc: Global, writer: &mut W) -> Result<(), Fault>
-    ensures written { OnOk result (Appends (W.taken writer.old) (W.taken writer.new) report_header_line) }
-    ensures sound { OnOk result (W.failed writer.new ≡ false) }
-    ensures flushed { OnOk result (W.flushed writer.new ≡ true) }
-    ensures only { IfErr result (λ fault. (fault ≡ Fault.OutOfMemory) ⊎ (fault ≡ Fault.WriteFailed)) }
-    ensures out_of_memory { IsErrOf result Fault.OutOfMemory → writer.new ≡ writer.old }
-    ensures failed { IsErrOf result Fault.WriteFailed → W.failed writer.new ≡ true }
-    ensures front { OnErr result (AppendsFront (W.taken writer.old) (W.taken writer.new) report_header_line) }
-    ensures stays { W.failed writer.old ≡ true → (is_err result ≡ true) × (writer.new ≡ writer.old) }
+    ensures written { OnOk result (IsWritten W.Sink writer.old writer.new report_header_line) }
+    ensures fault { IfErr result (IsWriteFault W.Sink writer.old writer.new report_header_line) }
 {
     let columns = [
         Cell::Text("round"),
@@ -36,14 +29,8 @@ pub fn report_header<W: Sink>(alloc: Global, writer: &mut W) -> Result<(), Fault
 
 /// Writes the row of one round, and flushes.
 pub fn write_report_row<W: Sink>(alloc: Global, writer: &mut W, row: &Row) -> Result<(), Fault>
-    ensures written { OnOk result (Appends (W.taken writer.old) (W.taken writer.new) (report_line row.now)) }
-    ensures sound { OnOk result (W.failed writer.new ≡ false) }
-    ensures flushed { OnOk result (W.flushed writer.new ≡ true) }
-    ensures only { IfErr result (λ fault. (fault ≡ Fault.OutOfMemory) ⊎ (fault ≡ Fault.WriteFailed)) }
-    ensures out_of_memory { IsErrOf result Fault.OutOfMemory → writer.new ≡ writer.old }
-    ensures failed { IsErrOf result Fault.WriteFailed → W.failed writer.new ≡ true }
-    ensures front { OnErr result (AppendsFront (W.taken writer.old) (W.taken writer.new) (report_line row.now)) }
-    ensures stays { W.failed writer.old ≡ true → (is_err result ≡ true) × (writer.new ≡ writer.old) }
+    ensures written { OnOk result (IsWritten W.Sink writer.old writer.new (report_line row.now)) }
+    ensures fault { IfErr result (IsWriteFault W.Sink writer.old writer.new (report_line row.now)) }
 {
     let numbers = [
         Cell::Number(row.round.into()),

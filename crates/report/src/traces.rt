@@ -1,9 +1,8 @@
 //! The trace: a header, and then for each round a row for each of its exchanges.
 
-ghost use Rattle.std.specs.Prelude.{◌≡◌, ◌≤◌, ◌⊎◌, ◌++◌, true, false, length, is_err, IsTrue, IfOk, OnOk, OnErr, IfErr, IsErrOf, IsOkUnless};
-ghost use Rattle.std.specs.Io.KnownBytes.{Appends};
+ghost use Rattle.std.specs.Prelude.{◌≡◌, ◌≤◌, ◌++◌, length, IsTrue, IfOk, OnOk, IfErr, IsOkUnless};
 ghost use Rattle.report.specs.Cells.{is_plain, written, IsBetweenLines};
-ghost use Rattle.report.specs.Output.{AppendsFront};
+ghost use Rattle.report.specs.Output.{IsWritten, IsWriteFault};
 ghost use Rattle.round_plan.specs.declared.lists.TheConstants.{MOST_EXCHANGES};
 ghost use Rattle.report.specs.Trace.{trace_header_line, fate_name, trace_line, trace_lines};
 
@@ -16,14 +15,8 @@ use std::alloc::Global;
 
 /// Writes the header of the trace, the names of its columns, and flushes.
 pub fn trace_header<W: Sink>(alloc: Global, writer: &mut W) -> Result<(), Fault>
-    ensures written { OnOk result (Appends (W.taken writer.old) (W.taken writer.new) trace_header_line) }
-    ensures sound { OnOk result (W.failed writer.new ≡ false) }
-    ensures flushed { OnOk result (W.flushed writer.new ≡ true) }
-    ensures only { IfErr result (λ fault. (fault ≡ Fault.OutOfMemory) ⊎ (fault ≡ Fault.WriteFailed)) }
-    ensures out_of_memory { IsErrOf result Fault.OutOfMemory → writer.new ≡ writer.old }
-    ensures failed { IsErrOf result Fault.WriteFailed → W.failed writer.new ≡ true }
-    ensures front { OnErr result (AppendsFront (W.taken writer.old) (W.taken writer.new) trace_header_line) }
-    ensures stays { W.failed writer.old ≡ true → (is_err result ≡ true) × (writer.new ≡ writer.old) }
+    ensures written { OnOk result (IsWritten W.Sink writer.old writer.new trace_header_line) }
+    ensures fault { IfErr result (IsWriteFault W.Sink writer.old writer.new trace_header_line) }
 {
     let columns = [
         Cell::Text("round"),
@@ -51,14 +44,10 @@ pub fn write_trace_rows<W: Sink>(
     records: &[Record],
 ) -> Result<(), Fault>
     requires one_each { length records.now ≡ length list.now.exchanges }
-    ensures written { OnOk result (Appends (W.taken writer.old) (W.taken writer.new) (trace_lines round list.now.exchanges records.now)) }
-    ensures sound { OnOk result (W.failed writer.new ≡ false) }
-    ensures flushed { OnOk result (W.flushed writer.new ≡ true) }
-    ensures only { IfErr result (λ fault. (fault ≡ Fault.OutOfMemory) ⊎ (fault ≡ Fault.WriteFailed)) }
-    ensures out_of_memory { IsErrOf result Fault.OutOfMemory → writer.new ≡ writer.old }
-    ensures failed { IsErrOf result Fault.WriteFailed → W.failed writer.new ≡ true }
-    ensures front { OnErr result (AppendsFront (W.taken writer.old) (W.taken writer.new) (trace_lines round list.now.exchanges records.now)) }
-    ensures stays { W.failed writer.old ≡ true → (is_err result ≡ true) × (writer.new ≡ writer.old) }
+    ensures written { OnOk result
+        (IsWritten W.Sink writer.old writer.new (trace_lines round list.now.exchanges records.now)) }
+    ensures fault { IfErr result
+        (IsWriteFault W.Sink writer.old writer.new (trace_lines round list.now.exchanges records.now)) }
 {
     let rows = make_rows(alloc, round, list.exchanges(), records)?;
     write_text(writer, rows.as_slice())
@@ -94,7 +83,8 @@ fn put_row(
 ) -> Result<(), Fault>
     requires between { IsBetweenLines lines.old }
     ensures between { OnOk result (IsBetweenLines lines.new) }
-    ensures line { OnOk result (written lines.new ≡ written lines.old ++ trace_line round index exchange.now sent.now) }
+    ensures line { OnOk result
+        (written lines.new ≡ written lines.old ++ trace_line round index exchange.now sent.now) }
     ensures only { IsOkUnless result Fault.OutOfMemory }
 {
     let cells = [

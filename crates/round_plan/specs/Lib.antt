@@ -3,3 +3,4 @@ pub mod Peer
 pub mod Plan
 pub mod Words
 pub mod Writes
+pub use Rattle.bench_types.specs.Exchange

@@ -1,10 +1,11 @@
 -- The plan of a round: its exchanges in order, and how many nodes are up and reach no peer. By ascending initiator,
 -- each node that is up begins one exchange with its peer, where that is up too and no partition lies between them.
 -- Source: this project.
-use Rattle.std.specs.Prelude.{◌≡◌, ◌≢◌, ℕ, ◌%◌, ◌<◌, ◌≤◌, Bool, not, ◌&&◌, nat_lt, List, length, map, All, count_by}
+use Rattle.std.specs.Prelude.{◌≡◌, ℕ, ◌%◌, ◌≤◌, Bool, not, ◌&&◌, nat_lt, List, length, map, All, count_by}
 use Rattle.std.specs.List.{range_with_len, filter}
 use Rattle.bench_types.specs.declared.exchanges.Exchange.{Exchange}
-use Rattle.bench_types.specs.declared.limits.TheConstants.{LEAST_NODES, MOST_NODES}
+use Rattle.bench_types.specs.Exchange.{IsPlanned}
+use Rattle.bench_types.specs.declared.limits.TheConstants.{LEAST_NODES, MOST_NODES, MOST_LOSS}
 use Rattle.scenario.specs.declared.choices.Rotation.{Rotation}
 use Rattle.scenario.specs.declared.choices.Rotation.TheVariants.{Random, Off}
 use Rattle.scenario.specs.Settings.{Settings}
@@ -13,31 +14,24 @@ use Rattle.round_plan.specs.Outages.{is_up, separated}
 use Rattle.round_plan.specs.Peer.{peer_of}
 use Rattle.round_plan.specs.Words.{word_of}
 
-pub record Plan : Type 0 where
+pub record RoundListView : Type 0 where
   pub nodes : ℕ
   pub unreached : ℕ
   pub exchanges : List Exchange
 
-abbrev pub plan_of : ℕ → ℕ → List Exchange → Plan
+abbrev pub plan_of : ℕ → ℕ → List Exchange → RoundListView
 plan_of n u es = record { nodes = n; unreached = u; exchanges = es }
 
--- an exchange of two of so many nodes
-pub record IsPlanned (nodes : ℕ) (e : Exchange) : Type 0 where
-  pub initiator : e.initiator < nodes
-  pub responder : e.responder < nodes
-  pub apart : e.initiator ≢ e.responder
-  pub rotation : e.rotation < nodes
-
 -- what each plan of a round keeps
-pub record IsRoundPlan (p : Plan) : Type 0 where
+pub record IsRoundPlan (p : RoundListView) : Type 0 where
   pub least : LEAST_NODES ≤ p.nodes
   pub most : p.nodes ≤ MOST_NODES
   pub size : length p.exchanges ≤ MOST_EXCHANGES
   pub planned : All (IsPlanned p.nodes) p.exchanges
 
--- a message is lost where its word, among a million, is below the scenario's rate
+-- a message is lost where its word, among as many as there are parts of a rate, is below the scenario's rate
 abbrev pub is_lost : Settings → ℕ → Bool
-is_lost s word = nat_lt (word % 1000000) s.loss_ppm
+is_lost s word = nat_lt (word % MOST_LOSS) s.loss_ppm
 
 -- the owner at which the order of an exchange's entries begins, among so many nodes, by a word
 abbrev pub rotation_by : Rotation → ℕ → ℕ → ℕ
@@ -71,6 +65,6 @@ abbrev pub is_unreached : Settings → ℕ → ℕ → Bool
 is_unreached s round node = is_up s node round && not (reaches s round node)
 
 -- the plan of a round of a scenario
-abbrev pub round_list_of : Settings → ℕ → Plan
+abbrev pub round_list_of : Settings → ℕ → RoundListView
 round_list_of s round =
     plan_of s.nodes (count_by (is_unreached s round) (range_with_len 0 s.nodes)) (map (exchange_of s round) (filter (begins s round) (range_with_len 0 s.nodes)))

@@ -8,10 +8,6 @@ mod outages;
 mod owners;
 mod peers;
 mod rounds;
-#[cfg(test)]
-mod tests;
-#[cfg(test)]
-mod word_tables;
 mod words;
 
 pub use lists::{MOST_EXCHANGES, RoundList};

@@ -1,7 +1,8 @@
 //! The list of exchanges of one round.
 
 ghost use Rattle.std.specs.Prelude.{◌≡◌, ◌==◌, ◌↔◌, length, slice_get, IsSome, IfSome, IsTrue};
-ghost use Rattle.round_plan.specs.Plan.{Plan, plan_of, IsPlanned, IsRoundPlan};
+ghost use Rattle.bench_types.specs.Exchange.{IsPlanned};
+ghost use Rattle.round_plan.specs.Plan.{RoundListView, plan_of, IsRoundPlan};
 
 use bench_types::Exchange;
 use bench_types::limits::{LEAST_NODES, MOST_NODES};
@@ -19,9 +20,9 @@ pub struct RoundList {
 }
 
 impl Model for RoundList {
-    ghost use Rattle.round_plan.specs.Plan.{Plan, plan_of, IsRoundPlan};
+    ghost use Rattle.round_plan.specs.Plan.{RoundListView, plan_of, IsRoundPlan};
 
-    ghost Value = { Plan };
+    ghost Value = { RoundListView };
 
     ghost view = { λ l. plan_of l.nodes l.unreached l.exchanges.items };
 

@@ -1,22 +1,20 @@
 //! Who exchanges with whom in a round.
 
 ghost use Rattle.std.specs.Prelude.{◌≡◌, ◌<◌, ◌≤◌, IfOk, IsOkUnless};
-ghost use Rattle.round_plan.specs.Plan.{exchange_of, is_lost, reaches, round_list_of, AreChosen, IsPlanned};
+ghost use Rattle.bench_types.specs.Exchange.{IsPlanned};
+ghost use Rattle.round_plan.specs.Plan.{exchange_of, is_lost, reaches, round_list_of, AreChosen};
 ghost use Rattle.bench_types.specs.declared.faults.Fault.TheVariants.{OutOfMemory};
 
 use crate::lists::RoundList;
 use crate::outages::{is_up, separated};
 use crate::peers::peer_by;
 use crate::words::words_of;
-use bench_types::limits::MOST_ROUNDS;
+use bench_types::limits::{MOST_LOSS, MOST_ROUNDS};
 use bench_types::{Exchange, Fault};
 use rayon::prelude::*;
 use scenario::{Rotation, Scenario};
 use std::alloc::{AllocError, Global};
 use std::thread::Threads;
-
-/// A message is lost by so many words of a million.
-const MILLION: u32 = 1_000_000;
 
 /// The exchanges of a round, by ascending initiator: each node that is up begins one with its peer,
 /// where that is up too and not separated from it. Costs one block of words for each node, spread
@@ -96,7 +94,7 @@ fn exchange_of(scenario: &Scenario, node: u32, round: u32) -> Exchange
 fn is_lost(scenario: &Scenario, word: u32) -> bool
     ensures { result ≡ is_lost scenario.now word }
 {
-    word % MILLION < scenario.loss_ppm()
+    word % MOST_LOSS < scenario.loss_ppm()
 }
 
 // Whether the initiator's peer is up and not separated from it.

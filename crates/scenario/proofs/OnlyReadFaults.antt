@@ -9,9 +9,10 @@ use Rattle.bench_types.specs.declared.fields.Field.TheVariants as field
 use Rattle.bench_types.specs.declared.fields.TableName.{TableName}
 use Rattle.bench_types.specs.declared.fields.TableName.TheVariants as name
 use Rattle.bench_types.specs.declared.limits.TheConstants.{LEAST_NODES, MOST_NODES, LEAST_KEYS, MOST_KEYS, MOST_ENTRIES, MOST_ROUNDS, MOST_BUDGET, MOST_LOSS, MOST_WRITES, MOST_SEED, MOST_ELEMENTS}
-use Rattle.scenario.specs.Checked.{checked, size_checked, unknown_checked}
+use Rattle.scenario.specs.Checked.{checked, unknown_checked}
 use Rattle.scenario.specs.Elements.{array_of, table_of, few, elements_of, elements_at, each, ascending, apart_at, array_at, partition_of, restart_of, load_of, partitions_at, restarts_at, loads_at, elements_have_only, only_elements, partition_fields, restart_fields, load_fields}
 use Rattle.scenario.specs.Fields.{◌>>=◌, name_of, value_at, number_at, number_of, present, text_of, only, only_fields}
+use Rattle.scenario.specs.Parts.{size_checked, basics_at, conduct_at}
 use Rattle.scenario.specs.ReadFault.{IsReadFault}
 use Rattle.scenario.specs.Settings.{Settings}
 use Rattle.scenario.specs.Top.{format_at, nodes_at, keys_at, rounds_at, seed_at, mode_at, budget_at, peers_at, rotation_at, choice_at, loss_ppm_at, writes_at, top_fields}
@@ -129,25 +130,33 @@ of_unknown table =
     next (only_elements name.Restart field.Restart restart_fields table) _ (of_only name.Restart _) (λ _.
     of_only name.Load (elements_have_only field.Load load_fields table))))
 
-of_checked : (table : Members) → OnlyReadFaults (checked table)
-of_checked table =
+of_basics : (table : Members) → OnlyReadFaults (basics_at table)
+of_basics table =
     next (format_at table) _ (at_number field.Format 1 1 table) (λ format.
     next (nodes_at table) _ (at_number field.Nodes LEAST_NODES MOST_NODES table) (λ nodes.
     next (keys_at table) _ (at_number field.Keys LEAST_KEYS MOST_KEYS table) (λ keys.
     next (size_checked nodes keys) _ (of_size nodes keys) (λ _.
     next (rounds_at table) _ (at_number field.Rounds 1 MOST_ROUNDS table) (λ rounds.
-    next (seed_at table) _ (at_number field.Seed 0 MOST_SEED table) (λ seed.
+    next (seed_at table) _ (at_number field.Seed 0 MOST_SEED table) (λ seed. tt))))))
+
+of_conduct : (table : Members) → OnlyReadFaults (conduct_at table)
+of_conduct table =
     next (mode_at table) _ (at_word field.Mode mode_of table) (λ mode.
     next (budget_at table) _ (at_number field.Budget 1 MOST_BUDGET table) (λ budget.
     next (peers_at table) _ (at_word field.Peers peers_of table) (λ peers.
     next (rotation_at table) _ (at_word field.Rotation rotation_of table) (λ rotation.
     next (choice_at table) _ (at_word field.Choice choice_of table) (λ choice.
     next (loss_ppm_at table) _ (at_number field.LossPpm 0 MOST_LOSS table) (λ loss_ppm.
-    next (writes_at table) _ (at_number field.Writes 0 MOST_WRITES table) (λ writes.
-    next (partitions_at nodes table) _ (at_array field.Partition (partition_of nodes) table (of_partition nodes)) (λ partitions.
-    next (restarts_at nodes table) _ (at_array field.Restart (restart_of nodes) table (of_restart nodes)) (λ restarts.
+    next (writes_at table) _ (at_number field.Writes 0 MOST_WRITES table) (λ writes. tt)))))))
+
+of_checked : (table : Members) → OnlyReadFaults (checked table)
+of_checked table =
+    next (basics_at table) _ (of_basics table) (λ basics.
+    next (conduct_at table) _ (of_conduct table) (λ conduct.
+    next (partitions_at basics.nodes table) _ (at_array field.Partition (partition_of basics.nodes) table (of_partition basics.nodes)) (λ partitions.
+    next (restarts_at basics.nodes table) _ (at_array field.Restart (restart_of basics.nodes) table (of_restart basics.nodes)) (λ restarts.
     next (loads_at table) _ (at_array field.Load load_of table of_load) (λ loads.
-    next (unknown_checked table) _ (of_unknown table) (λ _. tt)))))))))))))))))
+    next (unknown_checked table) _ (of_unknown table) (λ _. tt))))))
 
 -- a fault is one of reading where it is so unless memory was refused
 unless_memory : (fault : Fault) → (fault ≢ OutOfMemory → IsReadFault fault) → IsReadFault fault

@@ -12,10 +12,13 @@ use Rattle.bench_types.specs.declared.limits.TheConstants.{MOST_ROUNDS, MOST_WRI
 use Rattle.scenario.specs.declared.elements.Partition.{Partition}
 use Rattle.scenario.specs.declared.elements.Restart.{Restart}
 use Rattle.scenario.specs.declared.elements.Load.{Load}
-use Rattle.scenario.specs.Checked.{checked, size_checked, unknown_checked}
+use Rattle.scenario.specs.declared.parts.Basics.{Basics}
+use Rattle.scenario.specs.declared.parts.Conduct.{Conduct}
+use Rattle.scenario.specs.Checked.{checked, unknown_checked}
 use Rattle.scenario.specs.Elements.{list_of, array_of, few, elements_of, each, ascending, apart_at, partition_of, restart_of, load_of, partitions_at, restarts_at, loads_at, elements_have_only, only_elements, partition_fields, restart_fields, load_fields}
 use Rattle.scenario.specs.Fields.{◌>>=◌, number_of, number_at, present, text_of, only, only_fields, has_only}
-use Rattle.scenario.specs.Order.{SaysPartition, SaysRestart, SaysLoad, Says}
+use Rattle.scenario.specs.Order.{HasNumber, HasWord, SaysPartition, SaysRestart, SaysLoad, Says}
+use Rattle.scenario.specs.Parts.{size_checked, basics_at, conduct_at}
 use Rattle.scenario.specs.Settings.{Settings}
 use Rattle.scenario.specs.Top.{format_at, nodes_at, keys_at, rounds_at, seed_at, mode_at, budget_at, peers_at, rotation_at, choice_at, loss_ppm_at, writes_at, top_fields}
 use Rattle.scenario.specs.Words.{taken, mode_of, peers_of, rotation_of, choice_of}
@@ -117,35 +120,50 @@ load_says (toml.table members) l all =
     }))))
 load_says _ l all = absurd cc
 
--- what the check gives is what the document says
-pub Says-checked : (table : Members) (s : Settings) → checked table ≡ Ok s → Says table s
-Says-checked table s all =
-    passed (format_at table) _ s all (λ format is_format e.
-    passed (nodes_at table) _ s e (λ nodes is_nodes e.
-    passed (keys_at table) _ s e (λ keys is_keys e.
-    passed (size_checked nodes keys) _ s e (λ _ _ e.
-    passed (rounds_at table) _ s e (λ rounds is_rounds e.
-    passed (seed_at table) _ s e (λ seed is_seed e.
-    passed (mode_at table) _ s e (λ mode is_mode e.
-    passed (budget_at table) _ s e (λ budget is_budget e.
-    passed (peers_at table) _ s e (λ peers is_peers e.
-    passed (rotation_at table) _ s e (λ rotation is_rotation e.
-    passed (choice_at table) _ s e (λ choice is_choice e.
-    passed (loss_ppm_at table) _ s e (λ loss_ppm is_loss_ppm e.
-    passed (writes_at table) _ s e (λ writes is_writes e.
-    passed (partitions_at nodes table) _ s e (λ partitions is_partitions e.
-    passed (restarts_at nodes table) _ s e (λ restarts is_restarts e.
-    passed (loads_at table) _ s e (λ loads is_loads e.
-    passed (unknown_checked table) _ s e (λ u is_known e.
-    passed (only_fields name.Top top_fields table) _ u is_known (λ _ is_top known.
-    passed (only_elements name.Partition field.Partition partition_fields table) _ u known (λ _ is_partition known.
-    passed (only_elements name.Restart field.Restart restart_fields table) _ u known (λ _ is_restart is_load.
-    subst (Says table) (same_ok _ s e) (record {
+-- what is read of how large the run is, is what the document says
+record SayBasics (table : Members) (b : Basics) : Type 0 where
+  format : HasNumber table field.Format b.format
+  nodes : HasNumber table field.Nodes b.nodes
+  keys : HasNumber table field.Keys b.keys
+  rounds : HasNumber table field.Rounds b.rounds
+  seed : HasNumber table field.Seed b.seed
+
+basics_say : (table : Members) (b : Basics) → basics_at table ≡ Ok b → SayBasics table b
+basics_say table b all =
+    passed (format_at table) _ b all (λ format is_format e.
+    passed (nodes_at table) _ b e (λ nodes is_nodes e.
+    passed (keys_at table) _ b e (λ keys is_keys e.
+    passed (size_checked nodes keys) _ b e (λ _ _ e.
+    passed (rounds_at table) _ b e (λ rounds is_rounds e.
+    passed (seed_at table) _ b e (λ seed is_seed e.
+    subst (SayBasics table) (same_ok _ b e) (record {
       format = number_found field.Format _ _ _ _ is_format;
       nodes = number_found field.Nodes _ _ _ _ is_nodes;
       keys = number_found field.Keys _ _ _ _ is_keys;
       rounds = number_found field.Rounds _ _ _ _ is_rounds;
       seed = number_found field.Seed _ _ _ _ is_seed;
+    })))))))
+
+-- and so is what is read of its rules
+record SayConduct (table : Members) (c : Conduct) : Type 0 where
+  mode : HasWord table field.Mode mode_of c.mode
+  budget : HasNumber table field.Budget c.budget
+  peers : HasWord table field.Peers peers_of c.peers
+  rotation : HasWord table field.Rotation rotation_of c.rotation
+  choice : HasWord table field.Choice choice_of c.choice
+  loss_ppm : HasNumber table field.LossPpm c.loss_ppm
+  writes : HasNumber table field.Writes c.writes
+
+conduct_says : (table : Members) (c : Conduct) → conduct_at table ≡ Ok c → SayConduct table c
+conduct_says table c all =
+    passed (mode_at table) _ c all (λ mode is_mode e.
+    passed (budget_at table) _ c e (λ budget is_budget e.
+    passed (peers_at table) _ c e (λ peers is_peers e.
+    passed (rotation_at table) _ c e (λ rotation is_rotation e.
+    passed (choice_at table) _ c e (λ choice is_choice e.
+    passed (loss_ppm_at table) _ c e (λ loss_ppm is_loss_ppm e.
+    passed (writes_at table) _ c e (λ writes is_writes e.
+    subst (SayConduct table) (same_ok _ c e) (record {
       mode = word_found field.Mode mode_of _ _ is_mode;
       budget = number_found field.Budget _ _ _ _ is_budget;
       peers = word_found field.Peers peers_of _ _ is_peers;
@@ -153,14 +171,43 @@ Says-checked table s all =
       choice = word_found field.Choice choice_of _ _ is_choice;
       loss_ppm = number_found field.LossPpm _ _ _ _ is_loss_ppm;
       writes = number_found field.Writes _ _ _ _ is_writes;
-      partitions = elements_found field.Partition SaysPartition (partition_of nodes) (partition_says nodes) partitions _ is_partitions;
-      restarts = elements_found field.Restart SaysRestart (restart_of nodes) (restart_says nodes) restarts _ is_restarts;
+    }))))))))
+
+-- what the check gives is what the document says
+pub Says-checked : (table : Members) (s : Settings) → checked table ≡ Ok s → Says table s
+Says-checked table s all =
+    passed (basics_at table) _ s all (λ basics is_basics e.
+    passed (conduct_at table) _ s e (λ conduct is_conduct e.
+    passed (partitions_at basics.nodes table) _ s e (λ partitions is_partitions e.
+    passed (restarts_at basics.nodes table) _ s e (λ restarts is_restarts e.
+    passed (loads_at table) _ s e (λ loads is_loads e.
+    passed (unknown_checked table) _ s e (λ u is_known e.
+    passed (only_fields name.Top top_fields table) _ u is_known (λ _ is_top known.
+    passed (only_elements name.Partition field.Partition partition_fields table) _ u known (λ _ is_partition known.
+    passed (only_elements name.Restart field.Restart restart_fields table) _ u known (λ _ is_restart is_load.
+    let said = basics_say table basics is_basics in
+    let ruled = conduct_says table conduct is_conduct in
+    subst (Says table) (same_ok _ s e) (record {
+      format = said.format;
+      nodes = said.nodes;
+      keys = said.keys;
+      rounds = said.rounds;
+      seed = said.seed;
+      mode = ruled.mode;
+      budget = ruled.budget;
+      peers = ruled.peers;
+      rotation = ruled.rotation;
+      choice = ruled.choice;
+      loss_ppm = ruled.loss_ppm;
+      writes = ruled.writes;
+      partitions = elements_found field.Partition SaysPartition (partition_of basics.nodes) (partition_says basics.nodes) partitions _ is_partitions;
+      restarts = elements_found field.Restart SaysRestart (restart_of basics.nodes) (restart_says basics.nodes) restarts _ is_restarts;
       loads = elements_found field.Load SaysLoad load_of load_says loads _ is_loads;
       others = only_known name.Top (has_only top_fields table) _ is_top;
       others_of_partitions = only_known name.Partition (elements_have_only field.Partition partition_fields table) _ is_partition;
       others_of_restarts = only_known name.Restart (elements_have_only field.Restart restart_fields table) _ is_restart;
       others_of_loads = only_known name.Load (elements_have_only field.Load load_fields table) _ is_load;
-    })))))))))))))))))))))
+    }))))))))))
 
 -- the same of an answer, `Ok` or `Err`
 pub Says-answer : (table : Members) (answer : Result Settings Fault) → IfOk answer (λ s. checked table ≡ Ok s) → IfOk answer (λ s. Says table s)

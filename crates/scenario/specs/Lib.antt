@@ -1,10 +1,11 @@
-pub mod Separation
+pub mod PartitionView
 pub mod Settings
 pub mod View
 pub mod Fields
 pub mod Words
 pub mod Elements
 pub mod Top
+pub mod Parts
 pub mod Checked
 pub mod Order
 pub mod ReadFault

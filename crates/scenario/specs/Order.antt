@@ -15,7 +15,7 @@ use Rattle.bench_types.specs.declared.limits.TheConstants.{MOST_ROUNDS, MOST_WRI
 use Rattle.scenario.specs.declared.elements.Partition.{Partition}
 use Rattle.scenario.specs.declared.elements.Restart.{Restart}
 use Rattle.scenario.specs.declared.elements.Load.{Load}
-use Rattle.scenario.specs.Checked.{size_checked}
+use Rattle.scenario.specs.Parts.{size_checked}
 use Rattle.scenario.specs.Elements.{list_of, array_of, table_of, values_at, elements_at, elements_have_only, only_elements, partition_fields, restart_fields, load_fields}
 use Rattle.scenario.specs.Fields.{◌>>=◌, name_of, value_at, number_of, number_at, has_only, only_fields}
 use Rattle.scenario.specs.Settings.{Settings}

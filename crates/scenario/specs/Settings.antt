@@ -61,7 +61,7 @@ pub record AreLawful {X : Type 0} (IsLawfulElement : X → Type 0) (xs : List X)
   pub each : All IsLawfulElement xs
 
 -- the limits of an accepted scenario
-pub record IsLawful (s : Settings) : Type 0 where
+pub record IsLawfulScenario (s : Settings) : Type 0 where
   pub format : s.format ≡ 1
   pub nodes : IsWithin LEAST_NODES MOST_NODES s.nodes
   pub keys : IsWithin LEAST_KEYS MOST_KEYS s.keys

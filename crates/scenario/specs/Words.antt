@@ -2,10 +2,10 @@
 use Rattle.std.specs.Prelude.{ℕ, List, Option, None, Some, Result, Ok, Err, codes, bytes_eq, if◌then◌else◌}
 use Rattle.toml.specs.Data.{Members}
 use Rattle.bench_types.specs.declared.exchanges.Mode.{Mode}
-use Rattle.bench_types.specs.declared.exchanges.Mode.TheVariants.{ScuttleBreadth, ScuttleDepth, PreciseOldest, PreciseNewest}
 use Rattle.bench_types.specs.declared.faults.Fault.{Fault}
 use Rattle.bench_types.specs.declared.faults.Fault.TheVariants.{OutOfRange}
 use Rattle.bench_types.specs.declared.fields.Field.{Field}
+use Rattle.bench_types.specs.Mode.{mode_named}
 use Rattle.scenario.specs.declared.choices.Peers.{Peers}
 use Rattle.scenario.specs.declared.choices.Peers.TheVariants as peers
 use Rattle.scenario.specs.declared.choices.Rotation.{Rotation}
@@ -23,13 +23,9 @@ taken f (Some x) = Ok x
 abbrev pub word_at : {A : Type 0} → Field → (List ℕ → Option A) → Members → Result A Fault
 word_at f meaning table = text_at f table >>= (λ word. taken f (meaning word))
 
+-- the words of this field are the names of the modes
 abbrev pub mode_of : List ℕ → Option Mode
-mode_of word =
-    if bytes_eq word (codes "scuttle-breadth") then Some ScuttleBreadth
-    else if bytes_eq word (codes "scuttle-depth") then Some ScuttleDepth
-    else if bytes_eq word (codes "precise-oldest") then Some PreciseOldest
-    else if bytes_eq word (codes "precise-newest") then Some PreciseNewest
-    else None
+mode_of = mode_named
 
 abbrev pub peers_of : List ℕ → Option Peers
 peers_of word =

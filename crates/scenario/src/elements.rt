@@ -14,9 +14,9 @@ pub struct Partition {
 }
 
 impl Model for Partition {
-    ghost use Rattle.scenario.specs.Separation.{Separation};
+    ghost use Rattle.scenario.specs.PartitionView.{PartitionView};
 
-    ghost Value = { Separation };
+    ghost Value = { PartitionView };
 
     ghost view = { λ p. record { from = p.from; to = p.to; apart = p.apart.items } };
 }

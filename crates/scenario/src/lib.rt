@@ -7,6 +7,7 @@ mod arrays;
 mod choices;
 mod elements;
 mod fields;
+mod parts;
 mod scenarios;
 mod tables;
 mod texts;

@@ -1,15 +1,15 @@
 //! A scenario that passed the check.
 
-ghost use Rattle.std.specs.Prelude.{◌≡◌, ◌≢◌, ◌*◌, ◌≤◌, IfOk, IfErr, OnOk};
+ghost use Rattle.std.specs.Prelude.{◌≡◌, ◌≢◌, ◌*◌, ◌≤◌, IfOk, IfErr};
 ghost use Rattle.toml.specs.View.{table_view};
-ghost use Rattle.scenario.specs.Checked.{checked, size_checked, unknown_checked};
+ghost use Rattle.scenario.specs.Checked.{checked, unknown_checked};
 
 use crate::arrays::only_elements;
 use crate::choices::{Choice, Peers, Rotation};
 use crate::elements::{Load, Partition, Restart};
-use crate::fields::{integer_at, number_at, only_fields};
+use crate::fields::only_fields;
+use crate::parts::{Basics, Conduct, basics_at, conduct_at};
 use crate::tables::{loads_at, partitions_at, restarts_at};
-use crate::words::{choice_at, mode_at, peers_at, rotation_at};
 use bench_types::limits::{
     LEAST_KEYS, LEAST_NODES, MOST_BUDGET, MOST_ENTRIES, MOST_KEYS, MOST_LOSS, MOST_NODES,
     MOST_ROUNDS, MOST_SEED, MOST_WRITES,
@@ -69,7 +69,7 @@ pub struct Scenario {
 }
 
 impl Model for Scenario {
-    ghost use Rattle.scenario.specs.Settings.{Settings, IsLawful};
+    ghost use Rattle.scenario.specs.Settings.{Settings, IsLawfulScenario};
 
     ghost Value = { Settings };
 
@@ -77,21 +77,7 @@ impl Model for Scenario {
 
     ghost view = { settings_of };
 
-    ghost invariant = { λ s. IsLawful (settings_of s) };
-}
-
-fn check_size(nodes: u32, keys: u32) -> Result<(), Fault>
-    requires nodes { nodes ≤ MOST_NODES }
-    requires keys { keys ≤ MOST_KEYS }
-    ensures answer { result ≡ size_checked nodes keys }
-    ensures within { OnOk result (nodes * nodes * keys ≤ MOST_ENTRIES) }
-{
-    let (nodes, keys) = (u64::from(nodes), u64::from(keys));
-    if nodes * nodes * keys <= MOST_ENTRIES {
-        Ok(())
-    } else {
-        Err(Fault::TooLarge)
-    }
+    ghost invariant = { λ s. IsLawfulScenario (settings_of s) };
 }
 
 // That no table has a key that is not a field's: first the text itself, then each element.
@@ -110,26 +96,29 @@ fn check_unknown(table: &Table) -> Result<(), Fault>
 }
 
 impl Scenario {
-    ghost use Rattle.scenario.specs.Settings.{with_mode, IsLawful, AreLawful, IsLawfulPartition, IsLawfulRestart, IsLawfulLoad};
+    ghost use Rattle.scenario.specs.Settings.{with_mode, IsLawfulScenario, AreLawful, IsLawfulPartition, IsLawfulRestart, IsLawfulLoad};
 
     pub(crate) fn checked(alloc: Global, table: &Table) -> Result<Scenario, Fault>
         ensures ok { IfOk result (λ scenario. checked (table_view table.now) ≡ Ok scenario) }
         ensures refused { IfErr result (λ fault.
             fault ≢ Fault.OutOfMemory → checked (table_view table.now) ≡ Err fault) }
     {
-        let format = number_at(table, Field::Format, 1, 1)?;
-        let nodes = number_at(table, Field::Nodes, LEAST_NODES, MOST_NODES)?;
-        let keys = number_at(table, Field::Keys, LEAST_KEYS, MOST_KEYS)?;
-        check_size(nodes, keys)?;
-        let rounds = number_at(table, Field::Rounds, 1, MOST_ROUNDS)?;
-        let seed = integer_at(table, Field::Seed, 0, MOST_SEED)?;
-        let mode = mode_at(table)?;
-        let budget = number_at(table, Field::Budget, 1, MOST_BUDGET)?;
-        let peers = peers_at(table)?;
-        let rotation = rotation_at(table)?;
-        let choice = choice_at(table)?;
-        let loss_ppm = number_at(table, Field::LossPpm, 0, MOST_LOSS)?;
-        let writes = number_at(table, Field::Writes, 0, MOST_WRITES)?;
+        let Basics {
+            format,
+            nodes,
+            keys,
+            rounds,
+            seed,
+        } = basics_at(table)?;
+        let Conduct {
+            mode,
+            budget,
+            peers,
+            rotation,
+            choice,
+            loss_ppm,
+            writes,
+        } = conduct_at(table)?;
         let partitions = partitions_at(alloc, table, nodes)?;
         let restarts = restarts_at(alloc, table, nodes)?;
         let loads = loads_at(alloc, table, nodes)?;
@@ -182,7 +171,7 @@ impl Scenario {
     /// How many rounds the run has, numbered from 1.
     pub fn rounds(&self) -> u32
         ensures value { result ≡ self.now.rounds }
-        ensures lawful { IsLawful self.now }
+        ensures lawful { IsLawfulScenario self.now }
         ensures limits { (1 ≤ result) × (result ≤ MOST_ROUNDS) }
     {
         self.rounds

@@ -3,6 +3,7 @@
 ghost use Rattle.std.specs.Prelude.{◌≡◌, ◌≢◌, ◌≤◌, IfOk, IfErr};
 ghost use Rattle.toml.specs.View.{table_view};
 ghost use Rattle.scenario.specs.Elements.{apart_at, partitions_at, restarts_at, loads_at};
+ghost use Rattle.scenario.specs.Fields.{number_at};
 ghost use Rattle.scenario.specs.Settings.{AreLawful, IsLawfulPartition, IsLawfulRestart, IsLawfulLoad};
 
 use crate::arrays::{Element, array_at, array_of, table_of};
@@ -21,7 +22,7 @@ impl Element for Partition {
     fn of(alloc: Global, value: &Value, nodes: u32) -> Result<Partition, Fault> {
         let table = table_of(value, Field::Partition)?;
         let from = number_at(table, Field::PartitionFrom, 1, MOST_ROUNDS)?;
-        let to = number_at(table, Field::PartitionTo, from, MOST_ROUNDS)?;
+        let to = last_round_at(table, Field::PartitionTo, from)?;
         let apart = apart_at(alloc, table, nodes)?;
         Ok(Partition { from, to, apart })
     }
@@ -49,10 +50,18 @@ impl Element for Load {
     fn of(_alloc: Global, value: &Value, _nodes: u32) -> Result<Load, Fault> {
         let table = table_of(value, Field::Load)?;
         let from = number_at(table, Field::LoadFrom, 1, MOST_ROUNDS)?;
-        let to = number_at(table, Field::LoadTo, from, MOST_ROUNDS)?;
+        let to = last_round_at(table, Field::LoadTo, from)?;
         let writes = number_at(table, Field::LoadWrites, 0, MOST_WRITES)?;
         Ok(Load { from, to, writes })
     }
+}
+
+// The last of some rounds, which is not before the first.
+fn last_round_at(table: &Table, field: Field, from: u32) -> Result<u32, Fault>
+    ensures answer { result ≡ number_at field from MOST_ROUNDS (table_view table.now) }
+    ensures within { IfOk result (λ to. (from ≤ to) × (to ≤ MOST_ROUNDS)) }
+{
+    number_at(table, field, from, MOST_ROUNDS)
 }
 
 // The nodes of one side of a partition, among so many.

@@ -1,6 +1,6 @@
 //! From bytes to a scenario.
 
-ghost use Rattle.std.specs.Prelude.{◌≡◌, ◌≢◌, IfOk, IfErr, IsErrOf, IsSomeAnd, IsUtf8};
+ghost use Rattle.std.specs.Prelude.{◌≡◌, ◌≢◌, None, IfOk, IfErr, OnOk, IsErrOf, IsSomeAnd, IsUtf8};
 ghost use Rattle.toml.specs.View.{table_view};
 ghost use Rattle.scenario.specs.Checked.{document_of, text_checked};
 ghost use Rattle.scenario.specs.Order.{first_fault, Says};
@@ -27,6 +27,7 @@ pub fn read(alloc: Global, bytes: &[u8]) -> Result<Scenario, Fault>
         IsSomeAnd (document_of bytes.now) (λ table. Says table scenario)) }
     ensures first { IfErr result (λ fault.
         fault ≢ Fault.OutOfMemory → first_fault (document_of bytes.now) ≡ Some fault) }
+    ensures no_fault { OnOk result (first_fault (document_of bytes.now) ≡ None) }
 {
     let table = document(alloc, bytes)?;
     Scenario::checked(alloc, &table)

@@ -12,13 +12,8 @@ use toml::Table;
 pub(crate) fn mode_at(table: &Table) -> Result<Mode, Fault>
     ensures { result ≡ mode_at (table_view table.now) }
 {
-    match text_at(table, Field::Mode)? {
-        "scuttle-breadth" => Ok(Mode::ScuttleBreadth),
-        "scuttle-depth" => Ok(Mode::ScuttleDepth),
-        "precise-oldest" => Ok(Mode::PreciseOldest),
-        "precise-newest" => Ok(Mode::PreciseNewest),
-        _ => Err(Fault::OutOfRange(Field::Mode)),
-    }
+    let word = text_at(table, Field::Mode)?;
+    Mode::named(word).ok_or(Fault::OutOfRange(Field::Mode))
 }
 
 pub(crate) fn peers_at(table: &Table) -> Result<Peers, Fault>

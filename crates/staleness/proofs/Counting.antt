@@ -4,10 +4,10 @@ use Rattle.std.specs.List.{AllZip, range_with_len}
 use Rattle.std.proofs.lemmas.List.FromFn.{length-range_with_len}
 use Rattle.std.proofs.lemmas.Slice.Zip.{AllZip-long}
 use Rattle.bench_types.specs.declared.rows.Figures.{Figures}
-use Rattle.node_table.specs.Kept.{Kept}
+use Rattle.node_table.specs.Table.{Table}
 use Rattle.staleness.specs.declared.lists.Write.{Write}
 use Rattle.staleness.specs.Figures.{sum_below, most_below, figures_at, node_figures, figures_of}
-use Rattle.staleness.specs.Cluster.{IsCounted}
+use Rattle.staleness.specs.Cluster.{IsCounted, AreCounted}
 
 -- what a list has for each number of a range stands at its place
 at_place : (R : ℕ → Figures → Type 0) (from n : ℕ) (parts : List Figures) → AllZip R (range_with_len from n) parts → (k : ℕ) (d : Figures) → k < n → R (from + k) (get_or parts k d)
@@ -26,7 +26,7 @@ most_below-same : (f g : ℕ → ℕ) (n : ℕ) → ((k : ℕ) → k < n → f k
 most_below-same f g zero same = refl
 most_below-same f g (suc n) same = omega (arith, same n (omega arith), most_below-same f g n (λ k lt. same k (omega arith)))
 
-module _ (round : ℕ) (tables : List Kept) (lists : List (List Write)) (parts : List Figures) (each : AllZip (IsCounted round tables lists) (range_with_len 0 (length tables)) parts) where
+module _ (round : ℕ) (tables : List Table) (lists : List (List Write)) (parts : List Figures) (each : AreCounted round tables lists parts) where
   counted : (k : ℕ) (d : Figures) → k < length tables → IsCounted round tables lists k (get_or parts k d)
   counted k d lt = let same : 0 + k ≡ k = omega arith in subst (λ n. IsCounted round tables lists n (get_or parts k d)) same (at_place (IsCounted round tables lists) 0 (length tables) parts each k d lt)
 

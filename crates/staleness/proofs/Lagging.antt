@@ -6,7 +6,7 @@ use Rattle.bench_types.specs.declared.entries.Item.{Item}
 use Rattle.bench_types.specs.declared.rows.Figures.{Figures}
 use Rattle.staleness.specs.declared.lists.Write.{Write}
 use Rattle.staleness.specs.Writes.{IsNumbered, first_missed, last_write}
-use Rattle.staleness.specs.Latest.{IsRising, IsLatest, write_of}
+use Rattle.staleness.specs.Latest.{KeysRise, IsLatest, write_of}
 use Rattle.staleness.specs.Figures.{sum_below, most_below, staleness_of, stale_count, rounds_behind}
 use Rattle.staleness.specs.Walk.{IsPassed}
 use Rattle.staleness.proofs.Rising.{rising_at, find-at, find-none}
@@ -39,7 +39,7 @@ module _ (keys : ℕ) (count rounds : ℕ → ℕ) (items : List Item) (owner : 
   }
 
   -- no last write has a key from the bound up to that of the next
-  skipped : (i at : ℕ) (total : Figures) (d : Write) → IsRising latest → (lagged : IsLagged keys count rounds items owner latest i at total) → i < length latest → (k : ℕ) → lagged.bound ≤ k → k < (get_or latest i d).key → write_of latest k ≡ None
+  skipped : (i at : ℕ) (total : Figures) (d : Write) → KeysRise latest → (lagged : IsLagged keys count rounds items owner latest i at total) → i < length latest → (k : ℕ) → lagged.bound ≤ k → k < (get_or latest i d).key → write_of latest k ≡ None
   skipped i at total d rising lagged in_range k at_least below = find-none latest k (λ j e lt same. elim (cases_lt j i) [
     | inl before ↦ omega (arith, lagged.behind j e before)
     | inr behind ↦ elim (cases_lt i j) [
@@ -51,7 +51,7 @@ module _ (keys : ℕ) (count rounds : ℕ → ℕ) (items : List Item) (owner : 
     ]
   ])
 
-  pub lagged_more : (i at at' : ℕ) (total total' : Figures) (d : Write) → IsRising latest → ((k : ℕ) → write_of latest k ≡ None → (count k ≡ 0) × (rounds k ≡ 0))
+  pub lagged_more : (i at at' : ℕ) (total total' : Figures) (d : Write) → KeysRise latest → ((k : ℕ) → write_of latest k ≡ None → (count k ≡ 0) × (rounds k ≡ 0))
       → IsLagged keys count rounds items owner latest i at total → i < length latest → (get_or latest i d).key < keys
       → at' ≤ length items → IsPassed items at' (owner, (get_or latest i d).key)
       → total'.stale ≡ total.stale + count (get_or latest i d).key → total'.greatest ≡ max total.greatest (rounds (get_or latest i d).key)

@@ -8,23 +8,23 @@ use Rattle.std.proofs.lemmas.List.{reverse-append}
 use Rattle.std.proofs.lemmas.List.Folds.{find-append}
 use Rattle.std.proofs.lemmas.List.Elements.{All-head, All-tail}
 use Rattle.staleness.specs.declared.lists.Write.{Write}
-use Rattle.staleness.specs.Writes.{IsNumbered, is_of, is_missed, last_write, first_missed}
-use Rattle.staleness.proofs.Rising.{cmp-less, cmp-equal, cmp-greater}
+use Rattle.staleness.specs.Writes.{IsNumbered, is_write_of, is_missed, last_write, first_missed}
+use Rattle.node_table.proofs.Comparing.{nat_cmp-less, nat_cmp-equal, nat_cmp-greater}
 
 -- a write at the end is the last of its key
-pub last_write-push : (ws : List Write) (w : Write) (key : ℕ) → last_write (ws ++ w ∷ []) key ≡ (if is_of key w then Some w else last_write ws key)
-last_write-push ws w key = ap (find (is_of key)) (reverse-append ws (w ∷ []))
+pub last_write-push : (ws : List Write) (w : Write) (key : ℕ) → last_write (ws ++ w ∷ []) key ≡ (if is_write_of key w then Some w else last_write ws key)
+last_write-push ws w key = ap (find (is_write_of key)) (reverse-append ws (w ∷ []))
 
 -- a write at the front is the last of its key where none follows
-last_write-cons : (w : Write) (ws : List Write) (key : ℕ) → last_write (w ∷ ws) key ≡ option_or (last_write ws key) (if is_of key w then Some w else None)
-last_write-cons w ws key = ap (find (is_of key)) (reverse-append (w ∷ []) ws) ∙ find-append (is_of key) (reverse ws) (w ∷ [])
+last_write-cons : (w : Write) (ws : List Write) (key : ℕ) → last_write (w ∷ ws) key ≡ option_or (last_write ws key) (if is_write_of key w then Some w else None)
+last_write-cons w ws key = ap (find (is_write_of key)) (reverse-append (w ∷ []) ws) ∙ find-append (is_write_of key) (reverse ws) (w ∷ [])
 
 pub same_key : (m n : ℕ) → is_eq (nat_cmp m n) ≡ eqb n m
 same_key m n = elim (cases_lt m n) [
-  | inl lt ↦ let ne : n ≢ m = omega arith in ap is_eq (cmp-less m n lt) ∙ sym (ne_eqb n m ne)
+  | inl lt ↦ let ne : n ≢ m = omega arith in ap is_eq (nat_cmp-less m n lt) ∙ sym (ne_eqb n m ne)
   | inr le ↦ elim (cases_lt n m) [
-    | inl gt ↦ let ne : n ≢ m = omega arith in ap is_eq (cmp-greater m n gt) ∙ sym (ne_eqb n m ne)
-    | inr ge ↦ let e : n ≡ m = omega arith in ap is_eq (cmp-equal m n (sym e)) ∙ sym (eq-eqb n m e)
+    | inl gt ↦ let ne : n ≢ m = omega arith in ap is_eq (nat_cmp-greater m n gt) ∙ sym (ne_eqb n m ne)
+    | inr ge ↦ let e : n ≡ m = omega arith in ap is_eq (nat_cmp-equal m n (sym e)) ∙ sym (eq-eqb n m e)
   ]
 ]
 
@@ -43,22 +43,22 @@ not_missed : (key version : ℕ) (w : Write) → w.version ≤ version → is_mi
 not_missed key version w le = elim (eqb w.key key) as (λ b. (b && ltb version w.version) ≡ false) [ true ↦ le-ltb version w.version le | false ↦ refl ]
 
 -- behind a version, the first write of the key is the first that was missed
-first_missed-from : (ws : List Write) (n version key : ℕ) → CountsFrom n ws → version < n → find (is_missed key version) ws ≡ find (is_of key) ws
+first_missed-from : (ws : List Write) (n version key : ℕ) → CountsFrom n ws → version < n → find (is_missed key version) ws ≡ find (is_write_of key) ws
 first_missed-from [] n version key counts lt = refl
 first_missed-from (w ∷ ws) n version key counts lt =
     let above : ltb version w.version ≡ true = lt-ltb version w.version (omega (arith, counts 0 w (omega arith))) in
-    let same : is_missed key version w ≡ is_of key w = elim (eqb w.key key) as (λ b. (b && ltb version w.version) ≡ b) [ true ↦ above | false ↦ refl ] in
+    let same : is_missed key version w ≡ is_write_of key w = elim (eqb w.key key) as (λ b. (b && ltb version w.version) ≡ b) [ true ↦ above | false ↦ refl ] in
     ap (λ b. cond b (Some w) (find (is_missed key version) ws)) same
-    ∙ ap (cond (is_of key w) (Some w)) (first_missed-from ws (suc n) version key (counts_tail n w ws counts) (omega arith))
+    ∙ ap (cond (is_write_of key w) (Some w)) (first_missed-from ws (suc n) version key (counts_tail n w ws counts) (omega arith))
 
-first_missed-skip : (ws : List Write) (n m version key : ℕ) → CountsFrom n ws → version + 1 ≡ n + m → find (is_missed key version) ws ≡ find (is_of key) (drop m ws)
+first_missed-skip : (ws : List Write) (n m version key : ℕ) → CountsFrom n ws → version + 1 ≡ n + m → find (is_missed key version) ws ≡ find (is_write_of key) (drop m ws)
 first_missed-skip ws n zero version key counts e = first_missed-from ws n version key counts (omega arith)
 first_missed-skip [] n (suc m) version key counts e = refl
 first_missed-skip (w ∷ ws) n (suc m) version key counts e =
     ap (λ b. cond b (Some w) (find (is_missed key version) ws)) (not_missed key version w (omega (arith, counts 0 w (omega arith))))
     ∙ first_missed-skip ws (suc n) m version key (counts_tail n w ws counts) (omega arith)
 
-pub first_missed-drop : (ws : List Write) (key version : ℕ) → IsNumbered ws → first_missed ws key version ≡ find (is_of key) (drop version ws)
+pub first_missed-drop : (ws : List Write) (key version : ℕ) → IsNumbered ws → first_missed ws key version ≡ find (is_write_of key) (drop version ws)
 first_missed-drop ws key version numbered = first_missed-skip ws 1 version version key numbered (omega arith)
 
 -- where the last write of the key is no newer, none was missed
@@ -78,7 +78,7 @@ fresh_from (w ∷ ws) n key version counts fresh =
 
     later : (IfSome (last_write ws key) (λ x. x.version ≤ version) → (find (is_missed key version) ws ≡ None) × IfSome (last_write ws key) (λ x. suc n ≤ x.version)) → (last : Write) → last_write ws key ≡ Some last → (find (is_missed key version) (w ∷ ws) ≡ None) × IfSome (last_write (w ∷ ws) key) (λ x. n ≤ x.version)
     later behind last is =
-        let whole : last_write (w ∷ ws) key ≡ Some last = last_write-cons w ws key ∙ ap (λ o. option_or o (if is_of key w then Some w else None)) is in
+        let whole : last_write (w ∷ ws) key ≡ Some last = last_write-cons w ws key ∙ ap (λ o. option_or o (if is_write_of key w then Some w else None)) is in
         let le : last.version ≤ version = subst (λ o. IfSome o (λ x. x.version ≤ version)) whole fresh in
         let rest = behind (subst (λ o. IfSome o (λ x. x.version ≤ version)) (sym is) le) in
         let above : suc n ≤ last.version = subst (λ o. IfSome o (λ x. suc n ≤ x.version)) is rest.1 in (
@@ -88,7 +88,7 @@ fresh_from (w ∷ ws) n key version counts fresh =
 
     none : (IfSome (last_write ws key) (λ x. x.version ≤ version) → (find (is_missed key version) ws ≡ None) × IfSome (last_write ws key) (λ x. suc n ≤ x.version)) → last_write ws key ≡ None → (find (is_missed key version) (w ∷ ws) ≡ None) × IfSome (last_write (w ∷ ws) key) (λ x. n ≤ x.version)
     none behind is =
-        let whole : last_write (w ∷ ws) key ≡ (if is_of key w then Some w else None) = last_write-cons w ws key ∙ ap (λ o. option_or o (if is_of key w then Some w else None)) is in
+        let whole : last_write (w ∷ ws) key ≡ (if is_write_of key w then Some w else None) = last_write-cons w ws key ∙ ap (λ o. option_or o (if is_write_of key w then Some w else None)) is in
         let rest = behind (subst (λ o. IfSome o (λ x. x.version ≤ version)) (sym is) tt) in
         let parts = at_front (eqb w.key key) (subst (λ o. IfSome o (λ x. x.version ≤ version)) whole fresh) in
         (ap (λ b. cond b (Some w) (find (is_missed key version) ws)) parts.0 ∙ rest.0, subst (λ o. IfSome o (λ x. n ≤ x.version)) (sym whole) parts.1)

@@ -12,8 +12,8 @@ use Rattle.std.proofs.lemmas.List.{drop_all, length-reverse, get_or-reverse, get
 use Rattle.std.proofs.lemmas.List.Folds.{find-append}
 use Rattle.staleness.specs.declared.lists.Link.{Link}
 use Rattle.staleness.specs.declared.lists.Write.{Write}
-use Rattle.staleness.specs.Writes.{next_write, IsNumbered, is_of, is_missed, last_write, first_missed}
-use Rattle.staleness.specs.Linked.{as_write, shown, shown_from, version_or_zero, IsLinked, IsKept}
+use Rattle.staleness.specs.Writes.{next_write, IsNumbered, is_write_of, is_missed, last_write, first_missed}
+use Rattle.staleness.specs.Linked.{as_write, shown, shown_from, version_or_zero, IsLinked, IsOwnerList}
 use Rattle.staleness.specs.Latest.{keyed, write_of, IsLatest, AreFirst}
 use Rattle.staleness.proofs.Rising.{rising_put}
 use Rattle.staleness.proofs.Last.{last_write-push, first_missed-drop, fresh, same_key, All-find}
@@ -108,7 +108,7 @@ first_placed ws key version w numbered is = All-find (IsPlaced ws) (is_missed ke
 
 pub last_placed : (ws : List Write) (key : ℕ) (w : Write) → IsNumbered ws → last_write ws key ≡ Some w → IsPlaced ws w × (w.key ≡ key)
 last_placed ws key w numbered is =
-    (All-find (IsPlaced ws) (is_of key) (reverse ws) w (placed_reversed ws numbered) is, eqb-true w.key key (found_passes (is_of key) (reverse ws) w is))
+    (All-find (IsPlaced ws) (is_write_of key) (reverse ws) w (placed_reversed ws numbered) is, eqb-true w.key key (found_passes (is_write_of key) (reverse ws) w is))
 
 -- where nothing above a version was written of a key, no place behind it has the key
 none_behind : (ws : List Write) (key version i : ℕ) (d : Write) → IsNumbered ws → IfSome (last_write ws key) (λ w. w.version ≤ version) → i < length ws → version ≤ i → (get_or ws i d).key ≢ key
@@ -228,26 +228,26 @@ module _ (ls ls' : List Link) (key born before : ℕ) (linked : IsLinked ls) (is
   ])
 
 -- the first write of a key from a place on stands there, or behind it
-pub first_here : (ls : List Link) (key at : ℕ) (l : Link) (w : Write) → at < length ls → (get_or ls at l).key ≡ key → ((d : Write) → get_or (shown ls) at d ≡ w) → find (is_of key) (drop at (shown ls)) ≡ Some w
+pub first_here : (ls : List Link) (key at : ℕ) (l : Link) (w : Write) → at < length ls → (get_or ls at l).key ≡ key → ((d : Write) → get_or (shown ls) at d ≡ w) → find (is_write_of key) (drop at (shown ls)) ≡ Some w
 first_here ls key at l w lt same there =
     let in_shown : at < length (shown ls) = omega (arith, length-shown ls) in
     let here : w.key ≡ key = ap (λ (v : Write). v.key) (sym (there w) ∙ shown-at ls at l w lt) ∙ same in
-    ap (find (is_of key)) (drop-cons (shown ls) at w in_shown ∙ ap (λ v. v ∷ drop (suc at) (shown ls)) (there w))
-    ∙ ap (λ b. cond b (Some w) (find (is_of key) (drop (suc at) (shown ls)))) (eq-eqb w.key key here)
+    ap (find (is_write_of key)) (drop-cons (shown ls) at w in_shown ∙ ap (λ v. v ∷ drop (suc at) (shown ls)) (there w))
+    ∙ ap (λ b. cond b (Some w) (find (is_write_of key) (drop (suc at) (shown ls)))) (eq-eqb w.key key here)
 
-pub first_later : (ls : List Link) (key at : ℕ) (l : Link) → at < length ls → (get_or ls at l).key ≢ key → find (is_of key) (drop at (shown ls)) ≡ find (is_of key) (drop (at + 1) (shown ls))
+pub first_later : (ls : List Link) (key at : ℕ) (l : Link) → at < length ls → (get_or ls at l).key ≢ key → find (is_write_of key) (drop at (shown ls)) ≡ find (is_write_of key) (drop (at + 1) (shown ls))
 first_later ls key at l lt apart =
     let in_shown : at < length (shown ls) = omega (arith, length-shown ls) in
     let v = get_or (shown ls) at (as_write 0 l) in
     let ne : v.key ≢ key = λ same. apart (sym (ap (λ (u : Write). u.key) (shown-at ls at l (as_write 0 l) lt)) ∙ same) in
-    ap (find (is_of key)) (drop-cons (shown ls) at (as_write 0 l) in_shown)
-    ∙ ap (λ b. cond b (Some v) (find (is_of key) (drop (suc at) (shown ls)))) (ne_eqb v.key key ne)
-    ∙ ap (λ n. find (is_of key) (drop n (shown ls))) (sym (add-one at))
+    ap (find (is_write_of key)) (drop-cons (shown ls) at (as_write 0 l) in_shown)
+    ∙ ap (λ b. cond b (Some v) (find (is_write_of key) (drop (suc at) (shown ls)))) (ne_eqb v.key key ne)
+    ∙ ap (λ n. find (is_write_of key) (drop n (shown ls))) (sym (add-one at))
 
-pub first_nowhere : (ls : List Link) (key at : ℕ) → length ls ≤ at → find (is_of key) (drop at (shown ls)) ≡ None
-first_nowhere ls key at end = ap (find (is_of key)) (drop_all at (shown ls) (omega (arith, length-shown ls)))
+pub first_nowhere : (ls : List Link) (key at : ℕ) → length ls ≤ at → find (is_write_of key) (drop at (shown ls)) ≡ None
+first_nowhere ls key at end = ap (find (is_write_of key)) (drop_all at (shown ls) (omega (arith, length-shown ls)))
 
-pub first_behind : (ls : List Link) (key version : ℕ) → first_missed (shown ls) key version ≡ find (is_of key) (drop version (shown ls))
+pub first_behind : (ls : List Link) (key version : ℕ) → first_missed (shown ls) key version ≡ find (is_write_of key) (drop version (shown ls))
 first_behind ls key version = first_missed-drop (shown ls) key version (numbered-shown ls)
 
 version_within : (ls : List Link) (key version : ℕ) → version_or_zero (first_missed (shown ls) key version) ≤ length ls
@@ -353,7 +353,7 @@ firsts_after ws firsts firsts' w (suc n) numbered some is begins pushed same =
 
 -- what the list keeps, after a push
 pub kept_pushed : (ls ls' : List Link) (firsts' latest' : List Write) (w : Write) → length (shown ls) + 1 < 2 ^ 32
-    → shown ls' ≡ shown ls ++ w ∷ [] → IsLinked ls' → AreFirst firsts' (shown ls ++ w ∷ []) → IsLatest latest' (shown ls ++ w ∷ []) → IsKept ls' firsts' latest'
+    → shown ls' ≡ shown ls ++ w ∷ [] → IsLinked ls' → AreFirst firsts' (shown ls ++ w ∷ []) → IsLatest latest' (shown ls ++ w ∷ []) → IsOwnerList ls' firsts' latest'
 kept_pushed ls ls' firsts' latest' w few pushed linked begins ends = record {
   few = omega (arith, length-shown ls', ap length pushed, length-append (shown ls) (w ∷ []));
   linked = linked;

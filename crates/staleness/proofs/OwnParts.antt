@@ -15,9 +15,9 @@ use Rattle.node_table.specs.Table.{Place, place_cmp, Held, Table, empty_table, e
 use Rattle.node_table.proofs.Order.{place_total}
 use Rattle.node_table.proofs.Greatest.{greatest_version-unique}
 use Rattle.staleness.specs.declared.lists.Write.{Write}
-use Rattle.staleness.specs.Writes.{next_write, IsNumbered, is_of, last_write, AreBornBy}
+use Rattle.staleness.specs.Writes.{next_write, IsNumbered, is_write_of, last_write, AreBornBy}
 use Rattle.staleness.specs.Cluster.{write_of_entry, OwnPartIsLastWrites}
-use Rattle.staleness.proofs.Rising.{cmp-equal, cmp-less, cmp-greater}
+use Rattle.node_table.proofs.Comparing.{nat_cmp-equal, nat_cmp-less, nat_cmp-greater}
 use Rattle.staleness.proofs.Last.{same_key, with_version, last_write-push, All-find}
 
 -- nothing is held, and nothing was written
@@ -25,7 +25,7 @@ pub own_part-empty : (node nodes keys : ℕ) → OwnPartIsLastWrites (empty_tabl
 own_part-empty node nodes keys key = ap (option_map write_of_entry) (get-empty place_cmp (node, key))
 
 same_owner : (owner k q : ℕ) → eq_by_cmp place_cmp (owner, q) (owner, k) ≡ eqb k q
-same_owner owner k q = ap (λ r. is_eq (ordering_then r (nat_cmp q k))) (cmp-equal owner owner refl) ∙ same_key q k
+same_owner owner k q = ap (λ r. is_eq (ordering_then r (nat_cmp q k))) (nat_cmp-equal owner owner refl) ∙ same_key q k
 
 -- an own write is pushed, with the version that it was given
 pub own_part-written : (t : Table) (ws : List Write) (key value born : ℕ) → OwnPartIsLastWrites t ws → greatest_version t t.node ≡ length ws → OwnPartIsLastWrites (with_own_write t key value born) (ws ++ next_write ws key born ∷ [])
@@ -33,7 +33,7 @@ own_part-written t ws key value born own counted q =
     ap (option_map write_of_entry) (get-insert place_total t.held (t.node, key) (own_write t key value born) (t.node, q)
     ∙ ap (λ b. cond b (Some (own_write t key value born)) (entry_at t t.node q)) (same_owner t.node key q))
     ∙ mapped (eqb key q)
-    ∙ ap (λ o. if is_of q (next_write ws key born) then Some (next_write ws key born) else o) (own q)
+    ∙ ap (λ o. if is_write_of q (next_write ws key born) then Some (next_write ws key born) else o) (own q)
     ∙ sym (last_write-push ws (next_write ws key born) q)
   where
     as_write : write_of_entry (own_write t key value born) ≡ next_write ws key born
@@ -51,11 +51,11 @@ numbered_within ws numbered k d lt =
 
 last_version : (ws : List Write) (key : ℕ) (o : Option Entry) → IsNumbered ws → option_map write_of_entry o ≡ last_write ws key → version_of o ≤ length ws
 last_version ws key None numbered is = omega arith
-last_version ws key (Some e) numbered is = All-find (λ (w : Write). w.version ≤ length ws) (is_of key) (reverse ws) (write_of_entry e) (numbered_within ws numbered) (sym is)
+last_version ws key (Some e) numbered is = All-find (λ (w : Write). w.version ≤ length ws) (is_write_of key) (reverse ws) (write_of_entry e) (numbered_within ws numbered) (sym is)
 
 -- the write at the end is the last of its key
 at_end : (ws us : List Write) (u : Write) → reverse ws ≡ u ∷ us → last_write ws u.key ≡ Some u
-at_end ws us u is = ap (find (is_of u.key)) is ∙ ap (λ b. cond b (Some u) (find (is_of u.key) us)) (eq-eqb u.key u.key refl)
+at_end ws us u is = ap (find (is_write_of u.key)) is ∙ ap (λ b. cond b (Some u) (find (is_write_of u.key) us)) (eq-eqb u.key u.key refl)
 
 end_version : (ws us : List Write) (u : Write) → IsNumbered ws → reverse ws ≡ u ∷ us → u.version ≡ length ws
 end_version ws us u numbered is =
@@ -80,8 +80,8 @@ greatest_version-own t ws proper numbered own =
 -- what others wrote has no part in it
 other_owner : (owner k : ℕ) (place : Place) → place.0 ≢ owner → eq_by_cmp place_cmp (owner, k) place ≡ false
 other_owner owner k place other = elim (Rattle.std.proofs.lemmas.Bool.cases_lt owner place.0) [
-  | inl lt ↦ ap (λ r. is_eq (ordering_then r (nat_cmp k place.1))) (cmp-less owner place.0 lt)
-  | inr le ↦ ap (λ r. is_eq (ordering_then r (nat_cmp k place.1))) (cmp-greater owner place.0 (omega arith))
+  | inl lt ↦ ap (λ r. is_eq (ordering_then r (nat_cmp k place.1))) (nat_cmp-less owner place.0 lt)
+  | inr le ↦ ap (λ r. is_eq (ordering_then r (nat_cmp k place.1))) (nat_cmp-greater owner place.0 (omega arith))
 ]
 
 received : (owner key : ℕ) (held : Held) (items : List Item) → All (λ i. i.owner ≢ owner) items → get (fold held_with held items) (owner, key) ≡ get held (owner, key)

@@ -14,15 +14,15 @@ use Rattle.node_table.proofs.Items.{pairs-items_of}
 use Rattle.node_table.proofs.Rising.{rising_at, find_at, find_in_gap}
 use Rattle.node_table.proofs.Greatest.{place_less}
 use Rattle.staleness.specs.Walk.{IsPassed}
-use Rattle.staleness.proofs.Rising.{cmp-less, cmp-equal}
+use Rattle.node_table.proofs.Comparing.{nat_cmp-less, nat_cmp-equal}
 
 -- a table's version of a key, by its items
 pub version_at-items_of : (t : Table) (owner key : ℕ) → IsProper t → version_at t owner key ≡ version_of (find place_cmp (owner, key) (pairs (items_of t)))
 version_at-items_of t owner key proper = ap version_of (get-entries t.held (owner, key) ∙ ap (find place_cmp (owner, key)) (sym (pairs-items_of t proper)))
 
 less_place : (p q : Place) → (p.0 < q.0) ⊎ ((p.0 ≡ q.0) × (p.1 < q.1)) → place_cmp p q ≡ Less
-less_place p q (inl lt) = ap (λ r. ordering_then r (nat_cmp p.1 q.1)) (cmp-less p.0 q.0 lt)
-less_place p q (inr (same, lt)) = ap (λ r. ordering_then r (nat_cmp p.1 q.1)) (cmp-equal p.0 q.0 same) ∙ cmp-less p.1 q.1 lt
+less_place p q (inl lt) = ap (λ r. ordering_then r (nat_cmp p.1 q.1)) (nat_cmp-less p.0 q.0 lt)
+less_place p q (inr (same, lt)) = ap (λ r. ordering_then r (nat_cmp p.1 q.1)) (nat_cmp-equal p.0 q.0 same) ∙ nat_cmp-less p.1 q.1 lt
 
 -- what stands below a place stands below the later keys of its owner, and below the later owners
 before_key : (a : Place) (owner key key' : ℕ) → key ≤ key' → place_cmp a (owner, key) ≡ Less → place_cmp a (owner, key') ≡ Less

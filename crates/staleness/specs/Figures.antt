@@ -4,8 +4,8 @@
 -- number of stale triples and the greatest staleness, 0 where nothing is stale. Source: this project.
 use Rattle.std.specs.Prelude.{ℕ, zero, suc, ◌+◌, ◌-◌, max, ◌==◌, if◌then◌else◌, List, [], length, slice_index_or, Option, None, is_some, option_map, unwrap_or}
 use Rattle.bench_types.specs.declared.rows.Figures.{Figures}
-use Rattle.node_table.specs.Table.{Table, empty_table, version_at}
-use Rattle.node_table.specs.Kept.{Kept}
+use Rattle.node_table.specs.Table.{Table, version_at}
+use Rattle.cluster.specs.Tables.{table_of_node}
 use Rattle.staleness.specs.declared.lists.Write.{Write}
 use Rattle.staleness.specs.Writes.{first_missed}
 
@@ -18,13 +18,7 @@ abbrev pub most_below : ℕ → (ℕ → ℕ) → ℕ
 most_below zero f = 0
 most_below (suc n) f = max (most_below n f) (f n)
 
--- the table of a node, and the writes of an owner
-abbrev pub no_table : Kept
-no_table = record { table = empty_table 0 0 0; spare = 0 }
-
-abbrev pub table_at : List Kept → ℕ → Table
-table_at tables p = (slice_index_or tables p no_table).table
-
+-- the writes of an owner
 abbrev pub writes_at : List (List Write) → ℕ → List Write
 writes_at lists r = slice_index_or lists r []
 
@@ -37,8 +31,8 @@ abbrev pub staleness_of : ℕ → List Write → ℕ → ℕ → Option ℕ
 staleness_of round writes key version = option_map (λ w. round - w.born + 1) (first_missed writes key version)
 
 -- the staleness of a triple, if it is stale
-abbrev pub staleness_at : ℕ → List Kept → List (List Write) → ℕ → ℕ → ℕ → Option ℕ
-staleness_at round tables lists p r k = if p == r then None else staleness_of round (writes_at lists r) k (version_at (table_at tables p) r k)
+abbrev pub staleness_at : ℕ → List Table → List (List Write) → ℕ → ℕ → ℕ → Option ℕ
+staleness_at round tables lists p r k = if p == r then None else staleness_of round (writes_at lists r) k (version_at (table_of_node tables p) r k)
 
 -- a stale triple counts once, with its staleness
 abbrev pub stale_count : Option ℕ → ℕ
@@ -55,19 +49,19 @@ lag_figures round writes keys version = record {
 }
 
 -- the figures of one node's copies of one owner's keys, of all its copies, and of all nodes
-abbrev pub copy_figures : ℕ → List Kept → List (List Write) → ℕ → ℕ → Figures
+abbrev pub copy_figures : ℕ → List Table → List (List Write) → ℕ → ℕ → Figures
 copy_figures round tables lists p r = record {
-  stale = sum_below (table_at tables p).keys (λ k. stale_count (staleness_at round tables lists p r k));
-  greatest = most_below (table_at tables p).keys (λ k. rounds_behind (staleness_at round tables lists p r k));
+  stale = sum_below (table_of_node tables p).keys (λ k. stale_count (staleness_at round tables lists p r k));
+  greatest = most_below (table_of_node tables p).keys (λ k. rounds_behind (staleness_at round tables lists p r k));
 }
 
-abbrev pub node_figures : ℕ → List Kept → List (List Write) → ℕ → Figures
+abbrev pub node_figures : ℕ → List Table → List (List Write) → ℕ → Figures
 node_figures round tables lists p = record {
   stale = sum_below (length tables) (λ r. (copy_figures round tables lists p r).stale);
   greatest = most_below (length tables) (λ r. (copy_figures round tables lists p r).greatest);
 }
 
-unfoldable pub figures_of : ℕ → List Kept → List (List Write) → Figures
+unfoldable pub figures_of : ℕ → List Table → List (List Write) → Figures
 figures_of round tables lists = record {
   stale = sum_below (length tables) (λ p. (node_figures round tables lists p).stale);
   greatest = most_below (length tables) (λ p. (node_figures round tables lists p).greatest);

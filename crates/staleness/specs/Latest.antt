@@ -13,8 +13,8 @@ abbrev pub keyed : List Write → List (ℕ × Write)
 keyed ws = map with_key ws
 
 -- the keys rise
-abbrev pub IsRising : List Write → Type 0
-IsRising ws = T (is_sorted nat_cmp (keyed ws))
+abbrev pub KeysRise : List Write → Type 0
+KeysRise ws = T (is_sorted nat_cmp (keyed ws))
 
 -- the write of a key in such a list
 abbrev pub write_of : List Write → ℕ → Option Write
@@ -22,21 +22,21 @@ write_of ws key = find nat_cmp key (keyed ws)
 
 -- these are the last writes of a list, one for each key that was written
 pub record IsLatest (latest writes : List Write) : Type 0 where
-  pub rising : IsRising latest
+  pub rising : KeysRise latest
   pub last : (key : ℕ) → write_of latest key ≡ last_write writes key
 
 -- these are the first writes
 pub record AreFirst (firsts writes : List Write) : Type 0 where
-  pub rising : IsRising firsts
+  pub rising : KeysRise firsts
   pub first : (key : ℕ) → write_of firsts key ≡ first_missed writes key 0
 
 -- the write at index i has the key
-pub record IsAt (ws : List Write) (key i : ℕ) : Type 0 where
+pub record IsIndexOfKey (ws : List Write) (key i : ℕ) : Type 0 where
   pub in_range : i < length ws
   pub here : (d : Write) → (slice_index_or ws i d).key ≡ key
 
 -- the key would go at index i: the keys before it are less, those from it on greater
-pub record IsGapFor (ws : List Write) (key i : ℕ) : Type 0 where
+pub record IsGapForKey (ws : List Write) (key i : ℕ) : Type 0 where
   pub in_range : i ≤ length ws
   pub below : (j : ℕ) (d : Write) → j < i → (slice_index_or ws j d).key < key
   pub above : (j : ℕ) (d : Write) → i ≤ j → j < length ws → key < (slice_index_or ws j d).key

@@ -5,4 +5,5 @@ pub mod Figures
 pub mod Cluster
 pub mod Walk
 pub use Rattle.node_table.specs.Table
-pub use Rattle.node_table.specs.Kept
+pub use Rattle.node_table.specs.NodeTableView
+pub use Rattle.cluster.specs.Tables

@@ -27,7 +27,7 @@ abbrev pub IsLinked : List Link → Type 0
 IsLinked links = (i : ℕ) (d : Link) → i < length links → (slice_index_or links i d).next ≡ version_or_zero (first_missed (shown links) (slice_index_or links i d).key (i + 1))
 
 -- what an owner's list keeps in memory
-pub record IsKept (links : List Link) (firsts latest : List Write) : Type 0 where
+pub record IsOwnerList (links : List Link) (firsts latest : List Write) : Type 0 where
   pub few : length links < 2 ^ 32
   pub linked : IsLinked links
   pub begins : AreFirst firsts (shown links)

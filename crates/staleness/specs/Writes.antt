@@ -12,12 +12,12 @@ abbrev pub IsNumbered : List Write → Type 0
 IsNumbered writes = (i : ℕ) (d : Write) → i < length writes → (slice_index_or writes i d).version ≡ i + 1
 
 -- a write of this key
-abbrev pub is_of : ℕ → Write → Bool
-is_of key w = w.key == key
+abbrev pub is_write_of : ℕ → Write → Bool
+is_write_of key w = w.key == key
 
 -- the last write of a key
 abbrev pub last_write : List Write → ℕ → Option Write
-last_write writes key = find (is_of key) (reverse writes)
+last_write writes key = find (is_write_of key) (reverse writes)
 
 -- a write of this key above a version
 abbrev pub is_missed : ℕ → ℕ → Write → Bool

@@ -2,14 +2,14 @@
 
 ghost use Rattle.std.specs.Prelude.{◌≡◌, ℕ, ◌+◌, ◌*◌, ◌^◌, ◌<◌, ◌≤◌, max, All, IfOk, IfSome, IsOkUnless, List, length, None, Some};
 ghost use Rattle.std.specs.FinMap.{find as find_entry};
-ghost use Rattle.std.specs.List.{AllZip, range_with_len};
 ghost use Rattle.bench_types.specs.Entry.{version_of};
 ghost use Rattle.bench_types.specs.declared.faults.Fault.TheVariants.{OutOfMemory};
 ghost use Rattle.node_table.specs.Table.{place_cmp, items_of, version_at};
 ghost use Rattle.node_table.specs.View.{IsRising, pairs};
 ghost use Rattle.staleness.specs.Writes.{AreBornBy, last_write};
 ghost use Rattle.staleness.specs.Figures.{sum_below, most_below, figures_at, staleness_of, stale_count, rounds_behind, lag_figures, node_figures, figures_of};
-ghost use Rattle.staleness.specs.Cluster.{IsCluster, OwnPartsAreLastWrites, AreCountable, IsCounted};
+ghost use Rattle.cluster.specs.Tables.{tables_in, IsCluster};
+ghost use Rattle.staleness.specs.Cluster.{OwnPartsAreLastWrites, AreCountable, IsCounted, AreCounted};
 ghost use Rattle.staleness.specs.Walk.{IsPassed};
 
 use crate::lists::OwnerList;
@@ -109,12 +109,12 @@ fn lag_of_key(list: &OwnerList, key: u32, version: u32, round: u32) -> Figures
 // What all copies that a node holds lag behind their owners' lists.
 fn lag_of_node(tables: &[NodeTable], lists: &[OwnerList], node: usize, round: u32) -> Figures
     requires node { node < length tables.now }
-    requires cluster { IsCluster tables.now }
+    requires cluster { IsCluster (length tables.now) (tables_in tables.now) }
     requires one_list_each { length lists.now ≡ length tables.now }
-    requires own_parts { OwnPartsAreLastWrites tables.now lists.now }
+    requires own_parts { OwnPartsAreLastWrites (tables_in tables.now) lists.now }
     requires round { round ≤ 100000 }
     requires born { All (AreBornBy round) lists.now }
-    ensures figures { result ≡ node_figures round tables.now lists.now node }
+    ensures figures { result ≡ node_figures round (tables_in tables.now) lists.now node }
     ensures few { length tables.now ≤ 4096 }
     ensures bound { result.stale ≤ 4096 * 64 }
 {
@@ -177,12 +177,12 @@ pub fn figures(
     lists: &[OwnerList],
     round: u32,
 ) -> Result<Figures, Fault>
-    requires cluster { IsCluster tables.now }
+    requires cluster { IsCluster (length tables.now) (tables_in tables.now) }
     requires one_list_each { length lists.now ≡ length tables.now }
-    requires own_parts { OwnPartsAreLastWrites tables.now lists.now }
+    requires own_parts { OwnPartsAreLastWrites (tables_in tables.now) lists.now }
     requires round { round ≤ 100000 }
     requires born { All (AreBornBy round) lists.now }
-    ensures figures { IfOk result (λ f. f ≡ figures_of round tables.now lists.now) }
+    ensures figures { IfOk result (λ f. f ≡ figures_of round (tables_in tables.now) lists.now) }
     ensures only { IsOkUnless result OutOfMemory }
 {
     let of_nodes = figures_of_nodes(rt, alloc, tables, lists, round)?;
@@ -197,16 +197,16 @@ fn figures_of_nodes(
     lists: &[OwnerList],
     round: u32,
 ) -> Result<Vec<Figures>, AllocError>
-    requires { AreCountable round tables.now lists.now }
-    ensures { IfOk result (λ parts. AllZip (IsCounted round tables.now lists.now) (range_with_len 0 (length tables.now)) parts.items) }
+    requires { AreCountable round (tables_in tables.now) lists.now }
+    ensures { IfOk result (λ parts. AreCounted round (tables_in tables.now) lists.now parts.items) }
 {
     (0..tables.len())
         .into_par_iter()
         .with_min_len(nodes_of_a_thread(tables))
         .map(
             |node: usize| -> Figures
-                requires { AreCountable round tables.now lists.now × (node < length tables.now) }
-                ensures { IsCounted round tables.entry.now lists.entry.now node result }
+                requires { AreCountable round (tables_in tables.now) lists.now × (node < length tables.now) }
+                ensures { IsCounted round (tables_in tables.entry.now) lists.entry.now node result }
             { lag_of_node(tables, lists, node, round) },
         )
         .collect(rt, alloc)

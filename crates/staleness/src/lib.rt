@@ -4,8 +4,6 @@
 
 mod lags;
 mod lists;
-#[cfg(test)]
-mod tests;
 
 pub use lags::figures;
 pub use lists::{OwnerList, Write};

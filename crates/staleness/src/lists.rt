@@ -3,8 +3,8 @@
 ghost use Rattle.std.specs.Prelude.{◌≡◌, ℕ, ◌+◌, ◌^◌, ◌-◌, ◌<◌, ◌≤◌, ◌==◌, None, Some, ◌++◌, ◌∷◌, [], Result, Ok, Err, OnOk, OnErr, IfOk, IfErr, IsOkUnless, List, length, find, drop, slice_index_or, vec_len, vec_capacity};
 ghost use Rattle.std.specs.FinMap.{put as put_entry};
 ghost use Rattle.std.specs.Ordering.{nat_cmp};
-ghost use Rattle.staleness.specs.Writes.{next_write, is_of, last_write, first_missed};
-ghost use Rattle.staleness.specs.Latest.{keyed, write_of, IsRising, IsAt, IsGapFor};
+ghost use Rattle.staleness.specs.Writes.{next_write, is_write_of, last_write, first_missed};
+ghost use Rattle.staleness.specs.Latest.{keyed, write_of, KeysRise, IsIndexOfKey, IsGapForKey};
 ghost use Rattle.staleness.specs.Linked.{shown, version_or_zero, IsLinked};
 ghost use Rattle.bench_types.specs.declared.faults.Fault.TheVariants.{OutOfMemory};
 
@@ -46,11 +46,11 @@ impl Model for OwnerList {
 
     ghost Value = { List Write };
 
-    ghost use Rattle.staleness.specs.Linked.{shown, IsKept};
+    ghost use Rattle.staleness.specs.Linked.{shown, IsOwnerList};
 
     ghost view = { λ l. shown l.links.items };
 
-    ghost invariant = { λ l. IsKept l.links.items l.firsts.items l.latest.items };
+    ghost invariant = { λ l. IsOwnerList l.links.items l.firsts.items l.latest.items };
 }
 
 impl OwnerList {
@@ -152,7 +152,7 @@ fn linked_to(links: &[Link], version: u32) -> Option<Write>
 // The first write of a key from a place on.
 fn first_from(links: &[Link], key: u32, from: usize) -> Option<Write>
     requires few { length links.now < 2 ^ 32 }
-    ensures { result ≡ find (is_of key) (drop from (shown links.now)) }
+    ensures { result ≡ find (is_write_of key) (drop from (shown links.now)) }
 {
     for at in from..links.len() {
         if links[at].key == key {
@@ -198,16 +198,16 @@ fn append(links: &mut Vec<Link>, before: u32, write: Write)
 
 // Where the write of a key is, or where it would go.
 fn search(writes: &[Write], key: u32) -> Result<usize, usize>
-    requires { IsRising writes.now }
-    ensures found { IfOk result (IsAt writes.now key) }
-    ensures absent { IfErr result (IsGapFor writes.now key) }
+    requires { KeysRise writes.now }
+    ensures found { IfOk result (IsIndexOfKey writes.now key) }
+    ensures absent { IfErr result (IsGapForKey writes.now key) }
 {
     writes.binary_search_by_key(&key, |write| write.key)
 }
 
 // The write of a key.
 fn write_in(writes: &[Write], key: u32) -> Option<Write>
-    requires { IsRising writes.now }
+    requires { KeysRise writes.now }
     ensures { result ≡ write_of writes.now key }
 {
     match search(writes, key) {
@@ -218,7 +218,7 @@ fn write_in(writes: &[Write], key: u32) -> Option<Write>
 
 // Puts a write where it goes, if its key has no earlier one: the last of those has this version.
 fn put_first(firsts: &mut Vec<Write>, before: u32, write: Write)
-    requires rising { IsRising firsts.old.items }
+    requires rising { KeysRise firsts.old.items }
     requires room { vec_len firsts.old < vec_capacity firsts.old }
     ensures put { before ≡ 0 → put_entry nat_cmp write.key write (keyed firsts.old.items) ≡ keyed firsts.new.items }
     ensures same { 0 < before → firsts.new.items ≡ firsts.old.items }
@@ -231,10 +231,10 @@ fn put_first(firsts: &mut Vec<Write>, before: u32, write: Write)
 // Puts a write in the place of its key's, and answers the version of that, or where it goes, and
 // answers 0.
 fn put(writes: &mut Vec<Write>, write: Write) -> u32
-    requires rising { IsRising writes.old.items }
+    requires rising { KeysRise writes.old.items }
     requires room { vec_len writes.old < vec_capacity writes.old }
     ensures put { put_entry nat_cmp write.key write (keyed writes.old.items) ≡ keyed writes.new.items }
-    ensures rising { IsRising writes.new.items }
+    ensures rising { KeysRise writes.new.items }
     ensures before { result ≡ version_or_zero (write_of writes.old.items write.key) }
 {
     match search(writes, write.key) {

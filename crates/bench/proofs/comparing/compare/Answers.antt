@@ -1,5 +1,6 @@
-use Rattle.std.proofs.lemmas.Result.{on_ok_weaker}
-use Rattle.bench.proofs.Comparison.{compared_whole, own_mode}
+use Rattle.std.proofs.Common.{inr}
+use Rattle.std.proofs.lemmas.Result.{on_ok_weaker, IfErr-weaker}
+use Rattle.bench.proofs.Comparison.{compared_whole, own_mode, stops_behind_header}
 use Rattle.bench.proofs.comparing.compare.Goals as goal
 
 pub returns-clause-compared : goal.returns-clause-compared
@@ -8,7 +9,17 @@ returns-clause-compared g c =
     (λ lines. record {
       settings = c.in_ok-scenario.scenario;
       read = c.in_ok-scenario.ensures.accepted;
-      written = compared_whole c.in_ok-scenario.scenario (g.W.Sink.taken c.args.writer.now) (g.W.Sink.taken c.compare_header.new.writer) (g.W.Sink.taken c.write_modes.new.writer) c.in_ok-compare_header.ensures.written lines;
+      written = compared_whole g.W.Sink _ _ _ c.in_ok-scenario.scenario c.in_ok-compare_header.ensures.written lines;
       own_mode = own_mode c.in_ok-scenario.scenario;
     })
     c.write_modes.ensures.written
+
+pub returns-clause-fault : goal.returns-clause-fault
+returns-clause-fault g c =
+    IfErr-weaker c.write_modes.result _ _
+    (λ fault stop. inr (record {
+      settings = c.in_ok-scenario.scenario;
+      read = c.in_ok-scenario.ensures.accepted;
+      written = inr (stops_behind_header g.W.Sink _ _ _ c.in_ok-scenario.scenario fault c.in_ok-compare_header.ensures.written stop);
+    }))
+    c.write_modes.ensures.fault

@@ -1,32 +1,10 @@
-use Rattle.std.proofs.Common.{ap, sym, ◌∙◌}
-use Rattle.std.proofs.lemmas.Result.{IfOk-weaker, IfErr-weaker}
-use Rattle.scenario.specs.Checked.{text_checked}
-use Rattle.bench.proofs.InputFacts.{if_err}
+use Rattle.std.proofs.Common.{subst, sym}
+use Rattle.bench.specs.Inputs.{IsReadWhole}
+use Rattle.bench.proofs.InputFacts.{fault_of_check}
 use Rattle.bench.proofs.runs.check_input.Goals as goal
 
-pub returns-clause-accepted : goal.returns-clause-accepted
-returns-clause-accepted g c =
-    IfOk-weaker c.read.result _ _
-    (λ s checked. record {
-      text = c.in_ok-bytes.bytes.items;
-      given = c.in_ok-bytes.ensures.ok;
-      within = c.in_ok-bytes.ensures.within;
-      whole = c.in_ok-bytes.ensures.end;
-      checked = ap text_checked (sym c.deref.ensures.value) ∙ checked;
-    })
-    c.read.ensures.accepted
-
-pub returns-clause-refused : goal.returns-clause-refused
-returns-clause-refused g c =
-    IfErr-weaker c.read.result _ _
-    (λ fault checked is. record {
-      text = c.in_ok-bytes.bytes.items;
-      given = c.in_ok-bytes.ensures.ok;
-      within = c.in_ok-bytes.ensures.within;
-      whole = c.in_ok-bytes.ensures.end;
-      checked = ap text_checked (sym c.deref.ensures.value) ∙ checked is.1;
-    })
-    c.read.ensures.refused
-
-pub returns-clause-other_faults : goal.returns-clause-other_faults
-returns-clause-other_faults g c = if_err c.read.result _ (λ _ _. (c.in_ok-bytes.bytes.items, c.in_ok-bytes.ensures.ok, c.in_ok-bytes.ensures.within))
+pub returns-clause-fault : goal.returns-clause-fault
+returns-clause-fault g c =
+    fault_of_check g.R.Source _ _ c.deref.result.now
+    (subst (IsReadWhole g.R.Source _ _) (sym c.deref.ensures.value) c.in_ok-bytes.ensures.whole)
+    c.read.result c.read.ensures.only c.read.ensures.refused c.read.ensures.first

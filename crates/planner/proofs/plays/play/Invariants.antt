@@ -1,7 +1,7 @@
 use Rattle.std.proofs.Common.{take}
-use Rattle.planner.specs.Plays.{tables_of}
+use Rattle.cluster.specs.Tables.{tables_in}
 use Rattle.planner.proofs.Playing.{IsSoFar}
 use Rattle.planner.proofs.plays.play.Given as goal
 
 abbrev pub invariant-loop-event : goal.invariant-loop-event
-invariant-loop-event l = IsSoFar l.rules l.list (tables_of l.fn.tables.items) (take l.event-index l.events) l.schedule l.places
+invariant-loop-event l = IsSoFar l.rules l.list (tables_in l.fn.tables.items) (take l.event-index l.events) l.schedule l.places

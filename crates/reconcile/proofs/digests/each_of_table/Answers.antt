@@ -1,4 +1,4 @@
-use Rattle.std.proofs.Common.{◌∙◌, sym, ap, map, subst}
+use Rattle.std.proofs.Common.{◌∙◌, refl, sym, ap, map, subst}
 use Rattle.node_table.proofs.Proper.{items_sound}
 use Rattle.reconcile.specs.Digests.{version_in}
 use Rattle.reconcile.specs.Inside.{VersionsRise, version_of_item}
@@ -15,7 +15,7 @@ returns-clause-ok c = record {
   nodes = c.nodes.ensures.value;
   keys = c.keys.ensures.value;
   size = c.count.ensures;
-  kind = tt;
+  of_kind = refl;
   tells = λ owner key.
       ap (λ vs. version_in vs owner key) (c.in_ok-each_version.ensures.versions ∙ ap (map version_of_item) c.items.ensures.value)
       ∙ version_in-items_of c.args.table.now.table c.items.ensures.proper owner key;

@@ -1,4 +1,4 @@
-use Rattle.std.proofs.Common.{◌≡◌, ℕ, ◌+◌, ◌<◌, ltb, sym, ap, ◌∙◌, subst, arith}
+use Rattle.std.proofs.Common.{◌≡◌, ℕ, ◌+◌, ◌<◌, ltb, refl, sym, ap, ◌∙◌, subst, arith}
 use Rattle.std.specs.Prelude.{count_by, slice_index}
 use Rattle.std.specs.List.{range_with_len}
 use Rattle.node_table.specs.Table.{greatest_version}
@@ -25,6 +25,6 @@ returns-clause-ok c =
           ∙ ap (count_by (ltb 0)) c.deref.ensures.value
           ∙ count_by-indices (ltb 0) (greatest_version t) c.in_ok-greatest.greatest.items 0 (λ i lt. is i (subst (λ n. i < n) (found.len ∙ nodes_is) lt) ∙ ap (greatest_version t) {x = i} {y = 0 + i} (omega arith))
           ∙ ap (λ n. count_by (λ r. ltb 0 (greatest_version t r)) (range_with_len 0 n)) (found.len ∙ nodes_is);
-      kind = tt;
+      of_kind = refl;
       tells = is;
     }

@@ -6,7 +6,7 @@ use Rattle.reconcile.specs.declared.orders.Candidate.{Candidate}
 use Rattle.reconcile.specs.Candidates.{items_above}
 use Rattle.reconcile.specs.Digests.{told_version}
 use Rattle.reconcile.specs.Keys.{items_in, IsSet, AllSet}
-use Rattle.reconcile.specs.Ranks.{no_item}
+use Rattle.node_table.specs.Walks.{no_item}
 use Rattle.reconcile.specs.Walks.{IsWalkedBefore}
 use Rattle.reconcile.proofs.Sending.{found_more}
 use Rattle.reconcile.proofs.Walked.{walked-none, walked_before-more, walked_before-next}

@@ -6,6 +6,6 @@ pub returns-clause-written : goal.returns-clause-written
 unfolding compare_header_line line_of
 returns-clause-written g c = c.write_line.ensures.written
 
-pub returns-clause-front : goal.returns-clause-front
+pub returns-clause-fault : goal.returns-clause-fault
 unfolding compare_header_line line_of
-returns-clause-front g c = c.write_line.ensures.front
+returns-clause-fault g c = c.write_line.ensures.fault

@@ -6,7 +6,7 @@ unfolding compare_line
 returns-clause-written g c =
     rw (c.into.ensures, c.into-2.ensures, c.into-3.ensures, c.into-4.ensures, c.into-5.ensures, c.name.ensures.name) at c.write_line.ensures.written
 
-pub returns-clause-front : goal.returns-clause-front
+pub returns-clause-fault : goal.returns-clause-fault
 unfolding compare_line
-returns-clause-front g c =
-    rw (c.into.ensures, c.into-2.ensures, c.into-3.ensures, c.into-4.ensures, c.into-5.ensures, c.name.ensures.name) at c.write_line.ensures.front
+returns-clause-fault g c =
+    rw (c.into.ensures, c.into-2.ensures, c.into-3.ensures, c.into-4.ensures, c.into-5.ensures, c.name.ensures.name) at c.write_line.ensures.fault

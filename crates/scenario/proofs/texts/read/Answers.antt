@@ -1,6 +1,6 @@
 use Rattle.toml.specs.View.{table_view}
 use Rattle.scenario.proofs.OnlyReadFaults.{OnlyReadFaults-answer}
-use Rattle.scenario.proofs.Order.{first_of-answer}
+use Rattle.scenario.proofs.Order.{first_of-answer, no_fault-answer}
 use Rattle.scenario.proofs.Sayings.{Says-answer}
 use Rattle.scenario.proofs.texts.read.Goals as goal
 
@@ -12,3 +12,6 @@ returns-clause-says c = rw c.in_ok-table.ensures.ok (Says-answer (table_view c.i
 
 pub returns-clause-only : goal.returns-clause-only
 returns-clause-only c = OnlyReadFaults-answer (table_view c.in_ok-table.table) _ c.checked.ensures.refused
+
+pub returns-clause-no_fault : goal.returns-clause-no_fault
+returns-clause-no_fault c = rw c.in_ok-table.ensures.ok (no_fault-answer (table_view c.in_ok-table.table) _ c.checked.ensures.ok)

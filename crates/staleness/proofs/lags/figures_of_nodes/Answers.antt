@@ -1,8 +1,10 @@
-use Rattle.std.proofs.Common.{◌≡◌, ◌<◌, ◌-◌, length, ap, subst, ◌∙◌, arith}
+use Rattle.std.proofs.Common.{◌≡◌, ◌<◌, ◌-◌, length, ap, sym, subst, ◌∙◌, arith}
 use Rattle.std.specs.List.{AllZip, range_with_len}
 use Rattle.rayon.specs.Numbers.{nat_range}
 use Rattle.rayon.proofs.ListFacts.{IfOk-then}
 use Rattle.rayon.proofs.ToStd.{nat_range-All}
+use Rattle.cluster.specs.Tables.{tables_in}
+use Rattle.cluster.proofs.Tables.{length-tables_in}
 use Rattle.staleness.specs.Cluster.{IsCounted}
 use Rattle.staleness.proofs.lags.figures_of_nodes.Goals as goal
 
@@ -19,5 +21,5 @@ returns g c =
     let whole : n - 0 ≡ n = omega arith in
     IfOk-then c.collect.result _ _ c.collect.ensures (λ v h.
     let chain = rw (c.map.ensures.base, c.map.ensures.f, c.with_min_len.ensures.base) at h.1 in
-    let nodes = chain.1 ∙ (λ i. nat_range (ends.0 i) (ends.1 i)) ∙ ap (range_with_len 0) whole in
-    rw h.2 (subst (λ ns. AllZip (IsCounted c.args.round c.args.tables.now c.args.lists.now) ns h.0) nodes chain.2))
+    let nodes = chain.1 ∙ (λ i. nat_range (ends.0 i) (ends.1 i)) ∙ ap (range_with_len 0) (whole ∙ sym (length-tables_in c.args.tables.now)) in
+    rw h.2 (subst (λ ns. AllZip (IsCounted c.args.round (tables_in c.args.tables.now) c.args.lists.now) ns h.0) nodes chain.2))

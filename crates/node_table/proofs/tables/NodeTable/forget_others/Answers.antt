@@ -10,8 +10,8 @@ invariant_of-self c =
     let kept = filter_same _ (is_of c.self.inside.node) _ (λ x b f' k. search rules) _ _ c.retain.ensures.filtered in
     subst (IsSound c.self.inside.node c.self.inside.nodes c.self.inside.keys) (sym kept) (sound_filter _ _ _ _ c.self.invariant)
 
-pub returns : goal.returns
-returns c =
+pub returns-clause-table : goal.returns-clause-table
+returns-clause-table c =
     let kept = filter_same _ (is_of c.self.inside.node) _ (λ x b f' k. search rules) _ _ c.retain.ensures.filtered in
     ap (table_of c.self.inside.node c.self.inside.nodes c.self.inside.keys) kept
     ∙ table_of-filter _ _ _ _ c.self.invariant.rising

@@ -1,0 +1,47 @@
+//! Goes over the cases that `data/cases.txt` names, and prints a line for each: whether what the bench
+//! writes is what is stored, or the fault of a text that it refuses. What must be printed stands in
+//! the file `stdout`.
+//!
+//! | Folder | Cases |
+//! |---|---|
+//! | `small` | runs that can be followed by hand |
+//! | `lawful` | scenarios of many shapes, whose texts an independent program worked out |
+//! | `examples` | the scenarios of the repository's `examples/` |
+//! | `refused` | texts that are refused, each with the fault that `stdout` has |
+//! | `changed` | tables of changes to the scenario `small/two_nodes.toml` |
+//!
+//! Beside a scenario `NAME.toml` of the first three stand the texts that it must give, byte for byte:
+//! `NAME.report.csv`, and where they are wanted `NAME.trace.csv` and `NAME.comparison.csv`.
+#![tactic(auto)]
+
+mod changes;
+mod outcomes;
+mod stored;
+
+use changes::table_line;
+use outcomes::{refusal, run_line};
+use std::alloc::AllocGlobal;
+use std::rt::Files;
+use std::thread::Threads;
+use std::{fs, io};
+
+fn main(rt: HostRuntime) -> io::Result<()> {
+    let cases = fs::read_to_string(&rt, "cases.txt")?;
+    for case in cases.lines() {
+        let line = line_of(&rt, case)?;
+        println!(rt; "{case}: {line}")?;
+    }
+    Ok(())
+}
+
+fn line_of<R: Files + Threads + AllocGlobal + Sync>(rt: &R, case: &str) -> io::Result<String> {
+    if case.starts_with("changed/") {
+        return table_line(rt, case);
+    }
+    let text = fs::read(rt, format!(in rt.alloc(); "{case}.toml")?)?;
+    if case.starts_with("refused/") {
+        Ok(refusal(rt, &text)?)
+    } else {
+        run_line(rt, case, &text)
+    }
+}

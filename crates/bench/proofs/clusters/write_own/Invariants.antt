@@ -1,5 +1,0 @@
-use Rattle.bench.proofs.Writing.{IsWriting}
-use Rattle.bench.proofs.clusters.write_own.Given as goal
-
-abbrev pub invariant-loop-write : goal.invariant-loop-write
-invariant-loop-write l = IsWriting l.round l.initial.table.table l.table.table l.initial.list l.list l.writes l.write-index

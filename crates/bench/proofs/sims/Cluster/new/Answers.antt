@@ -1,5 +1,0 @@
-use Rattle.bench.proofs.Standing.{standing_opening}
-use Rattle.bench.proofs.sims.Cluster.new.Goals as goal
-
-pub returns-clause-standing : goal.returns-clause-standing
-returns-clause-standing c = standing_opening c.args.scenario.now c.in_ok-empty_tables.field-0.items c.in_ok-empty_lists.field-0.items c.in_ok-empty_tables.ensures.tables c.in_ok-empty_lists.ensures.count c.in_ok-empty_lists.ensures.lists

@@ -1,0 +1,29 @@
+-- The modes: what a digest tells in each, and its name. The scuttle modes are those of the LADIS 2008 paper, in
+-- which a digest tells one version of each owner. Source: that paper; the names and the order of all modes are this
+-- project's.
+use Rattle.std.specs.Prelude.{ℕ, List, [], ◌∷◌, Option, codes, bytes_eq, find}
+use Rattle.bench_types.specs.declared.exchanges.Mode.{Mode}
+use Rattle.bench_types.specs.declared.exchanges.Mode.TheVariants.{ScuttleBreadth, ScuttleDepth, PreciseOldest, PreciseNewest}
+use Rattle.bench_types.specs.declared.exchanges.Telling.{Telling}
+use Rattle.bench_types.specs.declared.exchanges.Telling.TheVariants.{Greatest, Each}
+
+-- what a digest tells in a mode
+abbrev pub told_by : Mode → Telling
+told_by ScuttleBreadth = Greatest
+told_by ScuttleDepth = Greatest
+told_by PreciseOldest = Each
+told_by PreciseNewest = Each
+
+abbrev pub mode_name : Mode → List ℕ
+mode_name ScuttleBreadth = codes "scuttle-breadth"
+mode_name ScuttleDepth = codes "scuttle-depth"
+mode_name PreciseOldest = codes "precise-oldest"
+mode_name PreciseNewest = codes "precise-newest"
+
+-- all modes, in the order of a comparison
+abbrev pub modes : List Mode
+modes = ScuttleBreadth ∷ ScuttleDepth ∷ PreciseOldest ∷ PreciseNewest ∷ []
+
+-- the mode of a name, if there is one
+abbrev pub mode_named : List ℕ → Option Mode
+mode_named word = find (λ mode. bytes_eq word (mode_name mode)) modes

@@ -1,0 +1,42 @@
+-- What holds of the tables of all nodes between the exchanges of a list. Source: this project; that copies hold their
+-- owners' writes, and in the scuttle modes without a gap, is what the LADIS 2008 paper rests on.
+use Rattle.std.specs.Prelude.{ℕ, ◌<◌, ◌≤◌, List, length}
+use Rattle.node_table.specs.Table.{Table, entry_at, greatest_version}
+use Rattle.cluster.specs.Tables.{table_of_node, AreTablesInOrder, AreProper}
+use Rattle.exchange.specs.Laws.{NoVersionFalls}
+use Rattle.exchange.specs.Copies.{OwnParts, WritesBy, AreLastOf, HoldsWrites, HasNoGap}
+use Rattle.exchange.specs.Owns.{KeepsOwn}
+
+-- what each node's table holds of itself
+abbrev pub own_parts : List Table → OwnParts
+own_parts ts owner key = entry_at (table_of_node ts owner) owner key
+
+-- the owners have made these writes: each one's own part is the last of each key, and copies hold nothing else
+pub record AreCopiesOf (writes : WritesBy) (nodes keys : ℕ) (ts : List Table) : Type 0 where
+  pub tables : AreTablesInOrder nodes keys ts
+  pub proper : AreProper ts
+  pub last : AreLastOf nodes writes (own_parts ts)
+  pub holds : (n : ℕ) → n < nodes → HoldsWrites writes (table_of_node ts n)
+
+-- no copy has a gap
+abbrev pub HaveNoGap : List Table → Type 0
+HaveNoGap ts = (n : ℕ) → n < length ts → HasNoGap (own_parts ts) (table_of_node ts n)
+
+-- no version in any table goes down
+abbrev pub NoVersionsFall : List Table → List Table → Type 0
+NoVersionsFall old new = (n : ℕ) → NoVersionFalls (table_of_node old n) (table_of_node new n)
+
+-- each node's own part stays
+abbrev pub KeepOwnParts : List Table → List Table → Type 0
+KeepOwnParts old new = (n : ℕ) → KeepsOwn (table_of_node old n) (table_of_node new n)
+
+-- no copy has a version above its owner's own
+abbrev pub NoCopyIsAhead : ℕ → List Table → Type 0
+NoCopyIsAhead nodes ts =
+    (n owner : ℕ) → n < nodes → owner < nodes
+    → greatest_version (table_of_node ts n) owner ≤ greatest_version (table_of_node ts owner) owner
+
+-- and so wherever copies hold nothing but their owners' writes
+abbrev pub CopiesAreNeverAhead : Type 0
+CopiesAreNeverAhead =
+    (writes : WritesBy) (nodes keys : ℕ) (ts : List Table) → AreCopiesOf writes nodes keys ts → NoCopyIsAhead nodes ts

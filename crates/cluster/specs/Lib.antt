@@ -1,0 +1,10 @@
+pub mod Tables
+pub mod Folds
+pub mod Clusters
+pub mod Begins
+pub use Rattle.exchange.specs.Exchanged
+pub use Rattle.exchange.specs.Copies
+pub use Rattle.exchange.specs.Owns
+pub use Rattle.exchange.specs.Laws
+pub use Rattle.node_table.specs.Table
+pub use Rattle.node_table.specs.NodeTableView

@@ -1,0 +1,28 @@
+-- The tables of all nodes, in order. Source: this project.
+use Rattle.std.specs.Prelude.{◌≡◌, ℕ, ◌<◌, List, length, map, slice_index_or}
+use Rattle.node_table.specs.Table.{Table, empty_table, IsProper}
+use Rattle.node_table.specs.NodeTableView.{NodeTableView}
+
+-- the tables in memory, without their room
+abbrev pub tables_in : List NodeTableView → List Table
+tables_in kept = map (λ k. k.table) kept
+
+abbrev pub table_of_node : List Table → ℕ → Table
+table_of_node ts n = slice_index_or ts n (empty_table 0 0 0)
+
+-- the table of one of so many nodes with so many keys each
+pub record IsTableOf (node_count key_count n : ℕ) (t : Table) : Type 0 where
+  pub node : t.node ≡ n
+  pub nodes : t.nodes ≡ node_count
+  pub keys : t.keys ≡ key_count
+
+pub record AreTablesInOrder (nodes keys : ℕ) (ts : List Table) : Type 0 where
+  pub size : length ts ≡ nodes
+  pub tables : (n : ℕ) → n < nodes → IsTableOf nodes keys n (table_of_node ts n)
+
+-- the tables of so many nodes, in order, with as many keys each
+abbrev pub IsCluster : ℕ → List Table → Type 0
+IsCluster nodes ts = AreTablesInOrder nodes (table_of_node ts 0).keys ts
+
+abbrev pub AreProper : List Table → Type 0
+AreProper ts = (n : ℕ) → n < length ts → IsProper (table_of_node ts n)

@@ -1,0 +1,37 @@
+-- What contracts see of a node's table in memory: the table, and for how many more entries it has room.
+-- Room is no part of the table: two tables are equal where node, nodes, keys and entries are. Source: this
+-- project.
+use Rattle.std.specs.Prelude.{◌≢◌, ℕ, ◌≤◌, List, length, All, refl}
+use Rattle.std.specs.Coded.{Coded, code_by, coded×, coded_ℕ}
+use Rattle.std.specs.FinMap as finite
+use Rattle.bench_types.specs.declared.entries.Item.{Item}
+use Rattle.bench_types.specs.contracts.entries.Entry as entry
+use Rattle.node_table.specs.Table.{Held, Table, IsInPlace}
+
+pub record NodeTableView : Type 0 where
+  pub table : Table
+  pub spare : ℕ
+
+abbrev pub held_code : Coded Held
+held_code = finite.code (coded× coded_ℕ coded_ℕ) (entry.the_row).coded
+
+abbrev pub table_code : Coded Table
+table_code =
+    code_by (ℕ × (ℕ × (ℕ × Held))) (coded× coded_ℕ (coded× coded_ℕ (coded× coded_ℕ held_code))) (λ t. (t.node, (t.nodes, (t.keys, t.held)))) (λ p. record { node = p.0; nodes = p.1.0; keys = p.1.1.0; held = p.1.1.1 }) (λ _. refl)
+
+abbrev pub kept_code : Coded NodeTableView
+kept_code =
+    code_by (Table × ℕ) (coded× table_code coded_ℕ) (λ k. (k.table, k.spare)) (λ p. record { table = p.0; spare = p.1 }) (λ _. refl)
+
+-- there is room for a list of items, whatever their places
+abbrev pub HasRoom : NodeTableView → List Item → Type 0
+HasRoom kept added = length added ≤ kept.spare
+
+-- an item that a table may receive: another node's, within the table's bounds
+abbrev pub MayReceive : Table → Item → Type 0
+MayReceive t i = (i.owner ≢ t.node) × IsInPlace t.nodes t.keys i.owner i.entry.key i.entry
+
+-- the items that a table may take without memory
+pub record MayApply (kept : NodeTableView) (added : List Item) : Type 0 where
+  pub room : HasRoom kept added
+  pub received : All (MayReceive kept.table) added

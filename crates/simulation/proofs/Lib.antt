@@ -1,0 +1,10 @@
+pub mod Writing
+pub mod Pairs
+pub mod Turns
+pub mod Begun
+pub mod Restarting
+pub mod Standing
+pub mod Lags
+pub mod Stepping
+pub mod OwnWrites
+pub mod Soundness

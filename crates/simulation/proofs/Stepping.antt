@@ -1,0 +1,64 @@
+-- A step that carries out the next round.
+use Rattle.std.proofs.Common.{◌≡◌, ◌≢◌, ℕ, suc, ◌+◌, ◌-◌, ◌<◌, false, Option, Some, refl, sym, ap, ◌∙◌, subst, arith}
+use Rattle.std.specs.Prelude.{is_none}
+use Rattle.scenario.specs.Settings.{Settings, IsLawfulScenario}
+use Rattle.simulation.specs.declared.sims.Cluster.{Cluster}
+use Rattle.simulation.specs.RoundView.{RoundView}
+use Rattle.cluster.specs.Tables.{tables_in}
+use Rattle.simulation.specs.Rounds.{tables_after, round_of, records_in}
+use Rattle.simulation.specs.Soundness.{AreSound, OnlyRestartsForget}
+use Rattle.simulation.specs.Standing.{StandAfterRound}
+use Rattle.simulation.specs.Simulation.{IsSimulation, PlaysNext, HasPlayed, simulation_of, tables_held}
+use Rattle.simulation.specs.Outcomes.{played_with}
+use Rattle.round_plan.specs.Plan.{round_list_of}
+use Rattle.simulation.proofs.Lags.{figures_are}
+use Rattle.simulation.proofs.Soundness.{sound_run, round_rises}
+
+unfolded : (s : Settings) (done : ℕ) → tables_after s (suc done) ≡ (round_of s (suc done) (tables_after s done)).tables
+unfolding tables_after
+unfolded s done = refl
+
+pub tables_after-more : (s : Settings) (done : ℕ) → tables_after s (done + 1) ≡ (round_of s (done + 1) (tables_after s done)).tables
+tables_after-more s done =
+    let next : done + 1 ≡ suc done = omega arith in
+    ap (tables_after s) next ∙ unfolded s done ∙ ap (λ n. (round_of s n (tables_after s done)).tables) (sym next)
+
+module _ (s : Settings) (cluster : Option Cluster) (old new : Cluster) (done : ℕ) (round : RoundView) (so_far : IsSimulation (simulation_of s cluster done)) (is : cluster ≡ Some old) (more : done ≢ s.rounds) (standing : StandAfterRound s (done + 1) (tables_in new.tables.items) new.lists.items) (tables : tables_in new.tables.items ≡ (round_of s (done + 1) (tables_in old.tables.items)).tables) where
+  unbroken : is_none cluster ≡ false
+  unbroken = ap is_none is
+
+  before : tables_in old.tables.items ≡ tables_after s done
+  before = ap (λ c. tables_in (tables_held c)) (sym is) ∙ so_far.tables unbroken
+
+  after : tables_in new.tables.items ≡ tables_after s (done + 1)
+  after = tables ∙ ap (λ ts. (round_of s (done + 1) ts).tables) before ∙ sym (tables_after-more s done)
+
+  not_done : done < s.rounds
+  not_done = let within = so_far.within in omega (arith, more)
+
+  pub step_simulation : IsSimulation (simulation_of s (Some new) (done + 1))
+  step_simulation = record { within = omega (arith, not_done); standing = λ _. standing; tables = λ _. after }
+
+  pub step_played : IsLawfulScenario s → HasPlayed s (done + 1) old new round → PlaysNext (simulation_of s cluster done) (simulation_of s (Some new) (done + 1)) round
+  step_played lawful played = record {
+    unbroken = unbroken;
+    unfinished = not_done;
+    still = refl;
+    settings = refl;
+    done = refl;
+    tables = after;
+    standing = standing;
+    sound = subst (AreSound s (done + 1)) (sym after) ((sound_run s lawful.nodes.0 lawful.nodes.1 lawful.keys.0 lawful.keys.1).after (done + 1));
+    kept = subst (λ ts. OnlyRestartsForget s (done + 1) ts (tables_in new.tables.items)) (sym before_held)
+        (subst (OnlyRestartsForget s (done + 1) (tables_after s done)) (sym after) (round_rises s lawful.nodes.0 lawful.nodes.1 lawful.keys.0 lawful.keys.1 done));
+    played = played ∙ (λ i. played_with (done + 1) (round_list_of s (done + 1)) (records i) (figures_are s (done + 1) (tables_in new.tables.items) new.lists.items standing after i));
+  }
+    where
+      before_held : tables_in (tables_held cluster) ≡ tables_after s done
+      before_held = so_far.tables unbroken
+
+      previous : done ≡ done + 1 - 1
+      previous = omega arith
+
+      records : (round_of s (done + 1) (tables_in old.tables.items)).records ≡ records_in s (done + 1)
+      records = ap (λ ts. (round_of s (done + 1) ts).records) (before ∙ ap (tables_after s) previous)

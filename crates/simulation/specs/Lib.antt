@@ -1,0 +1,21 @@
+pub mod Rounds
+pub mod Turns
+pub mod Soundness
+pub mod Lists
+pub mod Standing
+pub mod Rows
+pub mod RoundView
+pub mod Outcomes
+pub mod Simulation
+pub use Rattle.exchange.specs.Exchanged
+pub use Rattle.cluster.specs.Tables
+pub use Rattle.cluster.specs.Folds
+pub use Rattle.exchange.specs.Owns
+pub use Rattle.round_plan.specs.Plan
+pub use Rattle.round_plan.specs.Writes
+pub use Rattle.staleness.specs.Figures
+pub use Rattle.staleness.specs.Cluster
+pub use Rattle.staleness.specs.Writes as OwnerLists
+pub use Rattle.scenario.specs.Settings
+pub use Rattle.node_table.specs.Table
+pub use Rattle.node_table.specs.NodeTableView

@@ -1,0 +1,180 @@
+//! All nodes' tables and the lists of what their owners wrote, and how a round changes them.
+
+ghost use Rattle.std.specs.Prelude.{◌≡◌, ℕ, ◌+◌, ◌-◌, ◌^◌, ◌<◌, ◌≤◌, ◌++◌, ◌∷◌, [], All, List, length, map, slice_index_or, IfOk, OnOk, IsOkUnless};
+ghost use Rattle.bench_types.specs.declared.faults.Fault.TheVariants.{OutOfMemory};
+ghost use Rattle.bench_types.specs.declared.exchanges.Record.{Record};
+ghost use Rattle.node_table.specs.Table.{empty_table, greatest_version};
+ghost use Rattle.staleness.specs.Figures.{writes_at};
+ghost use Rattle.staleness.specs.Cluster.{OwnPartIsLastWrites};
+ghost use Rattle.staleness.specs.Writes.{AreBornBy};
+ghost use Rattle.round_plan.specs.declared.owners.OwnWrite.{OwnWrite};
+ghost use Rattle.bench_types.specs.Exchange.{IsPlanned};
+ghost use Rattle.cluster.specs.Tables.{tables_in, IsCluster};
+ghost use Rattle.cluster.specs.Clusters.{KeepOwnParts};
+ghost use Rattle.simulation.specs.Rounds.{opening_tables, with_own_writes, restarted, written, begun, rules_of};
+ghost use Rattle.simulation.specs.Turns.{IsExchanged, AreExchanged};
+ghost use Rattle.simulation.specs.Lists.{write_in, AreNumberedFrom};
+ghost use Rattle.simulation.specs.Standing.{StandAfterRound};
+
+use bench_types::limits::MOST_ROUNDS;
+use bench_types::{Exchange, Fault, Record, Rules};
+use exchange::exchange;
+use node_table::NodeTable;
+use round_plan::{OwnWrite, RoundList, restarts_now, writes_of};
+use scenario::Scenario;
+use staleness::OwnerList;
+use std::alloc::Global;
+
+/// The empty tables of all nodes, in order.
+pub(crate) fn empty_tables(alloc: Global, scenario: &Scenario) -> Result<Vec<NodeTable>, Fault>
+    ensures tables { IfOk result (λ v. tables_in v.items ≡ opening_tables scenario.now) }
+    ensures only { IsOkUnless result OutOfMemory }
+{
+    let nodes = scenario.nodes();
+    let keys = scenario.keys();
+    let mut tables = Vec::with_capacity(alloc, nodes as usize)?;
+    for node in 0..nodes {
+        tables.push(NodeTable::new(alloc, node, nodes, keys)?)?;
+    }
+    Ok(tables)
+}
+
+/// A list for each owner, with nothing written.
+pub(crate) fn empty_lists(alloc: Global, scenario: &Scenario) -> Result<Vec<OwnerList>, Fault>
+    ensures count { IfOk result (λ v. length v.items ≡ scenario.now.nodes) }
+    ensures lists { IfOk result (λ v. (n : ℕ) → writes_at v.items n ≡ []) }
+    ensures only { IsOkUnless result OutOfMemory }
+{
+    let mut lists = Vec::with_capacity(alloc, scenario.nodes() as usize)?;
+    for _ in 0..scenario.nodes() {
+        lists.push(OwnerList::new(alloc))?;
+    }
+    Ok(lists)
+}
+
+/// What a round begins with: its restarts, and then its writes, by node.
+pub(crate) fn begin_round(
+    scenario: &Scenario,
+    tables: &mut [NodeTable],
+    lists: &mut [OwnerList],
+    round: u32,
+) -> Result<(), Fault>
+    requires first { 1 ≤ round }
+    requires last { round ≤ MOST_ROUNDS }
+    requires standing { StandAfterRound scenario.now (round - 1) (tables_in tables.old) lists.old }
+    ensures standing { OnOk result (StandAfterRound scenario.now round (tables_in tables.new) lists.new) }
+    ensures tables { OnOk result (tables_in tables.new ≡ begun scenario.now round (tables_in tables.old)) }
+    ensures only { IsOkUnless result OutOfMemory }
+{
+    restart_all(scenario, tables, round);
+    write_all(scenario, tables, lists, round)
+}
+
+// The restarts of a round: each empties a node's copies of all others.
+fn restart_all(scenario: &Scenario, tables: &mut [NodeTable], round: u32)
+    requires first { 1 ≤ round }
+    requires last { round ≤ MOST_ROUNDS }
+    requires one_each { length tables.old ≡ scenario.now.nodes }
+    ensures tables { tables_in tables.new ≡ restarted scenario.now round (tables_in tables.old) }
+    ensures own { KeepOwnParts (tables_in tables.old) (tables_in tables.new) }
+{
+    for node in 0..scenario.nodes() {
+        if restarts_now(scenario, node, round) {
+            tables[node as usize].forget_others();
+        }
+    }
+}
+
+// The writes of a round, by node.
+fn write_all(
+    scenario: &Scenario,
+    tables: &mut [NodeTable],
+    lists: &mut [OwnerList],
+    round: u32,
+) -> Result<(), Fault>
+    requires first { 1 ≤ round }
+    requires last { round ≤ MOST_ROUNDS }
+    requires standing { StandAfterRound scenario.now (round - 1) (tables_in tables.old) lists.old }
+    ensures standing { OnOk result (StandAfterRound scenario.now round (tables_in tables.new) lists.new) }
+    ensures tables { OnOk result (tables_in tables.new ≡ written scenario.now round (tables_in tables.old)) }
+    ensures only { IsOkUnless result OutOfMemory }
+{
+    for node in 0..scenario.nodes() {
+        let at = node as usize;
+        let writes = writes_of(scenario, node, round, lists[at].len());
+        write_own(&mut tables[at], &mut lists[at], writes.as_slice(), round)?;
+    }
+    Ok(())
+}
+
+// The writes of one node in a round, in order.
+fn write_own(
+    table: &mut NodeTable,
+    list: &mut OwnerList,
+    writes: &[OwnWrite],
+    round: u32,
+) -> Result<(), Fault>
+    requires keys { All (λ w. w.key < table.old.table.keys) writes.now }
+    requires numbered { AreNumberedFrom (length list.old) writes.now }
+    requires fits { length list.old + length writes.now + 1 < 2 ^ 32 }
+    requires greatest { greatest_version table.old.table table.old.table.node ≡ length list.old }
+    requires own_part { OwnPartIsLastWrites table.old.table list.old }
+    requires born { AreBornBy round list.old }
+    ensures table { OnOk result (table.new.table ≡ with_own_writes round table.old.table writes.now) }
+    ensures list { OnOk result (list.new ≡ list.old ++ map (write_in round) writes.now) }
+    ensures greatest { OnOk result (greatest_version table.new.table table.new.table.node ≡ length list.new) }
+    ensures own_part { OnOk result (OwnPartIsLastWrites table.new.table list.new) }
+    ensures born { OnOk result (AreBornBy round list.new) }
+    ensures only { IsOkUnless result OutOfMemory }
+{
+    for write in writes {
+        table.write_own(write.key, write.value, round)?;
+        list.push(write.key, round)?;
+    }
+    Ok(())
+}
+
+/// The exchanges of a round, in the order of its list, with their records in that order.
+pub(crate) fn exchange_all(
+    alloc: Global,
+    tables: &mut [NodeTable],
+    list: &RoundList,
+    rules: &Rules,
+) -> Result<Vec<Record>, Fault>
+    requires budget { 1 ≤ rules.now.budget }
+    requires tables { IsCluster list.now.nodes (tables_in tables.old) }
+    ensures folded { IfOk result (λ v. AreExchanged rules.now list.now tables.old tables.new v.items) }
+    ensures count { IfOk result (λ v. length v.items ≡ length list.now.exchanges) }
+    ensures own { OnOk result (KeepOwnParts (tables_in tables.old) (tables_in tables.new)) }
+    ensures only { IsOkUnless result OutOfMemory }
+{
+    let mut records = Vec::with_capacity(alloc, list.len() as usize)?;
+    for plan in list.exchanges() {
+        records.push(exchange_pair(alloc, tables, plan, rules)?)?;
+    }
+    Ok(records)
+}
+
+// One exchange of two of the tables.
+fn exchange_pair(
+    alloc: Global,
+    tables: &mut [NodeTable],
+    plan: &Exchange,
+    rules: &Rules,
+) -> Result<Record, Fault>
+    requires budget { 1 ≤ rules.now.budget }
+    requires tables { IsCluster (length tables.old) (tables_in tables.old) }
+    requires planned { IsPlanned (length tables.old) plan.now }
+    ensures exchanged { IfOk result (IsExchanged rules.now plan.now tables.old tables.new) }
+    ensures only { IsOkUnless result OutOfMemory }
+{
+    let initiator = plan.initiator as usize;
+    let responder = plan.responder as usize;
+    if initiator < responder {
+        let (below, from) = tables.split_at_mut(responder);
+        exchange(alloc, &mut below[initiator], &mut from[0], plan, rules)
+    } else {
+        let (below, from) = tables.split_at_mut(initiator);
+        exchange(alloc, &mut from[0], &mut below[responder], plan, rules)
+    }
+}

@@ -1,0 +1,130 @@
+//! What a round came to.
+
+ghost use Rattle.std.specs.Prelude.{◌≡◌, ◌≤◌, length};
+ghost use Rattle.simulation.specs.Outcomes.{played_with};
+ghost use Rattle.simulation.specs.Rows.{row_of, has_lost, lost_count, entry_count, cut_total};
+
+use bench_types::{Fate, Figures, Record, Row};
+use round_plan::RoundList;
+use std::marker::Model;
+
+/// A round that was carried out.
+#[derive(Debug, Drop)]
+pub struct Round {
+    row: Row,
+    list: RoundList,
+    records: Vec<Record>,
+    figures: Figures,
+}
+
+impl Model for Round {
+    ghost use Rattle.std.specs.Prelude.{◌≡◌, length};
+    ghost use Rattle.simulation.specs.RoundView.{RoundView};
+
+    ghost Value = { RoundView };
+
+    ghost view = { λ r. record { row = r.row; list = r.list; records = r.records.items; figures = r.figures } };
+
+    ghost invariant = { λ r. length r.records.items ≡ length r.list.exchanges };
+}
+
+impl Round {
+    pub(crate) fn of(round: u32, list: RoundList, records: Vec<Record>, figures: Figures) -> Round
+        requires { length records.items ≡ length list.exchanges }
+        ensures { result ≡ played_with round list records.items figures }
+    {
+        let row = row_of(round, &list, &records, figures);
+        Round {
+            row,
+            list,
+            records,
+            figures,
+        }
+    }
+
+    /// The round's line of the report.
+    pub fn row(&self) -> Row
+        ensures { result ≡ self.now.row }
+    {
+        self.row
+    }
+
+    /// The exchanges of the round, in order, and how many nodes reached no peer.
+    pub fn list(&self) -> &RoundList
+        ensures { result.now ≡ self.now.list }
+    {
+        &self.list
+    }
+
+    /// What was sent in each exchange, in the order of the round's list.
+    pub fn records(&self) -> &[Record]
+        ensures value { result.now ≡ self.now.records }
+        ensures count { length result.now ≡ length self.now.list.exchanges }
+    {
+        &self.records
+    }
+
+    /// How far the copies lagged at the end of the round.
+    pub fn figures(&self) -> Figures
+        ensures { result ≡ self.now.figures }
+    {
+        self.figures
+    }
+}
+
+fn row_of(round: u32, list: &RoundList, records: &[Record], figures: Figures) -> Row
+    requires { length records.now ≤ 4096 }
+    ensures { result ≡ row_of round list.now records.now figures }
+{
+    Row {
+        round,
+        exchanges: list.len(),
+        unreached: list.unreached(),
+        lost: lost_count(records),
+        entries: entry_count(records),
+        cut: cut_total(records),
+        stale: figures.stale,
+        greatest: figures.greatest,
+    }
+}
+
+// How many exchanges lost a message.
+fn lost_count(records: &[Record]) -> u32
+    requires { length records.now ≤ 4096 }
+    ensures { result ≡ lost_count records.now }
+{
+    records.iter().filter(|r| has_lost(r.fate)).count() as u32
+}
+
+fn has_lost(fate: Fate) -> bool
+    ensures { result ≡ has_lost fate }
+{
+    match fate {
+        Fate::Ok => false,
+        Fate::Lost1 | Fate::Lost2 | Fate::Lost3 => true,
+    }
+}
+
+// How many entries were sent.
+fn entry_count(records: &[Record]) -> u64
+    requires { length records.now ≤ 4096 }
+    ensures { result ≡ entry_count records.now }
+{
+    let mut total = 0;
+    for record in records {
+        total += u64::from(record.back) + u64::from(record.forth);
+    }
+    total
+}
+
+// How many entries the budget cut.
+fn cut_total(records: &[Record]) -> u64
+    requires { length records.now ≤ 4096 }
+    ensures { result ≡ cut_total records.now }
+{
+    let mut total = 0;
+    for record in records {
+        total += u64::from(record.back_cut) + u64::from(record.forth_cut);
+    }
+    total
+}

@@ -1,0 +1,207 @@
+//! A simulation, round by round.
+
+ghost use Rattle.std.specs.Prelude.{◌≡◌, ℕ, ◌+◌, ◌-◌, ◌<◌, ◌≤◌, ◌⊎◌, true, false, [], IfOk, IfErr, OnOk, IsOkUnless};
+ghost use Rattle.bench_types.specs.declared.faults.Fault.TheVariants.{OutOfMemory};
+ghost use Rattle.staleness.specs.Figures.{figures_of};
+ghost use Rattle.simulation.specs.RoundView.{RoundView};
+ghost use Rattle.cluster.specs.Tables.{tables_in};
+ghost use Rattle.simulation.specs.Rounds.{opening_tables, round_of};
+ghost use Rattle.simulation.specs.Rows.{row_of};
+ghost use Rattle.simulation.specs.Standing.{StandAfterRound};
+ghost use Rattle.simulation.specs.Simulation.{tables_of, lists_of, HasPlayed, AreTablesAfter, PlaysNext, IsStepFault};
+ghost use Rattle.simulation.specs.Outcomes.{IsPlayedFrom};
+
+use crate::clusters::{begin_round, empty_lists, empty_tables, exchange_all};
+use crate::rounds::Round;
+use bench_types::limits::MOST_ROUNDS;
+use bench_types::{Fault, Rules};
+use node_table::NodeTable;
+use round_plan::round_list;
+use scenario::Scenario;
+use staleness::{OwnerList, figures};
+use std::alloc::Global;
+use std::marker::Model;
+use std::thread::Threads;
+
+/// A simulation of a scenario. A fault within a round breaks it: its tables are then given up.
+#[derive(Drop)]
+pub struct Sim {
+    alloc: Global,
+    scenario: Scenario,
+    cluster: Option<Cluster>,
+    rounds_done: u32,
+}
+
+impl Model for Sim {
+    ghost use Rattle.simulation.specs.Simulation.{SimView, IsSimulation, simulation_of, simulation_code};
+
+    ghost Value = { SimView };
+
+    ghost coded = { simulation_code };
+
+    ghost view = { λ s. simulation_of s.scenario s.cluster s.rounds_done };
+
+    ghost invariant = { λ s. IsSimulation (simulation_of s.scenario s.cluster s.rounds_done) };
+}
+
+// What all nodes hold, and what each has written.
+#[derive(Drop)]
+struct Cluster {
+    tables: Vec<NodeTable>,
+    lists: Vec<OwnerList>,
+}
+
+impl Sim {
+    /// The simulation before its first round, where all tables are empty. It takes memory for the
+    /// nodes, and hands the scenario back where that is refused.
+    pub fn new(alloc: Global, scenario: Scenario) -> Result<Sim, (Fault, Scenario)>
+        ensures opens { IfOk result (λ sim. (sim.settings ≡ scenario) × (sim.rounds_done ≡ 0) × (sim.broken ≡ false)) }
+        ensures empty { IfOk result (λ sim. tables_in sim.tables ≡ opening_tables scenario) }
+        ensures hands_back { IfErr result (λ e. (e.0 ≡ OutOfMemory) × (e.1 ≡ scenario)) }
+    {
+        match Cluster::new(alloc, &scenario) {
+            Ok(cluster) => Ok(Sim {
+                alloc,
+                scenario,
+                cluster: Some(cluster),
+                rounds_done: 0,
+            }),
+            Err(fault) => Err((fault, scenario)),
+        }
+    }
+
+    /// Carries out the next round: the restarts, the writes by node, the exchanges of the round's list
+    /// in order, the figures. It answers `Broken` where an earlier round failed and `Finished` where
+    /// all rounds are done, and then changes nothing; any other fault breaks the simulation.
+    pub fn step<R: Threads + Sync>(&mut self, rt: &R) -> Result<Round, Fault>
+        ensures played { IfOk result (PlaysNext self.old self.new) }
+        ensures fails { IfErr result (IsStepFault self.old self.new) }
+    {
+        if self.is_broken() {
+            return Err(Fault::Broken);
+        }
+        if self.rounds_done == self.scenario.rounds() {
+            return Err(Fault::Finished);
+        }
+        let Some(mut cluster) = self.cluster.take() else {
+            return Err(Fault::Broken);
+        };
+        let round = cluster.play(rt, self.alloc, &self.scenario, self.rounds_done + 1)?;
+        self.cluster = Some(cluster);
+        self.rounds_done += 1;
+        Ok(round)
+    }
+
+    /// The nodes' tables, in order; none where the simulation is broken.
+    pub fn tables(&self) -> &[NodeTable]
+        ensures value { result.now ≡ self.now.tables }
+        ensures after { AreTablesAfter self.now result.now }
+        ensures none { self.now.broken ≡ true → result.now ≡ [] }
+    {
+        match &self.cluster {
+            Some(cluster) => &cluster.tables,
+            None => &[],
+        }
+    }
+
+    /// How many rounds were carried out.
+    pub fn rounds_done(&self) -> u32
+        ensures value { result ≡ self.now.rounds_done }
+        ensures within { result ≤ self.now.settings.rounds }
+    {
+        self.rounds_done
+    }
+
+    /// Whether a round has failed.
+    pub fn is_broken(&self) -> bool
+        ensures { result ≡ self.now.broken }
+    {
+        self.cluster.is_none()
+    }
+
+    /// The scenario that `new` was given.
+    pub fn into_scenario(self) -> Scenario
+        ensures { result ≡ self.settings }
+    {
+        let Sim {
+            alloc: _,
+            scenario,
+            cluster: _,
+            rounds_done: _,
+        } = self;
+        scenario
+    }
+
+    /// How many rounds there are in all.
+    pub fn rounds(&self) -> u32
+        ensures { result ≡ self.now.settings.rounds }
+    {
+        self.scenario.rounds()
+    }
+}
+
+impl Cluster {
+    fn new(alloc: Global, scenario: &Scenario) -> Result<Cluster, Fault>
+        ensures tables { IfOk result (λ c. tables_of c ≡ opening_tables scenario.now) }
+        ensures standing { IfOk result (λ c. StandAfterRound scenario.now 0 (tables_of c) (lists_of c)) }
+        ensures only { IsOkUnless result OutOfMemory }
+    {
+        Ok(Cluster {
+            tables: empty_tables(alloc, scenario)?,
+            lists: empty_lists(alloc, scenario)?,
+        })
+    }
+
+    fn play<R: Threads + Sync>(
+        &mut self,
+        rt: &R,
+        alloc: Global,
+        scenario: &Scenario,
+        round: u32,
+    ) -> Result<Round, Fault>
+        requires first { 1 ≤ round }
+        requires last { round ≤ MOST_ROUNDS }
+        requires standing { StandAfterRound scenario.now (round - 1) (tables_of self.old) (lists_of self.old) }
+        ensures tables { OnOk result (tables_of self.new ≡ (round_of scenario.now round (tables_of self.old)).tables) }
+        ensures standing { OnOk result (StandAfterRound scenario.now round (tables_of self.new) (lists_of self.new)) }
+        ensures played { IfOk result (HasPlayed scenario.now round self.old self.new) }
+        ensures only { IsOkUnless result OutOfMemory }
+    {
+        play_round(
+            rt,
+            alloc,
+            scenario,
+            &mut self.tables,
+            &mut self.lists,
+            round,
+        )
+    }
+}
+
+// A round, on the tables and the lists of all nodes.
+fn play_round<R: Threads + Sync>(
+    rt: &R,
+    alloc: Global,
+    scenario: &Scenario,
+    tables: &mut [NodeTable],
+    lists: &mut [OwnerList],
+    round: u32,
+) -> Result<Round, Fault>
+    requires first { 1 ≤ round }
+    requires last { round ≤ MOST_ROUNDS }
+    requires standing { StandAfterRound scenario.now (round - 1) (tables_in tables.old) lists.old }
+    ensures tables { OnOk result (tables_in tables.new ≡ (round_of scenario.now round (tables_in tables.old)).tables) }
+    ensures standing { OnOk result (StandAfterRound scenario.now round (tables_in tables.new) lists.new) }
+    ensures played { IfOk result (IsPlayedFrom scenario.now round tables.old tables.new lists.new) }
+    ensures only { IsOkUnless result OutOfMemory }
+{
+    let rules = Rules {
+        mode: scenario.mode(),
+        budget: scenario.budget(),
+    };
+    begin_round(scenario, tables, lists, round)?;
+    let list = round_list(rt, alloc, scenario, round)?;
+    let records = exchange_all(alloc, tables, &list, &rules)?;
+    let lag = figures(rt, alloc, tables, lists, round)?;
+    Ok(Round::of(round, list, records, lag))
+}

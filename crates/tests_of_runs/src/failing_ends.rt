@@ -1,0 +1,229 @@
+//! Ends that go byte by byte and fail at each place of a run of two rounds.
+
+use crate::ends::{ALL, Drip, Halting, Taking};
+use crate::texts::RESTART_WITHOUT_DOWNTIME;
+use bench::run;
+use bench_types::{Fault, Field, Pull, Push};
+use std::alloc::{AllocError, AllocGlobal, Global};
+use std::io::ErrorKind;
+use std::process::Abort;
+use std::thread::Threads;
+
+#[derive(Clone, Copy, PartialEq)]
+enum End {
+    Report,
+    Trace,
+}
+
+// What the run writes, in this order, each part followed by a flush.
+const PARTS: [(End, &str); 6] = [
+    (
+        End::Report,
+        "round,exchanges,unreached,lost,entries,cut,stale,greatest\n",
+    ),
+    (
+        End::Trace,
+        "round,index,initiator,responder,fate,digest1,digest2,back,forth,back_cut,forth_cut\n",
+    ),
+    (
+        End::Trace,
+        "1,0,0,1,ok,1,1,1,1,0,0\n1,1,1,0,ok,2,2,0,0,0,0\n",
+    ),
+    (End::Report, "1,2,0,0,2,0,0,0\n"),
+    (
+        End::Trace,
+        "2,0,0,1,ok,2,1,0,1,0,0\n2,1,1,0,ok,2,2,0,0,0,0\n",
+    ),
+    (End::Report, "2,2,0,0,1,0,0,0\n"),
+];
+
+// What the first so many parts bring to an end.
+fn brought(alloc: Global, end: End, parts: usize) -> Result<String, AllocError> {
+    let mut text = String::new(alloc);
+    for (at, part) in PARTS.iter().take(parts) {
+        if *at == end {
+            text.push_str(part)?;
+        }
+    }
+    Ok(text)
+}
+
+// How many calls the ends of a run answer before they fail.
+#[derive(Clone, Copy)]
+struct Calls {
+    reads: Option<usize>,
+    report: Taking,
+    trace: Taking,
+}
+
+const NEVER_FAILS: Calls = Calls {
+    reads: None,
+    report: ALL,
+    trace: ALL,
+};
+
+fn calls_of(end: End, taking: Taking) -> Calls {
+    match end {
+        End::Report => Calls {
+            report: taking,
+            ..NEVER_FAILS
+        },
+        End::Trace => Calls {
+            trace: taking,
+            ..NEVER_FAILS
+        },
+    }
+}
+
+// What a run answers, and what it has written.
+#[derive(Drop)]
+struct Ran {
+    answer: Result<(), Fault>,
+    report: Vec<u8>,
+    trace: Vec<u8>,
+}
+
+// A run of this text that reads and writes byte by byte until an end fails.
+fn run_until(rt: &(impl Threads + AllocGlobal + Sync), text: &str, calls: Calls) -> Ran {
+    let alloc = rt.alloc();
+    let mut reader = Pull::new(Halting {
+        rest: text.as_bytes(),
+        step: 1,
+        calls: calls.reads,
+        kind: ErrorKind::Other,
+    });
+    let mut report = Push::new(Drip::new(alloc, calls.report));
+    let mut trace = Push::new(Drip::new(alloc, calls.trace));
+    let answer = run(rt, alloc, &mut reader, &mut report, &mut trace);
+    Ran {
+        answer,
+        report: report.into_inner().taken,
+        trace: trace.into_inner().taken,
+    }
+}
+
+// An end to which at least the first so many parts were written, and no more than the first so many.
+fn expect_written(
+    rt: &impl Abort,
+    alloc: Global,
+    end: End,
+    written: &[u8],
+    (least, most): (usize, usize),
+) -> Result<(), AllocError> {
+    let front = brought(alloc, end, least)?;
+    let whole = brought(alloc, end, most)?;
+    assert!(rt; written.starts_with(front.as_bytes()), "part {least}");
+    assert!(rt; whole.as_bytes().starts_with(written), "part {least}");
+    Ok(())
+}
+
+// A run in which a writer failed within the part behind the first so many: what was flushed stands in
+// front, and what was written is a front of the whole.
+fn expect_front(rt: &impl Abort, alloc: Global, ran: &Ran, parts: usize) -> Result<(), AllocError> {
+    assert_eq!(rt; ran.answer, Err(Fault::WriteFailed));
+    let parts = (parts, PARTS.len());
+    expect_written(rt, alloc, End::Report, &ran.report, parts)?;
+    expect_written(rt, alloc, End::Trace, &ran.trace, parts)
+}
+
+// A run that answers this fault of its input, and writes nothing.
+fn expect_nothing(rt: &impl Abort, ran: Ran, fault: Fault) {
+    assert_eq!(rt; ran.answer, Err(fault));
+    assert!(rt; ran.report.is_empty() && ran.trace.is_empty());
+}
+
+#[test]
+fn empty_input_and_failing_ends(rt: HostRuntime) -> Result<(), Fault> {
+    let empty = run_until(&rt, "", NEVER_FAILS);
+    expect_nothing(&rt, empty, Fault::Missing(Field::Format));
+    for reads in 0..=RESTART_WITHOUT_DOWNTIME.len() {
+        let calls = Calls {
+            reads: Some(reads),
+            ..NEVER_FAILS
+        };
+        let ran = run_until(&rt, RESTART_WITHOUT_DOWNTIME, calls);
+        expect_nothing(&rt, ran, Fault::ReadFailed);
+    }
+    let at_once = Taking { writes: 0, ..ALL };
+    let ran = run_until(
+        &rt,
+        RESTART_WITHOUT_DOWNTIME,
+        calls_of(End::Report, at_once),
+    );
+    expect_front(&rt, rt.alloc(), &ran, 0)?;
+    Ok(())
+}
+
+// One read more than the text has bytes finds its end.
+#[test]
+fn byte_by_byte(rt: HostRuntime) -> Result<(), Fault> {
+    let calls = Calls {
+        reads: Some(RESTART_WITHOUT_DOWNTIME.len() + 1),
+        ..NEVER_FAILS
+    };
+    let ran = run_until(&rt, RESTART_WITHOUT_DOWNTIME, calls);
+    assert_eq!(rt; ran.answer, Ok(()));
+    let all = (PARTS.len(), PARTS.len());
+    expect_written(&rt, rt.alloc(), End::Report, &ran.report, all)?;
+    expect_written(&rt, rt.alloc(), End::Trace, &ran.trace, all)?;
+    Ok(())
+}
+
+// Runs in which a writer fails at each byte of the part behind the first so many.
+fn expect_fronts(
+    rt: &(impl Threads + Abort + AllocGlobal + Sync),
+    place: usize,
+    (end, part): (End, &str),
+) -> Result<(), AllocError> {
+    let before = brought(rt.alloc(), end, place)?.len();
+    for within in 0..part.len() {
+        let taking = Taking {
+            writes: before.saturating_add(within),
+            ..ALL
+        };
+        let ran = run_until(rt, RESTART_WITHOUT_DOWNTIME, calls_of(end, taking));
+        expect_front(rt, rt.alloc(), &ran, place)?;
+    }
+    Ok(())
+}
+
+#[test]
+fn writes_that_fail(rt: HostRuntime) -> Result<(), Fault> {
+    for (place, part) in PARTS.iter().enumerate() {
+        expect_fronts(&rt, place, *part)?;
+    }
+    Ok(())
+}
+
+// After how many flushes of this end the first so many parts are written.
+const FLUSHES: [(usize, End, usize); 6] = [
+    (0, End::Report, 0),
+    (1, End::Trace, 0),
+    (2, End::Trace, 1),
+    (3, End::Report, 1),
+    (4, End::Trace, 2),
+    (5, End::Report, 2),
+];
+
+#[test]
+fn flushes_that_fail(rt: HostRuntime) -> Result<(), Fault> {
+    for (place, end, flushes) in FLUSHES {
+        let calls = calls_of(end, Taking { flushes, ..ALL });
+        let ran = run_until(&rt, RESTART_WITHOUT_DOWNTIME, calls);
+        expect_front(&rt, rt.alloc(), &ran, place)?;
+    }
+    Ok(())
+}
+
+// Each end is flushed three times.
+#[test]
+fn flushes_enough(rt: HostRuntime) {
+    let taking = Taking { flushes: 3, ..ALL };
+    let calls = Calls {
+        reads: None,
+        report: taking,
+        trace: taking,
+    };
+    let ran = run_until(&rt, RESTART_WITHOUT_DOWNTIME, calls);
+    assert_eq!(rt; ran.answer, Ok(()));
+}

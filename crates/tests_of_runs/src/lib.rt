@@ -1,0 +1,17 @@
+//! Tests of whole runs that need code: readers and writers that go byte by byte, fail or never end, a
+//! simulation step by step, and what an accepted scenario says. The cases of the crate `acceptance`
+//! go from text to text.
+#![tactic(auto)]
+
+#[cfg(test)]
+mod ends;
+#[cfg(test)]
+mod failing_ends;
+#[cfg(test)]
+mod inputs;
+#[cfg(test)]
+mod steps;
+#[cfg(test)]
+mod texts;
+#[cfg(test)]
+mod values;

@@ -1,0 +1,131 @@
+//! Simulations, step by step.
+
+use crate::texts::TWO_NODES;
+use bench::{Round, Sim};
+use bench_types::{Exchange, Fate, Fault, Figures, Record, Row};
+use node_table::NodeTable;
+use scenario::read;
+use std::alloc::Global;
+use std::process::Abort;
+
+// The simulation of a text, before its first round.
+fn sim_of(alloc: Global, text: &str) -> Result<Sim, Fault> {
+    match Sim::new(alloc, read(alloc, text.as_bytes())?) {
+        Ok(sim) => Ok(sim),
+        Err((fault, _)) => Err(fault),
+    }
+}
+
+fn between(initiator: u32, responder: u32) -> Exchange {
+    Exchange {
+        initiator,
+        responder,
+        lost1: false,
+        lost2: false,
+        lost3: false,
+        rotation: 0,
+    }
+}
+
+// What an exchange sent that lost and cut nothing: the sizes of its digests, and entries back and forth.
+fn sent(digest1: u32, digest2: u32, back: u32, forth: u32) -> Record {
+    Record {
+        digest1,
+        digest2,
+        back,
+        forth,
+        back_cut: 0,
+        forth_cut: 0,
+        fate: Fate::Ok,
+    }
+}
+
+// Two nodes that hold so many entries each.
+fn expect_counts(rt: &impl Abort, sim: &Sim, count: u32) {
+    assert_eq!(rt; sim.tables().len(), 2);
+    for table in sim.tables() {
+        assert_eq!(rt; table.count(), count);
+    }
+}
+
+fn expect_exchanges(rt: &impl Abort, round: &Round) {
+    let list = round.list();
+    assert_eq!(rt; list.exchanges(), [between(0, 1), between(1, 0)].as_slice());
+    assert_eq!(rt; (list.nodes(), list.unreached()), (2, 0));
+    let records = [sent(1, 1, 1, 1), sent(2, 2, 0, 0)];
+    assert_eq!(rt; round.records(), records.as_slice());
+}
+
+fn expect_row(rt: &impl Abort, round: &Round) {
+    let row = Row {
+        round: 1,
+        exchanges: 2,
+        unreached: 0,
+        lost: 0,
+        entries: 2,
+        cut: 0,
+        stale: 0,
+        greatest: 0,
+    };
+    assert_eq!(rt; round.row(), row);
+    let figures = Figures {
+        stale: 0,
+        greatest: 0,
+    };
+    assert_eq!(rt; round.figures(), figures);
+}
+
+#[test]
+fn two_nodes(rt: HostRuntime) -> Result<(), Fault> {
+    let mut sim = sim_of(rt.alloc(), TWO_NODES)?;
+    assert_eq!(rt; sim.rounds_done(), 0);
+    expect_counts(&rt, &sim, 0);
+    let round = sim.step(&rt)?;
+    expect_exchanges(&rt, &round);
+    expect_row(&rt, &round);
+    expect_counts(&rt, &sim, 2);
+    Ok(())
+}
+
+fn expect_finished(rt: &impl Abort, sim: &Sim, answer: Option<Fault>) {
+    assert_eq!(rt; answer, Some(Fault::Finished));
+    assert_eq!(rt; sim.rounds_done(), 1);
+    assert!(rt; !sim.is_broken());
+}
+
+#[test]
+fn steps_behind_the_last_round(rt: HostRuntime) -> Result<(), Fault> {
+    let mut sim = sim_of(rt.alloc(), TWO_NODES)?;
+    sim.step(&rt)?;
+    for _ in 0..2 {
+        let answer = sim.step(&rt).err();
+        expect_finished(&rt, &sim, answer);
+        expect_counts(&rt, &sim, 2);
+    }
+    let scenario = sim.into_scenario();
+    assert_eq!(rt; (scenario.nodes(), scenario.rounds()), (2, 1));
+    Ok(())
+}
+
+// A node that holds entries of all owners but one.
+fn expect_missed(rt: &impl Abort, table: &NodeTable, missed: u32) {
+    let node = table.node();
+    for owner in 0..table.nodes() {
+        let lacks = table.greatest(owner) == 0;
+        assert_eq!(rt; lacks, owner == missed, "owner {owner} at node {node}");
+    }
+}
+
+// At the end each node misses one owner.
+#[test]
+fn ring_of_four(rt: HostRuntime) -> Result<(), Fault> {
+    let text = TWO_NODES.replace(rt.alloc(), "nodes = 2", "nodes = 4")?;
+    let mut sim = sim_of(rt.alloc(), text.as_str())?;
+    sim.step(&rt)?;
+    assert_eq!(rt; sim.step(&rt).err(), Some(Fault::Finished));
+    assert_eq!(rt; sim.tables().len(), 4);
+    for (table, missed) in sim.tables().iter().zip([2, 3, 1, 2]) {
+        expect_missed(&rt, table, missed);
+    }
+    Ok(())
+}

@@ -1,0 +1,163 @@
+//! What an accepted scenario says.
+
+use crate::texts::TWO_NODES;
+use bench_types::{Fault, Field, Mode};
+use scenario::{Choice, Load, Partition, Peers, Restart, Rotation, Scenario, read};
+use std::alloc::Global;
+use std::process::Abort;
+
+const TEXT: &str = "\
+writes = 8
+loss_ppm = 999_999
+choice = 'random'
+rotation = 'random'
+peers = 'random'
+budget = 65535
+mode = 'precise-newest'
+seed = 0x2a
+rounds = 100_000
+keys = 64
+nodes = 2_048 # half of the most
+format = 1
+";
+
+fn expect_numbers(rt: &impl Abort, scenario: &Scenario) {
+    let sizes = [
+        scenario.format(),
+        scenario.nodes(),
+        scenario.keys(),
+        scenario.rounds(),
+    ];
+    assert_eq!(rt; sizes, [1, 2048, 64, 100_000]);
+    let limits = [scenario.budget(), scenario.loss_ppm(), scenario.writes()];
+    assert_eq!(rt; limits, [65_535, 999_999, 8]);
+    assert_eq!(rt; scenario.seed(), 42);
+}
+
+fn expect_words(
+    rt: &impl Abort,
+    scenario: &Scenario,
+    mode: Mode,
+    words: (Peers, Rotation, Choice),
+) {
+    assert_eq!(rt; scenario.mode(), mode);
+    let found = (scenario.peers(), scenario.rotation(), scenario.choice());
+    assert_eq!(rt; found, words);
+}
+
+#[test]
+fn values_of_the_fields(rt: HostRuntime) -> Result<(), Fault> {
+    let scenario = read(rt.alloc(), TEXT.as_bytes())?;
+    expect_numbers(&rt, &scenario);
+    let words = (Peers::Random, Rotation::Random, Choice::Random);
+    expect_words(&rt, &scenario, Mode::PreciseNewest, words);
+    assert!(rt; scenario.partitions().is_empty());
+    assert!(rt; scenario.restarts().is_empty());
+    assert!(rt; scenario.loads().is_empty());
+    Ok(())
+}
+
+const MODES: [(&str, Mode); 4] = [
+    ("scuttle-breadth", Mode::ScuttleBreadth),
+    ("scuttle-depth", Mode::ScuttleDepth),
+    ("precise-oldest", Mode::PreciseOldest),
+    ("precise-newest", Mode::PreciseNewest),
+];
+
+#[test]
+fn values_of_the_words(rt: HostRuntime) -> Result<(), Fault> {
+    let words = (Peers::Ring, Rotation::Off, Choice::Cycle);
+    for (word, mode) in MODES {
+        let text = TWO_NODES.replace(rt.alloc(), "scuttle-breadth", word)?;
+        let scenario = read(rt.alloc(), text.as_bytes())?;
+        expect_words(&rt, &scenario, mode, words);
+    }
+    Ok(())
+}
+
+const SECTIONS: &str = "\
+[[load]]
+from = 4
+to = 100000
+writes = 0
+[[partition]]
+from = 1
+to = 3
+apart = [0, 2, 4]
+[[restart]]
+node = 4
+round = 7
+down = 2
+[[partition]]
+from = 5
+to = 5
+apart = []
+[[restart]]
+node = 4
+round = 7
+down = 0
+";
+
+// The same as inline tables.
+const INLINE: &str = "\
+partition = [{ apart = [0, 2, 4], from = 1, to = 3 }, { from = 5, to = 5, apart = [] }]
+restart = [{ node = 4, round = 7, down = 2 }, { node = 4, round = 7, down = 0 }]
+load = [{ from = 4, to = 100_000, writes = 0 }]
+";
+
+// The scenario of two nodes, where one line has become another and tables follow.
+fn changed(alloc: Global, old: &str, new: &str, tables: &str) -> Result<Scenario, Fault> {
+    let mut text = TWO_NODES.replace(alloc, old, new)?;
+    text.push_str(tables)?;
+    read(alloc, text.as_bytes())
+}
+
+fn expect_partition(rt: &impl Abort, found: &Partition, from: u32, to: u32, apart: &[u32]) {
+    assert_eq!(rt; (found.from, found.to), (from, to));
+    assert_eq!(rt; found.apart.as_slice(), apart);
+}
+
+const RESTARTS: [Restart; 2] = [
+    Restart {
+        node: 4,
+        round: 7,
+        down: 2,
+    },
+    Restart {
+        node: 4,
+        round: 7,
+        down: 0,
+    },
+];
+
+const LOADS: [Load; 1] = [Load {
+    from: 4,
+    to: 100_000,
+    writes: 0,
+}];
+
+#[test]
+fn values_of_the_elements(rt: HostRuntime) -> Result<(), Fault> {
+    for tables in [SECTIONS, INLINE] {
+        let scenario = changed(rt.alloc(), "nodes = 2", "nodes = 5", tables)?;
+        let [first, second] = scenario.partitions() else {
+            return Err(Fault::OutOfRange(Field::Partition));
+        };
+        expect_partition(&rt, first, 1, 3, &[0, 2, 4]);
+        expect_partition(&rt, second, 5, 5, &[]);
+        assert_eq!(rt; scenario.restarts(), RESTARTS.as_slice());
+        assert_eq!(rt; scenario.loads(), LOADS.as_slice());
+    }
+    Ok(())
+}
+
+#[test]
+fn another_mode(rt: HostRuntime) -> Result<(), Fault> {
+    let tables = "[[restart]]\nnode = 1\nround = 1\ndown = 0\n";
+    let scenario = changed(rt.alloc(), "seed = 0", "seed = 7", tables)?;
+    let scenario = scenario.with_mode(Mode::PreciseOldest);
+    assert_eq!(rt; scenario.mode(), Mode::PreciseOldest);
+    assert_eq!(rt; scenario.seed(), 7);
+    assert_eq!(rt; scenario.restarts().len(), 1);
+    Ok(())
+}

@@ -1,0 +1,299 @@
+//! Deltas by hand: what is sent of one table in each mode, and of many tables against a program that
+//! places each candidate by counting those that come before it.
+
+use crate::fixtures::{expect_items, expect_number, item, next, take, try_write};
+use bench_types::{Item, Mode};
+use node_table::NodeTable;
+use reconcile::{Delta, Digest, delta};
+use std::alloc::Global;
+use std::cmp::Ordering;
+use std::process::Abort;
+
+const NODES: u32 = 4;
+
+// One owner's versions 3 and 5 and another's version 1.
+const OLD: Item = item!(1, 0, 3, 0, 2);
+
+const NEW: Item = item!(1, 1, 5, 0, 3);
+
+const OTHER: Item = item!(2, 0, 1, 0, 1);
+
+// In which order each mode sends them.
+const ORDERS: [(Mode, [Item; 3]); 4] = [
+    (Mode::ScuttleBreadth, [OLD, OTHER, NEW]),
+    (Mode::ScuttleDepth, [OLD, NEW, OTHER]),
+    (Mode::PreciseOldest, [OTHER, OLD, NEW]),
+    (Mode::PreciseNewest, [NEW, OLD, OTHER]),
+];
+
+// The table of node 3 that holds those entries.
+fn sender(rt: &impl Abort, alloc: Global) -> NodeTable {
+    let mut table = NodeTable::new(alloc, 3, NODES, 2).unwrap();
+    take(rt, &mut table, &[OLD, NEW, OTHER]);
+    table
+}
+
+// How a delta is ordered and cut.
+#[derive(Clone, Copy)]
+struct Turn {
+    mode: Mode,
+    rotation: u32,
+    budget: u32,
+}
+
+// What one table's node sends in answer to the digest of the other's.
+fn answer(rt: &impl Abort, alloc: Global, from: &NodeTable, to: &NodeTable, turn: Turn) -> Delta {
+    assert!(rt; from.nodes() == to.nodes() && from.keys() == to.keys());
+    assert!(rt; to.node() < from.nodes() && turn.rotation < from.nodes());
+    assert!(rt; turn.budget >= 1);
+    let (mode, rotation, budget) = (turn.mode, turn.rotation, turn.budget);
+    let digest = Digest::of(alloc, to, mode).expect(rt, "memory");
+    delta(alloc, from, &digest, to.node(), mode, rotation, budget).expect(rt, "memory")
+}
+
+// Compares what the sender sends to the empty table of node 0, and how many entries it cuts.
+fn expect_sent(rt: &impl Abort, alloc: Global, turn: Turn, items: &[Item], cut: u32) {
+    let to = NodeTable::new(alloc, 0, NODES, 2).unwrap();
+    let delta = answer(rt, alloc, &sender(rt, alloc), &to, turn);
+    expect_items(rt, "sent", delta.items(), items);
+    expect_number(rt, "cut", delta.cut(), cut);
+}
+
+// The order of a mode with no rotation.
+fn unturned(mode: Mode, budget: u32) -> Turn {
+    Turn {
+        mode,
+        rotation: 0,
+        budget,
+    }
+}
+
+#[test]
+fn one_delta_in_four_orders(rt: HostRuntime) {
+    for (mode, [first, second, _third]) in ORDERS {
+        expect_sent(&rt, rt.alloc(), unturned(mode, 2), &[first, second], 1);
+    }
+    expect_scuttle_digest(&rt, rt.alloc());
+    expect_precise_digest(&rt, rt.alloc());
+}
+
+fn expect_scuttle_digest(rt: &impl Abort, alloc: Global) {
+    let from = sender(rt, alloc);
+    let digest = Digest::of(alloc, &from, Mode::ScuttleDepth).expect(rt, "memory");
+    assert!(rt; from.nodes() == 4);
+    expect_number(rt, "size", digest.size(), 2);
+    expect_number(rt, "greatest of 0", digest.greatest(0), 0);
+    expect_number(rt, "greatest of 1", digest.greatest(1), 5);
+}
+
+fn expect_precise_digest(rt: &impl Abort, alloc: Global) {
+    let from = sender(rt, alloc);
+    let digest = Digest::of(alloc, &from, Mode::PreciseOldest).expect(rt, "memory");
+    assert!(rt; from.nodes() == 4 && from.keys() == 2);
+    expect_number(rt, "size", digest.size(), 3);
+    expect_number(rt, "version of 1 0", digest.version(1, 0), 3);
+    expect_number(rt, "version of 2 1", digest.version(2, 1), 0);
+}
+
+#[test]
+fn rotation_turns_the_order(rt: HostRuntime) {
+    for (rotation, first) in [(0, OLD), (2, OTHER)] {
+        let turn = Turn {
+            mode: Mode::ScuttleBreadth,
+            rotation,
+            budget: 1,
+        };
+        expect_sent(&rt, rt.alloc(), turn, &[first], 2);
+    }
+}
+
+#[test]
+fn budget_cuts_the_rest(rt: HostRuntime) {
+    for (mode, order) in ORDERS {
+        let [first, second, _third] = order;
+        expect_sent(&rt, rt.alloc(), unturned(mode, 3), &order, 0);
+        expect_sent(&rt, rt.alloc(), unturned(mode, 2), &[first, second], 1);
+        expect_sent(&rt, rt.alloc(), unturned(mode, 65535), &order, 0);
+    }
+}
+
+// The version that is held, 0 for none.
+fn version_of(table: &NodeTable, owner: u32, key: u32) -> u32 {
+    match table.get(owner, key) {
+        Some(entry) => entry.version,
+        None => 0,
+    }
+}
+
+// Compares the versions that an empty table holds of the two keys of owner 1 after one entry was sent.
+fn expect_first(rt: &impl Abort, alloc: Global, mode: Mode, versions: [u32; 2]) {
+    let mut to = NodeTable::new(alloc, 0, NODES, 2).unwrap();
+    let delta = answer(rt, alloc, &sender(rt, alloc), &to, unturned(mode, 1));
+    take(rt, &mut to, delta.items());
+    let held = [version_of(&to, 1, 0), version_of(&to, 1, 1)];
+    assert_eq!(rt; held, versions, "{mode:?}");
+}
+
+#[test]
+fn precise_newest_leaves_a_gap(rt: HostRuntime) {
+    expect_first(&rt, rt.alloc(), Mode::PreciseNewest, [0, 5]);
+    expect_first(&rt, rt.alloc(), Mode::ScuttleBreadth, [3, 0]);
+    expect_first(&rt, rt.alloc(), Mode::ScuttleDepth, [3, 0]);
+}
+
+// A small table that holds about so many of ten entries. Two keys of an owner may have one version.
+fn small_table(rt: &impl Abort, alloc: Global, state: &mut u64, node: u32, full: u32) -> NodeTable {
+    assert!(rt; node < NODES);
+    let mut table = NodeTable::new(alloc, node, NODES, 3).unwrap();
+    for key in 0..3 {
+        if next(state, 10) < full {
+            let _version = try_write(rt, &mut table, key, 0, 1).expect(rt, "memory");
+        }
+    }
+    take(rt, &mut table, &others(rt, alloc, state, node, full));
+    table
+}
+
+// Entries of the other owners, about so many of ten.
+fn others(rt: &impl Abort, alloc: Global, state: &mut u64, node: u32, full: u32) -> Vec<Item> {
+    let mut held = Vec::new(alloc);
+    for owner in 0..NODES {
+        for key in 0..3 {
+            let version = next(state, 4).saturating_add(1);
+            let born = next(state, 3).saturating_add(1);
+            if owner != node && next(state, 10) < full {
+                let item = item!(owner, key, version, 0, born);
+                held.push(item).expect(rt, "memory");
+            }
+        }
+    }
+    held
+}
+
+// What the receiver may lack.
+fn lacked(
+    rt: &impl Abort,
+    alloc: Global,
+    from: &NodeTable,
+    to: &NodeTable,
+    mode: Mode,
+) -> Vec<Item> {
+    let mut found = Vec::new(alloc);
+    for item in from.items() {
+        let known = match mode {
+            Mode::ScuttleBreadth | Mode::ScuttleDepth => to.greatest(item.owner),
+            Mode::PreciseOldest | Mode::PreciseNewest => version_of(to, item.owner, item.entry.key),
+        };
+        if item.entry.version > known && item.owner != to.node() {
+            found.push(*item).expect(rt, "memory");
+        }
+    }
+    found
+}
+
+// How far behind the rotation an owner comes.
+fn place(turn: Turn, owner: u32) -> u32 {
+    owner.wrapping_add(NODES).wrapping_sub(turn.rotation) % NODES
+}
+
+// How many candidates of an owner have a lower version.
+fn count_below(all: &[Item], owner: u32, version: u32) -> u32 {
+    let mut count = 0u32;
+    for item in all {
+        if item.owner == owner && item.entry.version < version {
+            count = count.saturating_add(1);
+        }
+    }
+    count
+}
+
+// How two candidates compare.
+fn compare(turn: Turn, all: &[Item], a: Item, b: Item) -> Ordering {
+    let count = |i: Item| count_below(all, i.owner, u32::MAX);
+    let rank = |i: Item| count_below(all, i.owner, i.entry.version);
+    let turns = place(turn, a.owner).cmp(&place(turn, b.owner));
+    let versions = a.entry.version.cmp(&b.entry.version);
+    let keys = a.entry.key.cmp(&b.entry.key);
+    let births = a.entry.born.cmp(&b.entry.born);
+    match turn.mode {
+        Mode::ScuttleBreadth => rank(a).cmp(&rank(b)).then(turns).then(keys),
+        Mode::ScuttleDepth => {
+            let counts = count(b).cmp(&count(a));
+            counts.then(turns).then(versions).then(keys)
+        }
+        Mode::PreciseOldest => births.then(turns).then(versions).then(keys),
+        Mode::PreciseNewest => {
+            let newest = births.reverse().then(turns);
+            newest.then(versions.reverse()).then(keys)
+        }
+    }
+}
+
+// How many candidates come before this one.
+fn count_before(turn: Turn, all: &[Item], item: Item) -> usize {
+    let mut count = 0usize;
+    for other in all {
+        if compare(turn, all, *other, item) == Ordering::Less {
+            count = count.saturating_add(1);
+        }
+    }
+    count
+}
+
+// Compares the item that is sent at a place.
+fn expect_at(rt: &impl Abort, delta: &Delta, place: usize, item: Item, mode: Mode) {
+    let sent = delta.items().get(place).copied();
+    assert_eq!(rt; sent, Some(item), "{mode:?} {place}");
+}
+
+// Compares a delta with the candidates, each at the place that is the number of those before it.
+fn compare_by_counting(rt: &impl Abort, delta: &Delta, all: &[Item], turn: Turn) {
+    let budget = turn.budget as usize;
+    let mut cut = 0u32;
+    for item in all {
+        let before = count_before(turn, all, *item);
+        if before < budget {
+            expect_at(rt, delta, before, *item, turn.mode);
+        } else {
+            cut = cut.saturating_add(1);
+        }
+    }
+    assert!(rt; delta.items().len() == all.len().min(budget));
+    expect_number(rt, "cut", delta.cut(), cut);
+}
+
+// Compares the deltas of a mode at each rotation and at budgets around the number of candidates.
+fn expect_deltas(rt: &impl Abort, alloc: Global, from: &NodeTable, to: &NodeTable, mode: Mode) {
+    let all = lacked(rt, alloc, from, to, mode);
+    for rotation in 0..NODES {
+        for budget in [1, 2, 3, 5, 12] {
+            let turn = Turn {
+                mode,
+                rotation,
+                budget,
+            };
+            let delta = answer(rt, alloc, from, to, turn);
+            compare_by_counting(rt, &delta, &all, turn);
+        }
+    }
+}
+
+// Compares all deltas of one small table to another.
+fn expect_small(rt: &impl Abort, alloc: Global, state: &mut u64) {
+    let node = next(state, NODES);
+    let from = small_table(rt, alloc, state, node, 8);
+    let other = next(state, NODES);
+    let to = small_table(rt, alloc, state, other, 3);
+    expect_deltas(rt, alloc, &from, &to, Mode::ScuttleBreadth);
+    expect_deltas(rt, alloc, &from, &to, Mode::ScuttleDepth);
+    expect_deltas(rt, alloc, &from, &to, Mode::PreciseOldest);
+    expect_deltas(rt, alloc, &from, &to, Mode::PreciseNewest);
+}
+
+#[test]
+fn small_tables_against_a_count(rt: HostRuntime) {
+    let mut state = 1;
+    for _table in 0..200 {
+        expect_small(&rt, rt.alloc(), &mut state);
+    }
+}

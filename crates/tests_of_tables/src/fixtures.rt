@@ -1,0 +1,88 @@
+//! Items, steps of a table and comparisons that several tests share. Where memory is refused they stop.
+
+ghost use Rattle.std.specs.Prelude.{◌≡◌, ◌≢◌, All, IsTrue};
+ghost use Rattle.node_table.specs.View.{IsItemInPlace};
+
+use bench_types::{Entry, Fault, Item};
+use node_table::NodeTable;
+use std::process::Abort;
+
+// An entry and its owner, by owner, key, version, value and born.
+macro_rules! item {
+    ($owner:expr, $key:expr, $version:expr, $value:expr, $born:expr) => {
+        bench_types::Item {
+            owner: $owner,
+            entry: bench_types::Entry {
+                key: $key,
+                version: $version,
+                value: $value,
+                born: $born,
+            },
+        }
+    };
+}
+
+pub(crate) use item;
+
+/// Whether a node may take the items.
+pub(crate) fn may_take(node: u32, nodes: u32, keys: u32, items: &[Item]) -> bool
+    ensures others { IsTrue result → All (λ i. i.owner ≢ node) items.now }
+    ensures in_place { IsTrue result → All (IsItemInPlace nodes keys) items.now }
+{
+    for item in items {
+        let entry = item.entry;
+        if item.owner == node || item.owner >= nodes {
+            return false;
+        }
+        if entry.key >= keys || entry.version == 0 {
+            return false;
+        }
+    }
+    true
+}
+
+/// Makes room for the items and takes them.
+pub(crate) fn take(rt: &impl Abort, table: &mut NodeTable, items: &[Item]) {
+    table.reserve_for(items).expect(rt, "memory");
+    let (node, nodes, keys) = (table.node(), table.nodes(), table.keys());
+    assert!(rt; may_take(node, nodes, keys, items));
+    table.apply(items);
+}
+
+/// The node writes one of its keys, where memory allows.
+pub(crate) fn try_write(
+    rt: &impl Abort,
+    table: &mut NodeTable,
+    key: u32,
+    value: u32,
+    born: u32,
+) -> Result<u32, Fault> {
+    assert!(rt; key < table.keys());
+    assert!(rt; table.greatest(table.node()) < u32::MAX);
+    table.write_own(key, value, born)
+}
+
+/// The node writes an entry, whose version is the one that it is to get.
+pub(crate) fn write(rt: &impl Abort, table: &mut NodeTable, entry: Entry) {
+    let version = try_write(rt, table, entry.key, entry.value, entry.born);
+    expect_number(rt, "version", version.expect(rt, "memory"), entry.version);
+}
+
+/// The next of a row of numbers that look random.
+pub(crate) fn next(state: &mut u64, below: u32) -> u32 {
+    *state = state
+        .wrapping_mul(6364136223846793005)
+        .wrapping_add(1442695040888963407);
+    let high = *state >> 33;
+    (high % u64::from(below.max(1))) as u32
+}
+
+/// Compares a number.
+pub(crate) fn expect_number(rt: &impl Abort, name: &str, found: u32, wanted: u32) {
+    assert_eq!(rt; found, wanted, "{name}");
+}
+
+/// Compares a list of items.
+pub(crate) fn expect_items(rt: &impl Abort, name: &str, found: &[Item], wanted: &[Item]) {
+    assert_eq!(rt; found, wanted, "{name}");
+}

@@ -1,0 +1,16 @@
+//! Tests of the crates that work on nodes' tables, and nothing else: tables by hand, the deltas and
+//! exchanges between them, how far their copies lag, and the records of exchanges in list order.
+#![tactic(auto)]
+
+#[cfg(test)]
+mod deltas;
+#[cfg(test)]
+mod exchanges;
+#[cfg(test)]
+mod fixtures;
+#[cfg(test)]
+mod lags;
+#[cfg(test)]
+mod records;
+#[cfg(test)]
+mod tables;

@@ -1,0 +1,195 @@
+//! Tables by hand: what they hold is worked out from the rules, and for long lists by a plain model.
+
+use crate::fixtures::{expect_items, expect_number, item, next, take, try_write, write};
+use bench_types::{Entry, Item};
+use node_table::NodeTable;
+use std::alloc::Global;
+use std::process::Abort;
+
+const NODES: u32 = 4;
+
+const KEYS: u32 = 3;
+
+const PLACES: usize = 12;
+
+// Compares what is held of a key.
+fn expect_entry(rt: &impl Abort, table: &NodeTable, owner: u32, key: u32, wanted: Option<Entry>) {
+    assert_eq!(rt; table.get(owner, key), wanted, "at {owner} {key}");
+}
+
+// Compares all that is held.
+fn expect_held(rt: &impl Abort, table: &NodeTable, held: &[Item]) {
+    expect_items(rt, "items", table.items(), held);
+    for item in held {
+        expect_entry(rt, table, item.owner, item.entry.key, Some(item.entry));
+    }
+    assert!(rt; table.count() as usize == held.len());
+}
+
+const OWN: Item = item!(0, 0, 1, 0, 1);
+
+const OTHER: Item = item!(1, 0, 1, 0, 1);
+
+const SECOND: Item = item!(0, 0, 2, 7, 2);
+
+#[test]
+fn forgetting_others(rt: HostRuntime) {
+    let mut table = NodeTable::new(rt.alloc(), 0, 2, 1).unwrap();
+    write(&rt, &mut table, OWN.entry);
+    take(&rt, &mut table, &[OTHER]);
+    expect_held(&rt, &table, &[OWN, OTHER]);
+    let copy = table.try_clone().expect(&rt, "memory");
+    table.forget_others();
+    expect_held(&rt, &table, &[OWN]);
+    expect_number(&rt, "greatest", table.greatest(1), 0);
+    write(&rt, &mut table, SECOND.entry);
+    expect_held(&rt, &table, &[SECOND]);
+    expect_copy(&rt, &copy);
+}
+
+fn expect_copy(rt: &impl Abort, copy: &NodeTable) {
+    expect_held(rt, copy, &[OWN, OTHER]);
+    expect_number(rt, "node", copy.node(), 0);
+    expect_number(rt, "nodes", copy.nodes(), 2);
+    expect_number(rt, "keys", copy.keys(), 1);
+}
+
+const FIRST_TAKEN: [Item; 2] = [item!(3, 1, 4, 10, 1), item!(0, 2, 2, 20, 1)];
+
+const TAKEN: [Item; 9] = [
+    item!(3, 1, 4, 11, 1),
+    item!(1, 0, 5, 30, 1),
+    item!(0, 2, 1, 21, 1),
+    item!(1, 0, 7, 31, 1),
+    item!(3, 0, 1, 40, 1),
+    item!(1, 0, 7, 32, 1),
+    item!(0, 2, 3, 22, 1),
+    item!(1, 0, 6, 33, 1),
+    item!(0, 2, 3, 23, 1),
+];
+
+const LEFT: [Item; 5] = [
+    item!(0, 2, 3, 22, 1),
+    item!(1, 0, 7, 31, 1),
+    item!(2, 1, 1, 50, 1),
+    item!(3, 0, 1, 40, 1),
+    item!(3, 1, 4, 10, 1),
+];
+
+#[test]
+fn several_items_of_one_place(rt: HostRuntime) {
+    let mut table = NodeTable::new(rt.alloc(), 2, NODES, KEYS).unwrap();
+    write(&rt, &mut table, LEFT[2].entry);
+    take(&rt, &mut table, &FIRST_TAKEN);
+    take(&rt, &mut table, &TAKEN);
+    expect_held(&rt, &table, &LEFT);
+    expect_number(&rt, "greatest", table.greatest(3), 4);
+    expect_entry(&rt, &table, 1, 1, None);
+}
+
+// A clone, at the second try where memory is refused once.
+fn clone_of(rt: &impl Abort, table: &NodeTable) -> NodeTable {
+    match table.try_clone() {
+        Ok(copy) => copy,
+        Err(_) => table.try_clone().expect(rt, "memory"),
+    }
+}
+
+// Writes a key. A refusal leaves the table, and then the write goes through. The clone stays as it was.
+fn write_at_last(rt: &impl Abort, table: &mut NodeTable, entry: Entry) {
+    let before = clone_of(rt, table);
+    if try_write(rt, table, entry.key, entry.value, entry.born).is_err() {
+        expect_items(rt, "after a refusal", table.items(), before.items());
+        write(rt, table, entry);
+    }
+    expect_number(rt, "count before", before.count(), entry.key);
+}
+
+const ADDED: [Item; 3] = [
+    item!(3, 0, 9, 10, 1),
+    item!(0, 2, 4, 20, 1),
+    item!(2, 1, 7, 30, 1),
+];
+
+const WRITTEN: [Item; 3] = [
+    item!(1, 0, 1, 50, 1),
+    item!(1, 1, 2, 50, 1),
+    item!(1, 2, 3, 50, 1),
+];
+
+const WRITTEN_AND_ADDED: [Item; 6] = [
+    item!(0, 2, 4, 20, 1),
+    item!(1, 0, 1, 50, 1),
+    item!(1, 1, 2, 50, 1),
+    item!(1, 2, 3, 50, 1),
+    item!(2, 1, 7, 30, 1),
+    item!(3, 0, 9, 10, 1),
+];
+
+// Where memory is refused once, each call that asks for some leaves the table and then goes through.
+// To be run with each allocation refused in turn, by `rt try --test --fail-alloc N`.
+#[test]
+fn a_refusal_leaves_the_table(rt: HostRuntime) {
+    let mut table = NodeTable::new(rt.alloc(), 1, NODES, KEYS).unwrap();
+    for item in WRITTEN {
+        write_at_last(&rt, &mut table, item.entry);
+    }
+    let before = clone_of(&rt, &table);
+    if table.reserve_for(&ADDED).is_err() {
+        expect_items(&rt, "after a refusal", table.items(), before.items());
+    }
+    take(&rt, &mut table, &ADDED);
+    expect_items(&rt, "items", table.items(), &WRITTEN_AND_ADDED);
+}
+
+// What a place of the model keeps.
+fn keep(model: &mut [Option<Entry>], item: Item) {
+    let place = item.owner as usize * KEYS as usize + item.entry.key as usize;
+    if place < model.len() {
+        match model[place] {
+            Some(held) if held.version >= item.entry.version => {}
+            _ => model[place] = Some(item.entry),
+        }
+    }
+}
+
+// A list of up to 19 items of other owners than node 1.
+fn random_list(rt: &impl Abort, alloc: Global, state: &mut u64) -> Vec<Item> {
+    let mut list = Vec::new(alloc);
+    for value in 0..next(state, 20) {
+        let owner = [0, 2, 3][next(state, 3) as usize % 3];
+        let key = next(state, KEYS);
+        let version = next(state, 4).saturating_add(1);
+        let item = item!(owner, key, version, value, 1);
+        list.push(item).expect(rt, "memory");
+    }
+    list
+}
+
+// Compares each place with the model's, and how many are held.
+fn expect_model(rt: &impl Abort, table: &NodeTable, model: &[Option<Entry>; PLACES]) {
+    for owner in 0..NODES {
+        for key in 0..KEYS {
+            let place = owner as usize * KEYS as usize + key as usize;
+            expect_entry(rt, table, owner, key, model[place]);
+        }
+    }
+    assert!(rt; table.count() as usize == model.iter().flatten().count());
+}
+
+#[test]
+fn long_lists_against_a_plain_model(rt: HostRuntime) {
+    let mut state = 1;
+    for _round in 0..200 {
+        let mut table = NodeTable::new(rt.alloc(), 1, NODES, KEYS).unwrap();
+        let mut model: [Option<Entry>; PLACES] = [None; PLACES];
+        for _list in 0..3 {
+            let list = random_list(&rt, rt.alloc(), &mut state);
+            take(&rt, &mut table, &list);
+            for item in &list {
+                keep(&mut model, *item);
+            }
+        }
+        expect_model(&rt, &table, &model);
+    }
+}

@@ -9,7 +9,7 @@ use Rattle.bench_types.specs.declared.faults.Fault.TheVariants.{OutOfMemory}
 use Rattle.bench_types.specs.declared.sources.Source.{Ghosts as Source}
 use Rattle.scenario.specs.Checked.{document_of, text_checked}
 use Rattle.scenario.specs.Order.{first_fault, Says}
-use Rattle.scenario.specs.ReadFault.{IsReadFault}
+use Rattle.scenario.specs.CheckFault.{IsFaultOfCheck}
 use Rattle.scenario.specs.Settings.{Settings}
 use Rattle.bench.specs.Inputs.{Gave, GaveUpTo, IsReadWhole, IsRead, IsInputFault}
 
@@ -51,7 +51,7 @@ module _ {R : Type 0} (source : Source R) (old new : R) (text : List ℕ) (whole
   accepted (Ok s) checked says = record { text = text; whole = whole; checked = checked; says = says; first = tt }
   accepted (Err fault) checked says = tt
 
-  refused : (fault : Fault) → IsReadFault fault → fault ≢ OutOfMemory → (fault ≢ OutOfMemory → text_checked text ≡ Err fault)
+  refused : (fault : Fault) → IsFaultOfCheck fault → fault ≢ OutOfMemory → (fault ≢ OutOfMemory → text_checked text ≡ Err fault)
       → (fault ≢ OutOfMemory → first_fault (document_of text) ≡ Some fault) → IsInputFault source old new fault
   refused fault of_check other checked first = inr (record {
     of_check = of_check;
@@ -59,7 +59,7 @@ module _ {R : Type 0} (source : Source R) (old new : R) (text : List ℕ) (whole
     read = record { text = text; whole = whole; checked = checked other; says = tt; first = first other };
   })
 
-  pub fault_of_check : (answer : Result Settings Fault) → IfErr answer IsReadFault → IfErr answer (λ fault. fault ≢ OutOfMemory → text_checked text ≡ Err fault)
+  pub fault_of_check : (answer : Result Settings Fault) → IfErr answer IsFaultOfCheck → IfErr answer (λ fault. fault ≢ OutOfMemory → text_checked text ≡ Err fault)
       → IfErr answer (λ fault. fault ≢ OutOfMemory → first_fault (document_of text) ≡ Some fault) → IfErr answer (IsInputFault source old new)
   fault_of_check (Ok s) of_check checked first = tt
   fault_of_check (Err OutOfMemory) of_check checked first =

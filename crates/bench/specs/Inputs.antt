@@ -9,7 +9,7 @@ use Rattle.bench_types.specs.declared.limits.TheConstants.{MOST_BYTES}
 use Rattle.bench_types.specs.declared.sources.Source.{Ghosts as Source}
 use Rattle.scenario.specs.Checked.{document_of, text_checked}
 use Rattle.scenario.specs.Order.{first_fault, Says}
-use Rattle.scenario.specs.ReadFault.{IsReadFault}
+use Rattle.scenario.specs.CheckFault.{IsFaultOfCheck}
 use Rattle.scenario.specs.Settings.{Settings}
 
 -- the source gave n bytes
@@ -29,7 +29,7 @@ pub record IsReadWhole {R : Type 0} (source : Source R) (old new : R) (text : Li
   pub sound : source.failed new ≡ false
   pub was_sound : source.failed old ≡ false
 
--- reading stopped for want of memory
+-- reading stopped where memory ran out
 pub record IsReadInPart {R : Type 0} (source : Source R) (old new : R) : Type 0 where
   pub given : GaveUpTo source old new MOST_BYTES
   pub sound : source.failed new ≡ false
@@ -66,7 +66,7 @@ pub record IsRead {R : Type 0} (source : Source R) (old new : R) (answer : Resul
 
 -- a text was read whole, and this is the fault of its check
 pub record IsRefused {R : Type 0} (source : Source R) (old new : R) (fault : Fault) : Type 0 where
-  pub of_check : IsReadFault fault
+  pub of_check : IsFaultOfCheck fault
   pub not_memory : fault ≢ OutOfMemory
   pub read : IsRead source old new (Err fault)
 

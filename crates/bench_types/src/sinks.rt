@@ -116,12 +116,6 @@ impl Sink for Discard {
 
     fn push(&mut self, bytes: &[u8]) -> Result<usize, Failed>
         ensures all { result ≡ Ok (length bytes.now) }
-        ensures bound { IfOk result (λ n. n ≤ length bytes.now) }
-        ensures some { IfOk result (λ n. 0 < length bytes.now → 0 < n) }
-        ensures appends { IfOk result (λ n. Appends (⟦<Discard as Sink>⟧.taken self.old) (⟦<Discard as Sink>⟧.taken self.new) (take n bytes.now)) }
-        ensures fails { ⟦<Discard as Sink>⟧.failed self.new ≡ is_err result }
-        ensures kept { OnErr result (Keeps (⟦<Discard as Sink>⟧.taken self.old) (⟦<Discard as Sink>⟧.taken self.new)) }
-        ensures stays { ⟦<Discard as Sink>⟧.failed self.old ≡ true → (is_err result ≡ true) × (self.new ≡ self.old) }
     {
         Ok(bytes.len())
     }

@@ -1,13 +1,14 @@
 -- Laws of the begin of a round, for the crates above: own writes and restarts leave copies that hold nothing but their
--- owners' writes, and none with a gap.
-use Rattle.std.proofs.Common.{◌≡◌, ◌≢◌, ℕ, ◌+◌, ◌<◌, ◌≤◌, List, [], ◌∷◌, ◌++◌, length, Option, Some, None, ◌⊎◌, inl, inr, All, refl, sym, ap, ◌∙◌, subst, arith, append_assoc}
+-- owners' writes, and none with a gap. Only the owner writes its own state, and each write gets a version above all
+-- earlier ones; a restart may drop what the node holds of another owner.
+use Rattle.std.proofs.Common.{◌≡◌, ◌≢◌, ℕ, suc, ◌+◌, ◌<◌, ◌≤◌, List, [], ◌∷◌, ◌++◌, length, Option, Some, None, ◌⊎◌, inl, inr, All, refl, sym, ap, ◌∙◌, subst, arith, append_assoc}
 use Rattle.std.specs.Prelude.{Contains}
 use Rattle.std.proofs.lemmas.Bool.{cases_eq, cases_lt}
 use Rattle.std.proofs.lemmas.List.{append-nil, get_or_past}
 use Rattle.std.proofs.lemmas.List.Elements.{All-head, All-tail, Contains-append_left, Contains-push, Contains-push_cases}
 use Rattle.bench_types.specs.declared.entries.Entry.{Entry}
-use Rattle.bench_types.specs.Entry.{version_of}
-use Rattle.node_table.specs.Table.{Table, empty_table, entry_at, version_at, greatest_version, own_write, with_own_write, without_others, IsProper}
+use Rattle.bench_types.specs.Entry.{version_of, next_version, AreNextAfter}
+use Rattle.node_table.specs.Table.{Table, empty_table, entry_at, version_at, greatest_version, own_write, with_own_write, with_own_writes, without_others, IsProper}
 use Rattle.node_table.proofs.Greatest.{greatest_below-le}
 use Rattle.node_table.proofs.Laws.{entry_at-own_write, entry_at-own_write_other, entry_at-without_others_own, entry_at-without_others_other, entry_at-empty_table, proper-with_own_write, proper-without_others}
 use Rattle.node_table.proofs.Versions.{version_at-le-greatest_version, greatest_version-same, greatest_version-own_write, greatest_version-without_others_own}
@@ -15,8 +16,22 @@ use Rattle.cluster.specs.Tables.{table_of_node, AreTablesInOrder, AreProper}
 use Rattle.exchange.specs.Laws.{NoVersionFalls}
 use Rattle.exchange.specs.Copies.{WritesBy, IsCurrentOrOlder, IsLastOf}
 use Rattle.cluster.specs.Clusters.{own_parts, AreCopiesOf, HaveNoGap}
-use Rattle.cluster.specs.Begins.{IsBegun, entries_written, table_written}
 use Rattle.std.proofs.lemmas.Option.{same_Some}
+
+-- what a round's begin makes of a node's table and of its list of writes
+pub record IsBegun (before : List Entry) (old : Table) (after : List Entry) (new : Table) : Type 0 where
+  pub proper : IsProper new
+  pub node : new.node ≡ old.node
+  pub nodes : new.nodes ≡ old.nodes
+  pub keys : new.keys ≡ old.keys
+  -- no write is forgotten, and the new own part is the last write of each key
+  pub kept : (e : Entry) → Contains before e → Contains after e
+  pub last : IsLastOf after (λ key. entry_at new new.node key)
+  -- what is new there has a version above all before
+  pub written : (key : ℕ) (e : Entry) → entry_at new new.node key ≡ Some e → (entry_at old old.node key ≡ Some e) ⊎ (greatest_version old old.node < e.version)
+  pub rises : greatest_version old old.node ≤ greatest_version new new.node
+  -- what is held of another owner stays, or none of it
+  pub copies : (owner : ℕ) → owner ≢ old.node → ((key : ℕ) → entry_at new owner key ≡ entry_at old owner key) ⊎ ((key : ℕ) → entry_at new owner key ≡ None)
 
 -- no key's version is above the greatest of its owner
 version-le : (t : Table) → IsProper t → (owner key : ℕ) → version_at t owner key ≤ greatest_version t owner
@@ -133,19 +148,27 @@ begun_then a b c t u v first second = record {
   ];
 }
 
--- own writes one after another
-pub begun_writes : {X : Type 0} (key value : X → ℕ) (round : ℕ) (xs : List X) (writes : List Entry) (t : Table) (count : ℕ) → IsProper t → IsLastOf writes (λ j. entry_at t t.node j) → All (λ x. key x < t.keys) xs → greatest_version t t.node ≡ count → IsBegun writes t (writes ++ entries_written key value round count xs) (table_written key value round t xs)
-begun_writes key value round [] writes t count proper last below greatest = subst (λ ws. IsBegun writes t ws t) (sym (append-nil writes)) (begun_same writes t proper last)
-begun_writes {X} key value round (x ∷ xs) writes t count proper last below greatest =
-    let in_keys = All-head (λ (y : X). key y < t.keys) x xs below in
-    let first = begun_write writes t proper last (key x) (value x) round in_keys in
-    let u : Table = with_own_write t (key x) (value x) round in
-    let rest = begun_writes key value round xs (writes ++ own_write t (key x) (value x) round ∷ []) u (count + 1) first.proper first.last (All-tail (λ (y : X). key y < t.keys) x xs below)
-    (greatest_version-own_write t (key x) (value x) round in_keys ∙ ap (λ n. n + 1) greatest) in
-    subst (λ ws. IsBegun writes t ws (table_written key value round u xs))
-    (append_assoc writes (own_write t (key x) (value x) round ∷ []) (entries_written key value round (count + 1) xs)
-    ∙ ap (λ n. writes ++ record { key = key x; version = n + 1; value = value x; born = round } ∷ entries_written key value round (count + 1) xs) greatest)
-    (begun_then writes (writes ++ own_write t (key x) (value x) round ∷ []) ((writes ++ own_write t (key x) (value x) round ∷ []) ++ entries_written key value round (count + 1) xs) t u (table_written key value round u xs) first rest)
+-- own writes one after another, of entries that are the owner's next ones
+next_own_write : (t : Table) (count : ℕ) (e : Entry) → greatest_version t t.node ≡ count → e.version ≡ next_version count → own_write t e.key e.value e.born ≡ e
+next_own_write t count e greatest next =
+    λ i. record { key = e.key; version = (ap next_version greatest ∙ sym next) i; value = e.value; born = e.born }
+
+next_tail : (count : ℕ) (e : Entry) (es : List Entry) → AreNextAfter count (e ∷ es) → AreNextAfter (next_version count) es
+next_tail count e es next i d lt = next (suc i) d (omega arith) ∙ omega arith
+
+pub begun_writes : (es writes : List Entry) (t : Table) (count : ℕ) → IsProper t → IsLastOf writes (λ j. entry_at t t.node j) → greatest_version t t.node ≡ count → AreNextAfter count es → All (λ e. e.key < t.keys) es → IsBegun writes t (writes ++ es) (with_own_writes t es)
+begun_writes [] writes t count proper last greatest next below = subst (λ ws. IsBegun writes t ws t) (sym (append-nil writes)) (begun_same writes t proper last)
+begun_writes (e ∷ es) writes t count proper last greatest next below =
+    let in_keys = All-head (λ (x : Entry). x.key < t.keys) e es below in
+    let first = begun_write writes t proper last e.key e.value e.born in_keys in
+    let u : Table = with_own_write t e.key e.value e.born in
+    let written = writes ++ own_write t e.key e.value e.born ∷ [] in
+    let rest = begun_writes es written u (next_version count) first.proper first.last
+    (greatest_version-own_write t e.key e.value e.born in_keys ∙ ap next_version greatest) (next_tail count e es next) (All-tail (λ (x : Entry). x.key < t.keys) e es below) in
+    subst (λ ws. IsBegun writes t ws (with_own_writes u es))
+    (append_assoc writes (own_write t e.key e.value e.born ∷ []) es
+    ∙ ap (λ x. writes ++ x ∷ es) (next_own_write t count e greatest (next 0 e (omega arith) ∙ omega arith)))
+    (begun_then writes written (written ++ es) t u (with_own_writes u es) first rest)
 
 -- and no version goes down by them
 own_write_rises : (t : Table) (k v b : ℕ) → IsProper t → NoVersionFalls t (with_own_write t k v b)
@@ -157,12 +180,20 @@ own_write_rises t k v b proper owner key = elim (cases_eq owner t.node) [
   ])
 ]
 
-pub written_rises : {X : Type 0} (key value : X → ℕ) (round : ℕ) (xs : List X) (t : Table) → IsProper t → All (λ x. key x < t.keys) xs → NoVersionFalls t (table_written key value round t xs)
-written_rises key value round [] t proper below owner place = omega arith
-written_rises {X} key value round (x ∷ xs) t proper below owner place =
-    let u : Table = with_own_write t (key x) (value x) round in
-    let rest = written_rises key value round xs u (proper-with_own_write t (key x) (value x) round proper (All-head (λ (y : X). key y < t.keys) x xs below)) (All-tail (λ (y : X). key y < t.keys) x xs below) owner place in
-    omega (arith, rest, own_write_rises t (key x) (value x) round proper owner place)
+pub written_rises : (es : List Entry) (t : Table) → IsProper t → All (λ e. e.key < t.keys) es → NoVersionFalls t (with_own_writes t es)
+written_rises [] t proper below owner place = omega arith
+written_rises (e ∷ es) t proper below owner place =
+    let u : Table = with_own_write t e.key e.value e.born in
+    let rest = written_rises es u (proper-with_own_write t e.key e.value e.born proper (All-head (λ (x : Entry). x.key < t.keys) e es below)) (All-tail (λ (x : Entry). x.key < t.keys) e es below) owner place in
+    omega (arith, rest, own_write_rises t e.key e.value e.born proper owner place)
+
+-- and each counts one on
+pub counted_writes : (es : List Entry) (t : Table) → All (λ e. e.key < t.keys) es → greatest_version (with_own_writes t es) t.node ≡ greatest_version t t.node + length es
+counted_writes [] t below = omega arith
+counted_writes (e ∷ es) t below =
+    counted_writes es (with_own_write t e.key e.value e.born) (All-tail (λ (x : Entry). x.key < t.keys) e es below)
+    ∙ ap (λ n. n + length es) (greatest_version-own_write t e.key e.value e.born (All-head (λ (x : Entry). x.key < t.keys) e es below))
+    ∙ omega arith
 
 -- no copy is ahead of its owner
 module _ (writes : WritesBy) (nodes keys : ℕ) (ts : List Table) (copies : AreCopiesOf writes nodes keys ts) where

@@ -19,7 +19,7 @@ use Rattle.cluster.specs.Clusters.{own_parts, AreCopiesOf, HaveNoGap, NoVersions
 use Rattle.exchange.specs.Owns.{KeepsOwn}
 use Rattle.exchange.proofs.OwnParts.{keeps_own_same, keeps_own_then, initiator_keeps_own, responder_keeps_own}
 use Rattle.cluster.proofs.Tables.{still_in_order}
-use Rattle.exchange.proofs.Laws.{initiator_rises, responder_rises, initiator_proper, responder_proper, initiator_writes, responder_writes, initiator_no_gap, responder_no_gap}
+use Rattle.exchange.proofs.ExchangeLaws.{initiator_rises, responder_rises, initiator_proper, responder_proper, initiator_writes, responder_writes, initiator_no_gap, responder_no_gap}
 
 -- what holds of two tables that are written back and of the others holds of each
 set_both-each : (P : ℕ → Table → Type 0) (ts : List Table) (p q : ℕ) (x y : Table) → p < length ts → q < length ts → p ≢ q → P p x → P q y → ((n : ℕ) → P n (table_of_node ts n)) → (n : ℕ) → P n (table_of_node (set (set ts p x) q y) n)
@@ -183,11 +183,8 @@ module _ (rules : Rules) (nodes keys : ℕ) where
       pub fold_keeps_own : KeepOwnParts ts (fold_of rules ts es).tables
       fold_keeps_own = on_tables (KeepOwnParts ts) (λ s e is still so_far n. keeps_own_then (table_of_node ts n) (table_of_node s.tables n) (table_of_node (exchange_in rules s e).tables n) (so_far n) (step_keeps_own rules nodes keys s e is still n)) es ts planned tables (λ n. keeps_own_same (table_of_node ts n))
 
-      pub fold-own_parts : own_parts (fold_of rules ts es).tables ≡ own_parts ts
-      fold-own_parts = on_tables (λ us. own_parts us ≡ own_parts ts) (λ s e is still so_far. step-own_parts rules nodes keys s e is still ∙ so_far) es ts planned tables refl
-
-      pub fold_rises : NoVersionsFall ts (fold_of rules ts es).tables
-      fold_rises = on_tables (NoVersionsFall ts) (λ s e is still so_far n owner key. omega (arith, so_far n owner key, step_rises rules nodes keys s e is still n owner key)) es ts planned tables (λ n owner key. omega arith)
+      pub fold_proper : AreProper ts → AreProper (fold_of rules ts es).tables
+      fold_proper proper = on_tables AreProper (step_proper rules nodes keys) es ts planned tables proper
 
     module _ (writes : WritesBy) (copies : AreCopiesOf writes nodes keys ts) where
       pub fold_copies : AreCopiesOf writes nodes keys (fold_of rules ts es).tables
@@ -206,12 +203,13 @@ module _ (rules : Rules) (nodes keys : ℕ) (es : List Exchange) (ts : List Tabl
     pub before_tables : (i : ℕ) → AreTablesInOrder nodes keys (tables_before rules ts es i)
     before_tables i = fold_tables rules nodes keys (take i es) ts (ahead i) tables
 
+    -- and proper
+    pub before_proper : AreProper ts → (i : ℕ) → AreProper (tables_before rules ts es i)
+    before_proper proper i = fold_proper rules nodes keys (take i es) ts (ahead i) tables proper
+
     -- no node's own part has changed
     pub before_keeps_own : (i : ℕ) → KeepOwnParts ts (tables_before rules ts es i)
     before_keeps_own i = fold_keeps_own rules nodes keys (take i es) ts (ahead i) tables
-
-    pub before-own_parts : (i : ℕ) → own_parts (tables_before rules ts es i) ≡ own_parts ts
-    before-own_parts i = fold-own_parts rules nodes keys (take i es) ts (ahead i) tables
 
     -- no version has gone down since an earlier one
     pub before_rises : (i j : ℕ) → i ≤ j → NoVersionsFall (tables_before rules ts es i) (tables_before rules ts es j)

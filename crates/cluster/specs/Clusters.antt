@@ -1,8 +1,12 @@
 -- What holds of the tables of all nodes between the exchanges of a list. Source: this project; that copies hold their
 -- owners' writes, and in the scuttle modes without a gap, is what the LADIS 2008 paper rests on.
-use Rattle.std.specs.Prelude.{ℕ, ◌<◌, ◌≤◌, List, length}
+use Rattle.std.specs.Prelude.{ℕ, ◌<◌, ◌≤◌, List, length, All}
+use Rattle.bench_types.specs.declared.exchanges.Exchange.{Exchange}
+use Rattle.bench_types.specs.declared.exchanges.Rules.{Rules}
+use Rattle.bench_types.specs.Exchange.{IsPlanned}
 use Rattle.node_table.specs.Table.{Table, entry_at, greatest_version}
 use Rattle.cluster.specs.Tables.{table_of_node, AreTablesInOrder, AreProper}
+use Rattle.cluster.specs.Folds.{tables_before}
 use Rattle.exchange.specs.Laws.{NoVersionFalls}
 use Rattle.exchange.specs.Copies.{OwnParts, WritesBy, AreLastOf, HoldsWrites, HasNoGap}
 use Rattle.exchange.specs.Owns.{KeepsOwn}
@@ -21,6 +25,13 @@ pub record AreCopiesOf (writes : WritesBy) (nodes keys : ℕ) (ts : List Table) 
 -- no copy has a gap
 abbrev pub HaveNoGap : List Table → Type 0
 HaveNoGap ts = (n : ℕ) → n < length ts → HasNoGap (own_parts ts) (table_of_node ts n)
+
+-- tables that are proper and those of all nodes in order are so before each exchange of a list, and after the last
+abbrev pub ListsKeepTablesProper : Type 0
+ListsKeepTablesProper =
+    (rules : Rules) (nodes keys : ℕ) (ts : List Table) (es : List Exchange) → All (IsPlanned nodes) es
+    → AreTablesInOrder nodes keys ts → AreProper ts → (i : ℕ)
+    → AreTablesInOrder nodes keys (tables_before rules ts es i) × AreProper (tables_before rules ts es i)
 
 -- no version in any table goes down
 abbrev pub NoVersionsFall : List Table → List Table → Type 0

@@ -1,7 +1,6 @@
 pub mod Tables
 pub mod Folds
 pub mod Clusters
-pub mod Begins
 pub use Rattle.exchange.specs.Exchanged
 pub use Rattle.exchange.specs.Copies
 pub use Rattle.exchange.specs.Owns

@@ -41,7 +41,7 @@ impl Collector {
     ghost use Rattle.collector.specs.Outcomes.{no_outcomes, IsMissing, HasOutcome, with_outcome};
 
     /// A collector for a list of n exchanges, which has no record. It takes all memory that `put`
-    /// and `finish` need. An error is want of memory.
+    /// and `finish` need. The only error is that memory ran out.
     pub fn new(alloc: Global, n: u32) -> Result<Collector, Fault>
         ensures empty { IfOk result (λ c. c ≡ no_outcomes n) }
         ensures only { IsOkUnless result OutOfMemory }

@@ -1,5 +1,5 @@
 -- Laws of the definitions, for the crates above.
-pub mod Laws
+pub mod ExchangeLaws
 pub mod OwnParts
 -- What they and the proofs of this crate's functions rest on.
 pub mod Cases

@@ -8,15 +8,16 @@ use Rattle.node_table.specs.Table.{Table, applied, items_of, entry_at, greatest_
 use Rattle.node_table.proofs.Laws.{entry_at-applied_other}
 use Rattle.node_table.proofs.Versions.{greatest_version-applied_other}
 use Rattle.reconcile.specs.Candidates.{candidates, known_version}
+use Rattle.reconcile.specs.Deltas.{delta_between}
 use Rattle.reconcile.specs.Order.{sending_order}
 use Rattle.reconcile.proofs.Told.{All-sent, All-items_above}
-use Rattle.exchange.specs.Exchanged.{exchanged, delta_between, fate_of}
+use Rattle.exchange.specs.Exchanged.{exchanged, fate_of}
 use Rattle.exchange.specs.Owns.{KeepsOwn}
 use Rattle.exchange.proofs.Cases.{initiator_after-either, responder_after-either}
 use Rattle.std.proofs.lemmas.List.Elements.{All-weaker}
 
 -- nothing that is sent is the receiver's own
-pub delta-others : (rules : Rules) (s : ℕ) (from to : Table) → All (λ (i : Item). i.owner ≢ to.node) (delta_between rules s from to).items
+pub delta-others : (rules : Rules) (s : ℕ) (from to : Table) → All (λ (i : Item). i.owner ≢ to.node) (delta_between rules.mode s rules.budget from to).items
 delta-others rules s from to =
     All-sent (λ (i : Item). i.owner ≢ to.node) (sending_order rules.mode from.nodes s (candidates rules.mode from to)) (candidates rules.mode from to) rules.budget
     (All-weaker (λ (i : Item). (i.owner ≢ to.node) × Unit {0}) (λ (i : Item). i.owner ≢ to.node) (λ i h. h.0) (candidates rules.mode from to)
@@ -45,7 +46,7 @@ keeps_own_applied t added others = record {
 
 module _ (rules : Rules) (e : Exchange) (p q : Table) where
   pub initiator_keeps_own : KeepsOwn p (exchanged rules e p q).initiator
-  initiator_keeps_own = initiator_after-either (KeepsOwn p) (fate_of e) p (delta_between rules e.rotation q p) (keeps_own_same p) (keeps_own_applied p (delta_between rules e.rotation q p).items (delta-others rules e.rotation q p))
+  initiator_keeps_own = initiator_after-either (KeepsOwn p) (fate_of e) p (delta_between rules.mode e.rotation rules.budget q p) (keeps_own_same p) (keeps_own_applied p (delta_between rules.mode e.rotation rules.budget q p).items (delta-others rules e.rotation q p))
 
   pub responder_keeps_own : KeepsOwn q (exchanged rules e p q).responder
-  responder_keeps_own = responder_after-either (KeepsOwn q) (fate_of e) q (delta_between rules e.rotation p q) (keeps_own_same q) (keeps_own_applied q (delta_between rules e.rotation p q).items (delta-others rules e.rotation p q))
+  responder_keeps_own = responder_after-either (KeepsOwn q) (fate_of e) q (delta_between rules.mode e.rotation rules.budget p q) (keeps_own_same q) (keeps_own_applied q (delta_between rules.mode e.rotation rules.budget p q).items (delta-others rules e.rotation p q))

@@ -1,8 +1,8 @@
 -- What one delta makes of the table that receives it.
-use Rattle.std.proofs.Common.{◌≡◌, ◌≢◌, ℕ, zero, suc, ◌<◌, ◌≤◌, max, Bool, true, false, cond, not, ◌&&◌, eqb, leb, ltb, ◌==◌, List, [], ◌∷◌, Some, None, All, ◌⊎◌, inl, inr, if◌then◌else◌, refl, sym, ap, ◌∙◌, subst, arith}
-use Rattle.std.specs.Prelude.{filter, count_by, Contains}
-use Rattle.std.proofs.lemmas.Bool.{cases_lt, cases_eq, eq-eqb, ne_eqb, lt-ltb, leb-false, and_from}
-use Rattle.std.proofs.lemmas.List.Elements.{All-filter, All-contains, All-contains_itself, All-weaker, filter_passes}
+use Rattle.std.proofs.Common.{◌≡◌, ◌≢◌, ℕ, zero, suc, ◌<◌, ◌≤◌, max, true, false, not, ◌&&◌, eqb, ltb, ◌==◌, List, [], ◌∷◌, Some, None, All, ◌⊎◌, inl, inr, if◌then◌else◌, refl, sym, ap, ◌∙◌, subst, arith}
+use Rattle.std.specs.Prelude.{Contains}
+use Rattle.std.proofs.lemmas.Bool.{cases_lt, cases_eq, eq-eqb, ne_eqb, lt-ltb, and_from}
+use Rattle.std.proofs.lemmas.List.Elements.{All-contains, All-weaker}
 use Rattle.bench_types.specs.declared.entries.Entry.{Entry}
 use Rattle.bench_types.specs.declared.entries.Item.{Item}
 use Rattle.bench_types.specs.declared.exchanges.Mode.{Mode}
@@ -17,31 +17,13 @@ use Rattle.node_table.proofs.Items.{entry_at-items_of, Contains-items_of}
 use Rattle.node_table.proofs.Laws.{entry_at-applied_from, proper-applied}
 use Rattle.node_table.proofs.Versions.{version_at-applied, version_at-le-applied, version_at-le-greatest_version, greatest_version-applied, greatest_among-own, greatest_among-other}
 use Rattle.reconcile.specs.Candidates.{IsScuttleMode, known_version, candidates}
+use Rattle.reconcile.specs.Deltas.{delta_between}
 use Rattle.reconcile.specs.Order.{sending_order}
-use Rattle.reconcile.specs.Picks.{before_count}
-use Rattle.reconcile.proofs.Counts.{count_by-cons_true, count_by-cons_false}
-use Rattle.reconcile.proofs.Laws.{sending_order-total, sending_order-strict, sent-candidate, sent-no_gap}
-use Rattle.reconcile.proofs.Places.{sent-Contains}
+use Rattle.reconcile.proofs.DeltaLaws.{sent-candidate, sent-no_gap, sent-uncut}
+use Rattle.reconcile.proofs.Members.{Contains-filter, Contains-kept}
 use Rattle.reconcile.proofs.Told.{All-sent, candidates-in_place}
-use Rattle.exchange.specs.Exchanged.{delta_between}
 use Rattle.exchange.specs.Laws.{NoVersionFalls, StoodInEither, IsPreciseMode}
 use Rattle.exchange.specs.Copies.{OwnParts, WritesBy, IsCurrentOrOlder, IsLastOf, AreLastOf, HoldsWrites, HasNoGap}
-
--- what passes a filter was in the list and passed
-filter-Contains : (q : Item → Bool) (xs : List Item) (x : Item) → Contains (filter q xs) x → Contains xs x × (q x ≡ true)
-filter-Contains q xs x stands =
-    (All-contains (Contains xs) (filter q xs) x (All-filter q (Contains xs) xs (All-contains_itself xs)) stands, All-contains (λ (y : Item). q y ≡ true) (filter q xs) x (filter_passes q xs) stands)
-
-Contains-filter : (q : Item → Bool) (xs : List Item) (x : Item) → Contains xs x → q x ≡ true → Contains (filter q xs) x
-Contains-filter q [] x (k, lt, is) passes = absurd (omega arith)
-Contains-filter q (y ∷ xs) x (zero, lt, is) passes =
-    subst (λ b. Contains (cond b (y ∷ filter q xs) (filter q xs)) x) (sym passes ∙ ap q (sym is)) (0, omega arith, is)
-Contains-filter q (y ∷ xs) x (suc k, lt, is) passes =
-    let rest = Contains-filter q xs x (k, omega arith, is) passes in
-    elim (q y) as (λ b. Contains (cond b (y ∷ filter q xs) (filter q xs)) x) [
-      | true ↦ (suc rest.0, omega (arith, rest.1), rest.2)
-      | false ↦ rest
-    ]
 
 -- an item's version is not above the greatest at its place
 greatest_at-ge : (added : List Item) (i : Item) → Contains added i → i.entry.version ≤ greatest_at i.owner i.entry.key added
@@ -85,26 +67,6 @@ candidate mode from to owner key e held other newer =
     Contains-filter (λ (x : Item). not (eqb x.owner to.node) && ltb (known_version (told_by mode) to x) x.entry.version) (items_of from) i (Contains-items_of from owner key e held)
     ((λ n. not (ne_eqb owner to.node other n) && ltb (known_version (told_by mode) to i) e.version) ∙ lt-ltb (known_version (told_by mode) to i) e.version newer)
 
--- where none is counted each fails
-count_by-none : (q : Item → Bool) (xs : List Item) → count_by q xs ≡ 0 → (x : Item) → Contains xs x → q x ≡ false
-count_by-none q [] none x (k, lt, is) = absurd (omega arith)
-count_by-none q (y ∷ xs) none x (zero, lt, is) = elim (q y) as (λ b. q y ≡ b → q x ≡ false) [
-  | true ↦ λ e. absurd (omega (arith, none, count_by-cons_true q y xs e))
-  | false ↦ λ e. ap q (sym is) ∙ e
-] refl
-count_by-none q (y ∷ xs) none x (suc k, lt, is) = elim (q y) as (λ b. q y ≡ b → q x ≡ false) [
-  | true ↦ λ e. absurd (omega (arith, none, count_by-cons_true q y xs e))
-  | false ↦ λ e. count_by-none q xs (sym (count_by-cons_false q y xs e) ∙ none) x (k, omega arith, is)
-] refl
-
--- where nothing is cut each candidate is sent
-sent-uncut : (rules : Rules) (rotation : ℕ) (from to : Table) → IsProper from → rotation < from.nodes → (delta_between rules rotation from to).cut ≡ 0 → (c : Item) → Contains (candidates rules.mode from to) c → Contains (delta_between rules rotation from to).items c
-sent-uncut rules rotation from to proper in_nodes none c stands =
-    let cs = candidates rules.mode from to in
-    let order = sending_order rules.mode from.nodes rotation cs in
-    sent-Contains order (sending_order-total rules.mode from.nodes rotation cs) cs (sending_order-strict rules.mode from to rotation proper in_nodes) rules.budget c stands
-    (leb-false rules.budget (before_count order cs c) (count_by-none (λ d. leb rules.budget (before_count order cs d)) cs none c stands))
-
 -- what an owner holds at a key is what a copy does whose version there is no smaller
 current-held : (writes : WritesBy) (own : OwnParts) (t : Table) (owner key : ℕ) (e : Entry) → HoldsWrites writes t → IsLastOf (writes owner) (own owner) → own owner key ≡ Some e → 1 ≤ e.version → e.version ≤ version_at t owner key → entry_at t owner key ≡ Some e
 current-held writes own t owner key e holds last current written le = elim (entry_at t owner key) as (λ o. entry_at t owner key ≡ o → e.version ≤ version_of o → o ≡ Some e) [
@@ -120,7 +82,7 @@ current-held writes own t owner key e holds last current written le = elim (entr
 module _ (rules : Rules) (rotation : ℕ) (from to : Table) (proper : IsProper from) where
   -- the items that are sent
   abbrev items : List Item
-  items = (delta_between rules rotation from to).items
+  items = (delta_between rules.mode rotation rules.budget from to).items
 
   -- the receiver's table after them
   abbrev pub received : Table
@@ -129,7 +91,7 @@ module _ (rules : Rules) (rotation : ℕ) (from to : Table) (proper : IsProper f
   -- each is held by the sender
   sent-held : (d : Item) → Contains items d → entry_at from d.owner d.entry.key ≡ Some d.entry
   sent-held d there =
-      entry_at-items_of from d proper (filter-Contains (λ (x : Item). not (eqb x.owner to.node) && ltb (known_version (told_by rules.mode) to x) x.entry.version) (items_of from) d (sent-candidate rules.mode from to rotation rules.budget d there)).0
+      entry_at-items_of from d proper (Contains-kept (λ (x : Item). not (eqb x.owner to.node) && ltb (known_version (told_by rules.mode) to x) x.entry.version) (items_of from) d (sent-candidate rules.mode from to rotation rules.budget d there)).0
 
   sent-in_place : All (λ (i : Item). (i.owner ≢ to.node) × IsItemInPlace from.nodes from.keys i) items
   sent-in_place =
@@ -169,7 +131,7 @@ module _ (rules : Rules) (rotation : ℕ) (from to : Table) (proper : IsProper f
     received-proper is = proper-applied to items is all_in_place
 
     -- in a precise mode, with nothing cut, each key has the greater of the two versions
-    pub received-greater : IsPreciseMode rules.mode → rotation < from.nodes → (delta_between rules rotation from to).cut ≡ 0 → (owner key : ℕ) → owner ≢ to.node → version_at received owner key ≡ max (version_at to owner key) (version_at from owner key)
+    pub received-greater : IsPreciseMode rules.mode → rotation < from.nodes → (delta_between rules.mode rotation rules.budget from to).cut ≡ 0 → (owner key : ℕ) → owner ≢ to.node → version_at received owner key ≡ max (version_at to owner key) (version_at from owner key)
     received-greater precise in_nodes none owner key other =
         omega (arith, received-rises owner key, at_most, at_least)
       where
@@ -187,7 +149,7 @@ module _ (rules : Rules) (rotation : ℕ) (from to : Table) (proper : IsProper f
             let i : Item = record { owner = owner; entry = e } in
             let keyed = (proper.in_place owner key e held).keyed in
             let unknown : known_version (told_by rules.mode) to i < e.version = omega (arith, newer, ap (λ kind. known_version kind to i) precise, ap (version_at to owner) keyed) in
-            sent-le owner key e keyed (sent-uncut rules rotation from to proper in_nodes none i (candidate rules.mode from to owner key e held other unknown))
+            sent-le owner key e keyed (sent-uncut rules.mode from to rotation rules.budget proper in_nodes none i (candidate rules.mode from to owner key e held other unknown))
 
         at_least : version_at from owner key ≤ version_at received owner key
         at_least = elim (entry_at from owner key) as (λ o. entry_at from owner key ≡ o → version_of o ≤ version_at received owner key) [

@@ -39,7 +39,8 @@ HoldsWrites writes t = (owner : ℕ) → HoldsOf owner (writes owner) t
 
 -- where m is the greatest version that the table holds of an owner, it has each entry of the owner's own part up to m
 abbrev pub HasNoGapOf : ℕ → (ℕ → Option Entry) → Table → Type 0
-HasNoGapOf owner own t = (key : ℕ) (e : Entry) → own key ≡ Some e → e.version ≤ greatest_version t owner → entry_at t owner key ≡ Some e
+HasNoGapOf owner own t =
+    (key : ℕ) (e : Entry) → own key ≡ Some e → e.version ≤ greatest_version t owner → entry_at t owner key ≡ Some e
 
 -- and so for each owner
 abbrev pub HasNoGap : OwnParts → Table → Type 0

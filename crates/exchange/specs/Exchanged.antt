@@ -3,8 +3,7 @@
 -- exchange. Where the first message is lost nothing further is sent; where the second is, neither side changes
 -- and the third isn't sent; where the third is, only p changes. The fate is that of the first lost message.
 -- The record counts what was sent. Source: the LADIS 2008 paper; losses and records are this project's.
-use Rattle.std.specs.Prelude.{◌≡◌, ◌≢◌, ℕ, List, All, length, if◌then◌else◌}
-use Rattle.bench_types.specs.declared.entries.Item.{Item}
+use Rattle.std.specs.Prelude.{◌≡◌, ℕ, Bool, length, if◌then◌else◌}
 use Rattle.bench_types.specs.declared.exchanges.Exchange.{Exchange}
 use Rattle.bench_types.specs.declared.exchanges.Fate.{Fate}
 use Rattle.bench_types.specs.declared.exchanges.Fate.TheVariants as fate
@@ -12,10 +11,9 @@ use Rattle.bench_types.specs.declared.exchanges.Record.{Record}
 use Rattle.bench_types.specs.declared.exchanges.Rules.{Rules}
 use Rattle.bench_types.specs.Mode.{told_by}
 use Rattle.node_table.specs.Table.{Table, applied}
-use Rattle.node_table.specs.View.{IsItemInPlace}
-use Rattle.reconcile.specs.Candidates.{candidates}
-use Rattle.reconcile.specs.Digests.{DigestView, IsDigestOf, digest_size}
-use Rattle.reconcile.specs.Deltas.{DeltaView, delta_of}
+use Rattle.node_table.specs.NodeTableView.{NodeTableView}
+use Rattle.reconcile.specs.Digests.{DigestView, digest_size}
+use Rattle.reconcile.specs.Deltas.{DeltaView, delta_between, IsDeltaToReceiver}
 
 -- both tables after an exchange, and its record
 pub record Exchanged : Type 0 where
@@ -23,21 +21,16 @@ pub record Exchanged : Type 0 where
   pub responder : Table
   pub sent : Record
 
+-- where the third message was sent
+abbrev pub last_fate : Bool → Fate
+last_fate lost = if lost then fate.Lost3 else fate.Ok
+
 abbrev pub fate_of : Exchange → Fate
-fate_of e = if e.lost1 then fate.Lost1 else (if e.lost2 then fate.Lost2 else (if e.lost3 then fate.Lost3 else fate.Ok))
+fate_of e = if e.lost1 then fate.Lost1 else (if e.lost2 then fate.Lost2 else last_fate e.lost3)
 
--- the delta from one table to another
-abbrev pub delta_between : Rules → ℕ → Table → Table → DeltaView
-delta_between rules rotation from to = delta_of rules.mode from.nodes rotation rules.budget (candidates rules.mode from to)
-
--- the delta to any table of that node with that digest
-abbrev pub IsAnswer : Rules → ℕ → Table → ℕ → DigestView → DeltaView → Type 0
-IsAnswer rules rotation from receiver told delta =
-    (to : Table) → IsDigestOf (told_by rules.mode) to told → to.node ≡ receiver → delta ≡ delta_between rules rotation from to
-
--- items that a node may take: none is its own, and each is in its place among so many nodes with so many keys
-abbrev pub MayTake : ℕ → ℕ → ℕ → List Item → Type 0
-MayTake node nodes keys items = All (λ (i : Item). (i.owner ≢ node) × IsItemInPlace nodes keys i) items
+-- the delta that answers a receiver's digest in an exchange
+abbrev pub IsAnswer : Rules → Exchange → Table → ℕ → DigestView → DeltaView → Type 0
+IsAnswer rules e from receiver told = IsDeltaToReceiver rules.mode e.rotation rules.budget from receiver told
 
 -- what was sent up to the first lost message
 abbrev pub sent_until : Fate → ℕ → ℕ → DeltaView → DeltaView → Record
@@ -45,6 +38,10 @@ sent_until fate.Lost1 d1 d2 b f = record { digest1 = d1; digest2 = 0; back = 0; 
 sent_until fate.Lost2 d1 d2 b f = record { digest1 = d1; digest2 = d2; back = length b.items; forth = 0; back_cut = b.cut; forth_cut = 0; fate = fate.Lost2 }
 sent_until fate.Lost3 d1 d2 b f = record { digest1 = d1; digest2 = d2; back = length b.items; forth = length f.items; back_cut = b.cut; forth_cut = f.cut; fate = fate.Lost3 }
 sent_until fate.Ok d1 d2 b f = record { digest1 = d1; digest2 = d2; back = length b.items; forth = length f.items; back_cut = b.cut; forth_cut = f.cut; fate = fate.Ok }
+
+-- the table of a delta's receiver after the message that has it
+abbrev pub after_message : Bool → Table → DeltaView → Table
+after_message lost t delta = if lost then t else applied t delta.items
 
 -- the initiator changes where the second message came
 abbrev pub initiator_after : Fate → Table → DeltaView → Table
@@ -62,11 +59,20 @@ responder_after fate.Ok q forth = applied q forth.items
 
 abbrev pub exchanged : Rules → Exchange → Table → Table → Exchanged
 exchanged rules e p q =
-    let back = delta_between rules e.rotation q p in
-    let forth = delta_between rules e.rotation p q in
+    let back = delta_between rules.mode e.rotation rules.budget q p in
+    let forth = delta_between rules.mode e.rotation rules.budget p q in
     let telling = told_by rules.mode in
     record {
       initiator = initiator_after (fate_of e) p back;
       responder = responder_after (fate_of e) q forth;
       sent = sent_until (fate_of e) (digest_size telling p) (digest_size telling q) back forth;
     }
+
+-- the tables p and q in memory became p' and q' by the exchange, which has this record
+abbrev pub IsExchanged : Rules → Exchange → NodeTableView → NodeTableView → NodeTableView → NodeTableView → Record → Type 0
+IsExchanged rules e p q p' q' r =
+    exchanged rules e p.table q.table ≡ record { initiator = p'.table; responder = q'.table; sent = r }
+
+-- they became p' and q', and neither table changed
+abbrev pub BothTablesStay : NodeTableView → NodeTableView → NodeTableView → NodeTableView → Type 0
+BothTablesStay p q p' q' = (p'.table ≡ p.table) × (q'.table ≡ q.table)

@@ -1,12 +1,14 @@
 //! The exchange of an initiator and a responder.
 
-ghost use Rattle.std.specs.Prelude.{◌≡◌, ℕ, ◌^◌, ◌<◌, ◌≤◌, IfOk, OnErr, IsOkUnless, length};
+ghost use Rattle.std.specs.Prelude.{◌≡◌, ℕ, ◌^◌, ◌<◌, ◌≤◌, All, IfOk, OnOk, OnErr, IsOkUnless, false, length};
 ghost use Rattle.bench_types.specs.declared.faults.Fault.TheVariants.{OutOfMemory};
 ghost use Rattle.bench_types.specs.declared.exchanges.Fate.TheVariants as fate;
 ghost use Rattle.bench_types.specs.Mode.{told_by};
-ghost use Rattle.reconcile.specs.Digests.{IsOfKind};
-ghost use Rattle.reconcile.specs.Deltas.{DeltaView};
-ghost use Rattle.exchange.specs.Exchanged.{exchanged, sent_until, IsAnswer, MayTake};
+ghost use Rattle.node_table.specs.NodeTableView.{MayReceive};
+ghost use Rattle.node_table.specs.Table.{applied};
+ghost use Rattle.reconcile.specs.Digests.{IsDigestOf, IsOfKind};
+ghost use Rattle.reconcile.specs.Deltas.{DeltaView, MayTake};
+ghost use Rattle.exchange.specs.Exchanged.{IsAnswer, IsExchanged, BothTablesStay, after_message, last_fate, sent_until};
 
 use bench_types::{Exchange, Fate, Fault, Record, Rules};
 use node_table::NodeTable;
@@ -15,13 +17,14 @@ use std::alloc::Global;
 
 /// Carries out one exchange. The first table is the initiator's.
 ///
-/// An error is want of memory. All of it is taken before either table changes, so both are then as
+/// An error is lack of memory. All of it is taken before either table changes, so both are then as
 /// they were. It is taken for both digests, for the candidates both ways and for the room of what
 /// is sent; only that room stays taken.
 ///
-/// Where no message is lost, each table is gone through once for its digest and once, beside the
-/// other's digest, for its candidates. To this come the sorts of `delta` and both calls of `apply`.
-/// What a lost message leaves unsent isn't worked out.
+/// Where no message is lost, a scuttle mode copies a number for each owner and compares it with the
+/// other side's, on both sides, and of the entries it looks at those that one side lacks. A precise
+/// mode looks at each entry of both tables twice, and sorts what is sent. To this come both calls of
+/// `apply`. What a lost message leaves unsent isn't worked out.
 pub fn exchange(
     alloc: Global,
     initiator: &mut NodeTable,
@@ -35,8 +38,8 @@ pub fn exchange(
     requires nodes { initiator.old.table.nodes ≡ responder.old.table.nodes }
     requires keys { initiator.old.table.keys ≡ responder.old.table.keys }
     requires rotation { plan.now.rotation < initiator.old.table.nodes }
-    ensures tables { IfOk result (λ r. exchanged rules.now plan.now initiator.old.table responder.old.table ≡ record { initiator = initiator.new.table; responder = responder.new.table; sent = r }) }
-    ensures err { OnErr result ((initiator.new.table ≡ initiator.old.table) × (responder.new.table ≡ responder.old.table)) }
+    ensures ok { IfOk result (IsExchanged rules.now plan.now initiator.old responder.old initiator.new responder.new) }
+    ensures err { OnErr result (BothTablesStay initiator.old responder.old initiator.new responder.new) }
     ensures only { IsOkUnless result OutOfMemory }
 {
     let digest1 = Digest::of(alloc, initiator, rules.mode)?;
@@ -44,20 +47,62 @@ pub fn exchange(
         return Ok(sent_before_an_answer(&digest1));
     }
     let digest2 = Digest::of(alloc, responder, rules.mode)?;
-    let back = answer(alloc, responder, &digest1, initiator.node(), plan, rules)?;
+    exchange_deltas(alloc, initiator, responder, &digest1, &digest2, plan, rules)
+}
+
+// The exchange from the second message on. Both digests are known, and the first came.
+fn exchange_deltas(
+    alloc: Global,
+    initiator: &mut NodeTable,
+    responder: &mut NodeTable,
+    digest1: &Digest,
+    digest2: &Digest,
+    plan: &Exchange,
+    rules: &Rules,
+) -> Result<Record, Fault>
+    requires digest1 { IsDigestOf (told_by rules.now.mode) initiator.old.table digest1.now }
+    requires digest2 { IsDigestOf (told_by rules.now.mode) responder.old.table digest2.now }
+    requires came { plan.now.lost1 ≡ false }
+    requires budget { 1 ≤ rules.now.budget }
+    requires nodes { initiator.old.table.nodes ≡ responder.old.table.nodes }
+    requires keys { initiator.old.table.keys ≡ responder.old.table.keys }
+    requires rotation { plan.now.rotation < initiator.old.table.nodes }
+    ensures ok { IfOk result (IsExchanged rules.now plan.now initiator.old responder.old initiator.new responder.new) }
+    ensures err { OnErr result (BothTablesStay initiator.old responder.old initiator.new responder.new) }
+    ensures only { IsOkUnless result OutOfMemory }
+{
+    let back = answer(alloc, responder, digest1, initiator.node(), plan, rules)?;
     if plan.lost2 {
-        return Ok(sent_back(&digest1, &digest2, &back));
+        return Ok(sent_back(digest1, digest2, &back));
     }
-    let forth = answer(alloc, initiator, &digest2, responder.node(), plan, rules)?;
+    let forth = answer(alloc, initiator, digest2, responder.node(), plan, rules)?;
+    take_deltas(initiator, responder, &back, &forth, plan.lost3)?;
+    Ok(sent_both(digest1, digest2, &back, &forth, plan.lost3))
+}
+
+// Each side takes the delta that came to it. The third message, which has the second delta, may be
+// lost.
+fn take_deltas(
+    initiator: &mut NodeTable,
+    responder: &mut NodeTable,
+    back: &Delta,
+    forth: &Delta,
+    lost3: bool,
+) -> Result<(), Fault>
+    requires back { All (MayReceive initiator.old.table) back.now.items }
+    requires forth { All (MayReceive responder.old.table) forth.now.items }
+    ensures initiator { OnOk result (initiator.new.table ≡ applied initiator.old.table back.now.items) }
+    ensures responder { OnOk result (responder.new.table ≡ after_message lost3 responder.old.table forth.now) }
+    ensures err { OnErr result (BothTablesStay initiator.old responder.old initiator.new responder.new) }
+    ensures only { IsOkUnless result OutOfMemory }
+{
     initiator.reserve_for(back.items())?;
-    if plan.lost3 {
-        initiator.apply(back.items());
-        return Ok(sent_both(&digest1, &digest2, &back, &forth, Fate::Lost3));
+    if !lost3 {
+        responder.reserve_for(forth.items())?;
+        responder.apply(forth.items());
     }
-    responder.reserve_for(forth.items())?;
     initiator.apply(back.items());
-    responder.apply(forth.items());
-    Ok(sent_both(&digest1, &digest2, &back, &forth, Fate::Ok))
+    Ok(())
 }
 
 // The delta that answers a receiver's digest.
@@ -75,7 +120,7 @@ fn answer(
     requires keys { digest.now.keys ≡ sender.now.table.keys }
     requires receiver { receiver < sender.now.table.nodes }
     requires rotation { plan.now.rotation < sender.now.table.nodes }
-    ensures delta { IfOk result (IsAnswer rules.now plan.now.rotation sender.now.table receiver digest.now) }
+    ensures delta { IfOk result (IsAnswer rules.now plan.now sender.now.table receiver digest.now) }
     ensures few { IfOk result (λ d. length d.items < 2 ^ 32) }
     ensures sound { IfOk result (λ d. MayTake receiver sender.now.table.nodes sender.now.table.keys d.items) }
     ensures only { IsOkUnless result OutOfMemory }
@@ -123,10 +168,10 @@ fn sent_back(digest1: &Digest, digest2: &Digest, back: &Delta) -> Record
 }
 
 // The record where all three messages were sent.
-fn sent_both(digest1: &Digest, digest2: &Digest, back: &Delta, forth: &Delta, fate: Fate) -> Record
+fn sent_both(digest1: &Digest, digest2: &Digest, back: &Delta, forth: &Delta, lost3: bool) -> Record
     requires back { length back.now.items < 2 ^ 32 }
     requires forth { length forth.now.items < 2 ^ 32 }
-    ensures { result ≡ record { digest1 = digest1.now.size; digest2 = digest2.now.size; back = length back.now.items; forth = length forth.now.items; back_cut = back.now.cut; forth_cut = forth.now.cut; fate = fate } }
+    ensures { result ≡ sent_until (last_fate lost3) digest1.now.size digest2.now.size back.now forth.now }
 {
     Record {
         digest1: digest1.size(),
@@ -135,6 +180,6 @@ fn sent_both(digest1: &Digest, digest2: &Digest, back: &Delta, forth: &Delta, fa
         forth: forth.items().len() as u32,
         back_cut: back.cut(),
         forth_cut: forth.cut(),
-        fate,
+        fate: if lost3 { Fate::Lost3 } else { Fate::Ok },
     }
 }

@@ -2,5 +2,6 @@
 #![tactic(auto)]
 
 mod exchanges;
+pub mod laws;
 
 pub use exchanges::exchange;

@@ -1,51 +1,110 @@
--- What dropping the items of all owners but one does to a list of items that rises.
-use Rattle.std.proofs.Common.{◌≡◌, ℕ, Bool, true, false, cond, ◌==◌, List, [], ◌∷◌, None, refl, sym, ap, ◌∙◌, subst}
-use lib.Dec.{T}
-use Rattle.std.specs.declared.cmp.Ordering.TheVariants.{Equal}
-use Rattle.std.specs.List.{filter}
-use Rattle.std.specs.FinMap.{find, retain_keys, get-retain_keys, get-from_sorted, same_map, is_sorted}
-use Rattle.std.specs.FinMap.Entries.{where_key, is_sorted-where_key, find-where_key}
-use Rattle.std.proofs.lemmas.List.Elements.{All-filter}
-use Rattle.bench_types.specs.declared.entries.Item.{Item}
-use Rattle.node_table.specs.Table.{Place, place_cmp, without_others}
-use Rattle.node_table.specs.View.{pair_of, pairs, held_of, table_of, IsRising, IsItemInPlace, IsSound}
-use Rattle.node_table.proofs.Order.{place_total, place_same}
+-- A layout of which one owner's row is left, at the front.
+use Rattle.std.proofs.Common.{◌≡◌, ◌≢◌, ℕ, zero, suc, ◌<◌, ◌≤◌, List, [], length, get_or, set, take, replicate, All, inl, inr, refl, sym, ap, ◌∙◌, subst, arith}
+use Rattle.std.specs.Prelude.{sum_by}
+use Rattle.std.specs.List.{AllPairs}
+use Rattle.std.proofs.lemmas.Bool.{cases_lt, cases_eq}
+use Rattle.std.proofs.lemmas.List.{length-set, length-replicate, get_or-set_same, get_or-set_other, get_or-replicate}
+use Rattle.std.proofs.lemmas.List.Sums.{sum_by-cons, sum_by-set}
+use Rattle.bench_types.specs.declared.entries.Entry.{Entry}
+use Rattle.node_table.specs.declared.layouts.Row.{Row}
+use Rattle.node_table.specs.declared.layouts.Layout.{Layout}
+use Rattle.node_table.specs.Table.{Table, without_others, entry_at, greatest_version}
+use Rattle.node_table.specs.Rows.{AreGreatest}
+use Rattle.node_table.specs.Layouts.{row_of, rows_of, row_at, row_len, held_in, block_len, entry_in, table_in, IsRow, IsInSlots, AreApart, AreLaid}
+use Rattle.node_table.proofs.Laws.{same_table, entry_at-without_others_own, entry_at-without_others_other}
+use Rattle.node_table.proofs.Versions.{greatest_version-without_others_own, greatest_version-without_others_other}
+use Rattle.node_table.proofs.Laid.{row_at-get_or, row_at-past, block_len-some}
+use Rattle.node_table.proofs.InRows.{get-held_in}
+use Rattle.node_table.proofs.InLayout.{entry_at-in}
 
--- the item is the owner's
-abbrev pub is_of : ℕ → Item → Bool
-is_of owner i = i.owner == owner
+abbrev pub empty_row : Row
+empty_row = record { start = 0; len = 0 }
 
-pairs-filter : (owner : ℕ) (xs : List Item) → pairs (filter (is_of owner) xs) ≡ where_key place_cmp (λ (p : Place). p.0 == owner) (pairs xs)
-pairs-filter owner [] = refl
-pairs-filter owner (x ∷ xs) = elim (x.owner == owner) as (λ b. pairs (cond b (x ∷ filter (is_of owner) xs) (filter (is_of owner) xs)) ≡ cond b (pair_of x ∷ where_key place_cmp (λ (p : Place). p.0 == owner) (pairs xs)) (where_key place_cmp (λ (p : Place). p.0 == owner) (pairs xs))) [
-  | true ↦ ap (λ es. pair_of x ∷ es) (pairs-filter owner xs)
-  | false ↦ pairs-filter owner xs
-]
+-- the rows of so many owners, of whom one has entries
+abbrev pub one_row : ℕ → ℕ → ℕ → List Row
+one_row nodes owner len = set (replicate nodes empty_row) owner (record { start = 0; len = len })
 
-rising_filter : (owner : ℕ) (xs : List Item) → IsRising xs → IsRising (filter (is_of owner) xs)
-rising_filter owner xs rising = subst (λ es. T (is_sorted place_cmp es)) (sym (pairs-filter owner xs)) (is_sorted-where_key place_cmp (λ (p : Place). p.0 == owner) (pairs xs) rising)
-
-held_of-filter : (owner : ℕ) (xs : List Item) → IsRising xs → held_of (filter (is_of owner) xs) ≡ retain_keys (held_of xs) (λ place. place.0 == owner)
-held_of-filter owner xs rising = same_map place_total place_same _ _ (λ q.
-    get-from_sorted place_cmp (pairs (filter (is_of owner) xs)) q (rising_filter owner xs rising)
-    ∙ ap (find place_cmp q) (pairs-filter owner xs)
-    ∙ find-where_key place_cmp (λ (p : Place). p.0 == owner) q (alike q) (pairs xs)
-    ∙ ap (λ o. cond (q.0 == owner) o None) (sym (get-from_sorted place_cmp (pairs xs) q rising))
-    ∙ sym (get-retain_keys (held_of xs) (λ (p : Place). p.0 == owner) q (alike q)))
-  where
-    alike : (q x : Place) → place_cmp q x ≡ Equal → (x.0 == owner) ≡ (q.0 == owner)
-    alike q x tie = ap (λ (p : Place). p.0 == owner) (sym (place_same q x tie))
-
--- the table keeps its own entries alone
-pub table_of-filter : (n ns ks : ℕ) (xs : List Item) → IsRising xs → table_of n ns ks (filter (is_of n) xs) ≡ without_others (table_of n ns ks xs)
-table_of-filter n ns ks xs rising = ap (λ h. record { node = n; nodes = ns; keys = ks; held = h }) (held_of-filter n xs rising)
-
-pub sound_filter : (n ns ks : ℕ) (xs : List Item) → IsSound n ns ks xs → IsSound n ns ks (filter (is_of n) xs)
-sound_filter n ns ks xs sound = record {
-  node_below = sound.node_below;
-  nodes_limit = sound.nodes_limit;
-  some_key = sound.some_key;
-  keys_limit = sound.keys_limit;
-  rising = rising_filter n xs sound.rising;
-  in_place = All-filter (is_of n) (IsItemInPlace ns ks) xs sound.in_place;
+pub empty_is_row : (keys : ℕ) → IsRow keys []
+empty_is_row keys = record {
+  rising = λ i j d before in_range. absurd (omega arith);
+  apart = λ i j d before in_range. absurd (omega arith);
+  keys_below = λ k d in_range. absurd (omega arith);
+  written = λ k d in_range. absurd (omega arith);
 }
+
+pub sum_none : {X : Type 0} (f : X → ℕ) (n : ℕ) (x : X) → f x ≡ 0 → sum_by f (replicate n x) ≡ 0
+sum_none f zero x none = refl
+sum_none f (suc n) x none = omega (arith, sum_by-cons f x (replicate n x), sum_none f n x none, none)
+
+module _ (nodes keys owner : ℕ) (r : Row) (slots slots' : List Entry) (below : owner < nodes) (lies : IsInSlots keys slots r) (le : r.len ≤ keys) (front : take r.len slots' ≡ row_of slots r) (len : length slots' ≡ block_len keys r) where
+  one_row-own : (d : Row) → get_or (one_row nodes owner r.len) owner d ≡ record { start = 0; len = r.len }
+  one_row-own d = get_or-set_same (replicate nodes empty_row) owner (record { start = 0; len = r.len }) d (omega (arith, length-replicate nodes empty_row))
+
+  one_row-other : (k : ℕ) (d : Row) → k < nodes → k ≢ owner → get_or (one_row nodes owner r.len) k d ≡ empty_row
+  one_row-other k d lt other = get_or-set_other (replicate nodes empty_row) owner k (record { start = 0; len = r.len }) d other ∙ get_or-replicate nodes k empty_row d lt
+
+  length-one_row : length (one_row nodes owner r.len) ≡ nodes
+  length-one_row = length-set (replicate nodes empty_row) owner (record { start = 0; len = r.len }) ∙ length-replicate nodes empty_row
+
+  lies_own : IsInSlots keys slots' (record { start = 0; len = r.len })
+  lies_own = elim (cases_lt 0 r.len) [
+    | inl some ↦ record { within = omega (arith, len, block_len-some keys r some); block = λ _. omega (arith, len, block_len-some keys r some); row = subst (IsRow keys) (sym front) lies.row }
+    | inr none ↦ record { within = omega (arith, len); block = λ some. absurd (omega arith); row = subst (IsRow keys) (sym front) lies.row }
+  ]
+
+  each : All (IsInSlots keys slots') (one_row nodes owner r.len)
+  each k d in_range = elim (cases_eq k owner) [
+    | inl own ↦ subst (λ j. IsInSlots keys slots' (get_or (one_row nodes owner r.len) j d)) (sym own) (subst (IsInSlots keys slots') (sym (one_row-own d)) lies_own)
+    | inr other ↦ subst (IsInSlots keys slots') (sym (one_row-other k d (omega (arith, length-one_row)) other)) (record { within = omega arith; block = λ some. absurd (omega arith); row = empty_is_row keys })
+  ]
+
+  none_other : (k : ℕ) (d : Row) → k < nodes → k ≢ owner → (get_or (one_row nodes owner r.len) k d).len ≡ 0
+  none_other k d lt other = ap (λ (x : Row). x.len) (one_row-other k d lt other)
+
+  apart : AllPairs (AreApart keys) (one_row nodes owner r.len)
+  apart i j d before in_range some some' = elim (cases_eq i owner) [
+    | inl own ↦ absurd (omega (arith, none_other j d (omega (arith, length-one_row)) (omega arith)))
+    | inr other ↦ absurd (omega (arith, none_other i d (omega (arith, length-one_row)) other))
+  ]
+
+  pub laid_one : AreLaid nodes keys slots' (one_row nodes owner r.len)
+  laid_one = record {
+    as_many = length-one_row;
+    each = each;
+    apart = apart;
+    filled = omega (arith, len, sum_by-set (block_len keys) (replicate nodes empty_row) owner (record { start = 0; len = r.len }) empty_row (omega (arith, length-replicate nodes empty_row)), sum_none (block_len keys) nodes empty_row refl, ap (block_len keys) (get_or-replicate nodes owner empty_row empty_row below));
+  }
+
+  pub counted_one : r.len ≡ sum_by row_len (one_row nodes owner r.len)
+  counted_one = omega (arith, sum_by-set row_len (replicate nodes empty_row) owner (record { start = 0; len = r.len }) empty_row (omega (arith, length-replicate nodes empty_row)), sum_none row_len nodes empty_row refl, ap row_len (get_or-replicate nodes owner empty_row empty_row below))
+
+  pub row_at-one_own : row_at slots' (one_row nodes owner r.len) owner ≡ row_of slots r
+  row_at-one_own = row_at-get_or slots' (one_row nodes owner r.len) owner empty_row (omega (arith, length-one_row)) ∙ ap (row_of slots') (one_row-own empty_row) ∙ front
+
+  pub row_at-one_other : (k : ℕ) → k ≢ owner → row_at slots' (one_row nodes owner r.len) k ≡ []
+  row_at-one_other k other = elim (cases_lt k nodes) [
+    | inl lt ↦ row_at-get_or slots' (one_row nodes owner r.len) k empty_row (omega (arith, length-one_row)) ∙ ap (row_of slots') (one_row-other k empty_row lt other)
+    | inr past ↦ row_at-past slots' (one_row nodes owner r.len) k (omega (arith, length-one_row))
+  ]
+
+-- with one row left the table is that of its owner's entries
+pub table_one : (l : Layout) (slots' : List Entry) (rows' : List Row) → row_at slots' rows' l.node ≡ row_at l.slots.items l.rows.items l.node → ((k : ℕ) → k ≢ l.node → row_at slots' rows' k ≡ []) → ◌≡◌ {A = Table} (record { node = l.node; nodes = l.nodes; keys = l.keys; held = held_in (rows_of slots' rows') }) (without_others (table_in l))
+table_one l slots' rows' own others = same_table _ (without_others (table_in l)) refl refl refl (λ owner key. get-held_in (rows_of slots' rows') owner key ∙ elim (cases_eq owner l.node) [
+  | inl is ↦ subst (λ o. entry_in (row_at slots' rows' o) key ≡ entry_at (without_others (table_in l)) o key) (sym is)
+      (ap (λ row. entry_in row key) own ∙ sym (entry_at-in l l.node key) ∙ sym (entry_at-without_others_own (table_in l) key))
+  | inr other ↦ ap (λ row. entry_in row key) (others owner other) ∙ sym (entry_at-without_others_other (table_in l) owner key other)
+])
+
+-- and its greatest versions
+pub greatest_one : (t : Table) (own : ℕ) → t.node < t.nodes → own ≡ greatest_version t t.node → AreGreatest (without_others t) (set (replicate t.nodes 0) t.node own)
+greatest_one t own below is = record {
+  count = length-set (replicate t.nodes 0) t.node own ∙ length-none;
+  greatest = λ o lt. elim (cases_eq o t.node) [
+    | inl same ↦ subst (λ p. get_or (set (replicate t.nodes 0) t.node own) p 0 ≡ greatest_version (without_others t) p) (sym same)
+        (get_or-set_same (replicate t.nodes 0) t.node own 0 (omega (arith, length-none)) ∙ is ∙ sym (greatest_version-without_others_own t))
+    | inr other ↦ get_or-set_other (replicate t.nodes 0) t.node o own 0 other ∙ get_or-replicate t.nodes o 0 0 lt ∙ sym (greatest_version-without_others_other t o other)
+  ];
+}
+  where
+    length-none : length {A = ℕ} (replicate t.nodes 0) ≡ t.nodes
+    length-none = length-replicate {A = ℕ} t.nodes 0

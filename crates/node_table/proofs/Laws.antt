@@ -36,7 +36,7 @@ same_test true b to from = sym (to refl)
 same_test false true to from = from refl
 same_test false false to from = refl
 
-pub place_from : (owner key : ℕ) (i : Item) → stands_at owner key i ≡ true → (owner, key) ≡ place_of i
+place_from : (owner key : ℕ) (i : Item) → stands_at owner key i ≡ true → (owner, key) ≡ place_of i
 place_from owner key i here =
     let parts = and_parts (i.owner == owner) (i.entry.key == key) here in
     λ n. (sym (eqb-true i.owner owner parts.0) n, sym (eqb-true i.entry.key key parts.1) n)
@@ -63,11 +63,6 @@ get-fold (i ∷ is) m owner key =
     get-fold is (held_with m i) owner key
     ∙ ap (λ h. newest_of h (items_at owner key is)) (get-held_with m i owner key)
     ∙ elim (stands_at owner key i) as (λ b. newest_of (cond b (Some (newer (get m (owner, key)) i.entry)) (get m (owner, key))) (items_at owner key is) ≡ newest_of (get m (owner, key)) (cond b (i ∷ items_at owner key is) (items_at owner key is))) [ true ↦ refl | false ↦ refl ]
-
--- lists that have the same items at each place, in the same order, make the same map
-pub fold-same_items : (xs ys : List Item) (m : Held) → ((owner key : ℕ) → items_at owner key xs ≡ items_at owner key ys) → fold held_with m xs ≡ fold held_with m ys
-fold-same_items xs ys m same = same_map place_total place_same _ _ (λ q.
-    get-fold xs m q.0 q.1 ∙ ap (newest_of (get m q)) (same q.0 q.1) ∙ sym (get-fold ys m q.0 q.1))
 
 -- two tables with the same node, bounds and entries are one
 pub same_table : (t u : Table) → t.node ≡ u.node → t.nodes ≡ u.nodes → t.keys ≡ u.keys → ((owner key : ℕ) → entry_at t owner key ≡ entry_at u owner key) → t ≡ u

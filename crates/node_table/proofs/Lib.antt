@@ -7,11 +7,15 @@ pub mod Proper
 pub mod Comparing
 pub mod Order
 pub mod Rising
-pub mod Sound
-pub mod Search
-pub mod Received
 pub mod Greatest
+mod Blocks
+mod InRow
+mod InRows
+mod Laid
+mod Opened
+mod Entered
+mod InLayout
+mod Receiving
 mod Forgotten
-mod Gaps
-mod Orders
-mod Merging
+mod Empty
+mod Room

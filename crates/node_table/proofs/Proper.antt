@@ -1,17 +1,15 @@
--- A proper table is the table of its items, of which there are at most as many as places.
-use Rattle.std.proofs.Common.{◌≡◌, ℕ, zero, suc, ◌+◌, ◌*◌, ◌<◌, ◌≤◌, List, length, get_or, All, inl, inr, refl, sym, ap, ◌∙◌, arith}
+-- The items of a proper table are sound, and there are at most as many as places.
+use Rattle.std.proofs.Common.{◌≡◌, ℕ, zero, suc, ◌+◌, ◌*◌, ◌<◌, ◌≤◌, List, length, get_or, All, inl, inr, refl, ap, arith}
 use Rattle.std.specs.declared.cmp.Ordering.TheVariants.{Less}
-use Rattle.std.specs.FinMap.{same_entries_map}
 use Rattle.std.proofs.Math.Nat.{mul-le-mul_right, mul-le-mul_left}
 use Rattle.std.proofs.lemmas.List.{get_or_default}
 use Rattle.bench_types.specs.declared.entries.Item.{Item}
 use Rattle.bench_types.specs.declared.limits.TheConstants.{MOST_NODES, MOST_KEYS}
-use Rattle.node_table.specs.Table.{Place, place_cmp, Table, items_of, greatest_version, IsProper}
-use Rattle.node_table.specs.View.{place_of, held_of, table_of, IsRising, IsItemInPlace, IsSound}
-use Rattle.node_table.specs.Runs.{greatest_among}
-use Rattle.node_table.proofs.Rising.{rising_at, entries_of_held}
-use Rattle.node_table.proofs.Greatest.{place_less, greatest_version-among}
-use Rattle.node_table.proofs.Items.{pairs-items_of, rising-items_of, entry_at-items_of}
+use Rattle.node_table.specs.Table.{Place, place_cmp, Table, items_of, IsProper}
+use Rattle.node_table.specs.View.{place_of, IsRising, IsItemInPlace, IsSound}
+use Rattle.node_table.proofs.Rising.{rising_at}
+use Rattle.node_table.proofs.Greatest.{place_less}
+use Rattle.node_table.proofs.Items.{rising-items_of, entry_at-items_of}
 
 module _ (t : Table) (proper : IsProper t) where
   -- each item stands in its place
@@ -30,16 +28,6 @@ module _ (t : Table) (proper : IsProper t) where
     rising = rising-items_of t proper;
     in_place = in_place-items_of;
   }
-
-  -- and it is their table
-  pub table_of-items_of : table_of t.node t.nodes t.keys (items_of t) ≡ t
-  table_of-items_of =
-      let same : held_of (items_of t) ≡ t.held = same_entries_map (held_of (items_of t)) t.held (entries_of_held (items_of t) (rising-items_of t proper) ∙ pairs-items_of t proper) in
-      λ i. record { node = t.node; nodes = t.nodes; keys = t.keys; held = same i }
-
-  -- the greatest version of an owner is that among its items
-  pub greatest_version-items_of : (owner : ℕ) → greatest_version t owner ≡ greatest_among owner (items_of t)
-  greatest_version-items_of owner = ap (λ (u : Table). greatest_version u owner) (sym table_of-items_of) ∙ greatest_version-among t.node t.nodes t.keys (items_of t) owner items_sound
 
 -- the number of a place, counted by owner and then by key
 place_number : ℕ → Place → ℕ

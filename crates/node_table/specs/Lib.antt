@@ -1,8 +1,8 @@
 pub mod Table
 pub mod NodeTableView
 pub mod View
-pub mod Places
 pub mod Runs
 pub mod Applied
-pub mod Walks
+pub mod Rows
+pub mod Layouts
 pub use Rattle.bench_types.specs.Entry

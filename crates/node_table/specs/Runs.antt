@@ -2,11 +2,6 @@
 use Rattle.std.specs.Prelude.{ℕ, max, ◌==◌, List, [], ◌∷◌, if◌then◌else◌}
 use Rattle.bench_types.specs.declared.entries.Item.{Item}
 
--- the greatest version among the owner's items at the front
-abbrev pub greatest_run : ℕ → List Item → ℕ
-greatest_run owner [] = 0
-greatest_run owner (i ∷ is) = if i.owner == owner then max i.entry.version (greatest_run owner is) else 0
-
 -- the greatest version among all of the owner's items
 abbrev pub greatest_among : ℕ → List Item → ℕ
 greatest_among owner [] = 0

@@ -8,7 +8,7 @@ use Rattle.std.specs.FinMap.{FinMap, get, insert, retain_keys, entries, empty, l
 use Rattle.bench_types.specs.declared.entries.Entry.{Entry}
 use Rattle.bench_types.specs.declared.entries.Item.{Item}
 use Rattle.bench_types.specs.declared.limits.TheConstants.{LEAST_KEYS, MOST_NODES, MOST_KEYS}
-use Rattle.bench_types.specs.Entry.{version_of, newer}
+use Rattle.bench_types.specs.Entry.{version_of, next_version, newer}
 
 -- an owner and one of its keys
 abbrev pub Place : Type 0
@@ -66,12 +66,16 @@ held_with m i = insert m (i.owner, i.entry.key) (newer (get m (i.owner, i.entry.
 abbrev pub applied : Table → List Item → Table
 applied t added = record t { held = fold held_with t.held added }
 
--- the owner writes one of its keys: the version is one above the greatest so far
+-- the owner writes one of its keys: the version is the next after the greatest so far
 abbrev pub own_write : Table → ℕ → ℕ → ℕ → Entry
-own_write t k v b = record { key = k; version = greatest_version t t.node + 1; value = v; born = b }
+own_write t k v b = record { key = k; version = next_version (greatest_version t t.node); value = v; born = b }
 
 abbrev pub with_own_write : Table → ℕ → ℕ → ℕ → Table
 with_own_write t k v b = record t { held = insert t.held (t.node, k) (own_write t k v b) }
+
+-- and so one after another, each with an entry's key, value and round
+abbrev pub with_own_writes : Table → List Entry → Table
+with_own_writes = fold (λ t e. with_own_write t e.key e.value e.born)
 
 -- a restart leaves the node's own entries alone
 abbrev pub without_others : Table → Table

@@ -1,11 +1,14 @@
--- A list of items that rises by owner and then by key, seen as a table. Source: this project.
+-- Lists of items, each at its place. Source: this project.
 use Rattle.std.specs.Prelude.{ℕ, ◌<◌, ◌≤◌, List, All, map}
 use lib.Dec.{T}
-use Rattle.std.specs.FinMap.{from_sorted, is_sorted}
+use Rattle.std.specs.FinMap.{is_sorted}
 use Rattle.bench_types.specs.declared.entries.Entry.{Entry}
 use Rattle.bench_types.specs.declared.entries.Item.{Item}
 use Rattle.bench_types.specs.declared.limits.TheConstants.{LEAST_KEYS, MOST_NODES, MOST_KEYS}
-use Rattle.node_table.specs.Table.{Place, place_cmp, Held, Table, IsInPlace}
+use Rattle.node_table.specs.Table.{Place, place_cmp, IsInPlace}
+
+abbrev pub no_item : Item
+no_item = record { owner = 0; entry = record { key = 0; version = 0; value = 0; born = 0 } }
 
 abbrev pub place_of : Item → Place
 place_of i = (i.owner, i.entry.key)
@@ -15,12 +18,6 @@ pair_of i = (place_of i, i.entry)
 
 abbrev pub pairs : List Item → List (Place × Entry)
 pairs xs = map pair_of xs
-
-abbrev pub held_of : List Item → Held
-held_of xs = from_sorted (pairs xs)
-
-abbrev pub table_of : ℕ → ℕ → ℕ → List Item → Table
-table_of n ns ks xs = record { node = n; nodes = ns; keys = ks; held = held_of xs }
 
 abbrev pub IsItemInPlace : ℕ → ℕ → Item → Type 0
 IsItemInPlace ns ks i = IsInPlace ns ks i.owner i.entry.key i.entry

@@ -2,8 +2,8 @@
 //! key to an entry, under own writes, received items and restarts.
 #![tactic(auto)]
 
-mod merges;
-mod searches;
+mod layouts;
+mod rows;
 mod tables;
 
 pub use tables::NodeTable;

@@ -1,66 +1,59 @@
-//! The table, as one vector of items that rises by owner and then by key.
+//! A node's table, whose entries lie in rows, one for each owner.
 
-ghost use Rattle.std.specs.Prelude.{◌≡◌, ◌≢◌, ◌↔◌, ℕ, ◌+◌, ◌^◌, ◌<◌, ◌≤◌, All, IfOk, IsOk, IsTrue, OnOk, OnErr, IsOkUnless, vec_len, vec_capacity};
-ghost use Rattle.std.specs.FinMap.{put as put_entry};
-ghost use Rattle.node_table.specs.Table.{place_cmp};
-ghost use Rattle.node_table.specs.View.{IsRising, IsItemInPlace, place_of, pairs};
-ghost use Rattle.node_table.specs.Runs.{greatest_run};
+ghost use Rattle.std.specs.Prelude.{◌≡◌, ◌≢◌, ◌↔◌, ◌+◌, ◌-◌, ◌^◌, ◌<◌, ◌≤◌, All, IfOk, IsOk, IsTrue, OnOk, OnErr, IsOkUnless};
 ghost use Rattle.bench_types.specs.declared.faults.Fault.TheVariants.{OutOfMemory};
 
-use crate::merges::{merge, order_by_place};
-use crate::searches::search;
+use crate::layouts::{Layout, Row};
+use crate::rows::{find, index_of, rank_of};
 use bench_types::limits::{LEAST_KEYS, MOST_KEYS, MOST_NODES};
 use bench_types::{Entry, Fault, Item};
-use std::alloc::{AllocFailed, Global};
+use std::alloc::Global;
 use std::marker::Model;
 
 /// What one node holds of every node's state.
 #[derive(Drop)]
 pub struct NodeTable {
-    node: u32,
-    nodes: u32,
-    keys: u32,
-    items: Vec<Item>,
-    // Room for the indices of received items; between calls what it lists is of no use.
-    order: Vec<usize>,
+    layout: Layout,
 }
 
 impl Model for NodeTable {
-    ghost use Rattle.std.specs.Prelude.{◌-◌, min, vec_len, vec_capacity};
     ghost use Rattle.node_table.specs.NodeTableView.{NodeTableView, kept_code};
-    ghost use Rattle.node_table.specs.View.{table_of, IsSound};
+    ghost use Rattle.node_table.specs.Layouts.{table_in, spare_of, IsLayout};
 
     ghost Value = { NodeTableView };
 
     ghost coded = { kept_code };
 
-    ghost view = { λ t. record { table = table_of t.node t.nodes t.keys t.items.items; spare = min (vec_capacity t.items - vec_len t.items) (vec_capacity t.order) } };
+    ghost view = { λ t. record { table = table_in t.layout; spare = spare_of t.layout } };
 
-    ghost invariant = { λ t. IsSound t.node t.nodes t.keys t.items.items };
+    ghost invariant = { λ t. IsLayout t.layout };
 }
 
 impl NodeTable {
-    ghost use Rattle.node_table.specs.Table.{empty_table, entry_at, greatest_version, count_of, items_of, with_own_write, applied, without_others, IsProper};
-    ghost use Rattle.node_table.specs.NodeTableView.{HasRoom, MayApply, MayReceive};
+    ghost use Rattle.node_table.specs.Table.{empty_table, entry_at, greatest_version, count_of, with_own_write, applied, without_others, IsProper};
+    ghost use Rattle.node_table.specs.NodeTableView.{blocks_for, HasRoom, MayApply, MayReceive};
     ghost use Rattle.node_table.specs.View.{IsItemInPlace};
+    ghost use Rattle.node_table.specs.Rows.{AreAbove, AreGreatest};
 
-    /// The empty table of a node. It takes no memory, so it always succeeds.
+    /// The empty table of a node. It takes 12 bytes for each node.
     pub fn new(alloc: Global, node: u32, nodes: u32, keys: u32) -> Result<NodeTable, Fault>
         requires node { node < nodes }
         requires nodes { nodes ≤ MOST_NODES }
         requires some_key { LEAST_KEYS ≤ keys }
         requires keys { keys ≤ MOST_KEYS }
-        ensures succeeds { IsOk result }
         ensures empty { IfOk result (λ t. t.table ≡ empty_table node nodes keys) }
         ensures only { IsOkUnless result OutOfMemory }
     {
-        Ok(NodeTable {
+        let layout = Layout {
             node,
             nodes,
             keys,
-            items: Vec::new(alloc),
-            order: Vec::new(alloc),
-        })
+            slots: Vec::new(alloc),
+            rows: vec![in alloc; Row { start: 0, len: 0 }; nodes as usize]?,
+            greatest: vec![in alloc; 0; nodes as usize]?,
+            count: 0,
+        };
+        Ok(NodeTable { layout })
     }
 
     /// The node whose table this is.
@@ -68,7 +61,7 @@ impl NodeTable {
         ensures value { result ≡ self.now.table.node }
         ensures proper { IsProper self.now.table }
     {
-        self.node
+        self.layout.node
     }
 
     /// How many nodes there are.
@@ -76,7 +69,7 @@ impl NodeTable {
         ensures value { result ≡ self.now.table.nodes }
         ensures proper { IsProper self.now.table }
     {
-        self.nodes
+        self.layout.nodes
     }
 
     /// How many keys each node has.
@@ -84,50 +77,71 @@ impl NodeTable {
         ensures value { result ≡ self.now.table.keys }
         ensures proper { IsProper self.now.table }
     {
-        self.keys
+        self.layout.keys
     }
 
-    /// All entries with their owners, by owner and then by key. Nothing is copied.
-    pub fn items(&self) -> &[Item]
-        ensures value { result.now ≡ items_of self.now.table }
+    /// The entries held of an owner, ascending by version and then by key. Nothing is copied or
+    /// walked over.
+    pub fn row(&self, owner: u32) -> &[Entry]
+        requires { owner < self.now.table.nodes }
+        ensures entries { AreAbove self.now.table owner 0 result.now }
         ensures proper { IsProper self.now.table }
     {
-        &self.items
+        self.layout.row(owner)
+    }
+
+    /// Those above a version. Nothing is copied, and one step is made for each of them.
+    pub fn above(&self, owner: u32, version: u32) -> &[Entry]
+        requires { owner < self.now.table.nodes }
+        ensures entries { AreAbove self.now.table owner version result.now }
+        ensures proper { IsProper self.now.table }
+    {
+        let row = self.layout.row(owner);
+        &row[rank_of(row, last_of(version))..]
+    }
+
+    /// The greatest version held of each owner, in order, 0 where none is. Nothing is copied or
+    /// walked over.
+    pub fn greatest_versions(&self) -> &[u32]
+        ensures versions { AreGreatest self.now.table result.now }
+        ensures proper { IsProper self.now.table }
+    {
+        &self.layout.greatest
     }
 
     /// How many entries are held. Nothing is walked over.
     pub fn count(&self) -> u32
         ensures { result ≡ count_of self.now.table }
     {
-        self.items.len() as u32
+        self.layout.count
     }
 
-    /// The entry held of an owner's key, if any: a binary search.
+    /// The entry held of an owner's key, if any: a walk over the owner's row.
     pub fn get(&self, owner: u32, key: u32) -> Option<Entry>
         ensures { result ≡ entry_at self.now.table owner key }
     {
-        match search(&self.items, owner, key) {
-            Ok(at) => Some(self.items[at].entry),
-            Err(_) => None,
+        if owner < self.layout.nodes {
+            find(self.layout.row(owner), key)
+        } else {
+            None
         }
     }
 
-    /// The greatest version held of an owner, 0 where none is: a binary search and a step for each
-    /// entry of the owner, so at most one for each key.
+    /// The greatest version held of an owner, 0 where none is. Nothing is walked over.
     pub fn greatest(&self, owner: u32) -> u32
         ensures { result ≡ greatest_version self.now.table owner }
     {
-        let start = match search(&self.items, owner, 0) {
-            Ok(at) => at,
-            Err(at) => at,
-        };
-        greatest_at_front(&self.items[start..], owner)
+        if owner < self.layout.nodes {
+            self.layout.greatest[owner as usize]
+        } else {
+            0
+        }
     }
 
-    /// The node writes one of its own keys, and the answer is the version of that write. Two binary
-    /// searches, a step for each entry of the node, and a move of what stands behind a key that is
-    /// written for the first time. An error is want of memory, and then nothing was written and the
-    /// room is no less. With room for one entry there is none.
+    /// The node writes one of its own keys, and the answer is the version of that write: a walk
+    /// over the node's row, and a move of the entries behind the key's. An error is lack of memory
+    /// for the first write of all, and then nothing was written and the room is no less. With room
+    /// for one owner there is none.
     pub fn write_own(&mut self, key: u32, value: u32, born: u32) -> Result<u32, Fault>
         requires key { key < self.old.table.keys }
         requires fits { greatest_version self.old.table self.old.table.node + 1 < 2 ^ 32 }
@@ -138,21 +152,24 @@ impl NodeTable {
         ensures succeeds { 1 ≤ self.old.spare → IsOk result }
         ensures only { IsOkUnless result OutOfMemory }
     {
-        let owner = self.node;
-        let version = self.greatest(owner) + 1;
+        let owner = self.layout.node;
+        let version = self.layout.greatest[owner as usize] + 1;
         let entry = Entry {
             key,
             version,
             value,
             born,
         };
-        put(&mut self.items, Item { owner, entry })?;
+        let index = index_of(self.layout.row(owner), key);
+        self.layout.put(owner, index, entry)?;
         Ok(version)
     }
 
-    /// Makes room for a list of items, so that `apply` takes no memory. What is held is copied where
-    /// it has to move for that. Where there is room already nothing is done; after a refusal the
-    /// room is no less.
+    /// Makes room for a list of items, so that `apply` takes no memory: a block of slots, one for
+    /// each key, for each owner of whom nothing is held. An owner whose items don't follow each
+    /// other may count more than once. What is held is copied where it has to move for that. Where
+    /// there is room already nothing is done; after a refusal the room is no less. One walk over
+    /// the list.
     pub fn reserve_for(&mut self, added: &[Item]) -> Result<(), Fault>
         ensures same { self.new.table ≡ self.old.table }
         ensures room { OnOk result (HasRoom self.new added.now) }
@@ -160,32 +177,52 @@ impl NodeTable {
         ensures succeeds { HasRoom self.old added.now → IsOk result }
         ensures only { IsOkUnless result OutOfMemory }
     {
-        self.items.reserve(added.len())?;
-        self.order.clear();
-        self.order.reserve(added.len())?;
-        Ok(())
+        let blocks = self.blocks_for(added);
+        match blocks.checked_mul(self.layout.keys as usize) {
+            Some(slots) => {
+                self.layout.slots.reserve(slots)?;
+                Ok(())
+            }
+            None => Err(Fault::OutOfMemory),
+        }
+    }
+
+    // How many owners' items come of whom nothing is held, counted again where they don't follow
+    // each other.
+    fn blocks_for(&self, added: &[Item]) -> usize
+        ensures { result ≡ blocks_for self.now.table added.now }
+    {
+        let mut blocks = 0;
+        let mut last = None;
+        for item in added {
+            if self.greatest(item.owner) == 0 && last != Some(item.owner) {
+                blocks += 1;
+            }
+            last = Some(item.owner);
+        }
+        blocks
     }
 
     /// Takes items in turn: each place keeps the entry with the greater version, and the held one
-    /// where the versions are equal. It takes no memory. It costs a sort of the items, a binary
-    /// search for each, and where places are new at most two moves of each entry behind the first
-    /// of them.
+    /// where the versions are equal. It takes no memory. For each item it walks over the owner's
+    /// row, and moves those of its entries that are newer than the item; no other row changes.
     pub fn apply(&mut self, added: &[Item])
         requires room { HasRoom self.old added.now }
         requires others { All (λ i. i.owner ≢ self.old.table.node) added.now }
         requires in_place { All (IsItemInPlace self.old.table.nodes self.old.table.keys) added.now }
         ensures { self.new.table ≡ applied self.old.table added.now }
     {
-        order_by_place(&mut self.order, added);
-        merge(&mut self.items, added, &mut self.order);
+        for item in added {
+            self.layout.receive(*item);
+        }
     }
 
     /// Whether `apply` takes these items, for a caller that doesn't know it. One walk over the list.
     pub fn may_apply(&self, added: &[Item]) -> bool
         ensures { IsTrue result ↔ MayApply self.now added.now }
     {
-        let room = self.items.capacity() - self.items.len();
-        added.len() <= room.min(self.order.capacity())
+        let spare = self.layout.slots.capacity() - self.layout.slots.len();
+        self.blocks_for(added) <= spare / self.layout.keys as usize
             && added.iter().all(|item| self.may_receive(*item))
     }
 
@@ -193,20 +230,19 @@ impl NodeTable {
     fn may_receive(&self, item: Item) -> bool
         ensures { IsTrue result ↔ MayReceive self.now.table item }
     {
-        item.owner != self.node
-            && item.owner < self.nodes
-            && item.entry.key < self.keys
+        item.owner != self.layout.node
+            && item.owner < self.layout.nodes
+            && item.entry.key < self.layout.keys
             && item.entry.version > 0
     }
 
-    /// Drops the entries of all other owners, as a restart does. One walk over the table, in place:
-    /// it takes no memory and gives none back.
+    /// Drops the entries of all other owners, as a restart does. The node's own move to the front,
+    /// in place: it takes no memory and gives none back. One walk over the owners.
     pub fn forget_others(&mut self)
         ensures table { self.new.table ≡ without_others self.old.table }
         ensures keeps_room { self.old.spare ≤ self.new.spare }
     {
-        let node = self.node;
-        self.items.retain(|item| item.owner == node);
+        self.layout.forget_others();
     }
 
     /// A table with the same node, nodes, keys and entries, but with room of its own. One walk over
@@ -215,45 +251,28 @@ impl NodeTable {
         ensures equal { IfOk result (λ t. t.table ≡ self.now.table) }
         ensures only { IsOkUnless result OutOfMemory }
     {
-        Ok(NodeTable {
-            node: self.node,
-            nodes: self.nodes,
-            keys: self.keys,
-            items: self.items.clone()?,
-            order: Vec::new(*self.order.allocator()),
-        })
+        let layout = Layout {
+            node: self.layout.node,
+            nodes: self.layout.nodes,
+            keys: self.layout.keys,
+            slots: self.layout.slots.clone()?,
+            rows: self.layout.rows.clone()?,
+            greatest: self.layout.greatest.clone()?,
+            count: self.layout.count,
+        };
+        Ok(NodeTable { layout })
     }
 }
 
-// The greatest version among the items at the front that are the owner's.
-fn greatest_at_front(items: &[Item], owner: u32) -> u32
-    ensures { result ≡ greatest_run owner items.now }
+// An entry behind all of a version.
+fn last_of(version: u32) -> Entry
+    ensures version { result.version ≡ version }
+    ensures key { result.key ≡ 2 ^ 32 - 1 }
 {
-    let mut greatest = 0;
-    for item in items {
-        if item.owner != owner {
-            break;
-        }
-        greatest = greatest.max(item.entry.version);
-    }
-    greatest
-}
-
-// Puts an item at its place, over the one that stands there or into its gap.
-fn put(items: &mut Vec<Item>, item: Item) -> Result<(), AllocFailed<Item>>
-    requires { IsRising items.old.items }
-    ensures rising { IsRising items.new.items }
-    ensures ok { OnOk result (put_entry place_cmp (place_of item) item.entry (pairs items.old.items) ≡ pairs items.new.items) }
-    ensures in_place { (nodes keys : ℕ) → All (IsItemInPlace nodes keys) items.old.items → IsItemInPlace nodes keys item → All (IsItemInPlace nodes keys) items.new.items }
-    ensures err { OnErr result (items.new.items ≡ items.old.items) }
-    ensures keeps_room { OnErr result (vec_capacity items.old ≤ vec_capacity items.new) }
-    ensures succeeds { vec_len items.old < vec_capacity items.old → IsOk result }
-{
-    match search(items, item.owner, item.entry.key) {
-        Ok(at) => {
-            items[at] = item;
-            Ok(())
-        }
-        Err(at) => items.insert(at, item),
+    Entry {
+        key: u32::MAX,
+        version,
+        value: 0,
+        born: 0,
     }
 }

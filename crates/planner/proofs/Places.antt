@@ -20,7 +20,7 @@ use Rattle.planner.specs.declared.plays.Pair.{Pair}
 use Rattle.planner.specs.Sharing.{exchange_at}
 use Rattle.planner.specs.States.{Taken, State, with_at, both_of, opened, put_back, after_event, state_of}
 use Rattle.planner.proofs.Maps.{with_at-same, with_at-other}
-use Rattle.planner.specs.Places.{table_of, taken_of, in_place, itself, pair_of, IsPairOf, AreInPlace}
+use Rattle.planner.specs.Places.{without_room, taken_of, in_place, itself, both_or_none, IsPairOf, AreInPlace}
 
 -- a list changed at one place, as a map
 pub seen-set : {A B : Type 0} (f : A → B) (xs : List A) (d : A) (place : ℕ) (x : A) → place < length xs → (n : ℕ) → with_at (λ m. f (get_or xs m d)) place (f x) n ≡ f (get_or (set xs place x) n d)
@@ -35,7 +35,7 @@ seen-set_both f xs d p q x y in_p in_q n =
     (λ i. with_at (λ m. seen-set f xs d p x in_p m i) q (f y) n)
     ∙ seen-set f (set xs p x) d q y (omega (arith, length-set xs p x)) n
 
-pub pair-both : (p q : Option NodeTableView) → both_of (table_of p) (table_of q) ≡ taken_of (pair_of p q)
+pub pair-both : (p q : Option NodeTableView) → both_of (without_room p) (without_room q) ≡ taken_of (both_or_none p q)
 pair-both None None = refl
 pair-both None (Some q) = refl
 pair-both (Some p) None = refl
@@ -95,7 +95,7 @@ module _ (nodes keys : ℕ) (es : List Exchange) where
 -- the state that such lists show
 abbrev pub state_with : List (Option NodeTableView) → List (Option Pair) → List (Option Record) → State
 state_with homes out records = record {
-  home = λ n. table_of (get_or homes n None);
+  home = λ n. without_room (get_or homes n None);
   out = λ i. taken_of (get_or out i None);
   records = λ i. get_or records i None;
 }
@@ -105,11 +105,11 @@ module _ (rules : Rules) (es read : List Exchange) (same : read ≡ es) (i : ℕ
   e = exchange_at read i
 
   -- both tables taken out
-  pub taken_out : (a b x y : Option NodeTableView) (z : Option Pair) → a ≡ get_or homes e.initiator a → x ≡ None → b ≡ get_or (set homes e.initiator x) e.responder b → y ≡ None → z ≡ pair_of a b → after_event rules es (state_with homes out records) (Start i) ≡ state_with (set (set homes e.initiator x) e.responder y) (set out i z) records
+  pub taken_out : (a b x y : Option NodeTableView) (z : Option Pair) → a ≡ get_or homes e.initiator a → x ≡ None → b ≡ get_or (set homes e.initiator x) e.responder b → y ≡ None → z ≡ both_or_none a b → after_event rules es (state_with homes out records) (Start i) ≡ state_with (set (set homes e.initiator x) e.responder y) (set out i z) records
   taken_out a b x y z read_a empty_x read_b empty_y pair =
       ap (λ l. after_event rules l (state_with homes out records) (Start i)) (sym same)
       ∙ same_state (after_event rules read (state_with homes out records) (Start i)) (state_with (set (set homes e.initiator x) e.responder y) (set out i z) records)
-      (λ n. (λ k. with_at (with_at (λ m. table_of (get_or homes m None)) e.initiator (table_of (sym empty_x k))) e.responder (table_of (sym empty_y k)) n) ∙ seen-set_both table_of homes None e.initiator e.responder x y in_p in_q n)
+      (λ n. (λ k. with_at (with_at (λ m. without_room (get_or homes m None)) e.initiator (without_room (sym empty_x k))) e.responder (without_room (sym empty_y k)) n) ∙ seen-set_both without_room homes None e.initiator e.responder x y in_p in_q n)
       (λ n. ap (λ t. with_at (λ m. taken_of (get_or out m None)) i t n) there ∙ seen-set taken_of out None i z in_out n)
       (λ n. refl)
     where
@@ -119,8 +119,8 @@ module _ (rules : Rules) (es read : List Exchange) (same : read ≡ es) (i : ℕ
       second : get_or homes e.responder None ≡ b
       second = sym (get_or_read (set homes e.initiator x) e.responder b (omega (arith, length-set homes e.initiator x)) read_b None ∙ get_or-set_other homes e.initiator e.responder x None (λ h. apart (sym h)))
 
-      there : both_of (table_of (get_or homes e.initiator None)) (table_of (get_or homes e.responder None)) ≡ taken_of z
-      there = pair-both (get_or homes e.initiator None) (get_or homes e.responder None) ∙ (λ k. taken_of (pair_of (first k) (second k))) ∙ ap taken_of (sym pair)
+      there : both_of (without_room (get_or homes e.initiator None)) (without_room (get_or homes e.responder None)) ≡ taken_of z
+      there = pair-both (get_or homes e.initiator None) (get_or homes e.responder None) ∙ (λ k. taken_of (both_or_none (first k) (second k))) ∙ ap taken_of (sym pair)
 
   -- both tables put back, and the record kept
   pub come_back : (in_records : i < length records) (pair : Pair) (x y : NodeTableView) (r : Record) (z : Option Pair) → get_or out i None ≡ Some pair → exchanged rules e pair.initiator.table pair.responder.table ≡ record { initiator = x.table; responder = y.table; sent = r } → z ≡ None → after_event rules es (state_with homes out records) (Finish i) ≡ state_with (set (set homes e.initiator (Some x)) e.responder (Some y)) (set out i z) (set records i (Some r))
@@ -129,13 +129,13 @@ module _ (rules : Rules) (es read : List Exchange) (same : read ≡ es) (i : ℕ
       ∙ ap (λ t. put_back rules e i (state_with homes out records) (taken_of t)) was
       ∙ ap put_all done
       ∙ same_state (put_all (record { initiator = x.table; responder = y.table; sent = r })) (state_with (set (set homes e.initiator (Some x)) e.responder (Some y)) (set out i z) (set records i (Some r)))
-      (seen-set_both table_of homes None e.initiator e.responder (Some x) (Some y) in_p in_q)
+      (seen-set_both without_room homes None e.initiator e.responder (Some x) (Some y) in_p in_q)
       (λ n. ap (λ t. with_at (λ m. taken_of (get_or out m None)) i (taken_of t) n) (sym empty) ∙ seen-set taken_of out None i z in_out n)
       (seen-set (λ t. t) records None i (Some r) in_records)
     where
       put_all : Exchanged → State
       put_all d = record {
-        home = with_at (with_at (λ n. table_of (get_or homes n None)) e.initiator (Some d.initiator)) e.responder (Some d.responder);
+        home = with_at (with_at (λ n. without_room (get_or homes n None)) e.initiator (Some d.initiator)) e.responder (Some d.responder);
         out = with_at (λ n. taken_of (get_or out n None)) i None;
         records = with_at (λ n. get_or records n None) i (Some d.sent);
       }
@@ -161,7 +161,7 @@ none_more (x ∷ xs) none zero = none 0
 none_more (x ∷ xs) none (suc i) = none_more xs (λ j. none (suc j)) i
 
 -- the state before the first event
-opened_home : (ks : List NodeTableView) (n : ℕ) → slice_get (tables_in ks) n ≡ table_of (get_or (map in_place ks) n None)
+opened_home : (ks : List NodeTableView) (n : ℕ) → slice_get (tables_in ks) n ≡ without_room (get_or (map in_place ks) n None)
 opened_home [] n = refl
 opened_home (k ∷ ks) zero = refl
 opened_home (k ∷ ks) (suc n) = opened_home ks n
@@ -169,7 +169,7 @@ opened_home (k ∷ ks) (suc n) = opened_home ks n
 pub opened_state : (ks : List NodeTableView) (homes : List (Option NodeTableView)) (out : List (Option Pair)) (records : List (Option Record)) → homes ≡ map in_place ks → ((i : ℕ) → get_or out i None ≡ None) → ((i : ℕ) → get_or records i None ≡ None) → opened (tables_in ks) ≡ state_with homes out records
 opened_state ks homes out records is no_pair no_record =
     same_state (opened (tables_in ks)) (state_with homes out records)
-    (λ n. opened_home ks n ∙ ap (λ l. table_of (get_or l n None)) (sym is))
+    (λ n. opened_home ks n ∙ ap (λ l. without_room (get_or l n None)) (sym is))
     (λ i. ap taken_of (sym (no_pair i)))
     (λ i. sym (no_record i))
 
@@ -180,7 +180,7 @@ opened_in_place nodes keys es ts ordered = record {
 }
 
 -- where each place has what stands in a list, so has what comes out of the places
-pub all_tables : (homes : List (Option NodeTableView)) (ts : List Table) → length homes ≡ length ts → ((n : ℕ) → n < length ts → slice_get ts n ≡ table_of (get_or homes n None)) → tables_in (filter_map itself homes) ≡ ts
+pub all_tables : (homes : List (Option NodeTableView)) (ts : List Table) → length homes ≡ length ts → ((n : ℕ) → n < length ts → slice_get ts n ≡ without_room (get_or homes n None)) → tables_in (filter_map itself homes) ≡ ts
 all_tables [] [] same each = refl
 all_tables [] (t ∷ ts) same each = absurd (omega arith)
 all_tables (h ∷ homes) [] same each = absurd (omega arith)

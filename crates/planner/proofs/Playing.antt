@@ -1,5 +1,5 @@
 -- A schedule that is being carried out, event by event.
-use Rattle.std.proofs.Common.{◌≡◌, ℕ, ◌+◌, ◌<◌, List, [], ◌∷◌, ◌++◌, length, get_or, map, take, All, None, Some, sym, ap, ◌∙◌, subst, arith}
+use Rattle.std.proofs.Common.{◌≡◌, ℕ, ◌+◌, ◌<◌, List, [], ◌∷◌, ◌++◌, length, get_or, map, take, All, Some, sym, ap, ◌∙◌, subst, arith}
 use Rattle.std.specs.List.{slice_get, filter_map}
 use Rattle.std.proofs.lemmas.List.{take_more, length-map}
 use Rattle.std.proofs.lemmas.List.Sums.{fold-append}
@@ -24,7 +24,7 @@ use Rattle.planner.specs.Stages.{ScheduleView, stage_in, CanStart, with_stage, n
 use Rattle.planner.specs.declared.schedules.Stage.TheVariants.{Running, Done}
 use Rattle.planner.specs.States.{after_event, opened, state_of}
 use Rattle.planner.specs.ListOrder.{IsWhole}
-use Rattle.planner.specs.Places.{state_in, HasPlaces, AreInPlace, itself, in_place}
+use Rattle.planner.specs.Places.{state_in, AreEmpty, HasPlaces, AreInPlace, itself, in_place}
 use Rattle.planner.specs.Plays.{IsPlayed, IsEventAt, IsRefusal}
 use Rattle.planner.proofs.Lawful.{whole_in_list_order}
 use Rattle.planner.proofs.Places.{always_in_place, opened_in_place, opened_state, all_tables, all_records}
@@ -76,15 +76,15 @@ played rules plan ks events s places after records cluster planned so_far finish
         (λ n lt. sym (whole.records n (omega (arith, lt, count_records))) ∙ ap (λ st. st.records n) so_far.state)
 
 -- nothing has happened yet
-pub so_far_none : (rules : Rules) (plan : RoundListView) (ks : List NodeTableView) (s : ScheduleView) (places : Places) → IsCluster plan.nodes (tables_in ks) → s ≡ not_started plan → places.homes.items ≡ map in_place ks → (length places.out.items ≡ length plan.exchanges) × ((i : ℕ) → get_or places.out.items i None ≡ None) → (length places.records.items ≡ length plan.exchanges) × ((i : ℕ) → get_or places.records.items i None ≡ None) → IsSoFar rules plan (tables_in ks) [] s places
+pub so_far_none : (rules : Rules) (plan : RoundListView) (ks : List NodeTableView) (s : ScheduleView) (places : Places) → IsCluster plan.nodes (tables_in ks) → s ≡ not_started plan → places.homes.items ≡ map in_place ks → AreEmpty (length plan.exchanges) places.out.items → AreEmpty (length plan.exchanges) places.records.items → IsSoFar rules plan (tables_in ks) [] s places
 so_far_none rules plan ks s places cluster first homes out records = record {
   at = at_first plan s first;
   kept = record {
     homes = ap length homes ∙ length-map ks in_place ∙ sym (length-tables_in ks) ∙ cluster.size;
-    out = out.0;
-    records = records.0;
+    out = out.size;
+    records = records.size;
   };
-  state = opened_state ks places.homes.items places.out.items places.records.items homes out.1 records.1;
+  state = opened_state ks places.homes.items places.out.items places.records.items homes out.empty records.empty;
 }
 
 -- the event at a place

@@ -2,19 +2,21 @@
 -- Source: this project.
 use Rattle.std.specs.Prelude.{◌≡◌, ℕ, List, length, slice_index_or, Option, None, Some}
 use Rattle.bench_types.specs.declared.exchanges.Exchange.{Exchange}
+use Rattle.bench_types.specs.declared.exchanges.Rules.{Rules}
 use Rattle.node_table.specs.Table.{Table}
 use Rattle.node_table.specs.NodeTableView.{NodeTableView}
 use Rattle.round_plan.specs.Plan.{RoundListView}
 use Rattle.cluster.specs.Tables.{IsTableOf}
+use Rattle.planner.specs.declared.events.Event.{Event}
 use Rattle.planner.specs.declared.plays.Pair.{Pair}
 use Rattle.planner.specs.declared.plays.Places.{Places}
 use Rattle.planner.specs.Sharing.{exchange_at}
-use Rattle.planner.specs.States.{Taken, State}
+use Rattle.planner.specs.States.{Taken, State, after_event}
 
 -- tables without their room
-abbrev pub table_of : Option NodeTableView → Option Table
-table_of None = None
-table_of (Some kept) = Some kept.table
+abbrev pub without_room : Option NodeTableView → Option Table
+without_room None = None
+without_room (Some kept) = Some kept.table
 
 abbrev pub taken_of : Option Pair → Option Taken
 taken_of None = None
@@ -22,10 +24,19 @@ taken_of (Some pair) = Some (record { initiator = pair.initiator.table; responde
 
 abbrev pub state_in : Places → State
 state_in places = record {
-  home = λ n. table_of (slice_index_or places.homes.items n None);
+  home = λ n. without_room (slice_index_or places.homes.items n None);
   out = λ i. taken_of (slice_index_or places.out.items i None);
   records = λ i. slice_index_or places.records.items i None;
 }
+
+-- so many places, and nothing in them
+pub record AreEmpty {X : Type 0} (count : ℕ) (places : List (Option X)) : Type 0 where
+  pub size : length places ≡ count
+  pub empty : (i : ℕ) → slice_index_or places i None ≡ None
+
+-- the second shows the state after an event of the first
+abbrev pub ShowsEvent : Rules → List Exchange → Event → Places → Places → Type 0
+ShowsEvent rules es event old new = after_event rules es (state_in old) event ≡ state_in new
 
 -- a place for each node, and two for each exchange
 pub record HasPlaces (plan : RoundListView) (places : Places) : Type 0 where
@@ -46,10 +57,10 @@ pub record AreInPlace (nodes keys : ℕ) (es : List Exchange) (s : State) : Type
 abbrev pub in_place : NodeTableView → Option NodeTableView
 in_place kept = Some kept
 
-abbrev pub pair_of : Option NodeTableView → Option NodeTableView → Option Pair
-pair_of (Some p) (Some q) = Some (record { initiator = p; responder = q })
-pair_of (Some p) None = None
-pair_of None q = None
+abbrev pub both_or_none : Option NodeTableView → Option NodeTableView → Option Pair
+both_or_none (Some p) (Some q) = Some (record { initiator = p; responder = q })
+both_or_none (Some p) None = None
+both_or_none None q = None
 
 abbrev pub itself : {A : Type 0} → Option A → Option A
 itself x = x

@@ -29,16 +29,38 @@ pub record IsSchedule (s : ScheduleView) : Type 0 where
   pub size : length s.stages ≡ length s.plan.exchanges
   pub closed : (i j : ℕ) → j < i → i < length s.plan.exchanges → stage_in s.stages i ≢ Waiting → share_node s.plan.exchanges i j ≡ true → stage_in s.stages j ≡ Done
 
+-- each earlier exchange that shares a node with it is done
+abbrev pub IsFree : ScheduleView → ℕ → Type 0
+IsFree s i = (j : ℕ) → j < i → share_node s.plan.exchanges i j ≡ true → stage_in s.stages j ≡ Done
+
 pub record CanStart (s : ScheduleView) (i : ℕ) : Type 0 where
   pub within : i < length s.plan.exchanges
   pub waiting : stage_in s.stages i ≡ Waiting
-  pub free : (j : ℕ) → j < i → share_node s.plan.exchanges i j ≡ true → stage_in s.stages j ≡ Done
+  pub free : IsFree s i
+
+-- the first of all that can start
+abbrev pub IsNextReady : ScheduleView → ℕ → Type 0
+IsNextReady s i = CanStart s i × ((j : ℕ) → j < i → ¬ (CanStart s j))
+
+abbrev pub IsRunning : ScheduleView → ℕ → Type 0
+IsRunning s i = stage_in s.stages i ≡ Running
+
+abbrev pub IsDone : ScheduleView → ℕ → Type 0
+IsDone s i = stage_in s.stages i ≡ Done
 
 abbrev pub with_stage : ScheduleView → ℕ → Stage → ScheduleView
 with_stage s i stage = standing_of s.plan (slice_set s.stages i stage)
 
 abbrev pub waiting_at_first : Exchange → Stage
 waiting_at_first e = Waiting
+
+-- an exchange that could start now runs, and nothing else has changed
+abbrev pub Starts : ℕ → ScheduleView → ScheduleView → Type 0
+Starts i old new = CanStart old i × (new ≡ with_stage old i Running)
+
+-- an exchange that ran is done now, and nothing else has changed
+abbrev pub Finishes : ℕ → ScheduleView → ScheduleView → Type 0
+Finishes i old new = IsRunning old i × (new ≡ with_stage old i Done)
 
 -- nothing is started
 abbrev pub not_started : RoundListView → ScheduleView

@@ -7,6 +7,7 @@ ghost use Rattle.bench_types.specs.Exchange.{IsPlanned};
 ghost use Rattle.round_plan.specs.Plan.{IsRoundPlan};
 ghost use Rattle.round_plan.specs.declared.lists.TheConstants.{MOST_EXCHANGES};
 ghost use Rattle.planner.specs.Sharing.{exchange_at};
+ghost use Rattle.planner.specs.Dependencies.{AreFirstReady};
 ghost use Rattle.planner.specs.Neighbours.{predecessors_of, successors, all_predecessors, all_successors, as_list, unless_same, pending_of, first_ready_of};
 
 use bench_types::{Exchange, Fault};
@@ -44,14 +45,15 @@ pub struct Deps {
 }
 
 impl Model for Deps {
-    ghost use Rattle.round_plan.specs.Plan.{RoundListView, plan_of, IsRoundPlan};
-    ghost use Rattle.planner.specs.Dependencies.{AreDependencies};
+    ghost use Rattle.round_plan.specs.Plan.{RoundListView, plan_of};
+    ghost use Rattle.planner.specs.Dependencies.{AreKept};
 
     ghost Value = { RoundListView };
 
     ghost view = { λ d. plan_of d.nodes d.unreached d.exchanges.items };
 
-    ghost invariant = { λ d. IsRoundPlan (plan_of d.nodes d.unreached d.exchanges.items) × AreDependencies d.exchanges.items d.before.items d.after.items d.first_ready.items };
+    ghost invariant = { λ d. AreKept (plan_of d.nodes d.unreached d.exchanges.items)
+        d.before.items d.after.items d.first_ready.items };
 }
 
 impl Deps {
@@ -174,7 +176,7 @@ fn all_after(alloc: Global, nodes: u32, exchanges: &[Exchange]) -> Result<Vec<Af
 // The places of the exchanges that wait for none.
 fn free_places(alloc: Global, before: &[Before]) -> Result<Vec<u32>, Fault>
     requires few { length before.now ≤ MOST_EXCHANGES }
-    ensures value { IfOk result (λ v. (es : List Exchange) → before.now ≡ all_predecessors es → v.items ≡ first_ready_of es) }
+    ensures value { IfOk result (λ v. AreFirstReady before.now v.items) }
     ensures only { IsOkUnless result OutOfMemory }
 {
     let mut free = Vec::new(alloc);

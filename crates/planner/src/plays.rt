@@ -1,12 +1,11 @@
 //! Carrying out a schedule on one thread.
 
-ghost use Rattle.std.specs.Prelude.{◌≡◌, ◌<◌, ◌≤◌, ℕ, None, length, map, filter_map, slice_index_or, IfOk, IfErr, OnOk, IsOkUnless};
+ghost use Rattle.std.specs.Prelude.{◌≡◌, ◌<◌, ◌≤◌, ℕ, length, map, filter_map, IfOk, IfErr, OnOk, IsOkUnless};
 ghost use Rattle.bench_types.specs.declared.exchanges.Rules.{Rules};
 ghost use Rattle.bench_types.specs.declared.faults.Fault.TheVariants.{OutOfMemory};
 ghost use Rattle.planner.specs.declared.events.Event.TheVariants.{Start, Finish};
 ghost use Rattle.planner.specs.Stages.{not_started};
-ghost use Rattle.planner.specs.States.{after_event};
-ghost use Rattle.planner.specs.Places.{state_in, HasPlaces, AreInPlace, itself, in_place, pair_of};
+ghost use Rattle.planner.specs.Places.{state_in, AreEmpty, HasPlaces, ShowsEvent, AreInPlace, itself, in_place, both_or_none};
 ghost use Rattle.cluster.specs.Tables.{tables_in, IsCluster};
 ghost use Rattle.planner.specs.Plays.{ArePlayed, IsRefusal};
 
@@ -52,7 +51,7 @@ pub fn play(
     ensures played { IfOk result (λ p. ArePlayed rules.now list.now events.now tables.items p.0.items p.1.items) }
     ensures refused { IfErr result (IsRefusal list.now.exchanges events.now) }
 {
-    let mut schedule = opened(alloc, list)?;
+    let mut schedule = unstarted(alloc, list)?;
     let mut places = all_at_home(alloc, list, tables)?;
     for event in events {
         match *event {
@@ -78,7 +77,7 @@ pub fn play(
 }
 
 // A schedule of the list of which nothing is started.
-fn opened(alloc: Global, list: &RoundList) -> Result<Schedule, Fault>
+fn unstarted(alloc: Global, list: &RoundList) -> Result<Schedule, Fault>
     ensures value { IfOk result (λ s. s ≡ not_started list.now) }
     ensures only { IsOkUnless result OutOfMemory }
 {
@@ -92,8 +91,8 @@ fn opened(alloc: Global, list: &RoundList) -> Result<Schedule, Fault>
 // All tables in their places, and nothing taken out.
 fn all_at_home(alloc: Global, list: &RoundList, tables: Vec<NodeTable>) -> Result<Places, Fault>
     ensures homes { IfOk result (λ p. p.homes.items ≡ map in_place tables.items) }
-    ensures out { IfOk result (λ p. (length p.out.items ≡ length list.now.exchanges) × ((i : ℕ) → slice_index_or p.out.items i None ≡ None)) }
-    ensures records { IfOk result (λ p. (length p.records.items ≡ length list.now.exchanges) × ((i : ℕ) → slice_index_or p.records.items i None ≡ None)) }
+    ensures out { IfOk result (λ p. AreEmpty (length list.now.exchanges) p.out.items) }
+    ensures records { IfOk result (λ p. AreEmpty (length list.now.exchanges) p.records.items) }
     ensures only { IsOkUnless result OutOfMemory }
 {
     let mut homes = Vec::with_capacity(alloc, tables.len())?;
@@ -118,7 +117,7 @@ fn take_out(places: &mut Places, list: &RoundList, i: u32)
     requires within { i < length list.now.exchanges }
     requires places { HasPlaces list.now places.old }
     ensures places { HasPlaces list.now places.new }
-    ensures state { (rules : Rules) → after_event rules list.now.exchanges (state_in places.old) (Start i) ≡ state_in places.new }
+    ensures state { (rules : Rules) → ShowsEvent rules list.now.exchanges (Start i) places.old places.new }
 {
     let plan = list.exchanges()[i as usize];
     let initiator = places.homes[plan.initiator as usize].take();
@@ -128,7 +127,7 @@ fn take_out(places: &mut Places, list: &RoundList, i: u32)
 
 // Two tables as a pair, where both are there.
 fn both(initiator: Option<NodeTable>, responder: Option<NodeTable>) -> Option<Pair>
-    ensures { result ≡ pair_of initiator responder }
+    ensures { result ≡ both_or_none initiator responder }
 {
     match (initiator, responder) {
         (Some(initiator), Some(responder)) => Some(Pair {
@@ -152,7 +151,7 @@ fn put_back(
     requires places { HasPlaces list.now places.old }
     requires tables { (keys : ℕ) × AreInPlace list.now.nodes keys list.now.exchanges (state_in places.old) }
     ensures places { OnOk result (HasPlaces list.now places.new) }
-    ensures state { OnOk result (after_event rules.now list.now.exchanges (state_in places.old) (Finish i) ≡ state_in places.new) }
+    ensures state { OnOk result (ShowsEvent rules.now list.now.exchanges (Finish i) places.old places.new) }
     ensures only { IsOkUnless result OutOfMemory }
 {
     let plan = list.exchanges()[i as usize];

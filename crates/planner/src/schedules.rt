@@ -2,8 +2,8 @@
 
 ghost use Rattle.std.specs.Prelude.{◌≡◌, ◌<◌, ◌↔◌, ℕ, None, true, length, replicate, slice_get, count_by, IfOk, IfErr, OnOk, OnErr, IfSome, IsTrue, IsOkUnless};
 ghost use Rattle.bench_types.specs.declared.faults.Fault.TheVariants.{OutOfMemory, NotAllowed, NotRunning};
-ghost use Rattle.planner.specs.Sharing.{share_node};
-ghost use Rattle.planner.specs.Stages.{IsSchedule, stage_in, CanStart, with_stage, HasSchedule, not_started, runs, is_over, none_or_over};
+ghost use Rattle.planner.specs.Stages.{not_started, runs, is_over, none_or_over};
+ghost use Rattle.planner.specs.Stages.{IsSchedule, CanStart, IsFree, IsNextReady, IsRunning, IsDone, Starts, Finishes, HasSchedule};
 
 use crate::deps::Deps;
 use bench_types::Fault;
@@ -36,8 +36,8 @@ impl Model for Schedule {
 }
 
 impl Schedule {
-    /// A schedule of which nothing is started. On a refusal, which is want of memory, the
-    /// dependencies come back. Costs a step for each exchange of the list.
+    /// A schedule of which nothing is started. Where memory runs out the dependencies come back.
+    /// Costs a step for each exchange of the list.
     pub fn new(alloc: Global, deps: Deps) -> Result<Schedule, (Fault, Deps)>
         ensures opens { IfOk result (λ s. s ≡ not_started deps) }
         ensures hands_back { IfErr result (λ e. (e.0 ≡ OutOfMemory) × (e.1 ≡ deps)) }
@@ -51,7 +51,7 @@ impl Schedule {
     /// Starts an exchange. Refused where it isn't in the list, has been started, or an earlier exchange
     /// that shares a node with it isn't finished.
     pub fn start(&mut self, i: u32) -> Result<(), Fault>
-        ensures ok { OnOk result (CanStart self.old i × (self.new ≡ with_stage self.old i Stage.Running)) }
+        ensures ok { OnOk result (Starts i self.old self.new) }
         ensures err { OnErr result (¬ (CanStart self.old i) × (self.new ≡ self.old)) }
         ensures only { IsOkUnless result NotAllowed }
     {
@@ -64,8 +64,8 @@ impl Schedule {
 
     /// Finishes an exchange. Refused where it isn't running.
     pub fn finish(&mut self, i: u32) -> Result<(), Fault>
-        ensures ok { OnOk result ((stage_in self.old.stages i ≡ Stage.Running) × (self.new ≡ with_stage self.old i Stage.Done)) }
-        ensures err { OnErr result (¬ (stage_in self.old.stages i ≡ Stage.Running) × (self.new ≡ self.old)) }
+        ensures ok { OnOk result (Finishes i self.old self.new) }
+        ensures err { OnErr result (¬ (IsRunning self.old i) × (self.new ≡ self.old)) }
         ensures only { IsOkUnless result NotRunning }
     {
         if !self.is_running(i) {
@@ -85,7 +85,7 @@ impl Schedule {
     }
 
     pub fn is_running(&self, i: u32) -> bool
-        ensures running { IsTrue result ↔ (stage_in self.now.stages i ≡ Stage.Running) }
+        ensures running { IsTrue result ↔ IsRunning self.now i }
         ensures lawful { HasSchedule self.now }
         ensures kept { IsSchedule self.now }
     {
@@ -93,7 +93,7 @@ impl Schedule {
     }
 
     pub fn is_done(&self, i: u32) -> bool
-        ensures done { IsTrue result ↔ (stage_in self.now.stages i ≡ Stage.Done) }
+        ensures done { IsTrue result ↔ IsDone self.now i }
         ensures lawful { HasSchedule self.now }
         ensures kept { IsSchedule self.now }
     {
@@ -125,7 +125,7 @@ impl Schedule {
     /// The first exchange that may start now. Looks at each exchange up to it, and at the two at most
     /// that each of them waits for.
     pub fn next_ready(&self) -> Option<u32>
-        ensures some { IfSome result (λ i. CanStart self.now i × ((j : ℕ) → j < i → ¬ (CanStart self.now j))) }
+        ensures some { IfSome result (IsNextReady self.now) }
         ensures none { result ≡ None → (j : ℕ) → ¬ (CanStart self.now j) }
     {
         for i in 0..self.deps.len() {
@@ -147,7 +147,7 @@ impl Schedule {
     // Whether no exchange that it waits for is unfinished.
     fn is_free(&self, i: u32) -> bool
         requires within { i < length self.now.plan.exchanges }
-        ensures { IsTrue result ↔ ((j : ℕ) → j < i → share_node self.now.plan.exchanges i j ≡ true → stage_in self.now.stages j ≡ Stage.Done) }
+        ensures { IsTrue result ↔ IsFree self.now i }
     {
         let before = self.deps.before(i);
         self.is_over(before.first) && self.is_over(before.second)

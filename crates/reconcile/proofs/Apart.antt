@@ -13,11 +13,10 @@ use Rattle.bench_types.specs.declared.entries.Item.{Item}
 use Rattle.bench_types.specs.declared.exchanges.Mode.{Mode}
 use Rattle.bench_types.specs.declared.exchanges.Mode.TheVariants.{ScuttleBreadth, ScuttleDepth, PreciseOldest, PreciseNewest}
 use Rattle.node_table.specs.Table.{place_cmp}
-use Rattle.node_table.specs.View.{place_of, IsRising}
+use Rattle.node_table.specs.View.{no_item, place_of, IsRising}
 use Rattle.node_table.proofs.Order.{place_total}
 use Rattle.node_table.proofs.Rising.{rising_at, rising_tail}
 use Rattle.reconcile.specs.Order.{rotated, rank_among, owner_count, sending_order}
-use Rattle.node_table.specs.Walks.{no_item}
 use Rattle.reconcile.proofs.Counts.{count_by-cons_true, count_by-cons_false, count_by-stretch}
 use Rattle.node_table.proofs.Comparing.{both_equal}
 
@@ -111,7 +110,7 @@ same_place q xs sorted rising same j k in_j in_k owners keys =
         omega (arith, counted_twice (stands_at o key) sorted a b no_item lt in_b here there, moved, count_by-filter-le (stands_at o key) q xs, one_at_place o key xs rising)
 
 -- what the rotation turns
-rotated-is : (ns s o : ℕ) → s < ns → o < ns → ((s ≤ o) × (rotated ns s o ≡ o - s)) ⊎ ((o < s) × (rotated ns s o ≡ o + ns - s))
+pub rotated-is : (ns s o : ℕ) → s < ns → o < ns → ((s ≤ o) × (rotated ns s o ≡ o - s)) ⊎ ((o < s) × (rotated ns s o ≡ o + ns - s))
 rotated-is ns s o in_s in_o = elim (cases_lt o s) [
   | inl before ↦ inr (before, mod-eq_of_lt {n = o + ns - s} {m = ns} (omega arith))
   | inr from ↦ inl (from, ap (λ n. n % ns) {x = o + ns - s} {y = (o - s) + ns} (omega arith) ∙ add-mod_right (o - s) ns ∙ mod-eq_of_lt {n = o - s} {m = ns} (omega arith))

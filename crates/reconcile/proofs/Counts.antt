@@ -1,6 +1,6 @@
 -- How many elements of a list pass a test that holds on one stretch of it.
-use Rattle.std.proofs.Common.{◌≡◌, ℕ, zero, suc, ◌+◌, ◌-◌, ◌<◌, ◌≤◌, Bool, true, false, cond, List, [], ◌∷◌, length, get_or, ◌⊎◌, inl, inr, ap, ◌∙◌, arith}
-use Rattle.std.specs.Prelude.{count_by}
+use Rattle.std.proofs.Common.{◌≡◌, ℕ, zero, suc, ◌+◌, ◌-◌, ◌<◌, ◌≤◌, Bool, true, false, cond, List, [], ◌∷◌, length, get_or, ◌⊎◌, inl, inr, refl, sym, ap, ◌∙◌, arith}
+use Rattle.std.specs.Prelude.{count_by, Contains}
 use Rattle.std.proofs.lemmas.List.Sums.{sum_by-cons}
 
 module _ {X : Type 0} (p : X → Bool) where
@@ -34,3 +34,15 @@ module _ {X : Type 0} (p : X → Bool) where
       moved : (i a b : ℕ) → (i < a) ⊎ (b ≤ i) → (suc i < suc a) ⊎ (suc b ≤ suc i)
       moved i a b (inl lt) = inl (omega arith)
       moved i a b (inr le) = inr (omega arith)
+
+-- where none is counted each fails
+pub count_by-none : {X : Type 0} (q : X → Bool) (xs : List X) → count_by q xs ≡ 0 → (x : X) → Contains xs x → q x ≡ false
+count_by-none q [] none x (k, lt, is) = absurd (omega arith)
+count_by-none q (y ∷ xs) none x (zero, lt, is) = elim (q y) as (λ b. q y ≡ b → q x ≡ false) [
+  | true ↦ λ e. absurd (omega (arith, none, count_by-cons_true q y xs e))
+  | false ↦ λ e. ap q (sym is) ∙ e
+] refl
+count_by-none q (y ∷ xs) none x (suc k, lt, is) = elim (q y) as (λ b. q y ≡ b → q x ≡ false) [
+  | true ↦ λ e. absurd (omega (arith, none, count_by-cons_true q y xs e))
+  | false ↦ λ e. count_by-none q xs (sym (count_by-cons_false q y xs e) ∙ none) x (k, omega arith, is)
+] refl

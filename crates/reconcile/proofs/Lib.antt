@@ -1,6 +1,7 @@
 -- Laws of the definitions, for the crates above.
-pub mod Laws
+pub mod DeltaLaws
 pub mod Told
+pub mod Members
 -- What the proofs of this crate's functions rest on.
 pub mod Counts
 pub mod Runs
@@ -12,5 +13,7 @@ pub mod Ordered
 pub mod Apart
 pub mod Sending
 pub mod Sizes
-pub mod Held
-pub mod Walked
+pub mod Dense
+pub mod Front
+pub mod Newer
+pub mod Layers

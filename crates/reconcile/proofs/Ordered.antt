@@ -1,22 +1,23 @@
 -- Candidates sorted by their three numbers and by key are in the order of their mode.
-use Rattle.std.proofs.Common.{◌≡◌, ℕ, ◌+◌, ◌<◌, ◌^◌, Bool, eqb, List, length, get_or, All, inl, inr, refl, sym, ap, ◌∙◌, arith}
+use Rattle.std.proofs.Common.{◌≡◌, ℕ, ◌+◌, ◌<◌, ◌^◌, Bool, eqb, List, length, get_or, take, All, inl, inr, refl, sym, ap, ◌∙◌, subst, arith}
 use Rattle.std.specs.Prelude.{IsPermutation}
 use Rattle.std.specs.List.Sorted.{IsSorted, IsSortedBy}
 use Rattle.std.specs.declared.cmp.Ordering.{Ordering}
 use Rattle.std.specs.declared.cmp.Ordering.TheVariants.{Less, Equal, Greater}
 use Rattle.std.specs.Ordering.{nat_cmp, ordering_then, is_lt}
+use Rattle.std.specs.Cmp.{IsTotalOrder, nat_cmp_total, on_total, then_total}
 use Rattle.std.proofs.lemmas.Bool.{cases_order}
-use Rattle.std.proofs.lemmas.List.{get_or-map, length-map}
+use Rattle.std.proofs.lemmas.List.{get_or-map, get_or-take, length-map, length-take, take-map}
 use Rattle.std.proofs.lemmas.List.Sums.{count_by-le-length}
 use Rattle.std.proofs.lemmas.List.Elements.{All-map}
-use Rattle.std.proofs.lemmas.List.Sorted.{All-permutation, IsPermutation-map, IsPermutation-trans, sum_by-IsPermutation}
+use Rattle.std.proofs.lemmas.List.Sorted.{All-permutation, IsPermutation-map}
 use Rattle.bench_types.specs.declared.entries.Item.{Item}
 use Rattle.bench_types.specs.declared.exchanges.Mode.{Mode}
 use Rattle.bench_types.specs.declared.exchanges.Mode.TheVariants.{ScuttleBreadth, ScuttleDepth, PreciseOldest, PreciseNewest}
 use Rattle.reconcile.specs.declared.orders.Candidate.{Candidate}
-use Rattle.reconcile.specs.Order.{rotated, rank_among, owner_count, sending_order}
-use Rattle.reconcile.specs.Keys.{item_in, items_in, reversed, first_key, second_key, AllSet, AllFirst, without_first, rest_of}
-use Rattle.reconcile.proofs.Ranking.{no_candidate, All-unmap, items-permuted}
+use Rattle.reconcile.specs.Order.{rotated, owner_count, sending_order}
+use Rattle.reconcile.specs.Keys.{item_in, items_in, reversed, first_key, second_key, AllSet, AllFirst, IsFront, AreFirst, AreFirstItems, number_order, without_first, rest_of}
+use Rattle.reconcile.proofs.Ranking.{no_candidate, All-unmap, items-rest}
 use Rattle.node_table.proofs.Comparing.{nat_cmp-less, nat_cmp-equal, nat_cmp-greater}
 
 -- a list of candidates that is sorted by a test of their items is so as a list of items
@@ -32,19 +33,12 @@ then_assoc Less b c = refl
 then_assoc Equal b c = refl
 then_assoc Greater b c = refl
 
--- three comparisons in turn, as an order of tuples has them, and as the definitions do
-pub sorted_in_turn : {X : Type 0} (a b c : X → X → Ordering) (xs : List X) → IsSortedBy (λ x y. is_lt (ordering_then (ordering_then (a x y) (b x y)) (c x y))) xs → IsSortedBy (λ x y. is_lt (ordering_then (a x y) (ordering_then (b x y) (c x y)))) xs
-sorted_in_turn a b c xs sorted k d from in_range = ap is_lt (then_assoc (a (get_or xs (k + 1) d) (get_or xs k d)) (b (get_or xs (k + 1) d) (get_or xs k d)) (c (get_or xs (k + 1) d) (get_or xs k d))) ∙ sorted k d from in_range
-
--- four comparisons likewise
+-- four comparisons in turn, as an order of tuples has them, and as the definitions do
 four_in_turn : (a b c d : Ordering) → ordering_then a (ordering_then b (ordering_then c d)) ≡ ordering_then (ordering_then (ordering_then a b) c) d
 four_in_turn a b c d = then_assoc a b (ordering_then c d) ∙ then_assoc (ordering_then a b) c d
 
-pub sorted_in_four_turns : {X : Type 0} (a b c d : X → X → Ordering) (xs : List X) → IsSortedBy (λ x y. is_lt (ordering_then (ordering_then (ordering_then (a x y) (b x y)) (c x y)) (d x y))) xs → IsSortedBy (λ x y. is_lt (ordering_then (a x y) (ordering_then (b x y) (ordering_then (c x y) (d x y))))) xs
-sorted_in_four_turns a b c d xs sorted k e from in_range =
-    let x = get_or xs (k + 1) e in
-    let y = get_or xs k e in
-    ap is_lt (four_in_turn (a x y) (b x y) (c x y) (d x y)) ∙ sorted k e from in_range
+pub number_total : IsTotalOrder number_order
+number_total = then_total (then_total (then_total (on_total (λ (c : Candidate). c.first) nat_cmp_total) (on_total (λ (c : Candidate). c.turn) nat_cmp_total)) (on_total (λ (c : Candidate). c.second) nat_cmp_total)) (on_total (λ (c : Candidate). c.item.entry.key) nat_cmp_total)
 
 -- numbers that are taken from a greater one compare the other way round
 pub nat_cmp-reversed : (a b : ℕ) → a < 2 ^ 32 → b < 2 ^ 32 → nat_cmp (reversed a) (reversed b) ≡ nat_cmp b a
@@ -56,10 +50,6 @@ nat_cmp-reversed a b in_a in_b = elim (cases_order a b) [
   ]
 ]
 
--- the rank of an item is the same among candidates in another order
-pub ranks-permuted : (xs ys : List Item) (cs : List Candidate) → IsPermutation xs ys → AllFirst (rank_among ys) cs → AllFirst (rank_among xs) cs
-ranks-permuted xs ys cs same ranked k d lt = ranked k d lt ∙ sum_by-IsPermutation _ xs ys same
-
 -- a candidate with its three numbers
 pub record IsKeyed (mode : Mode) (nodes rotation : ℕ) (items : List Item) (c : Candidate) : Type 0 where
   pub first : c.first ≡ first_key mode items c.item
@@ -68,18 +58,17 @@ pub record IsKeyed (mode : Mode) (nodes rotation : ℕ) (items : List Item) (c :
   pub version_fits : c.item.entry.version < 2 ^ 32
   pub born_fits : c.item.entry.born < 2 ^ 32
 
-abbrev by_keys : Candidate → Candidate → Ordering
-by_keys c d = ordering_then (nat_cmp c.first d.first) (ordering_then (nat_cmp c.turn d.turn) (ordering_then (nat_cmp c.second d.second) (nat_cmp c.item.entry.key d.item.entry.key)))
-
 -- the keys alone, put in place of the numbers
-abbrev by_items : Mode → ℕ → ℕ → List Item → Item → Item → Ordering
+abbrev pub by_items : Mode → ℕ → ℕ → List Item → Item → Item → Ordering
 by_items mode ns s items i j = ordering_then (nat_cmp (first_key mode items i) (first_key mode items j)) (ordering_then (nat_cmp (rotated ns s i.owner) (rotated ns s j.owner)) (ordering_then (nat_cmp (second_key mode i) (second_key mode j)) (nat_cmp i.entry.key j.entry.key)))
 
-keys-items : (mode : Mode) (ns s : ℕ) (items : List Item) (c d : Candidate) → IsKeyed mode ns s items c → IsKeyed mode ns s items d → by_keys c d ≡ by_items mode ns s items c.item d.item
-keys-items mode ns s items c d a b = λ i. ordering_then (nat_cmp (a.first i) (b.first i)) (ordering_then (nat_cmp (a.turn i) (b.turn i)) (ordering_then (nat_cmp (a.second i) (b.second i)) (nat_cmp c.item.entry.key d.item.entry.key)))
+keys-items : (mode : Mode) (ns s : ℕ) (items : List Item) (c d : Candidate) → IsKeyed mode ns s items c → IsKeyed mode ns s items d → number_order c d ≡ by_items mode ns s items c.item d.item
+keys-items mode ns s items c d a b =
+    sym (four_in_turn (nat_cmp c.first d.first) (nat_cmp c.turn d.turn) (nat_cmp c.second d.second) (nat_cmp c.item.entry.key d.item.entry.key))
+    ∙ λ i. ordering_then (nat_cmp (a.first i) (b.first i)) (ordering_then (nat_cmp (a.turn i) (b.turn i)) (ordering_then (nat_cmp (a.second i) (b.second i)) (nat_cmp c.item.entry.key d.item.entry.key)))
 
 -- they compare as the mode says
-items-sending : (mode : Mode) (ns s : ℕ) (items : List Item) (i j : Item) → length items < 2 ^ 32 → i.entry.version < 2 ^ 32 → i.entry.born < 2 ^ 32 → j.entry.version < 2 ^ 32 → j.entry.born < 2 ^ 32 → by_items mode ns s items i j ≡ sending_order mode ns s items i j
+pub items-sending : (mode : Mode) (ns s : ℕ) (items : List Item) (i j : Item) → length items < 2 ^ 32 → i.entry.version < 2 ^ 32 → i.entry.born < 2 ^ 32 → j.entry.version < 2 ^ 32 → j.entry.born < 2 ^ 32 → by_items mode ns s items i j ≡ sending_order mode ns s items i j
 items-sending ScuttleBreadth ns s items i j few iv ib jv jb = refl
 items-sending ScuttleDepth ns s items i j few iv ib jv jb =
     ap (λ o. ordering_then o (ordering_then (nat_cmp (rotated ns s i.owner) (rotated ns s j.owner)) (ordering_then (nat_cmp i.entry.version j.entry.version) (nat_cmp i.entry.key j.entry.key))))
@@ -95,23 +84,48 @@ record IsRest (mode : Mode) (ns s : ℕ) (c : Candidate) : Type 0 where
   version_fits : c.item.entry.version < 2 ^ 32
   born_fits : c.item.entry.born < 2 ^ 32
 
-module _ (mode : Mode) (ns s : ℕ) (old keyed sorted : List Candidate) (few : length old < 2 ^ 32) (set : AllSet mode ns s old) (same : IsPermutation (rest_of old) (rest_of keyed)) (first : AllFirst (first_key mode (items_in old)) keyed) (moved : IsPermutation keyed sorted) where
+module _ (mode : Mode) (ns s : ℕ) (old keyed moved : List Candidate) (count : ℕ) (few : length old < 2 ^ 32) (set : AllSet mode ns s old) (same : rest_of keyed ≡ rest_of old) (first : AllFirst (first_key mode (items_in old)) keyed) (moves : IsPermutation keyed moved) where
   rest_is : All (λ c. IsRest mode ns s (without_first c)) keyed
-  rest_is = All-unmap (IsRest mode ns s) without_first keyed (All-permutation (IsRest mode ns s) (rest_of old) (rest_of keyed) same
+  rest_is = All-unmap (IsRest mode ns s) without_first keyed (subst (All (IsRest mode ns s)) (sym same)
       (All-map (IsRest mode ns s) without_first old (λ k d lt. let one = set k d lt in record { turn = one.turn; second = one.second; version_fits = one.version_fits; born_fits = one.born_fits })))
 
-  all_keyed : All (IsKeyed mode ns s (items_in old)) sorted
-  all_keyed = All-permutation (IsKeyed mode ns s (items_in old)) keyed sorted moved
+  pub all_keyed : All (IsKeyed mode ns s (items_in old)) moved
+  all_keyed = All-permutation (IsKeyed mode ns s (items_in old)) keyed moved moves
       (λ k d lt. let one = rest_is k d lt in record { first = first k d lt; turn = one.turn; second = one.second; version_fits = one.version_fits; born_fits = one.born_fits })
 
-  pub same_items : IsPermutation (items_in old) (items_in sorted)
-  same_items = IsPermutation-trans (items_in old) (items_in keyed) (items_in sorted) (items-permuted old keyed same) (IsPermutation-map item_in keyed sorted moved)
+  compare : (j k : ℕ) (d : Candidate) → j < length moved → k < length moved → sending_order mode ns s (items_in old) (get_or moved j d).item (get_or moved k d).item ≡ number_order (get_or moved j d) (get_or moved k d)
+  compare j k d in_j in_k =
+      let a = all_keyed j d in_j in
+      let b = all_keyed k d in_k in
+      let x = get_or moved j d in
+      let y = get_or moved k d in
+      sym (keys-items mode ns s (items_in old) x y a b ∙ items-sending mode ns s (items_in old) x.item y.item (omega (arith, length-map old item_in)) a.version_fits a.born_fits b.version_fits b.born_fits)
 
-  pub order_sorted : IsSortedBy (λ c d. is_lt (by_keys c d)) sorted → IsSorted (sending_order mode ns s (items_in old)) (items_in sorted)
-  order_sorted rises = sorted_items (λ c d. is_lt (sending_order mode ns s (items_in old) c d)) sorted (λ k d from in_range.
-      let a = all_keyed (k + 1) d in_range in
-      let b = all_keyed k d (omega arith) in
-      let x = get_or sorted (k + 1) d in
-      let y = get_or sorted k d in
-      ap is_lt (sym (keys-items mode ns s (items_in old) x y a b ∙ items-sending mode ns s (items_in old) x.item y.item (omega (arith, length-map old item_in)) a.version_fits a.born_fits b.version_fits b.born_fits))
-      ∙ rises k d from in_range)
+  -- a front by the numbers is one in the order of the mode
+  order_front : IsFront number_order count moved → IsFront (sending_order mode ns s (items_in old)) count (items_in moved)
+  order_front front = record {
+    sorted = subst (IsSorted (sending_order mode ns s (items_in old))) (sym (take-map item_in count moved)) (sorted_items (λ c d. is_lt (sending_order mode ns s (items_in old) c d)) (take count moved) (λ k d from in_range.
+        let short = length-take count moved in
+        let next = get_or-take count moved (k + 1) d (omega arith) in
+        let here = get_or-take count moved k d (omega arith) in
+        (λ i. is_lt (sending_order mode ns s (items_in old) (next i).item (here i).item))
+        ∙ ap is_lt (compare (k + 1) k d (omega arith) (omega arith))
+        ∙ (λ i. is_lt (number_order (sym next i) (sym here i)))
+        ∙ front.sorted k d from in_range));
+    first = λ j k d before behind in_range.
+        let long = length-map moved item_in in
+        let x = get_or-map item_in moved k no_candidate d (omega arith) in
+        let y = get_or-map item_in moved j no_candidate d (omega arith) in
+        (λ i. is_lt (sending_order mode ns s (items_in old) (x i) (y i)))
+        ∙ ap is_lt (compare k j no_candidate (omega arith) (omega arith))
+        ∙ front.first j k no_candidate before behind (omega arith);
+  }
+
+-- and the items of the first by the numbers are the first in the order of the mode
+pub order_first : (mode : Mode) (ns s : ℕ) (old keyed : List Candidate) (count : ℕ) → length old < 2 ^ 32 → AllSet mode ns s old → rest_of keyed ≡ rest_of old → AllFirst (first_key mode (items_in old)) keyed → (items : List Item) → AreFirstItems count keyed items → AreFirst (sending_order mode ns s (items_in old)) count (items_in old) items
+order_first mode ns s old keyed count few set same first items (front, are, items_are) = record {
+  moved = items_in are.moved;
+  same = subst (λ is. IsPermutation is (items_in are.moved)) (items-rest keyed old same) (IsPermutation-map item_in keyed are.moved are.same);
+  front = order_front mode ns s old keyed are.moved count few set same first are.same are.front;
+  is = items_are ∙ ap items_in are.is ∙ sym (take-map item_in count are.moved);
+}

@@ -148,7 +148,7 @@ module _ {X : Type 0} (order : X → X → Ordering) (total : IsTotalOrder order
       omega (arith, first, second, places.3)
 
   -- each has fewer before it than there are candidates
-  pub before_count-lt-length : (x : X) → Contains cs x → before_count order cs x < length cs
+  before_count-lt-length : (x : X) → Contains cs x → before_count order cs x < length cs
   before_count-lt-length x stands = count_by-lt-length (λ y. is_lt (order y x)) cs x stands (ap is_lt (tied_itself total x))
 
   -- so a budget for all of them cuts none

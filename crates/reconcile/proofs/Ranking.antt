@@ -1,17 +1,16 @@
 -- How far candidates have got what their mode looks at first.
-use Rattle.std.proofs.Common.{◌≡◌, ℕ, zero, suc, ◌+◌, ◌-◌, ◌<◌, ◌≤◌, List, [], ◌∷◌, length, map, get_or, set, All, inl, inr, refl, sym, ap, ◌∙◌, subst, arith, add-one}
-use Rattle.std.specs.Prelude.{IsPermutation}
+use Rattle.std.proofs.Common.{◌≡◌, ℕ, zero, suc, ◌+◌, ◌-◌, ◌<◌, ◌≤◌, eqb, List, [], ◌∷◌, length, map, get_or, set, All, inl, inr, refl, sym, ap, ◌∙◌, subst, arith, add-one}
+use Rattle.std.specs.Prelude.{count_by}
 use Rattle.std.specs.List.Sorted.{IsSorted}
-use Rattle.std.proofs.lemmas.List.Sorted.{IsPermutation-map}
 use Rattle.std.proofs.lemmas.Bool.{cases_lt}
 use Rattle.std.proofs.Math.ListN.{get_or-map}
 use Rattle.std.proofs.lemmas.List.{get_or-set_other, get_or-set_same, length-map}
 use Rattle.std.proofs.Math.Seq.{map-set_same}
 use Rattle.bench_types.specs.declared.entries.Item.{Item}
 use Rattle.reconcile.specs.declared.orders.Candidate.{Candidate}
-use Rattle.reconcile.specs.Order.{rank_among}
-use Rattle.reconcile.specs.Keys.{item_in, items_in, without_first, rest_of, AllFirst}
-use Rattle.reconcile.specs.Ranks.{version_order, item_at, IsRun, Follows}
+use Rattle.reconcile.specs.Order.{rank_among, owner_count}
+use Rattle.reconcile.specs.Keys.{item_in, items_in, reversed, without_first, rest_of, AllFirst}
+use Rattle.reconcile.specs.Ranks.{version_order, item_at, CountsLast, IsRun, Follows}
 use Rattle.reconcile.proofs.Runs.{run_owner, run_version, run_same, rank_of_run}
 
 unfoldable pub no_candidate : Candidate
@@ -25,12 +24,9 @@ items_of_rest : (cs : List Candidate) → items_in (rest_of cs) ≡ items_in cs
 items_of_rest [] = refl
 items_of_rest (c ∷ cs) = ap (λ is. c.item ∷ is) (items_of_rest cs)
 
--- candidates with the same rest have the same items, in another order too
+-- candidates with the same rest have the same items
 pub items-rest : (xs ys : List Candidate) → rest_of xs ≡ rest_of ys → items_in xs ≡ items_in ys
 items-rest xs ys same = sym (items_of_rest xs) ∙ ap items_in same ∙ items_of_rest ys
-
-pub items-permuted : (xs ys : List Candidate) → IsPermutation (rest_of xs) (rest_of ys) → IsPermutation (items_in xs) (items_in ys)
-items-permuted xs ys same = subst (λ is. IsPermutation is (items_in ys)) (items_of_rest xs) (subst (IsPermutation (items_in (rest_of xs))) (items_of_rest ys) (IsPermutation-map item_in (rest_of xs) (rest_of ys) same))
 
 -- the first n candidates have what is looked at first, and nothing else has changed
 pub record IsKeying (first : Item → ℕ) (old new : List Candidate) (n : ℕ) : Type 0 where
@@ -100,4 +96,28 @@ ranking_more old new a b n p q sorted so_far lt run' =
           ap (rank_among (items_in old)) (sym (item_at-items_in new n) ∙ ap (λ is. item_at is n) same)
           ∙ rank_of_run (items_in old) sorted p q n run (subst (λ is. n < length is) same (omega (arith, length-map new item_in)))));
       run = rw add-one run;
+    }
+
+-- the first n candidates have the counts of their owners, and the last of these is known
+pub record IsCounting (old new : List Candidate) (count n : ℕ) : Type 0 where
+  pub keying : IsKeying (λ (i : Item). reversed (owner_count (items_in old) i)) old new n
+  pub last : CountsLast (items_in old) count n
+
+-- the candidate at an index has the owner of the one before it
+pub count_same : (cs : List Candidate) (count at : ℕ) → CountsLast (items_in cs) count at → 0 < at → (get_or cs at no_candidate).item.owner ≡ (get_or cs (at - 1) no_candidate).item.owner → count ≡ owner_count (items_in cs) (item_at (items_in cs) at)
+count_same cs count zero counts some owners = absurd (omega arith)
+count_same cs count (suc k) counts some owners =
+    counts
+    ∙ ap (λ (i : Item). owner_count (items_in cs) i) (item_at-items_in cs k)
+    ∙ ap (λ o. count_by (λ (d : Item). eqb d.owner o) (items_in cs)) {x = (get_or cs k no_candidate).item.owner} {y = (get_or cs (suc k) no_candidate).item.owner} (ap (λ n. (get_or cs n no_candidate).item.owner) {x = k} {y = suc k - 1} (omega arith) ∙ sym owners)
+    ∙ ap (λ (i : Item). owner_count (items_in cs) i) (sym (item_at-items_in cs (suc k)))
+
+pub counting_more : (old new : List Candidate) (n before count : ℕ) → IsCounting old new before n → n < length new → count ≡ owner_count (items_in new) (item_at (items_in new) n) → IsCounting old (set new n (record { first = reversed count; turn = (get_or new n no_candidate).turn; second = (get_or new n no_candidate).second; item = (get_or new n no_candidate).item })) count (n + 1)
+counting_more old new n before count so_far lt is =
+    let same = items-rest new old so_far.keying.rest in
+    let counted = is ∙ ap (λ is. owner_count is (item_at is n)) same in
+    record {
+      keying = keying_more (λ (i : Item). reversed (owner_count (items_in old) i)) old new n (reversed count) so_far.keying lt
+          (ap reversed (counted ∙ ap (owner_count (items_in old)) (ap (λ is. item_at is n) (sym same) ∙ item_at-items_in new n)));
+      last = rw add-one counted;
     }

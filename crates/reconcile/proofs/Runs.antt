@@ -9,11 +9,12 @@ use Rattle.std.proofs.lemmas.Bool.{cases_lt, eq-eqb, ne_eqb, lt-ltb, le-ltb}
 use Rattle.std.proofs.lemmas.List.Sorted.{sorted_far, ranks_by}
 use Rattle.bench_types.specs.declared.entries.Item.{Item}
 use Rattle.reconcile.specs.Order.{rank_among}
-use Rattle.node_table.specs.Walks.{no_item}
+use Rattle.node_table.specs.View.{no_item}
+use Rattle.reconcile.specs.Keys.{OwnersRise}
 use Rattle.reconcile.specs.Ranks.{version_order, item_at, IsRun}
 use Rattle.reconcile.proofs.Counts.{count_by-stretch}
 
-version_total : IsTotalOrder version_order
+pub version_total : IsTotalOrder version_order
 version_total = then_total (on_total (λ (i : Item). i.owner) nat_cmp_total) (then_total (on_total (λ (i : Item). i.entry.version) nat_cmp_total) (on_total (λ (i : Item). i.entry.key) nat_cmp_total))
 
 -- what isn't below stands no lower
@@ -36,6 +37,16 @@ not_below a b e =
 -- of two items the earlier has the smaller owner, or of one owner no greater version
 pub sorted_pair : (items : List Item) → IsSorted version_order items → (i j : ℕ) → i ≤ j → j < length items → ((item_at items i).owner < (item_at items j).owner) ⊎ (((item_at items i).owner ≡ (item_at items j).owner) × ((item_at items i).entry.version ≤ (item_at items j).entry.version))
 sorted_pair items sorted i j le lt = not_below (item_at items i) (item_at items j) (sorted_far (λ a b. is_lt (version_order a b)) (ranks_by version_total (λ (x : Item). x)) items sorted i j no_item le lt)
+
+-- so the items stand by owner
+pub owners_rise : (items : List Item) → IsSorted version_order items → OwnersRise items
+owners_rise items sorted i j d le lt =
+    let here = ap (λ (x : Item). x.owner) (get_or_default items i d no_item (omega arith)) in
+    let there = ap (λ (x : Item). x.owner) (get_or_default items j d no_item lt) in
+    elim (sorted_pair items sorted i j le lt) [
+      | inl less ↦ omega (arith, here, there, less)
+      | inr tie ↦ omega (arith, here, there, tie.0)
+    ]
 
 module _ (items : List Item) (sorted : IsSorted version_order items) where
   pub run_first : IsRun items 0 0 0

@@ -15,9 +15,10 @@ use Rattle.node_table.specs.View.{IsItemInPlace}
 use Rattle.node_table.proofs.Proper.{items_sound}
 use Rattle.reconcile.specs.Candidates.{items_above, candidates, known_version}
 use Rattle.reconcile.specs.Digests.{DigestView, Knowledge, Greatest, Each, telling_of, IsDigestOf, greatest_in, each_in, known_in, told_version}
+use Rattle.reconcile.specs.Deltas.{answer_of, MayTake}
+use Rattle.reconcile.specs.Order.{sending_order}
 use Rattle.reconcile.specs.Picks.{at_place, sent}
 use Rattle.reconcile.proofs.Picked.{find_stands}
-use Rattle.reconcile.proofs.Sending.{owners_below}
 
 -- two tests that agree on a list keep the same of it
 filter-same : (p q : Item → Bool) (xs : List Item) → All (λ (i : Item). p i ≡ q i) xs → filter p xs ≡ filter q xs
@@ -27,25 +28,28 @@ filter-same p q (x ∷ xs) same =
     ∙ ap (λ ys. cond (q x) (x ∷ ys) ys) (filter-same p q xs (All-tail (λ (i : Item). p i ≡ q i) x xs same))
 
 -- what a digest knows of an item, by its kind
-known_in-greatest : (k : Knowledge) (i : Item) → telling_of k ≡ telling.Greatest → known_in k i ≡ greatest_in k i.owner
-known_in-greatest (Greatest gs) i is = refl
-known_in-greatest (Each vs) i is = cc
+known_in-greatest : (k : Knowledge) (keys owner key : ℕ) → telling_of k ≡ telling.Greatest → known_in keys k owner key ≡ greatest_in k owner
+known_in-greatest (Greatest gs) keys owner key is = refl
+known_in-greatest (Each vs) keys owner key is = cc
 
-known_in-each : (k : Knowledge) (i : Item) → telling_of k ≡ telling.Each → known_in k i ≡ each_in k i.owner i.entry.key
-known_in-each (Greatest gs) i is = cc
-known_in-each (Each vs) i is = refl
+known_in-each : (k : Knowledge) (keys owner key : ℕ) → telling_of k ≡ telling.Each → known_in keys k owner key ≡ each_in keys k owner key
+known_in-each (Greatest gs) keys owner key is = cc
+known_in-each (Each vs) keys owner key is = refl
 
 -- a table's digest knows what the table does
-pub told_version-known : (kind : Telling) (to : Table) (told : DigestView) (i : Item) → IsDigestOf kind to told → i.owner < to.nodes → told_version told i ≡ known_version kind to i
-told_version-known telling.Greatest to told i is lt = known_in-greatest told.knowledge i is.of_kind ∙ is.tells i.owner lt
-told_version-known telling.Each to told i is lt = known_in-each told.knowledge i is.of_kind ∙ is.tells i.owner i.entry.key
+pub told_version-known : (kind : Telling) (to : Table) (told : DigestView) (i : Item) → IsDigestOf kind to told → i.owner < to.nodes → i.entry.key < to.keys → told_version told i ≡ known_version kind to i
+told_version-known telling.Greatest to told i is lt fits = known_in-greatest told.knowledge told.keys i.owner i.entry.key is.of_kind ∙ is.tells i.owner lt
+told_version-known telling.Each to told i is lt fits = known_in-each told.knowledge told.keys i.owner i.entry.key is.of_kind ∙ is.tells i.owner i.entry.key lt fits
 
 -- what a table's digest does not tell are the candidates to that table
-pub candidates-told : (mode : Mode) (from to : Table) (told : DigestView) → IsProper from → IsDigestOf (told_by mode) to told → told.nodes ≡ from.nodes → items_above (told_version told) to.node (items_of from) ≡ candidates mode from to
-candidates-told mode from to told proper is nodes =
+pub candidates-told : (mode : Mode) (from to : Table) (told : DigestView) → IsProper from → IsDigestOf (told_by mode) to told → told.nodes ≡ from.nodes → told.keys ≡ from.keys → items_above (told_version told) to.node (items_of from) ≡ candidates mode from to
+candidates-told mode from to told proper is nodes keys =
     filter-same (λ i. not (eqb i.owner to.node) && ltb (told_version told i) i.entry.version) (λ i. not (eqb i.owner to.node) && ltb (known_version (told_by mode) to i) i.entry.version) (items_of from)
-    (λ k d lt. ap (λ v. not (eqb (get_or (items_of from) k d).owner to.node) && ltb v (get_or (items_of from) k d).entry.version)
-    (told_version-known (told_by mode) to told (get_or (items_of from) k d) is (subst (λ n. (get_or (items_of from) k d).owner < n) (sym nodes ∙ is.nodes) (owners_below from proper k d lt))))
+    (λ k d lt.
+    let i = get_or (items_of from) k d in
+    let here = (items_sound from proper).in_place k d lt in
+    ap (λ v. not (eqb i.owner to.node) && ltb v i.entry.version)
+    (told_version-known (told_by mode) to told i is (subst (λ n. i.owner < n) (sym nodes ∙ is.nodes) here.owner_below) (subst (λ n. i.entry.key < n) (sym keys ∙ is.keys) here.key_below)))
 
 -- none of the candidates is the receiver's own, and each has what all the sender's items have
 pub All-items_above : (P : Item → Type 0) (known : Item → ℕ) (receiver : ℕ) (xs : List Item) → All P xs → All (λ (i : Item). (i.owner ≢ receiver) × P i) (items_above known receiver xs)
@@ -76,6 +80,12 @@ All-sent P order cs budget all = places 0 budget
           | Some x ↦ λ e. let there = find_stands (λ c. eqb (Rattle.reconcile.specs.Picks.before_count order cs c) a) cs x e in
               All-cons P x (filter_map (at_place order cs) (range_with_len (a + 1) n)) (subst P there.2 (all there.0 x there.1)) rest
         ] refl
+
+-- so a receiver may take what is sent in answer to its digest
+pub answer-in_place : (mode : Mode) (rotation budget : ℕ) (from : Table) (receiver : ℕ) (told : DigestView) → IsProper from → MayTake receiver from.nodes from.keys (answer_of mode rotation budget from receiver told).items
+answer-in_place mode rotation budget from receiver told proper =
+    let cs = items_above (told_version told) receiver (items_of from) in
+    All-sent (λ (i : Item). (i.owner ≢ receiver) × IsItemInPlace from.nodes from.keys i) (sending_order mode from.nodes rotation cs) cs budget (candidates-in_place from (told_version told) receiver proper)
 
 -- and nothing is sent past the budget
 pub length-sent-le : {X : Type 0} (order : X → X → Ordering) (cs : List X) (budget : ℕ) → length (sent order cs budget) ≤ budget

@@ -1,11 +1,13 @@
 -- A delta: what is sent of the candidates under a budget, in the order sent, and how many are cut.
 -- Source: this project; the word is the LADIS 2008 paper's.
-use Rattle.std.specs.Prelude.{ℕ, List}
+use Rattle.std.specs.Prelude.{◌≡◌, ◌≢◌, ℕ, List, All}
 use Rattle.bench_types.specs.declared.entries.Item.{Item}
 use Rattle.bench_types.specs.declared.exchanges.Mode.{Mode}
+use Rattle.bench_types.specs.Mode.{told_by}
 use Rattle.node_table.specs.Table.{Table, items_of}
-use Rattle.reconcile.specs.Candidates.{items_above}
-use Rattle.reconcile.specs.Digests.{DigestView, told_version}
+use Rattle.node_table.specs.View.{IsItemInPlace}
+use Rattle.reconcile.specs.Candidates.{items_above, candidates}
+use Rattle.reconcile.specs.Digests.{DigestView, IsDigestOf, told_version}
 use Rattle.reconcile.specs.Order.{sending_order}
 use Rattle.reconcile.specs.Picks.{sent, cut_count}
 
@@ -14,8 +16,25 @@ pub record DeltaView : Type 0 where
   pub cut : ℕ
 
 abbrev pub delta_of : Mode → ℕ → ℕ → ℕ → List Item → DeltaView
-delta_of mode ns s budget cs = record { items = sent (sending_order mode ns s cs) cs budget; cut = cut_count (sending_order mode ns s cs) cs budget }
+delta_of mode ns s budget cs =
+    let order = sending_order mode ns s cs in
+    record { items = sent order cs budget; cut = cut_count order cs budget }
 
 -- what a table sends to a receiver whose digest this is
 abbrev pub answer_of : Mode → ℕ → ℕ → Table → ℕ → DigestView → DeltaView
-answer_of mode rotation budget from receiver told = delta_of mode from.nodes rotation budget (items_above (told_version told) receiver (items_of from))
+answer_of mode rotation budget from receiver told =
+    delta_of mode from.nodes rotation budget (items_above (told_version told) receiver (items_of from))
+
+-- the delta from one table to another
+abbrev pub delta_between : Mode → ℕ → ℕ → Table → Table → DeltaView
+delta_between mode rotation budget from to = delta_of mode from.nodes rotation budget (candidates mode from to)
+
+-- it is the delta to every table of the receiver that this is the digest of
+abbrev pub IsDeltaToReceiver : Mode → ℕ → ℕ → Table → ℕ → DigestView → DeltaView → Type 0
+IsDeltaToReceiver mode rotation budget from receiver told delta =
+    (to : Table) → to.node ≡ receiver → IsDigestOf (told_by mode) to told
+    → delta ≡ delta_between mode rotation budget from to
+
+-- items that a node may take: none is its own, and each is in its place among so many nodes with so many keys
+abbrev pub MayTake : ℕ → ℕ → ℕ → List Item → Type 0
+MayTake node nodes keys items = All (λ (i : Item). (i.owner ≢ node) × IsItemInPlace nodes keys i) items

@@ -1,7 +1,9 @@
 -- Candidates on the way into their order: each beside three numbers, by which and by the key they are sorted.
 -- What comes later where it is greater stands as it is, and what comes earlier where it is greater is taken
 -- from the greatest number of 32 bits. Source: this project.
-use Rattle.std.specs.Prelude.{◌≡◌, ℕ, ◌-◌, ◌<◌, ◌^◌, List, All, map, IsSorted}
+use Rattle.std.specs.Prelude.{◌≡◌, ℕ, ◌-◌, ◌<◌, ◌≤◌, ◌^◌, false, List, All, map, take, length, slice_index_or, IsPermutation, IsSorted}
+use Rattle.std.specs.Ordering.{nat_cmp, ordering_then, is_lt}
+use Rattle.std.specs.declared.cmp.Ordering.{Ordering}
 use Rattle.std.specs.List.Sorted.{IsNonDecreasingBy}
 use Rattle.bench_types.specs.declared.entries.Item.{Item}
 use Rattle.bench_types.specs.declared.exchanges.Mode.{Mode}
@@ -51,10 +53,34 @@ pub record IsSet (mode : Mode) (nodes rotation : ℕ) (c : Candidate) : Type 0 w
 abbrev pub AllSet : Mode → ℕ → ℕ → List Candidate → Type 0
 AllSet mode nodes rotation cs = All (IsSet mode nodes rotation) cs
 
--- candidates that were set for so many nodes and a rotation now stand in the mode's order
-abbrev pub ComeInOrder : Mode → List Candidate → List Candidate → Type 0
-ComeInOrder mode old new =
-    (nodes rotation : ℕ) → AllSet mode nodes rotation old → IsSorted (sending_order mode nodes rotation (items_in old)) (items_in new)
+-- by the three numbers in turn, and then by key
+abbrev pub number_order : Candidate → Candidate → Ordering
+number_order c d =
+    ordering_then (ordering_then (ordering_then (nat_cmp c.first d.first) (nat_cmp c.turn d.turn)) (nat_cmp c.second d.second)) (nat_cmp c.item.entry.key d.item.entry.key)
+
+-- the first so many of a list stand in order, and none of the others is less than one of them
+pub record IsFront {X : Type 0} (order : X → X → Ordering) (count : ℕ) (xs : List X) : Type 0 where
+  pub sorted : IsSorted order (take count xs)
+  pub first : (j k : ℕ) (d : X) → j < count → count ≤ k → k < length xs → is_lt (order (slice_index_or xs k d) (slice_index_or xs j d)) ≡ false
+
+-- they are the first so many of a list in an order, and stand in it
+pub record AreFirst {X : Type 0} (order : X → X → Ordering) (count : ℕ) (xs first : List X) : Type 0 where
+  pub moved : List X
+  pub same : IsPermutation xs moved
+  pub front : IsFront order count moved
+  pub is : first ≡ take count moved
+
+-- they are the items of the first so many candidates by their numbers
+abbrev pub AreFirstItems : ℕ → List Candidate → List Item → Type 0
+AreFirstItems count cs items = (first : List Candidate) × AreFirst number_order count cs first × (items ≡ items_in first)
+
+-- they are the first so many of candidates in the order of a mode
+abbrev pub ComeFirst : Mode → ℕ → ℕ → ℕ → List Candidate → List Item → Type 0
+ComeFirst mode nodes rotation count cs = AreFirst (sending_order mode nodes rotation (items_in cs)) count (items_in cs)
+
+-- where the old ones were set, so are the new ones
+abbrev pub SetsStay : Mode → ℕ → ℕ → List Candidate → List Candidate → Type 0
+SetsStay mode nodes rotation old new = AllSet mode nodes rotation old → AllSet mode nodes rotation new
 
 -- each has what its mode looks at first
 abbrev pub AllFirst : (Item → ℕ) → List Candidate → Type 0

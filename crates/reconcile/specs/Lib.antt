@@ -3,9 +3,11 @@ pub mod Order
 pub mod Picks
 pub mod Digests
 pub mod Inside
-pub mod Walks
+pub mod Newer
 pub mod Deltas
+pub mod Laws
 pub mod Keys
+pub mod Layers
 pub mod Ranks
 pub use Rattle.node_table.specs.Table
 pub use Rattle.node_table.specs.NodeTableView

@@ -4,7 +4,8 @@ use Rattle.std.specs.Prelude.{◌≡◌, ℕ, zero, suc, ◌<◌, ◌≤◌, Lis
 use Rattle.std.specs.Ordering.{nat_cmp, ordering_then}
 use Rattle.std.specs.declared.cmp.Ordering.{Ordering}
 use Rattle.bench_types.specs.declared.entries.Item.{Item}
-use Rattle.node_table.specs.Walks.{no_item}
+use Rattle.node_table.specs.View.{no_item}
+use Rattle.reconcile.specs.Order.{owner_count}
 
 -- by owner, then by version, then by key
 abbrev pub version_order : Item → Item → Ordering
@@ -26,3 +27,12 @@ pub record IsRun (items : List Item) (owner_start version_start at : ℕ) : Type
 abbrev pub Follows : List Item → ℕ → ℕ → ℕ → Type 0
 Follows items a b zero = (a ≡ 0) × (b ≡ 0)
 Follows items a b (suc at) = IsRun items a b at
+
+-- it is the number of items of the owner of the item before, if there is one
+abbrev pub CountsLast : List Item → ℕ → ℕ → Type 0
+CountsLast items count zero = Unit {0}
+CountsLast items count (suc at) = count ≡ owner_count items (item_at items at)
+
+-- the items before an index have smaller owners than the one there
+abbrev pub OwnerBegins : List Item → ℕ → Type 0
+OwnerBegins items at = (j : ℕ) → j < at → (item_at items j).owner < (item_at items at).owner

@@ -1,16 +1,14 @@
 //! Digests of tables.
 
-ghost use Rattle.std.specs.Prelude.{◌≡◌, ◌^◌, ◌<◌, nat_lt, count_by, map, All, length, IfOk, IsOkUnless};
+ghost use Rattle.std.specs.Prelude.{◌≡◌, ◌^◌, ◌+◌, ◌<◌, nat_lt, count_by, All, length, IfOk, IsOkUnless};
 ghost use Rattle.bench_types.specs.declared.faults.Fault.TheVariants.{OutOfMemory};
 ghost use Rattle.bench_types.specs.Mode.{told_by};
-ghost use Rattle.reconcile.specs.Digests.{IsDigestOf, version_in};
-ghost use Rattle.reconcile.specs.Inside.{AreGreatest, AreRaised, VersionsRise, version_of_item};
-ghost use Rattle.reconcile.specs.Walks.{StandBelow};
+ghost use Rattle.reconcile.specs.Digests.{IsDigestOf, version_index};
+ghost use Rattle.reconcile.specs.Inside.{AreVersions, with_row};
 
-use bench_types::{Fault, Item, Mode, Telling};
+use bench_types::{Entry, Fault, Mode, Telling};
 use node_table::NodeTable;
 use std::alloc::Global;
-use std::cmp::Ordering;
 use std::marker::Model;
 
 /// What a table holds, in short: for each owner the greatest version held, or each version held.
@@ -27,16 +25,8 @@ pub struct Digest {
 enum Versions {
     // The greatest one of each owner.
     Greatest(Vec<u32>),
-    // Each one that is held, by owner and then by key.
-    Each(Vec<KeyVersion>),
-}
-
-// The version of one key of an owner.
-#[derive(Clone, Copy)]
-struct KeyVersion {
-    owner: u32,
-    key: u32,
-    version: u32,
+    // That of each key of each owner, owner by owner, 0 where none is held.
+    Each(Vec<u32>),
 }
 
 impl Model for Digest {
@@ -45,20 +35,20 @@ impl Model for Digest {
 
     ghost Value = { DigestView };
 
-    ghost use Rattle.reconcile.specs.Inside.{knowledge_of, IsInOrder};
+    ghost use Rattle.reconcile.specs.Inside.{knowledge_of, IsComplete};
 
     ghost view = { λ d. record { nodes = d.nodes; keys = d.keys; size = d.size; knowledge = knowledge_of d.versions } };
 
-    ghost invariant = { λ d. IsInOrder d.nodes d.versions };
+    ghost invariant = { λ d. IsComplete d.nodes d.keys d.versions };
 }
 
 impl Digest {
-    ghost use Rattle.node_table.specs.View.{place_of};
-    ghost use Rattle.reconcile.specs.Digests.{IsOfKind, told_greatest, told_each, told_version};
-    ghost use Rattle.reconcile.specs.Walks.{IsWalked};
+    ghost use Rattle.reconcile.specs.Digests.{IsOfKind, told_greatest, told_each, version_told};
+    ghost use Rattle.reconcile.specs.Newer.{AreNewer};
 
-    /// The digest that a mode asks of a table: one pass over the table's entries. It takes memory
-    /// for a number of each owner in a scuttle mode, and of each entry in a precise one.
+    /// The digest that a mode asks of a table. In a scuttle mode it is a copy of a number for each
+    /// owner; in a precise one it has a number for each key of each owner, and each entry is looked
+    /// at once.
     pub fn of(alloc: Global, table: &NodeTable, mode: Mode) -> Result<Digest, Fault>
         ensures ok { IfOk result (IsDigestOf (told_by mode) table.now.table) }
         ensures only { IsOkUnless result OutOfMemory }
@@ -76,7 +66,7 @@ impl Digest {
         self.size
     }
 
-    /// The greatest version that is held of an owner.
+    /// The greatest version that is held of an owner: one look.
     pub fn greatest(&self, owner: u32) -> u32
         requires kind { IsOfKind Telling.Greatest self.now }
         requires owner { owner < self.now.nodes }
@@ -88,7 +78,7 @@ impl Digest {
         }
     }
 
-    /// The version that is held of an owner's key, 0 where none is: a binary search.
+    /// The version that is held of an owner's key, 0 where none is: one look.
     pub fn version(&self, owner: u32, key: u32) -> u32
         requires kind { IsOfKind Telling.Each self.now }
         requires owner { owner < self.now.nodes }
@@ -97,26 +87,40 @@ impl Digest {
     {
         match &self.versions {
             Versions::Greatest(_) => unreachable!(),
-            Versions::Each(versions) => version_among(versions, owner, key),
+            Versions::Each(versions) => versions[version_index(self.keys, owner, key)],
         }
     }
 
-    /// The version up to which it knows what an item tells. A walk over items that rise by owner
-    /// and then by key passes over a precise digest once: `walked` is how many versions it has left
-    /// behind, from 0.
-    pub(crate) fn known_version(&self, item: &Item, walked: &mut usize) -> u32
-        requires owner { item.now.owner < self.now.nodes }
-        requires walked { IsWalked self.now.knowledge (place_of item.now) walked.old }
-        ensures version { result ≡ told_version self.now item.now }
-        ensures walked { IsWalked self.now.knowledge (place_of item.now) walked.new }
+    /// The version up to which it knows what an owner's key has.
+    pub(crate) fn version_told(&self, owner: u32, key: u32) -> u32
+        requires owner { owner < self.now.nodes }
+        requires key { key < self.now.keys }
+        ensures { result ≡ version_told self.now owner key }
     {
         match &self.versions {
-            Versions::Greatest(versions) => versions[item.owner as usize],
-            Versions::Each(versions) => {
-                let (behind, version) = version_from(versions, *walked, item.owner, item.entry.key);
-                *walked = behind;
-                version
+            Versions::Greatest(greatest) => greatest[owner as usize],
+            Versions::Each(each) => each[version_index(self.keys, owner, key)],
+        }
+    }
+
+    /// Entries that a table holds of an owner, in order, with all those among them that are above
+    /// what it tells. In a scuttle mode they are no others.
+    pub(crate) fn row_above<'a>(&self, table: &'a NodeTable, owner: u32) -> &'a [Entry]
+        requires owner { owner < table.now.table.nodes }
+        requires nodes { self.now.nodes ≡ table.now.table.nodes }
+        requires keys { self.now.keys ≡ table.now.table.keys }
+        ensures { AreNewer table.now.table self.now owner result.now }
+    {
+        match &self.versions {
+            Versions::Greatest(greatest) => {
+                let told = greatest[owner as usize];
+                if told < table.greatest_versions()[owner as usize] {
+                    table.above(owner, told)
+                } else {
+                    &[]
+                }
             }
+            Versions::Each(_) => table.row(owner),
         }
     }
 }
@@ -126,10 +130,9 @@ fn greatest_of_table(alloc: Global, table: &NodeTable) -> Result<Digest, Fault>
     ensures ok { IfOk result (IsDigestOf Telling.Greatest table.now.table) }
     ensures only { IsOkUnless result OutOfMemory }
 {
-    let nodes = table.nodes();
-    let greatest = greatest_versions(alloc, nodes, table.items())?;
+    let greatest = Vec::from_slice(alloc, table.greatest_versions())?;
     Ok(Digest {
-        nodes,
+        nodes: table.nodes(),
         keys: table.keys(),
         size: count_positive(&greatest),
         versions: Versions::Greatest(greatest),
@@ -145,20 +148,8 @@ fn each_of_table(alloc: Global, table: &NodeTable) -> Result<Digest, Fault>
         nodes: table.nodes(),
         keys: table.keys(),
         size: table.count(),
-        versions: Versions::Each(each_version(alloc, table.items())?),
+        versions: Versions::Each(each_version(alloc, table)?),
     })
-}
-
-// The greatest version of each owner's items.
-fn greatest_versions(alloc: Global, nodes: u32, items: &[Item]) -> Result<Vec<u32>, Fault>
-    requires { All (λ i. i.owner < nodes) items.now }
-    ensures len { IfOk result (λ v. length v.items ≡ nodes) }
-    ensures greatest { IfOk result (λ v. AreGreatest nodes items.now v.items) }
-    ensures only { IsOkUnless result OutOfMemory }
-{
-    let mut greatest = vec![in alloc; 0u32; nodes as usize]?;
-    raise_to(&mut greatest, items);
-    Ok(greatest)
 }
 
 // How many of the numbers are above 0.
@@ -169,61 +160,37 @@ fn count_positive(numbers: &[u32]) -> u32
     numbers.iter().filter(|n| **n > 0).count() as u32
 }
 
-// Raises each owner's number to the greatest version of its items.
-fn raise_to(greatest: &mut [u32], items: &[Item])
-    requires { All (λ i. i.owner < length greatest.old) items.now }
-    ensures { AreRaised items.now greatest.old greatest.new }
-{
-    for item in items {
-        let slot = item.owner as usize;
-        greatest[slot] = greatest[slot].max(item.entry.version);
-    }
-}
-
-// The version of each item, with its place.
-fn each_version(alloc: Global, items: &[Item]) -> Result<Vec<KeyVersion>, Fault>
-    ensures versions { IfOk result (λ v. v.items ≡ map version_of_item items.now) }
+// The version of each key of each owner, owner by owner, 0 where none is held.
+fn each_version(alloc: Global, table: &NodeTable) -> Result<Vec<u32>, Fault>
+    ensures versions { IfOk result (λ v. AreVersions table.now.table v.items) }
     ensures only { IsOkUnless result OutOfMemory }
 {
-    Ok(items.iter().map(version_of_item).collect(alloc)?)
+    let nodes = table.nodes();
+    let keys = table.keys();
+    let mut versions = vec![in alloc; 0u32; version_index(keys, nodes, 0)]?;
+    for owner in 0..nodes {
+        set_row(
+            &mut versions,
+            version_index(keys, owner, 0),
+            table.row(owner),
+        );
+    }
+    Ok(versions)
 }
 
-fn version_of_item(item: &Item) -> KeyVersion
-    ensures { result ≡ version_of_item item.now }
+// Sets the version of each entry of an owner whose first key's version stands at the start.
+fn set_row(versions: &mut [u32], start: usize, row: &[Entry])
+    requires { All (λ e. start + e.key < length versions.old) row.now }
+    ensures { versions.new ≡ with_row start row.now versions.old }
 {
-    KeyVersion {
-        owner: item.owner,
-        key: item.entry.key,
-        version: item.entry.version,
+    for entry in row {
+        versions[start + entry.key as usize] = entry.version;
     }
 }
 
-// The version of an owner's key, 0 where it has none.
-fn version_among(versions: &[KeyVersion], owner: u32, key: u32) -> u32
-    requires { VersionsRise versions.now }
-    ensures { result ≡ version_in versions.now owner key }
+// Where the version of an owner's key stands.
+fn version_index(keys: u32, owner: u32, key: u32) -> usize
+    ensures { result ≡ version_index keys owner key }
 {
-    match versions.binary_search_by_key(&(owner, key), |v| (v.owner, v.key)) {
-        Ok(at) => versions[at].version,
-        Err(_) => 0,
-    }
-}
-
-// How many versions stand below an owner's key, of which so many are known, and the key's version,
-// 0 where it has none.
-fn version_from(versions: &[KeyVersion], walked: usize, owner: u32, key: u32) -> (usize, u32)
-    requires rise { VersionsRise versions.now }
-    requires below { StandBelow versions.now (owner, key) walked }
-    ensures below { StandBelow versions.now (owner, key) result.0 }
-    ensures version { result.1 ≡ version_in versions.now owner key }
-{
-    for at in walked..versions.len() {
-        let here = versions[at];
-        match (here.owner, here.key).cmp(&(owner, key)) {
-            Ordering::Less => {}
-            Ordering::Equal => return (at, here.version),
-            Ordering::Greater => return (at, 0),
-        }
-    }
-    (versions.len(), 0)
+    owner as usize * keys as usize + key as usize
 }

@@ -4,6 +4,7 @@
 
 mod deltas;
 mod digests;
+pub mod laws;
 mod orders;
 
 pub use deltas::Delta;

@@ -13,7 +13,7 @@ use Rattle.csv.specs.Quoting.{needs_byte}
 use Rattle.csv.specs.Writing.{default_writer, needs_quotes, fields_written, has_written, tail_text, writer_setup}
 use Rattle.csv.specs.declared.writer.Writer.{Writer}
 use Rattle.report.specs.Line.{comma, line_of}
-use Rattle.report.specs.Cells.{cell_text, comma_before, is_plain, written, AddsField}
+use Rattle.report.specs.Cells.{cell_text, comma_before, is_plain, bytes_written, AddsField}
 use Rattle.report.specs.declared.cells.Cell.{Cell}
 
 -- a digit calls for no quotes
@@ -52,7 +52,7 @@ pub record LineSoFar (old now : Writer (Vec ℕ Global)) (cells : List Cell) (i 
   pub setup : writer_setup now ≡ default_writer
   pub before : comma_before now ≡ comma_at i
   pub wrote : 0 < i → has_written now ≡ true
-  pub text : written now ≡ written old ++ join_with_byte comma (map cell_text (take i cells))
+  pub text : bytes_written now ≡ bytes_written old ++ join_with_byte comma (map cell_text (take i cells))
 
 -- one more cell
 pub so_far_more : (old now new : Writer (Vec ℕ Global)) (cells : List Cell) (i : ℕ) (d : Cell) → LineSoFar old now cells i
@@ -69,19 +69,19 @@ so_far_more old now new cells i d so_far below added =
       setup = added.setup;
       before = rw (ne_eqb (fields_written new) 0 (λ e. omega arith), ne_eqb (i + 1) 0 (λ e. omega arith)) refl;
       wrote = λ _. added.wrote;
-      text = added.text ∙ rw (so_far.text, so_far.before, whole, joined) (append_assoc (written old) (join_with_byte comma front) _);
+      text = added.text ∙ rw (so_far.text, so_far.before, whole, joined) (append_assoc (bytes_written old) (join_with_byte comma front) _);
     }
 
 -- the end of the line
 pub so_far_end : (old now new : Writer (Vec ℕ Global)) (cells : List Cell) (i : ℕ) → LineSoFar old now cells i → i ≡ length cells → 0 < length cells
-    → written new ≡ written now ++ tail_text (writer_setup now) (has_written now) (fields_written now)
-    → written new ≡ written old ++ line_of (map cell_text cells)
+    → bytes_written new ≡ bytes_written now ++ tail_text (writer_setup now) (has_written now) (fields_written now)
+    → bytes_written new ≡ bytes_written old ++ line_of (map cell_text cells)
 unfolding line_of
 so_far_end old now new cells i so_far all some text =
     let wrote = so_far.wrote (omega arith) in
     let whole : take i cells ≡ cells = take_all i cells (omega arith) in
     let line = rw whole at so_far.text in
-    text ∙ rw (so_far.setup, wrote, line) (append_assoc (written old) (join_with_byte comma (map cell_text cells)) _)
+    text ∙ rw (so_far.setup, wrote, line) (append_assoc (bytes_written old) (join_with_byte comma (map cell_text cells)) _)
 
 -- what holds where a call went well does where its error was mapped
 pub on_ok_mapped : {T E F : Type 0} (P : Type 0) (r : Result T E) (s : Result T F) → is_ok s ≡ is_ok r → OnOk r P → OnOk s P

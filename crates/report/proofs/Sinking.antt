@@ -4,7 +4,7 @@ use lib.Seq.{take-append_seam}
 use Rattle.std.proofs.KnownBytes.{Appends-trans, Appends-kept}
 use Rattle.std.specs.Io.KnownBytes.{Appends, Keeps}
 use Rattle.bench_types.specs.declared.sinks.Sink.{Ghosts as Sink}
-use Rattle.report.specs.Output.{IsCut}
+use Rattle.report.specs.Output.{IsBrokenOff}
 
 -- the sink has taken the text up to `rest`
 pub record TakesUpTo (old now : Option (List ℕ)) (text rest : List ℕ) : Type 0 where
@@ -23,7 +23,7 @@ up_to_more old now new text rest n so_far more = record {
 
 -- it stops here
 pub cut_here : {W : Type 0} (sink : Sink W) (old now new : W) (text rest : List ℕ) → TakesUpTo (sink.taken old) (sink.taken now) text rest
-    → Keeps (sink.taken now) (sink.taken new) → sink.failed new ≡ true → (sink.failed old ≡ true → new ≡ old) → IsCut sink old new text
+    → Keeps (sink.taken now) (sink.taken new) → sink.failed new ≡ true → (sink.failed old ≡ true → new ≡ old) → IsBrokenOff sink old new text
 cut_here sink old now new text rest so_far kept failed stays =
     let seam : take (length so_far.front) text ≡ so_far.front =
     ap (take (length so_far.front)) so_far.whole ∙ take-append_seam so_far.front rest in

@@ -6,13 +6,13 @@ use Rattle.std.specs.Prelude.{Vec}
 use Rattle.csv.specs.declared.writer.Writer.{Writer}
 use Rattle.bench_types.specs.declared.exchanges.Exchange.{Exchange}
 use Rattle.bench_types.specs.declared.exchanges.Record.{Record}
-use Rattle.report.specs.Cells.{written, IsBetweenLines}
+use Rattle.report.specs.Cells.{bytes_written, IsBetweenLines}
 use Rattle.report.specs.Trace.{trace_line, trace_lines, trace_lines_from}
 
 -- the rows of the first i exchanges are written, and those that are still owed make the whole
 pub record RowsSoFar (round : ℕ) (es : List Exchange) (rs : List Record) (lines : Writer (Vec ℕ Global)) (i : ℕ) : Type 0 where
   pub between : IsBetweenLines lines
-  pub whole : written lines ++ trace_lines_from round i (drop i es) (drop i rs) ≡ trace_lines round es rs
+  pub whole : bytes_written lines ++ trace_lines_from round i (drop i es) (drop i rs) ≡ trace_lines round es rs
 
 -- the next row is the first of those that are owed
 next_row : (round i : ℕ) (es : List Exchange) (rs : List Record) (e : Exchange) (r : Record) → i < length es → i < length rs
@@ -21,19 +21,19 @@ next_row round i es rs e r in_list in_records = rw (drop-cons es i e, drop-cons 
 
 -- one more row
 pub rows_more : (round i : ℕ) (es : List Exchange) (rs : List Record) (e : Exchange) (r : Record) (lines lines' : Writer (Vec ℕ Global)) → i < length es → i < length rs
-    → RowsSoFar round es rs lines i → IsBetweenLines lines' → written lines' ≡ written lines ++ trace_line round i (get_or es i e) (get_or rs i r) → RowsSoFar round es rs lines' (i + 1)
+    → RowsSoFar round es rs lines i → IsBetweenLines lines' → bytes_written lines' ≡ bytes_written lines ++ trace_line round i (get_or es i e) (get_or rs i r) → RowsSoFar round es rs lines' (i + 1)
 rows_more round i es rs e r lines lines' in_list in_records so_far between added = record {
   between = between;
   whole =
       ap (λ text. text ++ trace_lines_from round (i + 1) (drop (i + 1) es) (drop (i + 1) rs)) added
-      ∙ append_assoc (written lines) _ _
-      ∙ ap (λ text. written lines ++ text) (sym (next_row round i es rs e r in_list in_records))
+      ∙ append_assoc (bytes_written lines) _ _
+      ∙ ap (λ text. bytes_written lines ++ text) (sym (next_row round i es rs e r in_list in_records))
       ∙ so_far.whole;
 }
 
 -- all rows are written
-pub rows_all : (round i : ℕ) (es : List Exchange) (rs : List Record) (lines : Writer (Vec ℕ Global)) → length es ≤ i → RowsSoFar round es rs lines i → written lines ≡ trace_lines round es rs
+pub rows_all : (round i : ℕ) (es : List Exchange) (rs : List Record) (lines : Writer (Vec ℕ Global)) → length es ≤ i → RowsSoFar round es rs lines i → bytes_written lines ≡ trace_lines round es rs
 rows_all round i es rs lines end so_far =
-    sym (append-nil (written lines))
-    ∙ ap (λ rest. written lines ++ trace_lines_from round i rest (drop i rs)) (sym (drop_all i es end))
+    sym (append-nil (bytes_written lines))
+    ∙ ap (λ rest. bytes_written lines ++ trace_lines_from round i rest (drop i rs)) (sym (drop_all i es end))
     ∙ so_far.whole

@@ -22,8 +22,8 @@ is_plain_cell (Text text) = is_plain text.now
 is_plain_cell (Number number) = true
 
 -- what a writer of lines has written
-abbrev pub written : Writer (Vec ℕ Global) → List ℕ
-written lines = (writer_under lines).items ++ writer_pending lines
+abbrev pub bytes_written : Writer (Vec ℕ Global) → List ℕ
+bytes_written lines = (writer_under lines).items ++ writer_pending lines
 
 -- what stands before the next field: a comma, where one was written in this line
 abbrev pub comma_before : Writer (Vec ℕ Global) → List ℕ
@@ -40,4 +40,4 @@ pub record AddsField (old new : Writer (Vec ℕ Global)) (field : List ℕ) : Ty
   pub setup : writer_setup new ≡ default_writer
   pub fields : 0 < fields_written new
   pub wrote : has_written new ≡ true
-  pub text : written new ≡ written old ++ (comma_before old ++ field)
+  pub text : bytes_written new ≡ bytes_written old ++ (comma_before old ++ field)

@@ -15,14 +15,14 @@ pub record IsWritten {W : Type 0} (sink : Sink W) (old new : W) (text : List ℕ
 
 -- the sink has failed: it has taken a beginning of this text, which may be none or all of it; one that had failed
 -- before is as it was
-pub record IsCut {W : Type 0} (sink : Sink W) (old new : W) (text : List ℕ) : Type 0 where
+pub record IsBrokenOff {W : Type 0} (sink : Sink W) (old new : W) (text : List ℕ) : Type 0 where
   pub count : ℕ
   pub taken : Appends (sink.taken old) (sink.taken new) (take count text)
   pub failed : sink.failed new ≡ true
   pub stays : sink.failed old ≡ true → new ≡ old
 
--- the fault of writing this text: want of memory leaves the sink as it was, and a failure cuts the text
+-- the fault of writing this text: where memory runs out it leaves the sink as it was, and a failure cuts the text
 abbrev pub IsWriteFault : {W : Type 0} → Sink W → W → W → List ℕ → Fault → Type 0
 IsWriteFault sink old new text OutOfMemory = new ≡ old
-IsWriteFault sink old new text WriteFailed = IsCut sink old new text
+IsWriteFault sink old new text WriteFailed = IsBrokenOff sink old new text
 IsWriteFault sink old new text _ = ⊥

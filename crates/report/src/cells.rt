@@ -1,10 +1,10 @@
-//! Lines made of cells, in memory. A writer over a vector fails only for want of memory.
+//! Lines made of cells, in memory. A writer over a vector fails only where memory runs out.
 
 ghost use Rattle.std.specs.Prelude.{◌≡◌, ◌<◌, ◌++◌, length, map, decimal, IsTrue, IfOk, OnOk, IsOkUnless};
 ghost use Rattle.std.specs.List.{list_all};
 ghost use Rattle.csv.specs.Writing.{default_writer, writer_setup};
 ghost use Rattle.report.specs.Line.{line_of};
-ghost use Rattle.report.specs.Cells.{cell_text, is_plain, is_plain_cell, written, AddsField, IsBetweenLines};
+ghost use Rattle.report.specs.Cells.{cell_text, is_plain, is_plain_cell, bytes_written, AddsField, IsBetweenLines};
 
 use bench_types::Fault;
 use csv::{Writer, WriterBuilder};
@@ -39,7 +39,8 @@ pub(crate) fn put_line(
     requires some { 0 < length cells.now }
     requires plain { IsTrue (list_all is_plain_cell cells.now) }
     ensures between { OnOk result (IsBetweenLines lines.new) }
-    ensures line { OnOk result (written lines.new ≡ written lines.old ++ line_of (map cell_text cells.now)) }
+    ensures line { OnOk result
+        (bytes_written lines.new ≡ bytes_written lines.old ++ line_of (map cell_text cells.now)) }
     ensures only { IsOkUnless result Fault.OutOfMemory }
 {
     for cell in cells {

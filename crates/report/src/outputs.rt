@@ -4,7 +4,7 @@ ghost use Rattle.std.specs.Prelude.{◌<◌, length, map, IsTrue, OnOk, OnErr, I
 ghost use Rattle.std.specs.List.{list_all};
 ghost use Rattle.report.specs.Cells.{cell_text, is_plain_cell};
 ghost use Rattle.report.specs.Line.{line_of};
-ghost use Rattle.report.specs.Output.{IsWritten, IsCut, IsWriteFault};
+ghost use Rattle.report.specs.Output.{IsWritten, IsBrokenOff, IsWriteFault};
 
 use crate::cells::{Cell, make_line};
 use bench_types::{Failed, Fault, Sink};
@@ -28,9 +28,9 @@ pub(crate) fn write_line<W: Sink>(
 }
 
 /// Writes all of the text, and flushes.
-pub(crate) fn write_text<W: Sink>(writer: &mut W, text: &[u8]) -> Result<(), Fault>
+pub fn write_text<W: Sink>(writer: &mut W, text: &[u8]) -> Result<(), Fault>
     ensures written { OnOk result (IsWritten W.Sink writer.old writer.new text.now) }
-    ensures cut { OnErr result (IsCut W.Sink writer.old writer.new text.now) }
+    ensures cut { OnErr result (IsBrokenOff W.Sink writer.old writer.new text.now) }
     ensures only { IsOkUnless result Fault.WriteFailed }
 {
     let mut rest = text;

@@ -1,7 +1,7 @@
 //! The trace: a header, and then for each round a row for each of its exchanges.
 
 ghost use Rattle.std.specs.Prelude.{◌≡◌, ◌≤◌, ◌++◌, length, IsTrue, IfOk, OnOk, IfErr, IsOkUnless};
-ghost use Rattle.report.specs.Cells.{is_plain, written, IsBetweenLines};
+ghost use Rattle.report.specs.Cells.{is_plain, bytes_written, IsBetweenLines};
 ghost use Rattle.report.specs.Output.{IsWritten, IsWriteFault};
 ghost use Rattle.round_plan.specs.declared.lists.TheConstants.{MOST_EXCHANGES};
 ghost use Rattle.report.specs.Trace.{trace_header_line, fate_name, trace_line, trace_lines};
@@ -84,7 +84,7 @@ fn put_row(
     requires between { IsBetweenLines lines.old }
     ensures between { OnOk result (IsBetweenLines lines.new) }
     ensures line { OnOk result
-        (written lines.new ≡ written lines.old ++ trace_line round index exchange.now sent.now) }
+        (bytes_written lines.new ≡ bytes_written lines.old ++ trace_line round index exchange.now sent.now) }
     ensures only { IsOkUnless result Fault.OutOfMemory }
 {
     let cells = [

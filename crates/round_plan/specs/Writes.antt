@@ -7,6 +7,7 @@ use Rattle.std.specs.Prelude.{◌≡◌, ◌<◌, length, slice_index, ℕ, zero
 use Rattle.std.specs.Option.{option_map}
 use Rattle.std.specs.List.{range_with_len, find}
 use Rattle.bench_types.specs.declared.entries.Entry.{Entry}
+use Rattle.bench_types.specs.Entry.{next_version}
 use Rattle.bench_types.specs.declared.limits.TheConstants.{MOST_WRITES}
 use Rattle.scenario.specs.declared.choices.Choice.{Choice}
 use Rattle.scenario.specs.declared.choices.Choice.TheVariants.{Random, Cycle}
@@ -31,35 +32,35 @@ number_by Cycle word version = version - 1
 
 -- the number of the write at a place of a node's round, from 0, before which the node had made so many; word 8 is
 -- the first write's
-abbrev pub number_of : Settings → ℕ → ℕ → ℕ → ℕ → ℕ
-number_of s node round count_before place = number_by s.choice (word_of s node round (8 + place)) (count_before + 1 + place)
+abbrev pub write_number : Settings → ℕ → ℕ → ℕ → ℕ → ℕ
+write_number s node round count_before place = number_by s.choice (word_of s node round (8 + place)) (next_version (count_before + place))
 
 abbrev pub AreNumbers : Settings → ℕ → ℕ → ℕ → List ℕ → Type 0
 AreNumbers s node round count_before numbers =
-    (length numbers ≡ MOST_WRITES) × ((place : ℕ) → place < MOST_WRITES → slice_index numbers place ≡ number_of s node round count_before place)
+    (length numbers ≡ MOST_WRITES) × ((place : ℕ) → place < MOST_WRITES → slice_index numbers place ≡ write_number s node round count_before place)
 
--- the write of a number and a version, where there are so many keys
-abbrev pub write_of : ℕ → ℕ → ℕ → OwnWrite
-write_of keys number version = record { key = number % keys; value = number / keys; version = version }
+-- the write of a number that comes after so many in a round, where there are so many keys
+abbrev pub numbered_write : ℕ → ℕ → ℕ → ℕ → Entry
+numbered_write keys round number count = record { key = number % keys; version = next_version count; value = number / keys; born = round }
 
 -- the write at a place of a node's round
-abbrev pub own_write : Settings → ℕ → ℕ → ℕ → ℕ → OwnWrite
-own_write s node round count_before place = write_of s.keys (number_of s node round count_before place) (count_before + 1 + place)
+abbrev pub own_write_at : Settings → ℕ → ℕ → ℕ → ℕ → Entry
+own_write_at s node round count_before place = numbered_write s.keys round (write_number s node round count_before place) (count_before + place)
 
 -- the writes of a node in a round, before which it had made so many: none where it is down
-abbrev pub own_writes : Settings → ℕ → ℕ → ℕ → List OwnWrite
-own_writes s node round count_before = if is_up s node round then map (own_write s node round count_before) (range_with_len 0 (writes_in s round)) else []
+abbrev pub own_writes : Settings → ℕ → ℕ → ℕ → List Entry
+own_writes s node round count_before = if is_up s node round then map (own_write_at s node round count_before) (range_with_len 0 (writes_in s round)) else []
 
 -- how many writes an owner has made up to a round
 abbrev pub count_upto : Settings → ℕ → ℕ → ℕ
 count_upto s owner zero = 0
 count_upto s owner (suc round) = count_upto s owner round + (if is_up s owner (suc round) then writes_in s (suc round) else 0)
 
--- a write that is made in a round, as an entry of the owner's state
-abbrev pub born_in : ℕ → OwnWrite → Entry
-born_in round w = record { key = w.key; version = w.version; value = w.value; born = round }
-
 -- the writes of an owner up to a round: the write at place m, from 1, has version m
 abbrev pub writes_upto : Settings → ℕ → ℕ → List Entry
 writes_upto s owner zero = []
-writes_upto s owner (suc round) = writes_upto s owner round ++ map (born_in (suc round)) (own_writes s owner (suc round) (count_upto s owner round))
+writes_upto s owner (suc round) = writes_upto s owner round ++ own_writes s owner (suc round) (count_upto s owner round)
+
+-- a write as `writes_of` answers it is one without its round
+abbrev pub born_in : ℕ → OwnWrite → Entry
+born_in round w = record { key = w.key; version = w.version; value = w.value; born = round }

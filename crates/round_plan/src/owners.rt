@@ -1,7 +1,7 @@
 //! What a node writes of its own state.
 
-ghost use Rattle.std.specs.Prelude.{◌≡◌, ◌+◌, ◌-◌, ◌^◌, ◌<◌, ◌≤◌, ◌==◌, ◌++◌, All, length, map, slice_get};
-ghost use Rattle.round_plan.specs.Writes.{writes_in, write_of, own_writes, writes_upto, born_in, AreNumbers};
+ghost use Rattle.std.specs.Prelude.{◌≡◌, ℕ, ◌+◌, ◌-◌, ◌^◌, ◌<◌, ◌≤◌, ◌==◌, ◌++◌, All, length, map, slice_get};
+ghost use Rattle.round_plan.specs.Writes.{writes_in, numbered_write, own_writes, writes_upto, born_in, AreNumbers};
 
 use crate::outages::{is_between, is_up};
 use crate::words::{WRITE_PLACE, words_of};
@@ -96,7 +96,7 @@ pub fn writes_of(scenario: &Scenario, node: u32, round: u32, count_before: u32) 
     requires first { 1 ≤ round }
     requires last { round ≤ MOST_ROUNDS }
     requires fits { count_before + MOST_WRITES < 2 ^ 32 }
-    ensures value { result ≡ own_writes scenario.now node round count_before }
+    ensures value { map (born_in round) result ≡ own_writes scenario.now node round count_before }
     ensures keys { All (λ write. write.key < scenario.now.keys) result }
 
     // Put behind the node's earlier writes they make its writes up to the round.
@@ -113,7 +113,7 @@ pub fn writes_of(scenario: &Scenario, node: u32, round: u32, count_before: u32) 
     let numbers = numbers_of(scenario, node, round, count_before);
     for place in 0..count {
         let number = numbers[place as usize];
-        items[place as usize] = write_of(keys, number, count_before + 1 + place);
+        items[place as usize] = numbered_write(keys, number, count_before + place);
     }
     Writes { items, count }
 }
@@ -146,15 +146,16 @@ fn numbers_of(
     numbers
 }
 
-// The write of a number: the keys in turn, and then each with the next value.
-fn write_of(keys: u32, number: u32, version: u32) -> OwnWrite
-    requires { 1 ≤ keys }
-    ensures value { result ≡ write_of keys number version }
+// The write of a number that comes after so many: the keys in turn, and then each with the next value.
+fn numbered_write(keys: u32, number: u32, count: u32) -> OwnWrite
+    requires keys { 1 ≤ keys }
+    requires fits { count + 1 < 2 ^ 32 }
+    ensures value { (round : ℕ) → born_in round result ≡ numbered_write keys round number count }
     ensures key { result.key < keys }
 {
     OwnWrite {
         key: number % keys,
         value: number / keys,
-        version,
+        version: count + 1,
     }
 }

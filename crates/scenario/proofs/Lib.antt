@@ -5,4 +5,4 @@ pub mod Steps
 pub mod Lawful
 pub mod Order
 pub mod Sayings
-pub mod OnlyReadFaults
+pub mod OnlyFaultsOfCheck

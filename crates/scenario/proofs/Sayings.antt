@@ -21,7 +21,7 @@ use Rattle.scenario.specs.Order.{HasNumber, HasWord, SaysPartition, SaysRestart,
 use Rattle.scenario.specs.Parts.{size_checked, basics_at, conduct_at}
 use Rattle.scenario.specs.Settings.{Settings}
 use Rattle.scenario.specs.Top.{format_at, nodes_at, keys_at, rounds_at, seed_at, mode_at, budget_at, peers_at, rotation_at, choice_at, loss_ppm_at, writes_at, top_fields}
-use Rattle.scenario.specs.Words.{taken, mode_of, peers_of, rotation_of, choice_of}
+use Rattle.scenario.specs.Words.{or_out_of_range, mode_of, peers_of, rotation_of, choice_of}
 use Rattle.scenario.proofs.Steps.{passed, same_ok, kept, number_found_at}
 
 -- a number that was read stands in the document
@@ -29,13 +29,13 @@ number_found : (f : Field) (low high n : ℕ) (o : Option Data) → (present f o
 number_found f low high n None e = absurd cc
 number_found f low high n (Some value) e = ap (λ v. Some v) (number_found_at f low high n value e)
 
-word_meant : {A : Type 0} (f : Field) (x : A) (o : Option A) → taken f o ≡ Ok x → o ≡ Some x
+word_meant : {A : Type 0} (f : Field) (x : A) (o : Option A) → or_out_of_range f o ≡ Ok x → o ≡ Some x
 word_meant f x None e = cc
 word_meant f x (Some y) e = cc
 
 -- a word that was read stands in the document
 word_found : {A : Type 0} (f : Field) (meaning : List ℕ → Option A) (x : A) (o : Option Data)
-    → (present f o >>= text_of f >>= (λ word. taken f (meaning word))) ≡ Ok x → (word : List ℕ) × (o ≡ Some (string word)) × (meaning word ≡ Some x)
+    → (present f o >>= text_of f >>= (λ word. or_out_of_range f (meaning word))) ≡ Ok x → (word : List ℕ) × (o ≡ Some (string word)) × (meaning word ≡ Some x)
 word_found f meaning x None e = absurd cc
 word_found f meaning x (Some (string word)) e = (word, refl, word_meant f x (meaning word) e)
 word_found f meaning x (Some _) e = absurd cc

@@ -8,4 +8,4 @@ pub mod Top
 pub mod Parts
 pub mod Checked
 pub mod Order
-pub mod ReadFault
+pub mod CheckFault

@@ -15,13 +15,13 @@ use Rattle.scenario.specs.declared.choices.Choice.TheVariants as choice
 use Rattle.scenario.specs.Fields.{◌>>=◌, text_at}
 
 -- what a word stands for; a word that stands for nothing is out of range
-abbrev pub taken : {A : Type 0} → Field → Option A → Result A Fault
-taken f None = Err (OutOfRange f)
-taken f (Some x) = Ok x
+abbrev pub or_out_of_range : {A : Type 0} → Field → Option A → Result A Fault
+or_out_of_range f None = Err (OutOfRange f)
+or_out_of_range f (Some x) = Ok x
 
 -- the value of a field whose words stand for what `meaning` says
 abbrev pub word_at : {A : Type 0} → Field → (List ℕ → Option A) → Members → Result A Fault
-word_at f meaning table = text_at f table >>= (λ word. taken f (meaning word))
+word_at f meaning table = text_at f table >>= (λ word. or_out_of_range f (meaning word))
 
 -- the words of this field are the names of the modes
 abbrev pub mode_of : List ℕ → Option Mode

@@ -4,7 +4,7 @@ ghost use Rattle.std.specs.Prelude.{◌≡◌, ◌≢◌, None, IfOk, IfErr, OnO
 ghost use Rattle.toml.specs.View.{table_view};
 ghost use Rattle.scenario.specs.Checked.{document_of, text_checked};
 ghost use Rattle.scenario.specs.Order.{first_fault, Says};
-ghost use Rattle.scenario.specs.ReadFault.{IsReadFault};
+ghost use Rattle.scenario.specs.CheckFault.{IsFaultOfCheck};
 
 use crate::scenarios::Scenario;
 use bench_types::Fault;
@@ -19,7 +19,7 @@ pub fn read(alloc: Global, bytes: &[u8]) -> Result<Scenario, Fault>
     ensures accepted { IfOk result (λ scenario. text_checked bytes.now ≡ Ok scenario) }
     ensures refused { IfErr result (λ fault.
         fault ≢ Fault.OutOfMemory → text_checked bytes.now ≡ Err fault) }
-    ensures only { IfErr result IsReadFault }
+    ensures only { IfErr result IsFaultOfCheck }
     ensures no_text { ¬ IsUtf8 bytes.now → IsErrOf result Fault.NotToml }
 
     // A scenario is what the document says, and a fault is that of the first check that fails.
@@ -37,7 +37,7 @@ fn document(alloc: Global, bytes: &[u8]) -> Result<Table, Fault>
     ensures ok { IfOk result (λ table. document_of bytes.now ≡ Some (table_view table)) }
     ensures refused { IfErr result (λ fault.
         fault ≢ Fault.OutOfMemory → (fault ≡ Fault.NotToml) × (document_of bytes.now ≡ None)) }
-    ensures only { IfErr result IsReadFault }
+    ensures only { IfErr result IsFaultOfCheck }
     ensures no_text { ¬ IsUtf8 bytes.now → IsErrOf result Fault.NotToml }
 {
     let text = match std::str::from_utf8(bytes) {

@@ -6,5 +6,4 @@ pub mod Restarting
 pub mod Standing
 pub mod Lags
 pub mod Stepping
-pub mod OwnWrites
 pub mod Soundness

@@ -1,36 +1,33 @@
 -- What holds of the tables along every run.
-use Rattle.std.proofs.Common.{◌≡◌, ℕ, zero, suc, ◌+◌, ◌-◌, ◌<◌, ◌≤◌, Bool, true, false, if◌then◌else◌, List, ◌++◌, length, map, All, inl, inr, refl, sym, ap, ◌∙◌, subst, arith}
+use Rattle.std.proofs.Common.{◌≡◌, ℕ, zero, suc, ◌+◌, ◌-◌, ◌<◌, ◌≤◌, Bool, true, false, if◌then◌else◌, List, ◌++◌, length, All, inl, inr, refl, sym, ap, ◌∙◌, subst, arith}
 use Rattle.std.proofs.Math.Seq.{take-length}
 use Rattle.std.proofs.lemmas.Bool.{cases_lt}
 use Rattle.std.proofs.lemmas.List.{get_or_past}
 use Rattle.std.proofs.lemmas.List.FromFn.{length-map-range_with_len}
 use Rattle.bench_types.specs.declared.entries.Entry.{Entry}
 use Rattle.bench_types.specs.declared.exchanges.Exchange.{Exchange}
-use Rattle.node_table.specs.Table.{Table, empty_table, entry_at, greatest_version, without_others, version_at, IsProper}
+use Rattle.bench_types.specs.Entry.{AreNextAfter}
+use Rattle.node_table.specs.Table.{Table, empty_table, entry_at, greatest_version, with_own_writes, without_others, version_at, IsProper}
 use Rattle.node_table.proofs.Laws.{entry_at-empty_table, proper-empty_table}
 use Rattle.node_table.proofs.Versions.{greatest_version-empty_table, greatest_version-without_others_own}
-use Rattle.round_plan.specs.declared.owners.OwnWrite.{OwnWrite}
 use Rattle.round_plan.specs.Outages.{restarts_now}
 use Rattle.round_plan.specs.Plan.{round_list_of}
-use Rattle.round_plan.specs.Writes.{count_upto, own_writes, writes_upto, born_in}
-use Rattle.round_plan.proofs.Growth.{keys-own_writes, version-own_writes, length-writes_upto, writes_upto-grown}
+use Rattle.round_plan.specs.Writes.{count_upto, own_writes, writes_upto}
+use Rattle.round_plan.proofs.Growth.{keys-own_writes, next-own_writes, length-writes_upto, writes_upto-grown}
 use Rattle.round_plan.proofs.Planned.{planned_list}
 use Rattle.scenario.specs.Settings.{Settings}
-use Rattle.cluster.specs.Begins.{IsBegun}
 use Rattle.bench_types.specs.Exchange.{IsPlanned}
 use Rattle.cluster.specs.Clusters.{NoVersionsFall}
 use Rattle.exchange.specs.Copies.{IsLastOf}
 use Rattle.cluster.specs.Tables.{table_of_node, AreTablesInOrder, AreProper}
 use Rattle.cluster.specs.Folds.{fold_of, tables_before}
 use Rattle.exchange.specs.Laws.{NoVersionFalls}
-use Rattle.cluster.proofs.BeginLaws.{begun_same, begun_restart, begun_then, empty_copies, empty_no_gap, begun_copies, begun_no_gap}
+use Rattle.cluster.proofs.BeginLaws.{IsBegun, begun_same, begun_restart, begun_then, begun_writes, counted_writes, written_rises, empty_copies, empty_no_gap, begun_copies, begun_no_gap}
 use Rattle.cluster.proofs.Tables.{table_of_node-made}
 use Rattle.cluster.proofs.FoldLaws.{before_copies, before_no_gap, before_rises, before_keeps_own}
-use Rattle.simulation.specs.Lists.{AreNumberedFrom}
-use Rattle.simulation.specs.Rounds.{opening_tables, restarted_table, restarted, written_table, with_own_writes, begun, rules_of, round_of, tables_after}
+use Rattle.simulation.specs.Rounds.{opening_tables, restarted_table, restarted, written_table, begun, rules_of, round_of, tables_after}
 use Rattle.simulation.specs.Soundness.{writes_by, AreSound, OnlyRestartsForget, tables_within, IsSoundRun}
 use Rattle.simulation.proofs.Begun.{count_upto-before}
-use Rattle.simulation.proofs.OwnWrites.{greatest-own_writes, begun_own_writes, rises_by_writes}
 
 -- each owner's greatest version is how many writes it has made
 abbrev AreCounted : Settings → ℕ → List Table → Type 0
@@ -73,22 +70,22 @@ module _ (s : Settings) (some : 2 ≤ s.nodes) (most : s.nodes ≤ 4096) (some_k
     abbrev count : ℕ → ℕ
     count n = count_upto s n (round - 1)
 
-    abbrev writes : ℕ → List OwnWrite
+    abbrev writes : ℕ → List Entry
     writes n = own_writes s n round (count n)
 
     restarted_at : (n : ℕ) → n < s.nodes → table_of_node (restarted s round ts) n ≡ restarted_table s round ts n
     restarted_at n lt = table_of_node-made (restarted_table s round ts) s.nodes n lt
 
-    begun_at : (n : ℕ) → n < s.nodes → table_of_node (begun s round ts) n ≡ with_own_writes round (restarted_table s round ts n) (writes n)
+    begun_at : (n : ℕ) → n < s.nodes → table_of_node (begun s round ts) n ≡ with_own_writes (restarted_table s round ts n) (writes n)
     begun_at n lt =
         table_of_node-made (written_table s round (restarted s round ts)) s.nodes n lt
-        ∙ ap (λ t. with_own_writes round t (writes n)) (restarted_at n lt)
+        ∙ ap (λ t. with_own_writes t (writes n)) (restarted_at n lt)
 
-    grown : (n : ℕ) → writes_upto s n round ≡ writes_upto s n (round - 1) ++ map (born_in round) (writes n)
+    grown : (n : ℕ) → writes_upto s n round ≡ writes_upto s n (round - 1) ++ writes n
     grown n = writes_upto-grown s n round (count n) first (length-writes_upto s n (round - 1))
 
-    numbered : (n : ℕ) → AreNumberedFrom (length (writes_upto s n (round - 1))) (writes n)
-    numbered n i d lt = version-own_writes s n round (count n) i d lt ∙ ap (λ m. m + 1 + i) (sym (length-writes_upto s n (round - 1)))
+    next : (n : ℕ) → AreNextAfter (length (writes_upto s n (round - 1))) (writes n)
+    next n = subst (λ m. AreNextAfter m (writes n)) (sym (length-writes_upto s n (round - 1))) (next-own_writes s n round (count n))
 
     module _ (n : ℕ) (lt : n < s.nodes) where
       abbrev t : Table
@@ -123,8 +120,8 @@ module _ (s : Settings) (some : 2 ≤ s.nodes) (most : s.nodes ≤ 4096) (some_k
       first_begun : IsBegun old t old r
       first_begun = (restart_or_not (restarts_now s n round)).0
 
-      keys_below : All (λ w. w.key < r.keys) (writes n)
-      keys_below = subst (λ k. All (λ (w : OwnWrite). w.key < k) (writes n)) (sym ((restart_or_not (restarts_now s n round)).1 ∙ keys_are)) (keys-own_writes s n round (count n) some_key)
+      keys_below : All (λ e. e.key < r.keys) (writes n)
+      keys_below = subst (λ k. All (λ (e : Entry). e.key < k) (writes n)) (sym ((restart_or_not (restarts_now s n round)).1 ∙ keys_are)) (keys-own_writes s n round (count n) some_key)
 
       greatest_r : greatest_version r r.node ≡ length old
       greatest_r = (restart_or_not (restarts_now s n round)).2 ∙ greatest_is
@@ -132,19 +129,19 @@ module _ (s : Settings) (some : 2 ≤ s.nodes) (most : s.nodes ≤ 4096) (some_k
       node_begun : IsBegun old t (writes_upto s n round) (table_of_node (begun s round ts) n)
       node_begun =
           subst (IsBegun old t (writes_upto s n round)) (sym (begun_at n lt))
-          (subst (λ l. IsBegun old t l (with_own_writes round r (writes n))) (sym (grown n))
-          (begun_then old old (old ++ map (born_in round) (writes n)) t r (with_own_writes round r (writes n)) first_begun (begun_own_writes round (writes n) old r first_begun.proper first_begun.last greatest_r (numbered n) keys_below)))
+          (subst (λ l. IsBegun old t l (with_own_writes r (writes n))) (sym (grown n))
+          (begun_then old old (old ++ writes n) t r (with_own_writes r (writes n)) first_begun (begun_writes (writes n) old r (length old) first_begun.proper first_begun.last greatest_r (next n) keys_below)))
 
       node_counted : greatest_version (table_of_node (begun s round ts) n) n ≡ count_upto s n round
       node_counted =
           ap (λ (u : Table). greatest_version u n) (begun_at n lt)
-          ∙ ap (greatest_version (with_own_writes round r (writes n))) (sym (first_begun.node ∙ node_is))
-          ∙ greatest-own_writes round (writes n) r keys_below
+          ∙ ap (greatest_version (with_own_writes r (writes n))) (sym (first_begun.node ∙ node_is))
+          ∙ counted_writes (writes n) r keys_below
           ∙ ap (λ m. m + length (writes n)) (greatest_r ∙ length-writes_upto s n (round - 1))
           ∙ sym (count_upto-before s n round first)
 
       node_rises : restarts_now s n round ≡ false → NoVersionFalls t (table_of_node (begun s round ts) n)
-      node_rises stays = subst (NoVersionFalls t) (sym (begun_at n lt ∙ ap (λ u. with_own_writes round u (writes n)) same)) (rises_by_writes round (writes n) t t_proper (subst (λ (u : Table). All (λ (w : OwnWrite). w.key < u.keys) (writes n)) same keys_below))
+      node_rises stays = subst (NoVersionFalls t) (sym (begun_at n lt ∙ ap (λ u. with_own_writes u (writes n)) same)) (written_rises (writes n) t t_proper (subst (λ (u : Table). All (λ (e : Entry). e.key < u.keys) (writes n)) same keys_below))
         where
           same : r ≡ t
           same = ap (λ b. if b then without_others t else t) stays

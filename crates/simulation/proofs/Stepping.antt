@@ -23,7 +23,7 @@ tables_after-more s done =
     let next : done + 1 ≡ suc done = omega arith in
     ap (tables_after s) next ∙ unfolded s done ∙ ap (λ n. (round_of s n (tables_after s done)).tables) (sym next)
 
-module _ (s : Settings) (cluster : Option Cluster) (old new : Cluster) (done : ℕ) (round : RoundView) (so_far : IsSimulation (simulation_of s cluster done)) (is : cluster ≡ Some old) (more : done ≢ s.rounds) (standing : StandAfterRound s (done + 1) (tables_in new.tables.items) new.lists.items) (tables : tables_in new.tables.items ≡ (round_of s (done + 1) (tables_in old.tables.items)).tables) where
+module _ (s : Settings) (cluster : Option Cluster) (old new : Cluster) (done : ℕ) (round : RoundView) (so_far : IsSimulation (simulation_of s cluster done)) (is : cluster ≡ Some old) (not_done : done < s.rounds) (standing : StandAfterRound s (done + 1) (tables_in new.tables.items) new.lists.items) (tables : tables_in new.tables.items ≡ (round_of s (done + 1) (tables_in old.tables.items)).tables) where
   unbroken : is_none cluster ≡ false
   unbroken = ap is_none is
 
@@ -32,9 +32,6 @@ module _ (s : Settings) (cluster : Option Cluster) (old new : Cluster) (done : �
 
   after : tables_in new.tables.items ≡ tables_after s (done + 1)
   after = tables ∙ ap (λ ts. (round_of s (done + 1) ts).tables) before ∙ sym (tables_after-more s done)
-
-  not_done : done < s.rounds
-  not_done = let within = so_far.within in omega (arith, more)
 
   pub step_simulation : IsSimulation (simulation_of s (Some new) (done + 1))
   step_simulation = record { within = omega (arith, not_done); standing = λ _. standing; tables = λ _. after }

@@ -1,20 +1,11 @@
 -- The lists of all owners: the n-th write of a node stands at place n, from 1, with its key, version and round.
 -- Source: this project.
-use Rattle.std.specs.Prelude.{◌≡◌, ℕ, ◌+◌, ◌<◌, List, length, map, slice_index_or}
+use Rattle.std.specs.Prelude.{ℕ, List, map}
 use Rattle.std.specs.List.{range_with_len}
-use Rattle.round_plan.specs.declared.owners.OwnWrite.{OwnWrite}
 use Rattle.round_plan.specs.Writes.{writes_upto}
 use Rattle.scenario.specs.Settings.{Settings}
 use Rattle.staleness.specs.declared.lists.Write.{Write}
 use Rattle.staleness.specs.Cluster.{write_of_entry}
-
--- a write of a round, as its owner's list has it
-abbrev pub write_in : ℕ → OwnWrite → Write
-write_in round w = record { key = w.key; version = w.version; born = round }
-
--- the versions follow each other behind the first so many
-abbrev pub AreNumberedFrom : ℕ → List OwnWrite → Type 0
-AreNumberedFrom n ws = (i : ℕ) (d : OwnWrite) → i < length ws → (slice_index_or ws i d).version ≡ n + 1 + i
 
 -- the list of an owner after a round
 abbrev pub list_after : Settings → ℕ → ℕ → List Write

@@ -1,12 +1,11 @@
 -- The rounds of a run. In round 0 all tables are empty. A round begins with its restarts, each of which empties a
 -- node's copies of all others and leaves its own entries; then come the writes of the nodes that are up, by node and
 -- then in their order; then the exchanges of the round's list, one after another. Source: this project.
-use Rattle.std.specs.Prelude.{ℕ, zero, suc, ◌-◌, if◌then◌else◌, List, map, fold}
+use Rattle.std.specs.Prelude.{ℕ, zero, suc, ◌-◌, if◌then◌else◌, List, map}
 use Rattle.std.specs.List.{range_with_len}
 use Rattle.bench_types.specs.declared.exchanges.Record.{Record}
 use Rattle.bench_types.specs.declared.exchanges.Rules.{Rules}
-use Rattle.node_table.specs.Table.{Table, empty_table, with_own_write, without_others}
-use Rattle.round_plan.specs.declared.owners.OwnWrite.{OwnWrite}
+use Rattle.node_table.specs.Table.{Table, empty_table, with_own_writes, without_others}
 use Rattle.round_plan.specs.Outages.{restarts_now}
 use Rattle.round_plan.specs.Plan.{round_list_of}
 use Rattle.round_plan.specs.Writes.{count_upto, own_writes}
@@ -24,13 +23,9 @@ restarted_table s round ts n = if restarts_now s n round then without_others (ta
 abbrev pub restarted : Settings → ℕ → List Table → List Table
 restarted s round ts = map (restarted_table s round ts) (range_with_len 0 s.nodes)
 
--- one node's writes of a round, in turn
-abbrev pub with_own_writes : ℕ → Table → List OwnWrite → Table
-with_own_writes round = fold (λ t w. with_own_write t w.key w.value round)
-
 -- the table of a node after its writes of a round
 abbrev pub written_table : Settings → ℕ → List Table → ℕ → Table
-written_table s round ts n = with_own_writes round (table_of_node ts n) (own_writes s n round (count_upto s n (round - 1)))
+written_table s round ts n = with_own_writes (table_of_node ts n) (own_writes s n round (count_upto s n (round - 1)))
 
 abbrev pub written : Settings → ℕ → List Table → List Table
 written s round ts = map (written_table s round ts) (range_with_len 0 s.nodes)

@@ -80,9 +80,13 @@ pub record PlaysNext (old new : SimView) (round : RoundView) : Type 0 where
   pub sound : AreSound new.settings new.rounds_done (tables_in new.tables)
   pub kept : OnlyRestartsForget new.settings new.rounds_done (tables_in old.tables) (tables_in new.tables)
 
+-- a round is left, and none has failed
+abbrev pub MayStep : SimView → Type 0
+MayStep v = (v.broken ≡ false) × (v.rounds_done < v.settings.rounds)
+
 -- a step that failed
 abbrev pub IsFailedBy : SimView → SimView → Fault → Type 0
-IsFailedBy old new fault = (fault ≡ OutOfMemory) × (old.broken ≡ false) × (old.rounds_done < old.settings.rounds) × (new.broken ≡ true) × (new.settings ≡ old.settings) × (new.rounds_done ≡ old.rounds_done)
+IsFailedBy old new fault = (fault ≡ OutOfMemory) × MayStep old × (new.broken ≡ true) × (new.settings ≡ old.settings) × (new.rounds_done ≡ old.rounds_done)
 
 -- a step that had nothing to do
 abbrev pub IsRefusedBy : SimView → Fault → Type 0

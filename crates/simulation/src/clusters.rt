@@ -3,17 +3,17 @@
 ghost use Rattle.std.specs.Prelude.{◌≡◌, ℕ, ◌+◌, ◌-◌, ◌^◌, ◌<◌, ◌≤◌, ◌++◌, ◌∷◌, [], All, List, length, map, slice_index_or, IfOk, OnOk, IsOkUnless};
 ghost use Rattle.bench_types.specs.declared.faults.Fault.TheVariants.{OutOfMemory};
 ghost use Rattle.bench_types.specs.declared.exchanges.Record.{Record};
-ghost use Rattle.node_table.specs.Table.{empty_table, greatest_version};
+ghost use Rattle.bench_types.specs.Entry.{AreNextAfter};
+ghost use Rattle.node_table.specs.Table.{empty_table, greatest_version, with_own_writes};
 ghost use Rattle.staleness.specs.Figures.{writes_at};
-ghost use Rattle.staleness.specs.Cluster.{OwnPartIsLastWrites};
+ghost use Rattle.staleness.specs.Cluster.{write_of_entry, OwnPartIsLastWrites};
 ghost use Rattle.staleness.specs.Writes.{AreBornBy};
-ghost use Rattle.round_plan.specs.declared.owners.OwnWrite.{OwnWrite};
+ghost use Rattle.round_plan.specs.Writes.{born_in};
 ghost use Rattle.bench_types.specs.Exchange.{IsPlanned};
 ghost use Rattle.cluster.specs.Tables.{tables_in, IsCluster};
 ghost use Rattle.cluster.specs.Clusters.{KeepOwnParts};
-ghost use Rattle.simulation.specs.Rounds.{opening_tables, with_own_writes, restarted, written, begun, rules_of};
+ghost use Rattle.simulation.specs.Rounds.{opening_tables, restarted, written, begun, rules_of};
 ghost use Rattle.simulation.specs.Turns.{IsExchanged, AreExchanged};
-ghost use Rattle.simulation.specs.Lists.{write_in, AreNumberedFrom};
 ghost use Rattle.simulation.specs.Standing.{StandAfterRound};
 
 use bench_types::limits::MOST_ROUNDS;
@@ -115,13 +115,13 @@ fn write_own(
     round: u32,
 ) -> Result<(), Fault>
     requires keys { All (λ w. w.key < table.old.table.keys) writes.now }
-    requires numbered { AreNumberedFrom (length list.old) writes.now }
+    requires next { AreNextAfter (length list.old) (map (born_in round) writes.now) }
     requires fits { length list.old + length writes.now + 1 < 2 ^ 32 }
     requires greatest { greatest_version table.old.table table.old.table.node ≡ length list.old }
     requires own_part { OwnPartIsLastWrites table.old.table list.old }
     requires born { AreBornBy round list.old }
-    ensures table { OnOk result (table.new.table ≡ with_own_writes round table.old.table writes.now) }
-    ensures list { OnOk result (list.new ≡ list.old ++ map (write_in round) writes.now) }
+    ensures table { OnOk result (table.new.table ≡ with_own_writes table.old.table (map (born_in round) writes.now)) }
+    ensures list { OnOk result (list.new ≡ list.old ++ map write_of_entry (map (born_in round) writes.now)) }
     ensures greatest { OnOk result (greatest_version table.new.table table.new.table.node ≡ length list.new) }
     ensures own_part { OnOk result (OwnPartIsLastWrites table.new.table list.new) }
     ensures born { OnOk result (AreBornBy round list.new) }

@@ -1,4 +1,4 @@
-//! What holds along every run, whatever is lost, cut, parted or restarted.
+//! What holds along every run, whatever is lost, cut, separated or restarted.
 
 ghost use Rattle.scenario.specs.Settings.{Settings, IsLawfulScenario};
 ghost use Rattle.simulation.specs.Soundness.{IsSoundRun};

@@ -2,6 +2,7 @@
 
 ghost use Rattle.std.specs.Prelude.{◌≡◌, ◌≤◌, length};
 ghost use Rattle.simulation.specs.Outcomes.{played_with};
+ghost use Rattle.round_plan.specs.declared.lists.TheConstants.{MOST_EXCHANGES};
 ghost use Rattle.simulation.specs.Rows.{row_of, has_lost, lost_count, entry_count, cut_total};
 
 use bench_types::{Fate, Figures, Record, Row};
@@ -73,7 +74,7 @@ impl Round {
 }
 
 fn row_of(round: u32, list: &RoundList, records: &[Record], figures: Figures) -> Row
-    requires { length records.now ≤ 4096 }
+    requires { length records.now ≤ MOST_EXCHANGES }
     ensures { result ≡ row_of round list.now records.now figures }
 {
     Row {
@@ -90,7 +91,7 @@ fn row_of(round: u32, list: &RoundList, records: &[Record], figures: Figures) ->
 
 // How many exchanges lost a message.
 fn lost_count(records: &[Record]) -> u32
-    requires { length records.now ≤ 4096 }
+    requires { length records.now ≤ MOST_EXCHANGES }
     ensures { result ≡ lost_count records.now }
 {
     records.iter().filter(|r| has_lost(r.fate)).count() as u32
@@ -107,7 +108,7 @@ fn has_lost(fate: Fate) -> bool
 
 // How many entries were sent.
 fn entry_count(records: &[Record]) -> u64
-    requires { length records.now ≤ 4096 }
+    requires { length records.now ≤ MOST_EXCHANGES }
     ensures { result ≡ entry_count records.now }
 {
     let mut total = 0;
@@ -119,7 +120,7 @@ fn entry_count(records: &[Record]) -> u64
 
 // How many entries the budget cut.
 fn cut_total(records: &[Record]) -> u64
-    requires { length records.now ≤ 4096 }
+    requires { length records.now ≤ MOST_EXCHANGES }
     ensures { result ≡ cut_total records.now }
 {
     let mut total = 0;

@@ -2,13 +2,14 @@
 
 ghost use Rattle.std.specs.Prelude.{◌≡◌, ℕ, ◌+◌, ◌-◌, ◌<◌, ◌≤◌, ◌⊎◌, true, false, [], IfOk, IfErr, OnOk, IsOkUnless};
 ghost use Rattle.bench_types.specs.declared.faults.Fault.TheVariants.{OutOfMemory};
+ghost use Rattle.scenario.specs.Settings.{IsLawfulScenario};
 ghost use Rattle.staleness.specs.Figures.{figures_of};
 ghost use Rattle.simulation.specs.RoundView.{RoundView};
 ghost use Rattle.cluster.specs.Tables.{tables_in};
 ghost use Rattle.simulation.specs.Rounds.{opening_tables, round_of};
 ghost use Rattle.simulation.specs.Rows.{row_of};
 ghost use Rattle.simulation.specs.Standing.{StandAfterRound};
-ghost use Rattle.simulation.specs.Simulation.{tables_of, lists_of, HasPlayed, AreTablesAfter, PlaysNext, IsStepFault};
+ghost use Rattle.simulation.specs.Simulation.{tables_of, lists_of, HasPlayed, AreTablesAfter, PlaysNext, MayStep, IsRefusedBy, IsStepFault};
 ghost use Rattle.simulation.specs.Outcomes.{IsPlayedFrom};
 
 use crate::clusters::{begin_round, empty_lists, empty_tables, exchange_all};
@@ -77,12 +78,7 @@ impl Sim {
         ensures played { IfOk result (PlaysNext self.old self.new) }
         ensures fails { IfErr result (IsStepFault self.old self.new) }
     {
-        if self.is_broken() {
-            return Err(Fault::Broken);
-        }
-        if self.rounds_done == self.scenario.rounds() {
-            return Err(Fault::Finished);
-        }
+        self.check_step()?;
         let Some(mut cluster) = self.cluster.take() else {
             return Err(Fault::Broken);
         };
@@ -90,6 +86,21 @@ impl Sim {
         self.cluster = Some(cluster);
         self.rounds_done += 1;
         Ok(round)
+    }
+
+    // The fault of a step that has nothing to do.
+    fn check_step(&self) -> Result<(), Fault>
+        ensures ok { OnOk result (MayStep self.now) }
+        ensures lawful { OnOk result (IsLawfulScenario self.now.settings) }
+        ensures err { IfErr result (IsRefusedBy self.now) }
+    {
+        if self.is_broken() {
+            return Err(Fault::Broken);
+        }
+        if self.rounds_done == self.scenario.rounds() {
+            return Err(Fault::Finished);
+        }
+        Ok(())
     }
 
     /// The nodes' tables, in order; none where the simulation is broken.

@@ -8,6 +8,7 @@ use Rattle.node_table.specs.Table.{Table}
 use Rattle.staleness.specs.declared.lists.Write.{Write}
 use Rattle.staleness.specs.Figures.{sum_below, most_below, figures_at, node_figures, figures_of}
 use Rattle.staleness.specs.Cluster.{IsCounted, AreCounted}
+use Rattle.staleness.proofs.Sums.{sum_below-same, most_below-same}
 
 -- what a list has for each number of a range stands at its place
 at_place : (R : ℕ → Figures → Type 0) (from n : ℕ) (parts : List Figures) → AllZip R (range_with_len from n) parts → (k : ℕ) (d : Figures) → k < n → R (from + k) (get_or parts k d)
@@ -17,14 +18,6 @@ at_place R from (suc n) (f ∷ fs) each zero d lt = let same : from ≡ from + 0
 at_place R from (suc n) (f ∷ fs) each (suc k) d lt =
     let same : from + 1 + k ≡ from + suc k = omega arith in
     subst (λ m. R m (get_or fs k d)) same (at_place R (from + 1) n fs each.1 k d (omega arith))
-
-sum_below-same : (f g : ℕ → ℕ) (n : ℕ) → ((k : ℕ) → k < n → f k ≡ g k) → sum_below n f ≡ sum_below n g
-sum_below-same f g zero same = refl
-sum_below-same f g (suc n) same = omega (arith, same n (omega arith), sum_below-same f g n (λ k lt. same k (omega arith)))
-
-most_below-same : (f g : ℕ → ℕ) (n : ℕ) → ((k : ℕ) → k < n → f k ≡ g k) → most_below n f ≡ most_below n g
-most_below-same f g zero same = refl
-most_below-same f g (suc n) same = omega (arith, same n (omega arith), most_below-same f g n (λ k lt. same k (omega arith)))
 
 module _ (round : ℕ) (tables : List Table) (lists : List (List Write)) (parts : List Figures) (each : AreCounted round tables lists parts) where
   counted : (k : ℕ) (d : Figures) → k < length tables → IsCounted round tables lists k (get_or parts k d)

@@ -1,7 +1,7 @@
 pub mod Rising
 pub mod Last
 pub mod Linking
-pub mod Passing
+pub mod Walking
 pub mod Sums
 pub mod Lagging
 pub mod Sharing

@@ -22,11 +22,10 @@ OwnPartIsLastWrites table writes = (key : ℕ) → option_map write_of_entry (en
 abbrev pub OwnPartsAreLastWrites : List Table → List (List Write) → Type 0
 OwnPartsAreLastWrites tables lists = (r : ℕ) → r < length tables → OwnPartIsLastWrites (table_of_node tables r) (writes_at lists r)
 
--- what the figures of a round ask of the tables and the lists
+-- what the figures of a round are counted from
 pub record AreCountable (round : ℕ) (tables : List Table) (lists : List (List Write)) : Type 0 where
   pub cluster : IsCluster (length tables) tables
   pub one_list_each : length lists ≡ length tables
-  pub own_parts : OwnPartsAreLastWrites tables lists
   pub round_limit : round ≤ 100000
   pub born : All (AreBornBy round) lists
 

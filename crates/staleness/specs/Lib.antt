@@ -3,7 +3,8 @@ pub mod Latest
 pub mod Linked
 pub mod Figures
 pub mod Cluster
-pub mod Walk
+pub mod Lags
 pub use Rattle.node_table.specs.Table
+pub use Rattle.node_table.specs.Rows
 pub use Rattle.node_table.specs.NodeTableView
 pub use Rattle.cluster.specs.Tables

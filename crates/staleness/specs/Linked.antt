@@ -1,14 +1,15 @@
 -- An owner's writes as they are kept: each at its place, with a link to the next write of its key.
 -- Source: this project.
 use Rattle.std.specs.Prelude.{◌≡◌, ℕ, suc, ◌+◌, ◌^◌, ◌<◌, List, [], ◌∷◌, length, slice_index_or, Option, None, Some}
+use Rattle.bench_types.specs.Entry.{next_version}
 use Rattle.staleness.specs.declared.lists.Link.{Link}
 use Rattle.staleness.specs.declared.lists.Write.{Write}
 use Rattle.staleness.specs.Writes.{first_missed}
 use Rattle.staleness.specs.Latest.{IsLatest, AreFirst}
 
--- the write at a place, counted from 0, has the next number as its version
+-- the write at a place, counted from 0, comes after as many
 abbrev pub as_write : ℕ → Link → Write
-as_write place l = record { key = l.key; version = place + 1; born = l.born }
+as_write place l = record { key = l.key; version = next_version place; born = l.born }
 
 abbrev pub shown_from : ℕ → List Link → List Write
 shown_from place [] = []

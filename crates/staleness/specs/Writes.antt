@@ -1,15 +1,16 @@
 -- The writes of an owner, in order. Only the owner writes its own state, and its n-th write has version n, from 1.
 -- Source: the LADIS 2008 paper; the numbers and `born`, the round of a write, are this project's.
-use Rattle.std.specs.Prelude.{◌≡◌, ℕ, ◌+◌, ◌<◌, ◌≤◌, ◌==◌, ◌&&◌, nat_lt, List, length, reverse, find, slice_index_or, All, Bool, Option}
+use Rattle.std.specs.Prelude.{◌≡◌, ℕ, ◌<◌, ◌≤◌, ◌==◌, ◌&&◌, nat_lt, List, length, reverse, find, slice_index_or, All, Bool, Option}
+use Rattle.bench_types.specs.Entry.{next_version}
 use Rattle.staleness.specs.declared.lists.Write.{Write}
 
 -- the write that comes next
 abbrev pub next_write : List Write → ℕ → ℕ → Write
-next_write writes key born = record { key = key; version = length writes + 1; born = born }
+next_write writes key born = record { key = key; version = next_version (length writes); born = born }
 
--- the write at each place, counted from 0, has the next number as its version
+-- the write at each place, counted from 0, comes after as many
 abbrev pub IsNumbered : List Write → Type 0
-IsNumbered writes = (i : ℕ) (d : Write) → i < length writes → (slice_index_or writes i d).version ≡ i + 1
+IsNumbered writes = (i : ℕ) (d : Write) → i < length writes → (slice_index_or writes i d).version ≡ next_version i
 
 -- a write of this key
 abbrev pub is_write_of : ℕ → Write → Bool

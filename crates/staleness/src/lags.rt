@@ -1,23 +1,20 @@
 //! How far the copies of all nodes lag behind their owners.
 
-ghost use Rattle.std.specs.Prelude.{◌≡◌, ℕ, ◌+◌, ◌*◌, ◌^◌, ◌<◌, ◌≤◌, max, All, IfOk, IfSome, IsOkUnless, List, length, None, Some};
-ghost use Rattle.std.specs.FinMap.{find as find_entry};
-ghost use Rattle.bench_types.specs.Entry.{version_of};
+ghost use Rattle.std.specs.Prelude.{◌≡◌, ℕ, ◌+◌, ◌*◌, ◌^◌, ◌-◌, ◌<◌, ◌≤◌, max, All, IfOk, IsOkUnless, length, slice_index_or, Bool};
 ghost use Rattle.bench_types.specs.declared.faults.Fault.TheVariants.{OutOfMemory};
-ghost use Rattle.node_table.specs.Table.{place_cmp, items_of, version_at};
-ghost use Rattle.node_table.specs.View.{IsRising, pairs};
-ghost use Rattle.staleness.specs.Writes.{AreBornBy, last_write};
+ghost use Rattle.node_table.specs.Table.{version_at};
+ghost use Rattle.staleness.specs.Writes.{AreBornBy, IsNumbered};
 ghost use Rattle.staleness.specs.Figures.{sum_below, most_below, figures_at, staleness_of, stale_count, rounds_behind, lag_figures, node_figures, figures_of};
 ghost use Rattle.cluster.specs.Tables.{tables_in, IsCluster};
 ghost use Rattle.staleness.specs.Cluster.{OwnPartsAreLastWrites, AreCountable, IsCounted, AreCounted};
-ghost use Rattle.staleness.specs.Walk.{IsPassed};
+ghost use Rattle.staleness.specs.Lags.{has_key, key_of_entry, is_held, is_unheld, known_count, lag_among};
 
 use crate::lists::OwnerList;
-use bench_types::{Fault, Figures, Item};
+use bench_types::limits::MOST_KEYS;
+use bench_types::{Entry, Fault, Figures};
 use node_table::NodeTable;
 use rayon::prelude::*;
 use std::alloc::{AllocError, Global};
-use std::cmp::Ordering;
 use std::thread::Threads;
 
 const NOTHING_STALE: Figures = Figures {
@@ -37,73 +34,108 @@ fn joined(one: Figures, other: Figures) -> Figures
     }
 }
 
-// Goes on from an index to an owner's key: where that is, and the version that stands there, or 0.
-fn held_version(items: &[Item], from: usize, owner: u32, key: u32) -> (usize, u32)
-    requires rising { IsRising items.now }
-    requires bound { from ≤ length items.now }
-    requires passed { IsPassed items.now from (owner, key) }
-    ensures bound { result.0 ≤ length items.now }
-    ensures passed { IsPassed items.now result.0 (owner, key) }
-    ensures version { result.1 ≡ version_of (find_entry place_cmp (owner, key) (pairs items.now)) }
-{
-    for at in from..items.len() {
-        let item = items[at];
-        match (item.owner, item.entry.key).cmp(&(owner, key)) {
-            Ordering::Less => {}
-            Ordering::Equal => return (at, item.entry.version),
-            Ordering::Greater => return (at, 0),
-        }
-    }
-    (items.len(), 0)
-}
-
-// What a node's copy of an owner lags behind the owner's list, and where the walk through the
-// node's items then stands.
-fn lag_of_copy(
-    table: &NodeTable,
-    from: usize,
-    owner: u32,
-    list: &OwnerList,
-    round: u32,
-) -> (usize, Figures)
-    requires bound { from ≤ length (items_of table.now.table) }
-    requires passed { IsPassed (items_of table.now.table) from (owner, 0) }
-    requires keys { (key : ℕ)
-        → IfSome (last_write list.now key) (λ _. key < table.now.table.keys) }
+// What the keys lag of which the node's copy of an owner holds an entry, and how many of them have the
+// version of a write of the owner's.
+fn lag_of_held(table: &NodeTable, owner: u32, list: &OwnerList, round: u32) -> (u32, Figures)
+    requires owner { owner < table.now.table.nodes }
     requires round { round ≤ 100000 }
     requires born { AreBornBy round list.now }
-    ensures bound { result.0 ≤ length (items_of table.now.table) }
-    ensures passed { IsPassed (items_of table.now.table) result.0 (owner + 1, 0) }
-    ensures figures { result.1
-        ≡ lag_figures round list.now table.now.table.keys (version_at table.now.table owner) }
+    requires numbered { IsNumbered list.now }
+    ensures known { result.0
+        ≡ sum_below table.now.table.keys (known_count list.now (version_at table.now.table owner)) }
+    ensures figures { result.1 ≡ lag_among (is_held table.now.table owner)
+        round list.now table.now.table.keys (version_at table.now.table owner) }
+    ensures few { result.1.stale ≤ table.now.table.keys }
+    ensures limit { table.now.table.keys ≤ MOST_KEYS }
 {
-    let items = table.items();
-    let mut at = from;
+    let mut known = 0;
     let mut total = NOTHING_STALE;
-    for last in list.latest() {
-        let (next, version) = held_version(items, at, owner, last.key);
-        at = next;
-        if version < last.version {
-            total = joined(total, lag_of_key(list, last.key, version, round));
+    for entry in table.row(owner) {
+        if list.has_write(entry.key, entry.version) {
+            known += 1;
         }
+        total = joined(total, lag_of_entry(list, entry, round));
     }
-    (at, total)
+    (known, total)
 }
 
-// What a version of a key lags behind an owner's list.
-fn lag_of_key(list: &OwnerList, key: u32, version: u32, round: u32) -> Figures
+// What an entry lags behind its owner's list.
+fn lag_of_entry(list: &OwnerList, entry: &Entry, round: u32) -> Figures
+    requires written { 0 < entry.now.version }
     requires round { round ≤ 100000 }
     requires born { AreBornBy round list.now }
-    ensures stale { result.stale ≡ stale_count (staleness_of round list.now key version) }
-    ensures greatest { result.greatest ≡ rounds_behind (staleness_of round list.now key version) }
+    ensures stale { result.stale ≡ stale_count (staleness_of round list.now entry.now.key entry.now.version) }
+    ensures greatest { result.greatest ≡ rounds_behind (staleness_of round list.now entry.now.key entry.now.version) }
 {
-    match list.first_missed(key, version) {
-        Some(missed) => Figures {
-            stale: 1,
-            greatest: round - missed.born + 1,
-        },
+    match list.first_missed(entry.key, entry.version) {
+        Some(missed) => lag_since(missed.born, round),
         None => NOTHING_STALE,
     }
+}
+
+// What a key lags of which the first write missed was made in a round.
+fn lag_since(born: u32, round: u32) -> Figures
+    requires past { born ≤ round }
+    requires limit { round ≤ 100000 }
+    ensures { result ≡ record { stale = 1; greatest = round - born + 1 } }
+{
+    Figures {
+        stale: 1,
+        greatest: round - born + 1,
+    }
+}
+
+// Which keys are among those of a row.
+fn keys_of(row: &[Entry]) -> [bool; MOST_KEYS as usize]
+    requires { All (λ e. e.key < MOST_KEYS) row.now }
+    ensures size { length result ≡ MOST_KEYS }
+    ensures keys { (key : ℕ) (d : Bool)
+        → key < MOST_KEYS → slice_index_or result key d ≡ has_key key_of_entry row.now key }
+{
+    let mut held = [false; MOST_KEYS as usize];
+    for entry in row {
+        held[entry.key as usize] = true;
+    }
+    held
+}
+
+// What the keys lag that an owner has written and of which the node's copy holds nothing.
+fn lag_of_others(table: &NodeTable, owner: u32, list: &OwnerList, round: u32) -> Figures
+    requires owner { owner < table.now.table.nodes }
+    requires round { round ≤ 100000 }
+    requires born { AreBornBy round list.now }
+    ensures figures { result ≡ lag_among (is_unheld table.now.table owner)
+        round list.now table.now.table.keys (version_at table.now.table owner) }
+    ensures few { result.stale ≤ table.now.table.keys }
+{
+    let keys = table.keys();
+    let held = keys_of(table.row(owner));
+    let mut total = NOTHING_STALE;
+    for first in list.firsts() {
+        if first.key < keys && !held[first.key as usize] {
+            total = joined(total, lag_since(first.born, round));
+        }
+    }
+    total
+}
+
+// What a node's copy of an owner lags behind the owner's list. Where each key that was written is held,
+// it is read off the row alone.
+fn lag_of_copy(table: &NodeTable, owner: u32, list: &OwnerList, round: u32) -> Figures
+    requires owner { owner < table.now.table.nodes }
+    requires round { round ≤ 100000 }
+    requires born { AreBornBy round list.now }
+    ensures { result ≡ lag_figures round list.now table.now.table.keys (version_at table.now.table owner) }
+{
+    if list.is_empty() {
+        return NOTHING_STALE;
+    }
+    let written = list.firsts().len();
+    let (known, held) = lag_of_held(table, owner, list, round);
+    if written <= known as usize {
+        return held;
+    }
+    joined(held, lag_of_others(table, owner, list, round))
 }
 
 // What all copies that a node holds lag behind their owners' lists.
@@ -111,7 +143,6 @@ fn lag_of_node(tables: &[NodeTable], lists: &[OwnerList], node: usize, round: u3
     requires node { node < length tables.now }
     requires cluster { IsCluster (length tables.now) (tables_in tables.now) }
     requires one_list_each { length lists.now ≡ length tables.now }
-    requires own_parts { OwnPartsAreLastWrites (tables_in tables.now) lists.now }
     requires round { round ≤ 100000 }
     requires born { All (AreBornBy round) lists.now }
     ensures figures { result ≡ node_figures round (tables_in tables.now) lists.now node }
@@ -119,15 +150,11 @@ fn lag_of_node(tables: &[NodeTable], lists: &[OwnerList], node: usize, round: u3
     ensures bound { result.stale ≤ 4096 * 64 }
 {
     let table = &tables[node];
-    let holder = table.node();
-    let mut at = 0;
+    let holder = table.node() as usize;
     let mut total = NOTHING_STALE;
-    for (place, list) in lists.iter().enumerate() {
-        let owner = tables[place].node();
+    for (owner, list) in lists.iter().enumerate() {
         if owner != holder {
-            let (next, lag) = lag_of_copy(table, at, owner, list, round);
-            at = next;
-            total = joined(total, lag);
+            total = joined(total, lag_of_copy(table, owner as u32, list, round));
         }
     }
     total
@@ -164,12 +191,12 @@ fn joined_all(parts: &[Figures]) -> Figures
 /// last writes in their owners' lists, and the greatest number of rounds since the first write that
 /// one of them missed, that round included.
 ///
-/// It goes over the nodes in threads, where there are enough of them, and what it answers does not
-/// depend on how. It goes once through the items of each table and, for each table, once through the
-/// last writes of all lists. For each stale key there is one step more where the copy holds a write of
-/// the owner's, and a binary search among the keys where it holds none: the first write that was
-/// missed is read off a link. It takes memory for the figures of each node, and an error is want of
-/// that.
+/// It goes over the nodes in threads, where there are enough of them, each with a range of them one
+/// after another, and what it answers does not depend on how. It goes once over the row of each copy.
+/// For each held entry there is one look at the owner's list, and one more where it is stale: the
+/// first write that was missed is read off a link. A copy that lacks keys costs a second pass over its
+/// row, and a step for each key that the owner has written. Where an owner has written nothing, no row
+/// is looked at. It takes memory for the figures of each node, and an error is want of that.
 pub fn figures(
     rt: &(impl Threads + Sync),
     alloc: Global,

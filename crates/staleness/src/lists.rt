@@ -55,7 +55,8 @@ impl Model for OwnerList {
 
 impl OwnerList {
     ghost use Rattle.staleness.specs.Writes.{next_write, IsNumbered, first_missed};
-    ghost use Rattle.staleness.specs.Latest.{IsLatest};
+    ghost use Rattle.staleness.specs.Latest.{AreFirst};
+    ghost use Rattle.staleness.specs.Lags.{has_write};
 
     /// The list of an owner that has written nothing. It takes no memory yet.
     pub fn new(alloc: Global) -> OwnerList
@@ -69,7 +70,7 @@ impl OwnerList {
     }
 
     /// The owner writes a key in a round: the version is one above the last one's. A binary search
-    /// among the keys that it has written. An error is want of memory, and then nothing was added.
+    /// among the keys that it has written. An error is lack of memory, and then nothing was added.
     pub fn push(&mut self, key: u32, born: u32) -> Result<(), Fault>
         requires { length self.old + 1 < 2 ^ 32 }
         ensures ok { OnOk result (self.new ≡ self.old ++ next_write self.old key born ∷ []) }
@@ -102,24 +103,32 @@ impl OwnerList {
         self.links.is_empty()
     }
 
-    /// The first write of a key above a version. Where the write of that version has the key, this
-    /// is one step, and for version 0 a binary search among the keys. Else it is looked for behind
-    /// that version.
-    pub(crate) fn first_missed(&self, key: u32, version: u32) -> Option<Write>
-        ensures { result ≡ first_missed self.now key version }
+    /// Whether the write of a version has the key. One step.
+    pub(crate) fn has_write(&self, key: u32, version: u32) -> bool
+        requires { 0 < version }
+        ensures { result ≡ has_write self.now key version }
     {
-        match version.checked_sub(1) {
-            Some(at) => missed_after(&self.links, key, at as usize),
-            None => write_in(&self.firsts, key),
+        match self.links.get(version as usize - 1) {
+            Some(link) => link.key == key,
+            None => false,
         }
     }
 
-    /// The last write of each key that was written, by key.
-    pub(crate) fn latest(&self) -> &[Write]
-        ensures latest { IsLatest result.now self.now }
+    /// The first write of a key above a version. Where the write of that version has the key, this
+    /// is one step; else it is looked for behind that version.
+    pub(crate) fn first_missed(&self, key: u32, version: u32) -> Option<Write>
+        requires { 0 < version }
+        ensures { result ≡ first_missed self.now key version }
+    {
+        missed_after(&self.links, key, version as usize - 1)
+    }
+
+    /// The first write of each key that was written, by key.
+    pub(crate) fn firsts(&self) -> &[Write]
+        ensures firsts { AreFirst result.now self.now }
         ensures numbered { IsNumbered self.now }
     {
-        &self.latest
+        &self.firsts
     }
 }
 
@@ -203,17 +212,6 @@ fn search(writes: &[Write], key: u32) -> Result<usize, usize>
     ensures absent { IfErr result (IsGapForKey writes.now key) }
 {
     writes.binary_search_by_key(&key, |write| write.key)
-}
-
-// The write of a key.
-fn write_in(writes: &[Write], key: u32) -> Option<Write>
-    requires { KeysRise writes.now }
-    ensures { result ≡ write_of writes.now key }
-{
-    match search(writes, key) {
-        Ok(at) => Some(writes[at]),
-        Err(_) => None,
-    }
 }
 
 // Puts a write where it goes, if its key has no earlier one: the last of those has this version.

@@ -118,7 +118,7 @@ fn expect_written(
 }
 
 // A run in which a writer failed within the part behind the first so many: what was flushed stands in
-// front, and what was written is a front of the whole.
+// front, and what was written is the beginning of the whole.
 fn expect_front(rt: &impl Abort, alloc: Global, ran: &Ran, parts: usize) -> Result<(), AllocError> {
     assert_eq!(rt; ran.answer, Err(Fault::WriteFailed));
     let parts = (parts, PARTS.len());

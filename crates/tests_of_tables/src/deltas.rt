@@ -1,7 +1,7 @@
 //! Deltas by hand: what is sent of one table in each mode, and of many tables against a program that
 //! places each candidate by counting those that come before it.
 
-use crate::fixtures::{expect_items, expect_number, item, next, take, try_write};
+use crate::fixtures::{expect_items, expect_number, item, new_table, next, take, try_write};
 use bench_types::{Item, Mode};
 use node_table::NodeTable;
 use reconcile::{Delta, Digest, delta};
@@ -28,7 +28,7 @@ const ORDERS: [(Mode, [Item; 3]); 4] = [
 
 // The table of node 3 that holds those entries.
 fn sender(rt: &impl Abort, alloc: Global) -> NodeTable {
-    let mut table = NodeTable::new(alloc, 3, NODES, 2).unwrap();
+    let mut table = new_table(rt, alloc, 3, NODES, 2);
     take(rt, &mut table, &[OLD, NEW, OTHER]);
     table
 }
@@ -53,7 +53,7 @@ fn answer(rt: &impl Abort, alloc: Global, from: &NodeTable, to: &NodeTable, turn
 
 // Compares what the sender sends to the empty table of node 0, and how many entries it cuts.
 fn expect_sent(rt: &impl Abort, alloc: Global, turn: Turn, items: &[Item], cut: u32) {
-    let to = NodeTable::new(alloc, 0, NODES, 2).unwrap();
+    let to = new_table(rt, alloc, 0, NODES, 2);
     let delta = answer(rt, alloc, &sender(rt, alloc), &to, turn);
     expect_items(rt, "sent", delta.items(), items);
     expect_number(rt, "cut", delta.cut(), cut);
@@ -127,7 +127,7 @@ fn version_of(table: &NodeTable, owner: u32, key: u32) -> u32 {
 
 // Compares the versions that an empty table holds of the two keys of owner 1 after one entry was sent.
 fn expect_first(rt: &impl Abort, alloc: Global, mode: Mode, versions: [u32; 2]) {
-    let mut to = NodeTable::new(alloc, 0, NODES, 2).unwrap();
+    let mut to = new_table(rt, alloc, 0, NODES, 2);
     let delta = answer(rt, alloc, &sender(rt, alloc), &to, unturned(mode, 1));
     take(rt, &mut to, delta.items());
     let held = [version_of(&to, 1, 0), version_of(&to, 1, 1)];
@@ -144,7 +144,7 @@ fn precise_newest_leaves_a_gap(rt: HostRuntime) {
 // A small table that holds about so many of ten entries. Two keys of an owner may have one version.
 fn small_table(rt: &impl Abort, alloc: Global, state: &mut u64, node: u32, full: u32) -> NodeTable {
     assert!(rt; node < NODES);
-    let mut table = NodeTable::new(alloc, node, NODES, 3).unwrap();
+    let mut table = new_table(rt, alloc, node, NODES, 3);
     for key in 0..3 {
         if next(state, 10) < full {
             let _version = try_write(rt, &mut table, key, 0, 1).expect(rt, "memory");
@@ -179,13 +179,19 @@ fn lacked(
     mode: Mode,
 ) -> Vec<Item> {
     let mut found = Vec::new(alloc);
-    for item in from.items() {
-        let known = match mode {
-            Mode::ScuttleBreadth | Mode::ScuttleDepth => to.greatest(item.owner),
-            Mode::PreciseOldest | Mode::PreciseNewest => version_of(to, item.owner, item.entry.key),
-        };
-        if item.entry.version > known && item.owner != to.node() {
-            found.push(*item).expect(rt, "memory");
+    for owner in 0..from.nodes() {
+        for entry in from.row(owner) {
+            let known = match mode {
+                Mode::ScuttleBreadth | Mode::ScuttleDepth => to.greatest(owner),
+                Mode::PreciseOldest | Mode::PreciseNewest => version_of(to, owner, entry.key),
+            };
+            if entry.version > known && owner != to.node() {
+                let item = Item {
+                    owner,
+                    entry: *entry,
+                };
+                found.push(item).expect(rt, "memory");
+            }
         }
     }
     found

@@ -1,6 +1,6 @@
 //! Exchanges of two tables, with records and tables worked out from the rules.
 
-use crate::fixtures::{expect_items, item, take, write};
+use crate::fixtures::{expect_held, item, new_table, take, write};
 use bench_types::{Exchange, Fate, Fault, Item, Mode, Record, Rules};
 use exchange::exchange;
 use node_table::NodeTable;
@@ -88,7 +88,7 @@ const B2: Item = item!(1, 1, 2, 2, 1);
 // The table of a node of two that wrote its only key.
 fn with_one_key(rt: &impl Abort, alloc: Global, own: Item) -> NodeTable {
     assert!(rt; own.owner < 2);
-    let mut table = NodeTable::new(alloc, own.owner, 2, 1).unwrap();
+    let mut table = new_table(rt, alloc, own.owner, 2, 1);
     write(rt, &mut table, own.entry);
     table
 }
@@ -96,7 +96,7 @@ fn with_one_key(rt: &impl Abort, alloc: Global, own: Item) -> NodeTable {
 // The table of a node of two that wrote both of its keys.
 fn with_two_keys(rt: &impl Abort, alloc: Global, first: Item, second: Item) -> NodeTable {
     assert!(rt; first.owner < 2);
-    let mut table = NodeTable::new(alloc, first.owner, 2, 2).unwrap();
+    let mut table = new_table(rt, alloc, first.owner, 2, 2);
     write(rt, &mut table, first.entry);
     write(rt, &mut table, second.entry);
     table
@@ -115,8 +115,8 @@ fn two_nodes(rt: HostRuntime) {
         PLAN,
         [1, 1, 1, 1, 0, 0],
     );
-    expect_items(&rt, "first", first.items(), &[A1, B1]);
-    expect_items(&rt, "second", second.items(), &[A1, B1]);
+    expect_held(&rt, "first", &first, &[A1, B1]);
+    expect_held(&rt, "second", &second, &[A1, B1]);
     expect_sent(
         &rt,
         alloc,
@@ -133,8 +133,8 @@ fn expect_lost(rt: &impl Abort, alloc: Global, fate: Fate, wanted: [u32; 6], fir
     let mut first = with_one_key(rt, alloc, A1);
     let mut second = with_one_key(rt, alloc, B1);
     expect_sent(rt, alloc, &mut first, &mut second, plan, wanted);
-    expect_items(rt, "first", first.items(), first_holds);
-    expect_items(rt, "second", second.items(), &[B1]);
+    expect_held(rt, "first", &first, first_holds);
+    expect_held(rt, "second", &second, &[B1]);
 }
 
 #[test]
@@ -153,11 +153,11 @@ fn expect_cut(rt: &impl Abort, alloc: Global, mode: Mode, digests: [u32; 2], fir
     let mut second = with_two_keys(rt, alloc, B1, B2);
     let wanted = [before, before, 1, 1, 1, 1];
     expect_sent(rt, alloc, &mut first, &mut second, plan, wanted);
-    expect_items(rt, "first, cut", first.items(), first_then);
+    expect_held(rt, "first, cut", &first, first_then);
     let wanted = [after, after, 1, 1, 0, 0];
     expect_sent(rt, alloc, &mut second, &mut first, plan, wanted);
-    expect_items(rt, "first", first.items(), &[A1, A2, B1, B2]);
-    expect_items(rt, "second", second.items(), &[A1, A2, B1, B2]);
+    expect_held(rt, "first", &first, &[A1, A2, B1, B2]);
+    expect_held(rt, "second", &second, &[A1, A2, B1, B2]);
 }
 
 // Each side sends its older entry first, but in the mode that sends the newest first.
@@ -179,8 +179,8 @@ fn expect_all_or_nothing(rt: &impl Abort, alloc: Global, mode: Mode) {
         Ok(sent) => expect_record(rt, sent, Fate::Ok, [1, 1, 1, 1, 0, 0]),
         Err(fault) => {
             assert!(rt; fault == Fault::OutOfMemory);
-            expect_items(rt, "first", first.items(), &[A1]);
-            expect_items(rt, "second", second.items(), &[B1]);
+            expect_held(rt, "first", &first, &[A1]);
+            expect_held(rt, "second", &second, &[B1]);
         }
     }
 }
@@ -201,7 +201,7 @@ const OTHER: Item = item!(2, 0, 1, 1, 1);
 
 // The table of node 3.
 fn holder(rt: &impl Abort, alloc: Global) -> NodeTable {
-    let mut table = NodeTable::new(alloc, 3, 4, 2).unwrap();
+    let mut table = new_table(rt, alloc, 3, 4, 2);
     take(rt, &mut table, &[OLD, NEW, OTHER]);
     table
 }
@@ -211,23 +211,23 @@ fn expect_back(rt: &impl Abort, alloc: Global, plan: Plan, sent: &[Item], sizes:
     let [count, cut] = sizes;
     let fate = Fate::Lost3;
     let mut holder = holder(rt, alloc);
-    let mut empty = NodeTable::new(alloc, 0, 4, 2).unwrap();
+    let mut empty = new_table(rt, alloc, 0, 4, 2);
     let plan = Plan { fate, ..plan };
     let wanted = [0, 2, count, 0, cut, 0];
     expect_sent(rt, alloc, &mut empty, &mut holder, plan, wanted);
-    expect_items(rt, "sent back", empty.items(), sent);
-    expect_items(rt, "holder", holder.items(), &[OLD, NEW, OTHER]);
+    expect_held(rt, "sent back", &empty, sent);
+    expect_held(rt, "holder", &holder, &[OLD, NEW, OTHER]);
 }
 
 // Node 3 begins, and sends so many entries in the third message.
 fn expect_forth(rt: &impl Abort, alloc: Global, plan: Plan, sent: &[Item], sizes: [u32; 2]) {
     let [count, cut] = sizes;
     let mut holder = holder(rt, alloc);
-    let mut empty = NodeTable::new(alloc, 0, 4, 2).unwrap();
+    let mut empty = new_table(rt, alloc, 0, 4, 2);
     let wanted = [2, 0, 0, count, 0, cut];
     expect_sent(rt, alloc, &mut holder, &mut empty, plan, wanted);
-    expect_items(rt, "sent forth", empty.items(), sent);
-    expect_items(rt, "holder", holder.items(), &[OLD, NEW, OTHER]);
+    expect_held(rt, "sent forth", &empty, sent);
+    expect_held(rt, "holder", &holder, &[OLD, NEW, OTHER]);
 }
 
 // Either way node 0 gets these entries, and so many are sent and cut.

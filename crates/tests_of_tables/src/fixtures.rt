@@ -1,10 +1,12 @@
 //! Items, steps of a table and comparisons that several tests share. Where memory is refused they stop.
 
-ghost use Rattle.std.specs.Prelude.{◌≡◌, ◌≢◌, All, IsTrue};
+ghost use Rattle.std.specs.Prelude.{◌≡◌, ◌≢◌, ◌<◌, ◌≤◌, All, IsTrue};
+ghost use Rattle.node_table.specs.Table.{empty_table};
 ghost use Rattle.node_table.specs.View.{IsItemInPlace};
 
 use bench_types::{Entry, Fault, Item};
 use node_table::NodeTable;
+use std::alloc::Global;
 use std::process::Abort;
 
 // An entry and its owner, by owner, key, version, value and born.
@@ -62,10 +64,14 @@ pub(crate) fn try_write(
     table.write_own(key, value, born)
 }
 
-/// The node writes an entry, whose version is the one that it is to get.
+/// The node writes an entry, whose version is the one that it is to get, at the second try where memory
+/// is refused once.
 pub(crate) fn write(rt: &impl Abort, table: &mut NodeTable, entry: Entry) {
-    let version = try_write(rt, table, entry.key, entry.value, entry.born);
-    expect_number(rt, "version", version.expect(rt, "memory"), entry.version);
+    let version = match try_write(rt, table, entry.key, entry.value, entry.born) {
+        Ok(version) => version,
+        Err(_) => try_write(rt, table, entry.key, entry.value, entry.born).expect(rt, "memory"),
+    };
+    expect_number(rt, "version", version, entry.version);
 }
 
 /// The next of a row of numbers that look random.
@@ -80,6 +86,52 @@ pub(crate) fn next(state: &mut u64, below: u32) -> u32 {
 /// Compares a number.
 pub(crate) fn expect_number(rt: &impl Abort, name: &str, found: u32, wanted: u32) {
     assert_eq!(rt; found, wanted, "{name}");
+}
+
+/// The empty table of a node, at the second try where memory is refused once.
+pub(crate) fn new_table(
+    rt: &impl Abort,
+    alloc: Global,
+    node: u32,
+    nodes: u32,
+    keys: u32,
+) -> NodeTable
+    requires node { node < nodes }
+    requires nodes { nodes ≤ 4 }
+    requires some_key { 1 ≤ keys }
+    requires keys { keys ≤ 64 }
+    ensures { result.table ≡ empty_table node nodes keys }
+{
+    match NodeTable::new(alloc, node, nodes, keys) {
+        Ok(table) => table,
+        Err(_) => NodeTable::new(alloc, node, nodes, keys).expect(rt, "memory"),
+    }
+}
+
+/// Compares what a table holds, by owner and then by key.
+pub(crate) fn expect_held(rt: &impl Abort, name: &str, table: &NodeTable, wanted: &[Item]) {
+    let mut count = 0usize;
+    for owner in 0..table.nodes() {
+        for key in 0..table.keys() {
+            if let Some(entry) = table.get(owner, key) {
+                let found = Item { owner, entry };
+                assert_eq!(rt; Some(found), wanted.get(count).copied(), "{name}");
+                count = count.saturating_add(1);
+            }
+        }
+    }
+    assert!(rt; count == wanted.len());
+    assert!(rt; table.count() as usize == count);
+}
+
+/// Compares two tables with the same nodes and keys.
+pub(crate) fn expect_same(rt: &impl Abort, name: &str, table: &NodeTable, other: &NodeTable) {
+    for owner in 0..table.nodes() {
+        for key in 0..table.keys() {
+            assert_eq!(rt; table.get(owner, key), other.get(owner, key), "{name}");
+        }
+    }
+    expect_number(rt, name, table.count(), other.count());
 }
 
 /// Compares a list of items.

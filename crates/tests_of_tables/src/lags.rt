@@ -6,7 +6,7 @@ ghost use Rattle.staleness.specs.Writes.{AreBornBy};
 ghost use Rattle.staleness.specs.Cluster.{OwnPartIsLastWrites};
 ghost use Rattle.tests_of_tables.specs.Missed.{missed};
 
-use crate::fixtures::{item, may_take};
+use crate::fixtures::{item, may_take, new_table};
 use bench_types::{Figures, Item};
 use node_table::NodeTable;
 use staleness::{OwnerList, figures};
@@ -48,7 +48,7 @@ fn writer(
     ensures own_part { OwnPartIsLastWrites result.0.table result.1 }
     ensures born { AreBornBy round result.1 }
 {
-    let mut table = NodeTable::new(alloc, node, 2, keys).unwrap();
+    let mut table = new_table(rt, alloc, node, 2, keys);
     let mut list = OwnerList::new(alloc);
     for (key, born) in writes {
         assert!(rt; *born <= round);

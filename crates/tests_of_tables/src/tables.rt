@@ -1,6 +1,8 @@
 //! Tables by hand: what they hold is worked out from the rules, and for long lists by a plain model.
 
-use crate::fixtures::{expect_items, expect_number, item, next, take, try_write, write};
+use crate::fixtures::{
+    expect_held, expect_number, expect_same, item, new_table, next, take, try_write, write,
+};
 use bench_types::{Entry, Item};
 use node_table::NodeTable;
 use std::alloc::Global;
@@ -17,15 +19,6 @@ fn expect_entry(rt: &impl Abort, table: &NodeTable, owner: u32, key: u32, wanted
     assert_eq!(rt; table.get(owner, key), wanted, "at {owner} {key}");
 }
 
-// Compares all that is held.
-fn expect_held(rt: &impl Abort, table: &NodeTable, held: &[Item]) {
-    expect_items(rt, "items", table.items(), held);
-    for item in held {
-        expect_entry(rt, table, item.owner, item.entry.key, Some(item.entry));
-    }
-    assert!(rt; table.count() as usize == held.len());
-}
-
 const OWN: Item = item!(0, 0, 1, 0, 1);
 
 const OTHER: Item = item!(1, 0, 1, 0, 1);
@@ -34,21 +27,21 @@ const SECOND: Item = item!(0, 0, 2, 7, 2);
 
 #[test]
 fn forgetting_others(rt: HostRuntime) {
-    let mut table = NodeTable::new(rt.alloc(), 0, 2, 1).unwrap();
+    let mut table = new_table(&rt, rt.alloc(), 0, 2, 1);
     write(&rt, &mut table, OWN.entry);
     take(&rt, &mut table, &[OTHER]);
-    expect_held(&rt, &table, &[OWN, OTHER]);
+    expect_held(&rt, "held", &table, &[OWN, OTHER]);
     let copy = table.try_clone().expect(&rt, "memory");
     table.forget_others();
-    expect_held(&rt, &table, &[OWN]);
+    expect_held(&rt, "held", &table, &[OWN]);
     expect_number(&rt, "greatest", table.greatest(1), 0);
     write(&rt, &mut table, SECOND.entry);
-    expect_held(&rt, &table, &[SECOND]);
+    expect_held(&rt, "held", &table, &[SECOND]);
     expect_copy(&rt, &copy);
 }
 
 fn expect_copy(rt: &impl Abort, copy: &NodeTable) {
-    expect_held(rt, copy, &[OWN, OTHER]);
+    expect_held(rt, "held", copy, &[OWN, OTHER]);
     expect_number(rt, "node", copy.node(), 0);
     expect_number(rt, "nodes", copy.nodes(), 2);
     expect_number(rt, "keys", copy.keys(), 1);
@@ -78,13 +71,77 @@ const LEFT: [Item; 5] = [
 
 #[test]
 fn several_items_of_one_place(rt: HostRuntime) {
-    let mut table = NodeTable::new(rt.alloc(), 2, NODES, KEYS).unwrap();
+    let mut table = new_table(&rt, rt.alloc(), 2, NODES, KEYS);
     write(&rt, &mut table, LEFT[2].entry);
     take(&rt, &mut table, &FIRST_TAKEN);
     take(&rt, &mut table, &TAKEN);
-    expect_held(&rt, &table, &LEFT);
+    expect_held(&rt, "held", &table, &LEFT);
     expect_number(&rt, "greatest", table.greatest(3), 4);
     expect_entry(&rt, &table, 1, 1, None);
+}
+
+// Entries of owner 1 of two, with four keys, as they come, and the row that they make: ascending by
+// version and then by key.
+const ENTERING: [Item; 7] = [
+    item!(1, 0, 5, 10, 1),
+    item!(1, 3, 9, 11, 1),
+    item!(1, 1, 3, 12, 1),
+    item!(1, 2, 5, 13, 1),
+    item!(1, 1, 7, 14, 1),
+    item!(1, 3, 8, 15, 1),
+    item!(1, 2, 9, 16, 1),
+];
+
+// The versions of the row once so many have come, and its keys.
+const ROWS: [(&[u32], &[u32]); 8] = [
+    (&[], &[]),
+    (&[5], &[0]),
+    (&[5, 9], &[0, 3]),
+    (&[3, 5, 9], &[1, 0, 3]),
+    (&[3, 5, 5, 9], &[1, 0, 2, 3]),
+    (&[5, 5, 7, 9], &[0, 2, 1, 3]),
+    (&[5, 5, 7, 9], &[0, 2, 1, 3]),
+    (&[5, 7, 9, 9], &[0, 1, 2, 3]),
+];
+
+// Compares the entries of owner 1 above a version with the end of a row.
+fn expect_above(rt: &impl Abort, table: &NodeTable, version: u32, row: (&[u32], &[u32])) {
+    assert!(rt; table.nodes() > 1);
+    let (versions, keys) = row;
+    let front = versions.iter().filter(|held| **held <= version).count();
+    let above = table.above(1, version);
+    for (index, entry) in above.iter().enumerate() {
+        let at = front.saturating_add(index);
+        assert_eq!(rt;
+            Some(entry.version),
+            versions.get(at).copied(),
+            "above {version}"
+        );
+        assert_eq!(rt; Some(entry.key), keys.get(at).copied(), "above {version}");
+        assert_eq!(rt; table.get(1, entry.key), Some(*entry), "above {version}");
+    }
+    assert!(rt; above.len() == versions.len().saturating_sub(front));
+}
+
+// Compares the row of owner 1, from each version on, and the greatest versions.
+fn expect_row(rt: &impl Abort, table: &NodeTable, row: (&[u32], &[u32])) {
+    assert!(rt; table.nodes() > 1);
+    for version in 0..11 {
+        expect_above(rt, table, version, row);
+    }
+    assert!(rt; table.row(1).len() == row.0.len());
+    let greatest = row.0.last().copied().unwrap_or(0);
+    assert_eq!(rt; table.greatest_versions(), [0, greatest].as_slice());
+}
+
+#[test]
+fn entries_above_a_version(rt: HostRuntime) {
+    let mut table = new_table(&rt, rt.alloc(), 0, 2, 4);
+    expect_row(&rt, &table, ROWS[0]);
+    for come in 0..7 {
+        take(&rt, &mut table, &[ENTERING[come]]);
+        expect_row(&rt, &table, ROWS[come + 1]);
+    }
 }
 
 // A clone, at the second try where memory is refused once.
@@ -99,7 +156,7 @@ fn clone_of(rt: &impl Abort, table: &NodeTable) -> NodeTable {
 fn write_at_last(rt: &impl Abort, table: &mut NodeTable, entry: Entry) {
     let before = clone_of(rt, table);
     if try_write(rt, table, entry.key, entry.value, entry.born).is_err() {
-        expect_items(rt, "after a refusal", table.items(), before.items());
+        expect_same(rt, "after a refusal", table, &before);
         write(rt, table, entry);
     }
     expect_number(rt, "count before", before.count(), entry.key);
@@ -130,16 +187,16 @@ const WRITTEN_AND_ADDED: [Item; 6] = [
 // To be run with each allocation refused in turn, by `rt try --test --fail-alloc N`.
 #[test]
 fn a_refusal_leaves_the_table(rt: HostRuntime) {
-    let mut table = NodeTable::new(rt.alloc(), 1, NODES, KEYS).unwrap();
+    let mut table = new_table(&rt, rt.alloc(), 1, NODES, KEYS);
     for item in WRITTEN {
         write_at_last(&rt, &mut table, item.entry);
     }
     let before = clone_of(&rt, &table);
     if table.reserve_for(&ADDED).is_err() {
-        expect_items(&rt, "after a refusal", table.items(), before.items());
+        expect_same(&rt, "after a refusal", &table, &before);
     }
     take(&rt, &mut table, &ADDED);
-    expect_items(&rt, "items", table.items(), &WRITTEN_AND_ADDED);
+    expect_held(&rt, "held", &table, &WRITTEN_AND_ADDED);
 }
 
 // What a place of the model keeps.
@@ -181,7 +238,7 @@ fn expect_model(rt: &impl Abort, table: &NodeTable, model: &[Option<Entry>; PLAC
 fn long_lists_against_a_plain_model(rt: HostRuntime) {
     let mut state = 1;
     for _round in 0..200 {
-        let mut table = NodeTable::new(rt.alloc(), 1, NODES, KEYS).unwrap();
+        let mut table = new_table(&rt, rt.alloc(), 1, NODES, KEYS);
         let mut model: [Option<Entry>; PLACES] = [None; PLACES];
         for _list in 0..3 {
             let list = random_list(&rt, rt.alloc(), &mut state);

@@ -37,4 +37,4 @@ returns-in_ok-record-clause-state c =
     let planned : IsPlanned c.args.list.now.nodes (exchange_at read c.args.i) = subst (λ l. IsPlanned c.args.list.now.nodes (exchange_at l c.args.i)) (sym c.exchanges.ensures.value) (c.exchanges.ensures.kept.planned c.args.i no_exchange c.requires.within) in
     come_back c.args.rules.now c.args.list.now.exchanges read c.exchanges.ensures.value c.args.i places.homes.items places.out.items places.records.items
     (omega (arith, planned.initiator, c.requires.places.homes)) (omega (arith, planned.responder, c.requires.places.homes)) planned.apart (omega (arith, c.requires.within, c.requires.places.out))
-    (omega (arith, c.requires.within, c.requires.places.records)) c.in-Some.pair c.exchange.new.initiator c.exchange.new.responder c.in_ok-record.record c.take.new.self there c.in_ok-record.ensures.tables c.take.ensures.after
+    (omega (arith, c.requires.within, c.requires.places.records)) c.in-Some.pair c.exchange.new.initiator c.exchange.new.responder c.in_ok-record.record c.take.new.self there c.in_ok-record.ensures.ok c.take.ensures.after

@@ -1,15 +1,15 @@
-use Rattle.std.proofs.Common.{List, get_or, sym, ap, ◌∙◌, subst, arith}
-use Rattle.bench_types.specs.declared.entries.Item.{Item}
-use Rattle.reconcile.specs.Order.{owner_count}
-use Rattle.reconcile.specs.Keys.{reversed, OwnersRise}
-use Rattle.reconcile.proofs.Ranking.{no_candidate, items-rest, keying_more}
+use Rattle.std.proofs.Common.{sym, subst, arith}
+use Rattle.reconcile.specs.Keys.{OwnersRise}
+use Rattle.reconcile.specs.Ranks.{CountsLast}
+use Rattle.reconcile.proofs.Ranking.{no_candidate, items-rest, counting_more}
 use Rattle.reconcile.proofs.orders.set_counts.Goals as goal
 
-pub count_of_owner-requires-clause-sorted : goal.count_of_owner-requires-clause-sorted
-count_of_owner-requires-clause-sorted c = subst OwnersRise (sym (items-rest c.loop-at.order c.args.order.now c.loop-at.invariant.rest)) c.requires.sorted
+pub count_at-count-requires-clause-sorted : goal.count_at-count-requires-clause-sorted
+count_at-count-requires-clause-sorted c = subst OwnersRise (sym (items-rest c.loop-at.order c.args.order.now c.loop-at.invariant.keying.rest)) c.requires.sorted
+
+pub count_at-count-requires-clause-counts : goal.count_at-count-requires-clause-counts
+count_at-count-requires-clause-counts c = subst (λ is. CountsLast is c.loop-at.count c.loop-at.at) (sym (items-rest c.loop-at.order c.args.order.now c.loop-at.invariant.keying.rest)) c.loop-at.invariant.last
 
 pub loop-at-preserved : goal.loop-at-preserved
 unfolding no_candidate
-loop-at-preserved c =
-    keying_more _ c.args.order.now c.loop-at.order c.loop-at.at _ c.loop-at.invariant (omega arith)
-    (ap reversed (c.count_of_owner.ensures ∙ ap (λ (is : List Item). owner_count is (get_or c.loop-at.order c.loop-at.at no_candidate).item) (items-rest c.loop-at.order c.args.order.now c.loop-at.invariant.rest)))
+loop-at-preserved c = counting_more c.args.order.now c.loop-at.order c.loop-at.at c.loop-at.count _ c.loop-at.invariant (omega arith) c.count_at-count.ensures

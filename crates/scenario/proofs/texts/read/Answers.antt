@@ -1,5 +1,5 @@
 use Rattle.toml.specs.View.{table_view}
-use Rattle.scenario.proofs.OnlyReadFaults.{OnlyReadFaults-answer}
+use Rattle.scenario.proofs.OnlyFaultsOfCheck.{OnlyFaultsOfCheck-answer}
 use Rattle.scenario.proofs.Order.{first_of-answer, no_fault-answer}
 use Rattle.scenario.proofs.Sayings.{Says-answer}
 use Rattle.scenario.proofs.texts.read.Goals as goal
@@ -11,7 +11,7 @@ pub returns-clause-says : goal.returns-clause-says
 returns-clause-says c = rw c.in_ok-table.ensures.ok (Says-answer (table_view c.in_ok-table.table) _ c.checked.ensures.ok)
 
 pub returns-clause-only : goal.returns-clause-only
-returns-clause-only c = OnlyReadFaults-answer (table_view c.in_ok-table.table) _ c.checked.ensures.refused
+returns-clause-only c = OnlyFaultsOfCheck-answer (table_view c.in_ok-table.table) _ c.checked.ensures.refused
 
 pub returns-clause-no_fault : goal.returns-clause-no_fault
 returns-clause-no_fault c = rw c.in_ok-table.ensures.ok (no_fault-answer (table_view c.in_ok-table.table) _ c.checked.ensures.ok)

@@ -9,7 +9,7 @@ returns-then-initiator-responder-clause-exchanged c =
     let split = c.split_at_mut-below in
     IfOk-weaker c.exchange.result _ _
     (λ r done records. exchanged_low c.args.rules.now c.args.plan.now c.args.tables.now split.result.0.now split.result.1.now split.ensures.value (omega (arith, split.ensures.back_len, c.requires.planned.responder)) _ _ c.exchange.new.initiator c.exchange.new.responder r split.ensures.front_len c.if-initiator-responder.true done records)
-    c.exchange.ensures.tables
+    c.exchange.ensures.ok
 
 pub returns-else-initiator-responder-clause-exchanged : goal.returns-else-initiator-responder-clause-exchanged
 returns-else-initiator-responder-clause-exchanged c =
@@ -17,7 +17,7 @@ returns-else-initiator-responder-clause-exchanged c =
     let after = c.exchange-else-initiator-responder in
     IfOk-weaker after.result _ _
     (λ r done records. exchanged_high c.args.rules.now c.args.plan.now c.args.tables.now split.result.0.now split.result.1.now split.ensures.value (omega (arith, split.ensures.back_len, c.requires.planned.initiator)) _ _ after.new.responder after.new.initiator r split.ensures.front_len (omega (arith, c.if-initiator-responder.false, c.requires.planned.apart)) done records)
-    after.ensures.tables
+    after.ensures.ok
 
 pub exchange-requires : goal.exchange-requires
 exchange-requires c =

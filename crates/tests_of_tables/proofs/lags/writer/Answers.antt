@@ -1,7 +1,5 @@
 use Rattle.std.proofs.Common.{◌≡◌, ap, sym, subst, arith}
-use Rattle.std.proofs.lemmas.Result.{IfOk-at_ok}
 use Rattle.node_table.specs.Table.{Table, empty_table}
-use Rattle.node_table.specs.NodeTableView.{NodeTableView}
 use Rattle.staleness.specs.Writes.{AreBornBy}
 use Rattle.staleness.specs.Cluster.{OwnPartIsLastWrites}
 use Rattle.staleness.proofs.OwnParts.{own_part-empty}
@@ -10,7 +8,7 @@ use Rattle.tests_of_tables.proofs.lags.writer.Goals as goal
 pub loop-key-init : goal.loop-key-init
 loop-key-init g c =
     let empty = empty_table c.args.node 2 c.args.keys in
-    let made : c.unwrap-table.result.table ≡ empty = IfOk-at_ok (λ (k : NodeTableView). k.table ≡ empty) c.unwrap-table.ensures c.new.ensures.empty in
+    let made = c.new_table-table.ensures in
     let none = c.new-list.ensures in
     record {
       node = ap (λ (t : Table). t.node) made;

@@ -1,11 +1,7 @@
-use Rattle.std.proofs.Common.{sym, ap, ◌∙◌, arith}
+use Rattle.std.proofs.Common.{sym, ap, ◌∙◌}
 use Rattle.node_table.specs.Table.{count_of}
-use Rattle.node_table.proofs.Proper.{length-le-limit}
-use Rattle.node_table.proofs.Sound.{count_of-table_of}
+use Rattle.node_table.proofs.InLayout.{count_is}
 use Rattle.node_table.proofs.tables.NodeTable.count.Goals as goal
 
-pub overflow_cast-result : goal.overflow_cast-result
-overflow_cast-result c = omega (arith, c.len.ensures, c.self.inside.items.ok.0, length-le-limit _ _ _ _ c.self.invariant)
-
 pub returns : goal.returns
-returns c = c.len.ensures ∙ c.self.inside.items.ok.0 ∙ sym (count_of-table_of _ _ _ _ c.self.invariant) ∙ ap (λ k. count_of k.table) c.self.view_is
+returns c = sym (count_is c.self.inside.layout c.self.invariant) ∙ ap (λ k. count_of k.table) c.self.view_is

@@ -1,0 +1,109 @@
+-- Laws of an exchange, for the crates above: in every mode, with every rotation, budget and loss, but where a law
+-- names a mode or what was sent. That neither side's own part changes is in OwnParts.
+use Rattle.std.proofs.Common.{◌≡◌, ℕ, ◌<◌, inl, inr, refl, sym, subst, arith, if◌then◌else◌}
+use Rattle.bench_types.specs.declared.exchanges.Exchange.{Exchange}
+use Rattle.bench_types.specs.declared.exchanges.Fate.{Fate}
+use Rattle.bench_types.specs.declared.exchanges.Fate.TheVariants as fate
+use Rattle.bench_types.specs.declared.exchanges.Rules.{Rules}
+use Rattle.bench_types.specs.Mode.{told_by}
+use Rattle.node_table.specs.Table.{Table, IsProper}
+use Rattle.node_table.proofs.Versions.{version_at-le-applied}
+use Rattle.reconcile.specs.Candidates.{IsScuttleMode}
+use Rattle.reconcile.specs.Deltas.{DeltaView, delta_between}
+use Rattle.reconcile.specs.Digests.{digest_size}
+use Rattle.reconcile.proofs.DeltaLaws.{cut-none}
+use Rattle.exchange.specs.Exchanged.{exchanged, fate_of, last_fate, sent_until, initiator_after, responder_after}
+use Rattle.exchange.specs.Laws.{MayMeet, NoVersionFalls, StoodInEither, IsPreciseMode, LosesAndCutsNothing, HasTheGreater, EnoughBudgetCutsNothing}
+use Rattle.exchange.specs.Copies.{OwnParts, WritesBy, AreLastOf, HoldsWrites, HasNoGap}
+use Rattle.exchange.proofs.Cases.{initiator_after-either, responder_after-either}
+use Rattle.exchange.proofs.Received.{received-either, received-writes, received-proper, received-greater, received-no_gap}
+
+-- an exchange without loss or cut came to its end, and cut neither delta
+whole_ended : (f : Fate) (d1 d2 : ℕ) (back forth : DeltaView) → LosesAndCutsNothing (sent_until f d1 d2 back forth) → (f ≡ fate.Ok) × (back.cut ≡ 0) × (forth.cut ≡ 0)
+whole_ended fate.Lost1 d1 d2 back forth is = let e = is.fate in cc
+whole_ended fate.Lost2 d1 d2 back forth is = let e = is.fate in cc
+whole_ended fate.Lost3 d1 d2 back forth is = let e = is.fate in cc
+whole_ended fate.Ok d1 d2 back forth is = (refl, is.back, is.forth)
+
+-- where no message is lost a budget for all candidates cuts none
+pub whole_within_budget : EnoughBudgetCutsNothing
+whole_within_budget rules e p q (came1, came2, came3) back_fits forth_fits = subst (λ f. LosesAndCutsNothing (sent_until f (digest_size (told_by rules.mode) p) (digest_size (told_by rules.mode) q) (delta_between rules.mode e.rotation rules.budget q p) (delta_between rules.mode e.rotation rules.budget p q)))
+    (sym (λ i. if came1 i then fate.Lost1 else (if came2 i then fate.Lost2 else last_fate (came3 i)))) (record {
+      fate = refl;
+      back = cut-none rules.mode q p e.rotation rules.budget back_fits;
+      forth = cut-none rules.mode p q e.rotation rules.budget forth_fits;
+    })
+
+-- no version goes down
+module _ (rules : Rules) (e : Exchange) (p q : Table) where
+  pub initiator_rises : NoVersionFalls p (exchanged rules e p q).initiator
+  initiator_rises = initiator_after-either (NoVersionFalls p) (fate_of e) p (delta_between rules.mode e.rotation rules.budget q p) (λ owner key. omega arith) (version_at-le-applied p (delta_between rules.mode e.rotation rules.budget q p).items)
+
+  pub responder_rises : NoVersionFalls q (exchanged rules e p q).responder
+  responder_rises = responder_after-either (NoVersionFalls q) (fate_of e) q (delta_between rules.mode e.rotation rules.budget p q) (λ owner key. omega arith) (version_at-le-applied q (delta_between rules.mode e.rotation rules.budget p q).items)
+
+module _ (rules : Rules) (e : Exchange) (p q : Table) (meet : MayMeet e p q) where
+  back : DeltaView
+  back = delta_between rules.mode e.rotation rules.budget q p
+
+  forth : DeltaView
+  forth = delta_between rules.mode e.rotation rules.budget p q
+
+  in_responder : e.rotation < q.nodes
+  in_responder = subst (λ n. e.rotation < n) meet.nodes meet.rotation
+
+  -- each entry stood at its place in one of the two tables
+  pub initiator_either : StoodInEither p q (exchanged rules e p q).initiator
+  unfolding back
+  initiator_either = initiator_after-either (StoodInEither p q) (fate_of e) p back (λ owner key x held. inl held) (received-either rules e.rotation q p meet.responder)
+
+  pub responder_either : StoodInEither p q (exchanged rules e p q).responder
+  unfolding forth
+  responder_either = responder_after-either (StoodInEither p q) (fate_of e) q forth (λ owner key x held. inr held) (λ owner key x found. elim (received-either rules e.rotation p q meet.initiator owner key x found) [ inl held ↦ inr held | inr came ↦ inl came ])
+
+  -- both tables stay proper
+  pub initiator_proper : IsProper (exchanged rules e p q).initiator
+  unfolding back
+  initiator_proper = initiator_after-either IsProper (fate_of e) p back meet.initiator (received-proper rules e.rotation q p meet.responder (sym meet.nodes) (sym meet.keys) meet.initiator)
+
+  pub responder_proper : IsProper (exchanged rules e p q).responder
+  unfolding forth
+  responder_proper = responder_after-either IsProper (fate_of e) q forth meet.responder (received-proper rules e.rotation p q meet.initiator meet.nodes meet.keys meet.responder)
+
+  -- entries that are their owners' writes stay so
+  module _ (writes : WritesBy) (p_writes : HoldsWrites writes p) (q_writes : HoldsWrites writes q) where
+    pub initiator_writes : HoldsWrites writes (exchanged rules e p q).initiator
+    unfolding back
+    initiator_writes = initiator_after-either (HoldsWrites writes) (fate_of e) p back p_writes (received-writes rules e.rotation q p meet.responder writes p_writes q_writes)
+
+    pub responder_writes : HoldsWrites writes (exchanged rules e p q).responder
+    unfolding forth
+    responder_writes = responder_after-either (HoldsWrites writes) (fate_of e) q forth q_writes (received-writes rules e.rotation p q meet.initiator writes q_writes p_writes)
+
+    -- and in a scuttle mode copies without a gap stay without one
+    module _ (scuttle : IsScuttleMode rules.mode) (own : OwnParts) (last : AreLastOf p.nodes writes own) (p_gapless : HasNoGap own p) (q_gapless : HasNoGap own q) where
+      pub initiator_no_gap : HasNoGap own (exchanged rules e p q).initiator
+      unfolding back
+      initiator_no_gap = initiator_after-either (HasNoGap own) (fate_of e) p back p_gapless
+          (received-no_gap rules e.rotation q p meet.responder (sym meet.nodes) (sym meet.keys) meet.initiator scuttle in_responder writes own last p_writes q_writes p_gapless q_gapless)
+
+      pub responder_no_gap : HasNoGap own (exchanged rules e p q).responder
+      unfolding forth
+      responder_no_gap = responder_after-either (HasNoGap own) (fate_of e) q forth q_gapless
+          (received-no_gap rules e.rotation p q meet.initiator meet.nodes meet.keys meet.responder scuttle meet.rotation writes own (subst (λ n. AreLastOf n writes own) meet.nodes last) q_writes p_writes q_gapless p_gapless)
+
+  -- in a precise mode an exchange without loss or cut leaves each side, of all owners but itself, with the greater versions
+  module _ (precise : IsPreciseMode rules.mode) (whole : LosesAndCutsNothing (exchanged rules e p q).sent) where
+    ended : (fate_of e ≡ fate.Ok) × (back.cut ≡ 0) × (forth.cut ≡ 0)
+    unfolding back forth
+    ended = whole_ended (fate_of e) (digest_size (told_by rules.mode) p) (digest_size (told_by rules.mode) q) back forth whole
+
+    pub initiator_greater : HasTheGreater p q (exchanged rules e p q).initiator
+    unfolding back
+    initiator_greater = subst (λ f. HasTheGreater p q (initiator_after f p back)) (sym ended.0)
+        (received-greater rules e.rotation q p meet.responder (sym meet.nodes) (sym meet.keys) precise in_responder ended.1)
+
+    pub responder_greater : HasTheGreater p q (exchanged rules e p q).responder
+    unfolding forth
+    responder_greater = subst (λ f. HasTheGreater p q (responder_after f q forth)) (sym ended.0)
+        (λ owner key other. omega (arith, received-greater rules e.rotation p q meet.initiator meet.nodes meet.keys precise meet.rotation ended.2 owner key other))

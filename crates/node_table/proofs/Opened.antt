@@ -1,0 +1,59 @@
+-- A block that is laid behind the others for an owner's first entry.
+use Rattle.std.proofs.Common.{◌≡◌, ◌≢◌, ℕ, ◌+◌, ◌<◌, ◌≤◌, cond, List, [], ◌∷◌, ◌++◌, length, get_or, set, replicate, Some, None, inl, refl, sym, ap, ◌∙◌, subst, arith, length-append}
+use Rattle.std.proofs.lemmas.Bool.{eq-eqb, ne_eqb}
+use Rattle.std.proofs.lemmas.List.{length-replicate}
+use Rattle.std.proofs.lemmas.List.Elements.{All-cons, All-nil}
+use Rattle.bench_types.specs.declared.entries.Entry.{Entry}
+use Rattle.node_table.specs.declared.layouts.Row.{Row}
+use Rattle.node_table.specs.Layouts.{row_of, block_len, IsRow, IsInSlots, AreApart, AreLaid, IsPut, IsPlaced}
+use Rattle.node_table.proofs.Blocks.{take-behind, take-new}
+use Rattle.node_table.proofs.Laid.{laid_after, placed_after, row_of-empty, block_len-some, block_len-none}
+
+module _ (nodes keys : ℕ) (slots : List Entry) (rows : List Row) (owner : ℕ) (r : Row) (entry : Entry) (laid : AreLaid nodes keys slots rows) (lt : owner < length rows) (is : (d : Row) → get_or rows owner d ≡ r) (empty : r.len ≡ 0) (below : entry.key < keys) (written : 1 ≤ entry.version) where
+  abbrev slots' : List Entry
+  slots' = slots ++ replicate keys entry
+
+  abbrev opened : Row
+  opened = record { start = length slots; len = 1 }
+
+  len_is : length slots' ≡ length slots + keys
+  len_is = length-append slots (replicate keys entry) ∙ ap (λ n. length slots + n) (length-replicate keys entry)
+
+  row_is : row_of slots' opened ≡ entry ∷ []
+  row_is = take-new keys slots entry (omega arith)
+
+  one_row : IsRow keys (entry ∷ [])
+  one_row = record {
+    rising = λ i j d before in_range. absurd (omega arith);
+    apart = λ i j d before in_range. absurd (omega arith);
+    keys_below = All-cons (λ e. e.key < keys) entry [] below (All-nil (λ e. e.key < keys));
+    written = All-cons (λ e. 1 ≤ e.version) entry [] written (All-nil (λ e. 1 ≤ e.version));
+  }
+
+  one_put : IsPut keys entry [] (entry ∷ [])
+  one_put = record {
+    row = one_row;
+    here = ap (λ b. cond b (Some entry) None) (eq-eqb entry.key entry.key refl);
+    others = λ key other. ap (λ b. cond b (Some entry) None) (ne_eqb entry.key key (λ same. other (sym same)));
+    some = omega arith;
+    grows = omega arith;
+  }
+
+  lies : IsInSlots keys slots' opened
+  lies = record { within = omega (arith, len_is); block = λ some. omega (arith, len_is); row = subst (IsRow keys) (sym row_is) one_row }
+
+  kept : (k : ℕ) (d : Row) → k < length rows → k ≢ owner → row_of slots' (get_or rows k d) ≡ row_of slots (get_or rows k d)
+  kept k d in_range other = take-behind (get_or rows k d).start (get_or rows k d).len slots (replicate keys entry) (laid.each k d in_range).within
+
+  apart : (k : ℕ) (d : Row) → k < length rows → k ≢ owner → AreApart keys (get_or rows k d) opened
+  apart k d in_range other some _ = inl ((laid.each k d in_range).block some)
+
+  filled : length slots' + block_len keys r ≡ length slots + block_len keys opened
+  filled = omega (arith, len_is, block_len-none keys r empty, block_len-some keys opened (omega arith))
+
+  pub laid_open : AreLaid nodes keys slots' (set rows owner opened)
+  laid_open = laid_after nodes keys slots slots' rows owner r opened laid lt is (omega (arith, len_is)) lies kept apart filled
+
+  pub placed_open : IsPlaced keys owner entry slots slots' rows (set rows owner opened)
+  placed_open = placed_after nodes keys slots slots' rows owner r opened laid lt is (omega (arith, len_is)) lies kept apart filled entry
+      (rw (row_of-empty slots r empty, row_is) one_put)

@@ -1,0 +1,15 @@
+use Rattle.std.proofs.Common.{◌≡◌, ◌+◌, ◌*◌, ◌≤◌, drop}
+use Rattle.std.specs.Prelude.{vec_len, vec_capacity}
+use Rattle.node_table.specs.Table.{applied}
+use Rattle.node_table.specs.NodeTableView.{blocks_for}
+use Rattle.node_table.specs.Layouts.{table_in, IsLayout}
+use Rattle.node_table.proofs.tables.NodeTable.apply.Given as goal
+
+abbrev pub invariant-loop-item : goal.invariant-loop-item
+invariant-loop-item l = record {
+  layout : IsLayout l.self-inside.layout;
+  table : applied (table_in l.self-inside.layout) (drop l.item-index l.added) ≡ applied l.fn.self.table l.added;
+  nodes : l.self-inside.layout.nodes ≡ l.fn.self.table.nodes;
+  keys : l.self-inside.layout.keys ≡ l.fn.self.table.keys;
+  room : vec_len l.self-inside.layout.slots + blocks_for (table_in l.self-inside.layout) (drop l.item-index l.added) * l.self-inside.layout.keys ≤ vec_capacity l.self-inside.layout.slots;
+}

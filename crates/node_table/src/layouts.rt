@@ -1,0 +1,224 @@
+//! How a table lies in memory: each owner of whom something is held has a block of slots, one for
+//! each key, at the front of which its entries lie ascending by version and then by key. So one
+//! item changes one block alone.
+
+ghost use Rattle.std.specs.Prelude.{◌≡◌, ◌+◌, ◌<◌, ◌≤◌, [], ◌∷◌, IsOk, OnOk, OnErr, length, take, vec_len, vec_capacity};
+ghost use Rattle.node_table.specs.Table.{IsInPlace, version_at, greatest_version, applied, without_others};
+ghost use Rattle.node_table.specs.View.{IsItemInPlace};
+ghost use Rattle.node_table.specs.Layouts.{row_of, row_at, block_len, table_in, with_entry, AreLaid, IsLayout, IsIndexOf, IsEmptyRow, IsInSlots, IsPlaced, IsPut, KeepOutside, HasEntries, IsHeld, HasBlockLeft};
+
+use crate::rows::{index_of, put_in};
+use bench_types::limits::{MOST_KEYS, MOST_NODES};
+use bench_types::{Entry, Item};
+use std::alloc::AllocError;
+
+// Where an owner's row starts among the slots, and how many entries it has.
+#[derive(Clone, Copy)]
+pub(crate) struct Row {
+    pub(crate) start: u32,
+    pub(crate) len: u32,
+}
+
+// Slots behind a row, up to the end of its block, hold no matter what.
+#[derive(Drop)]
+pub(crate) struct Layout {
+    pub(crate) node: u32,
+    pub(crate) nodes: u32,
+    pub(crate) keys: u32,
+    pub(crate) slots: Vec<Entry>,
+    pub(crate) rows: Vec<Row>,
+    pub(crate) greatest: Vec<u32>,
+    pub(crate) count: u32,
+}
+
+impl Layout {
+    // The entries held of an owner.
+    pub(crate) fn row(&self, owner: u32) -> &[Entry]
+        requires layout { IsLayout self.now }
+        requires owner { owner < self.now.nodes }
+        ensures { result.now ≡ row_at self.now.slots.items self.now.rows.items owner }
+    {
+        let row = self.rows[owner as usize];
+        let start = row.start as usize;
+        &self.slots[start..start + row.len as usize]
+    }
+
+    // Keeps the newer of an item and what is held at its place.
+    pub(crate) fn receive(&mut self, item: Item)
+        requires layout { IsLayout self.old }
+        requires in_place { IsItemInPlace self.old.nodes self.old.keys item }
+        requires room { greatest_version (table_in self.old) item.owner ≡ 0 → HasBlockLeft self.old }
+        ensures layout { IsLayout self.new }
+        ensures table { table_in self.new ≡ applied (table_in self.old) (item ∷ []) }
+        ensures capacity { vec_capacity self.old.slots ≤ vec_capacity self.new.slots }
+        ensures same_slots { IsHeld self.old item.owner → vec_len self.new.slots ≡ vec_len self.old.slots }
+        ensures slots { vec_len self.new.slots ≤ vec_len self.old.slots + self.old.keys }
+    {
+        let row = self.row(item.owner);
+        let index = index_of(row, item.entry.key);
+        if index == row.len() || row[index].version < item.entry.version {
+            self.put(item.owner, index, item.entry).unwrap();
+        }
+    }
+
+    // Puts an entry at its rank in an owner's row, over that of its key, whose index is given. An
+    // error is lack of memory for a block, and then nothing changes.
+    pub(crate) fn put(&mut self, owner: u32, index: usize, entry: Entry) -> Result<(), AllocError>
+        requires layout { IsLayout self.old }
+        requires in_place { IsInPlace self.old.nodes self.old.keys owner entry.key entry }
+        requires index { IsIndexOf (row_at self.old.slots.items self.old.rows.items owner) entry.key index }
+        requires newer { version_at (table_in self.old) owner entry.key ≤ entry.version }
+        ensures layout { IsLayout self.new }
+        ensures ok { OnOk result (table_in self.new ≡ with_entry (table_in self.old) owner entry) }
+        ensures err { OnErr result (table_in self.new ≡ table_in self.old) }
+        ensures keeps_slots { OnErr result (vec_len self.new.slots ≡ vec_len self.old.slots) }
+        ensures capacity { vec_capacity self.old.slots ≤ vec_capacity self.new.slots }
+        ensures same_slots { IsHeld self.old owner → vec_len self.new.slots ≡ vec_len self.old.slots }
+        ensures slots { vec_len self.new.slots ≤ vec_len self.old.slots + self.old.keys }
+        ensures held { IsHeld self.old owner → IsOk result }
+        ensures succeeds { HasBlockLeft self.old → IsOk result }
+    {
+        let at = owner as usize;
+        let before = self.rows[at].len;
+        place(
+            &mut self.slots,
+            &mut self.rows,
+            self.keys,
+            owner,
+            index,
+            entry,
+        )?;
+        self.count += self.rows[at].len - before;
+        self.greatest[at] = self.greatest[at].max(entry.version);
+        Ok(())
+    }
+
+    // Drops the rows of all owners but the node.
+    pub(crate) fn forget_others(&mut self)
+        requires { IsLayout self.old }
+        ensures layout { IsLayout self.new }
+        ensures table { table_in self.new ≡ without_others (table_in self.old) }
+        ensures capacity { vec_capacity self.new.slots ≡ vec_capacity self.old.slots }
+        ensures slots { vec_len self.new.slots ≤ vec_len self.old.slots }
+        ensures keys { self.new.keys ≡ self.old.keys }
+    {
+        let own = self.node as usize;
+        let row = self.rows[own];
+        let greatest = self.greatest[own];
+        move_to_front(&mut self.slots, row, self.keys);
+        self.rows.fill(Row { start: 0, len: 0 });
+        self.rows[own] = Row {
+            start: 0,
+            len: row.len,
+        };
+        self.greatest.fill(0);
+        self.greatest[own] = greatest;
+        self.count = row.len;
+    }
+}
+
+// Leaves a row's block alone, at the front.
+fn move_to_front(slots: &mut Vec<Entry>, row: Row, keys: u32)
+    requires row { IsInSlots keys slots.old.items row }
+    ensures row { take row.len slots.new.items ≡ row_of slots.old.items row }
+    ensures len { vec_len slots.new ≡ block_len keys row }
+    ensures capacity { vec_capacity slots.new ≡ vec_capacity slots.old }
+{
+    if row.len == 0 {
+        slots.clear();
+    } else {
+        let start = row.start as usize;
+        slots.copy_within(start..start + row.len as usize, 0);
+        slots.truncate(keys as usize);
+    }
+}
+
+// Puts an entry into an owner's row, which gets a block where it has no entry yet.
+fn place(
+    slots: &mut Vec<Entry>,
+    rows: &mut Vec<Row>,
+    keys: u32,
+    owner: u32,
+    index: usize,
+    entry: Entry,
+) -> Result<(), AllocError>
+    requires laid { AreLaid (vec_len rows.old) keys slots.old.items rows.old.items }
+    requires owner { owner < vec_len rows.old }
+    requires nodes { vec_len rows.old ≤ MOST_NODES }
+    requires keys { keys ≤ MOST_KEYS }
+    requires index { IsIndexOf (row_at slots.old.items rows.old.items owner) entry.key index }
+    requires key { entry.key < keys }
+    requires written { 1 ≤ entry.version }
+    ensures laid { AreLaid (vec_len rows.old) keys slots.new.items rows.new.items }
+    ensures ok { OnOk result (IsPlaced keys owner entry slots.old.items slots.new.items rows.old.items rows.new.items) }
+    ensures err { OnErr result (slots.new.items ≡ slots.old.items) }
+    ensures err_rows { OnErr result (rows.new.items ≡ rows.old.items) }
+    ensures capacity { vec_capacity slots.old ≤ vec_capacity slots.new }
+    ensures same_slots { HasEntries slots.old.items rows.old.items owner → vec_len slots.new ≡ vec_len slots.old }
+    ensures held { HasEntries slots.old.items rows.old.items owner → IsOk result }
+    ensures slots { vec_len slots.new ≤ vec_len slots.old + keys }
+    ensures succeeds { vec_len slots.old + keys ≤ vec_capacity slots.old → IsOk result }
+{
+    let row = rows[owner as usize];
+    if row.len == 0 {
+        open(slots, rows, keys, owner, entry)
+    } else {
+        rows[owner as usize] = put_among(slots, row, keys, index, entry);
+        Ok(())
+    }
+}
+
+// Puts an entry into a row that has some already.
+fn put_among(slots: &mut [Entry], row: Row, keys: u32, index: usize, entry: Entry) -> Row
+    requires row { IsInSlots keys slots.old row }
+    requires held { 0 < row.len }
+    requires keys { keys ≤ MOST_KEYS }
+    requires index { IsIndexOf (row_of slots.old row) entry.key index }
+    requires key { entry.key < keys }
+    requires written { 1 ≤ entry.version }
+    ensures start { result.start ≡ row.start }
+    ensures within { result.len ≤ keys }
+    ensures put { IsPut keys entry (row_of slots.old row) (row_of slots.new result) }
+    ensures len { length slots.new ≡ length slots.old }
+    ensures others { KeepOutside slots.old slots.new row.start keys }
+{
+    let start = row.start as usize;
+    let block = &mut slots[start..start + keys as usize];
+    let len = put_in(block, row.len as usize, index, entry) as u32;
+    Row {
+        start: row.start,
+        len,
+    }
+}
+
+// Lays a block behind the others for an owner's first entry.
+fn open(
+    slots: &mut Vec<Entry>,
+    rows: &mut Vec<Row>,
+    keys: u32,
+    owner: u32,
+    entry: Entry,
+) -> Result<(), AllocError>
+    requires laid { AreLaid (vec_len rows.old) keys slots.old.items rows.old.items }
+    requires owner { owner < vec_len rows.old }
+    requires empty { IsEmptyRow rows.old.items owner }
+    requires nodes { vec_len rows.old ≤ MOST_NODES }
+    requires keys { keys ≤ MOST_KEYS }
+    requires key { entry.key < keys }
+    requires written { 1 ≤ entry.version }
+    ensures laid { AreLaid (vec_len rows.old) keys slots.new.items rows.new.items }
+    ensures ok { OnOk result (IsPlaced keys owner entry slots.old.items slots.new.items rows.old.items rows.new.items) }
+    ensures err { OnErr result (slots.new.items ≡ slots.old.items) }
+    ensures err_rows { OnErr result (rows.new.items ≡ rows.old.items) }
+    ensures capacity { vec_capacity slots.old ≤ vec_capacity slots.new }
+    ensures slots { vec_len slots.new ≤ vec_len slots.old + keys }
+    ensures succeeds { vec_len slots.old + keys ≤ vec_capacity slots.old → IsOk result }
+{
+    let start = slots.len();
+    slots.resize(start + keys as usize, entry)?;
+    rows[owner as usize] = Row {
+        start: start as u32,
+        len: 1,
+    };
+    Ok(())
+}

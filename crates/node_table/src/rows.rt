@@ -1,0 +1,98 @@
+//! One owner's row: entries with a key each, ascending by version and then by key, at the front of
+//! a block of slots.
+
+ghost use Rattle.std.specs.Prelude.{◌≡◌, ◌≢◌, ◌+◌, ◌-◌, ◌<◌, ◌≤◌, All, length, take, remove};
+ghost use Rattle.std.specs.Ordering.{is_lt};
+ghost use Rattle.node_table.specs.Rows.{entry_cmp};
+ghost use Rattle.node_table.specs.Layouts.{entry_in, IsRow, IsIndexOf, IsRankOf, IsPut};
+
+use bench_types::Entry;
+
+// The index of the entry of a key, or the row's length.
+pub(crate) fn index_of(row: &[Entry], key: u32) -> usize
+    ensures { IsIndexOf row.now key result }
+{
+    for (index, held) in row.iter().enumerate() {
+        if held.key == key {
+            return index;
+        }
+    }
+    row.len()
+}
+
+// The entry of a key, if any.
+pub(crate) fn find(row: &[Entry], key: u32) -> Option<Entry>
+    ensures { result ≡ entry_in row.now key }
+{
+    let index = index_of(row, key);
+    if index < row.len() {
+        Some(row[index])
+    } else {
+        None
+    }
+}
+
+// How many entries at the front don't stand behind an entry. It looks at those behind and one more.
+pub(crate) fn rank_of(row: &[Entry], entry: Entry) -> usize
+    ensures { IsRankOf row.now entry result }
+{
+    let mut rank = row.len();
+    while rank > 0 && stands_before(entry, row[rank - 1]) {
+        rank -= 1;
+    }
+    rank
+}
+
+fn stands_before(entry: Entry, other: Entry) -> bool
+    ensures { result ≡ is_lt (entry_cmp entry other) }
+{
+    (entry.version, entry.key) < (other.version, other.key)
+}
+
+// Puts an entry at its rank, over that of its key, whose index is given. The answer is how many
+// entries the row has then.
+pub(crate) fn put_in(block: &mut [Entry], len: usize, index: usize, entry: Entry) -> usize
+    requires within { len ≤ length block.old }
+    requires row { IsRow (length block.old) (take len block.old) }
+    requires index { IsIndexOf (take len block.old) entry.key index }
+    requires key { entry.key < length block.old }
+    requires written { 1 ≤ entry.version }
+    ensures len { length block.new ≡ length block.old }
+    ensures within { result ≤ length block.new }
+    ensures put { IsPut (length block.old) entry (take len block.old) (take result block.new) }
+{
+    if index < len {
+        close_up(block, len, index);
+        insert(block, len - 1, entry)
+    } else {
+        insert(block, len, entry)
+    }
+}
+
+// Takes an entry out of a row.
+fn close_up(block: &mut [Entry], len: usize, index: usize)
+    requires within { len ≤ length block.old }
+    requires index { index < len }
+    ensures len { length block.new ≡ length block.old }
+    ensures row { take (len - 1) block.new ≡ remove (take len block.old) index }
+{
+    block.copy_within(index + 1..len, index);
+}
+
+// Puts an entry into a row that has none of its key.
+fn insert(block: &mut [Entry], len: usize, entry: Entry) -> usize
+    requires within { len ≤ length block.old }
+    requires row { IsRow (length block.old) (take len block.old) }
+    requires absent { All (λ e. e.key ≢ entry.key) (take len block.old) }
+    requires key { entry.key < length block.old }
+    requires written { 1 ≤ entry.version }
+    ensures len { length block.new ≡ length block.old }
+    ensures one_more { result ≡ len + 1 }
+    ensures within { result ≤ length block.new }
+    ensures put { IsPut (length block.old) entry (take len block.old) (take result block.new) }
+{
+    let rank = rank_of(&block[..len], entry);
+    block.copy_within(rank..len, rank + 1);
+    block[rank] = entry;
+    len + 1
+}

@@ -1,0 +1,99 @@
+-- Laws of the sending orders, and of what a budget lets through in them.
+use Rattle.std.proofs.Common.{◌≡◌, ℕ, ◌<◌, ◌≤◌, Bool, not, ◌&&◌, eqb, leb, ltb, List, length, get_or, inl, inr, sym, ap, ◌∙◌, arith}
+use Rattle.std.specs.Prelude.{count_by, Contains}
+use Rattle.std.specs.declared.cmp.Ordering.TheVariants.{Less, Equal}
+use Rattle.std.specs.Ordering.{nat_cmp, ordering_then}
+use Rattle.std.specs.Cmp.{IsTotalOrder}
+use Rattle.std.proofs.lemmas.Bool.{cases_lt, eq-eqb, eqb-true, lt-ltb, ltb-true, le-ltb, leb-false, and_parts, and_from, and_right}
+use Rattle.std.proofs.lemmas.List.{get_or_default}
+use Rattle.std.proofs.lemmas.List.Elements.{All-filter}
+use Rattle.std.proofs.lemmas.List.Sorted.{IsPermutation-refl}
+use Rattle.bench_types.specs.declared.entries.Item.{Item}
+use Rattle.bench_types.specs.declared.exchanges.Mode.{Mode}
+use Rattle.bench_types.specs.declared.exchanges.Mode.TheVariants.{ScuttleBreadth, ScuttleDepth, PreciseOldest, PreciseNewest}
+use Rattle.bench_types.specs.Mode.{told_by}
+use Rattle.node_table.specs.Table.{Table, items_of, IsProper}
+use Rattle.node_table.proofs.Proper.{items_sound}
+use Rattle.reconcile.specs.Candidates.{IsScuttleMode, known_version, candidates}
+use Rattle.reconcile.specs.Order.{rotated, rank_among, owner_count, sending_order}
+use Rattle.reconcile.specs.Deltas.{delta_of}
+use Rattle.reconcile.specs.Picks.{before_count}
+use Rattle.node_table.specs.View.{no_item}
+use Rattle.reconcile.proofs.Apart.{sending_total, sending_apart}
+use Rattle.node_table.proofs.Comparing.{nat_cmp-less, nat_cmp-equal}
+use Rattle.reconcile.proofs.Places.{count_by-lt, Contains-sent, before_count-lt, before_count-sent, cut_count-none, sent-Contains, sent-before}
+use Rattle.reconcile.proofs.Counts.{count_by-none}
+use Rattle.reconcile.proofs.Sending.{owners_below}
+
+-- each mode's order is total
+pub sending_order-total : (mode : Mode) (nodes rotation : ℕ) (cs : List Item) → IsTotalOrder (sending_order mode nodes rotation cs)
+sending_order-total mode nodes rotation cs = sending_total nodes rotation cs mode
+
+-- and strict: of the candidates of a proper table each ties with itself alone
+pub sending_order-strict : (mode : Mode) (from to : Table) (rotation : ℕ) → IsProper from → rotation < from.nodes → (c d : Item) → Contains (candidates mode from to) c → Contains (candidates mode from to) d → sending_order mode from.nodes rotation (candidates mode from to) c d ≡ Equal → c ≡ d
+sending_order-strict mode from to rotation proper in_nodes c d (j, in_j, is_c) (k, in_k, is_d) e =
+    let q : Item → Bool = λ i. not (eqb i.owner to.node) && ltb (known_version (told_by mode) to i) i.entry.version in
+    let cs = candidates mode from to in
+    let at_j = get_or_default cs j no_item c in_j ∙ is_c in
+    let at_k = get_or_default cs k no_item d in_k ∙ is_d in
+    let same = sending_apart mode q (items_of from) cs from.nodes rotation (items_sound from proper).rising (All-filter q (λ (i : Item). i.owner < from.nodes) (items_of from) (owners_below from proper)) in_nodes (IsPermutation-refl cs) j k in_j in_k
+    ((λ i. sending_order mode from.nodes rotation cs (at_j i) (at_k i)) ∙ e) in
+    sym at_j ∙ ap (λ n. get_or cs n no_item) same ∙ at_k
+
+-- in a scuttle mode a candidate comes before those of its owner with greater versions
+pub sending_order-ascending : (mode : Mode) → IsScuttleMode mode → (nodes rotation : ℕ) (cs : List Item) (c d : Item) → Contains cs c → c.owner ≡ d.owner → c.entry.version < d.entry.version → sending_order mode nodes rotation cs c d ≡ Less
+sending_order-ascending ScuttleBreadth is nodes rotation cs c d stands owners older =
+    let more : rank_among cs c < rank_among cs d = count_by-lt (λ (x : Item). eqb x.owner c.owner && ltb x.entry.version c.entry.version) (λ (x : Item). eqb x.owner d.owner && ltb x.entry.version d.entry.version) cs
+    (λ x passes. let parts = and_parts (eqb x.owner c.owner) (ltb x.entry.version c.entry.version) passes in
+    and_from _ _ (eq-eqb x.owner d.owner (eqb-true x.owner c.owner parts.0 ∙ owners)) (lt-ltb x.entry.version d.entry.version (omega (arith, older, ltb-true x.entry.version c.entry.version parts.1))))
+    c stands (and_right (eqb c.owner c.owner) _ (le-ltb c.entry.version c.entry.version (omega arith))) (and_from _ _ (eq-eqb c.owner d.owner owners) (lt-ltb c.entry.version d.entry.version older)) in
+    ap (λ o. ordering_then o (ordering_then (nat_cmp (rotated nodes rotation c.owner) (rotated nodes rotation d.owner)) (nat_cmp c.entry.key d.entry.key))) (nat_cmp-less (rank_among cs c) (rank_among cs d) more)
+sending_order-ascending ScuttleDepth is nodes rotation cs c d stands owners older =
+    λ i. ordering_then (nat_cmp-equal (owner_count cs d) (owner_count cs c) (ap (λ o. count_by (λ (x : Item). eqb x.owner o) cs) (sym owners)) i)
+    (ordering_then (nat_cmp-equal (rotated nodes rotation c.owner) (rotated nodes rotation d.owner) (ap (rotated nodes rotation) owners) i)
+    (ordering_then (nat_cmp-less c.entry.version d.entry.version older i) (nat_cmp c.entry.key d.entry.key)))
+sending_order-ascending PreciseOldest is nodes rotation cs c d stands owners older = cc
+sending_order-ascending PreciseNewest is nodes rotation cs c d stands owners older = cc
+
+module _ (mode : Mode) (from to : Table) (rotation budget : ℕ) where
+  -- what is sent under the budget
+  abbrev pub sent_items : List Item
+  sent_items = (delta_of mode from.nodes rotation budget (candidates mode from to)).items
+
+  -- what is sent is a candidate
+  pub sent-candidate : (c : Item) → Contains sent_items c → Contains (candidates mode from to) c
+  sent-candidate c there = (Contains-sent (sending_order mode from.nodes rotation (candidates mode from to)) (sending_total from.nodes rotation (candidates mode from to) mode) (candidates mode from to) budget c there).0
+
+  -- in a scuttle mode what is sent of one owner ascends in version
+  pub sent-ascending : IsScuttleMode mode → (j k : ℕ) (d : Item) → j < k → k < length sent_items → (get_or sent_items j d).owner ≡ (get_or sent_items k d).owner → (get_or sent_items j d).entry.version ≤ (get_or sent_items k d).entry.version
+  sent-ascending is j k d lt in_range owners =
+      let cs = candidates mode from to in
+      let order = sending_order mode from.nodes rotation cs in
+      let total = sending_total from.nodes rotation cs mode in
+      let x = get_or sent_items j d in
+      let y = get_or sent_items k d in
+      elim (cases_lt y.entry.version x.entry.version) [
+        | inl falls ↦
+            let stands = sent-candidate y (k, in_range, get_or_default sent_items k y d in_range) in
+            absurd (omega (arith, before_count-sent order total cs budget j k d lt in_range, before_count-lt order total cs y x stands (sending_order-ascending mode is from.nodes rotation cs y x stands (sym owners) falls)))
+        | inr rises ↦ rises
+      ]
+
+  -- with none left out in between: with a candidate all older ones of its owner are sent
+  pub sent-no_gap : IsScuttleMode mode → IsProper from → rotation < from.nodes → (c d : Item) → Contains (candidates mode from to) c → Contains sent_items d → c.owner ≡ d.owner → c.entry.version < d.entry.version → Contains sent_items c
+  sent-no_gap is proper in_nodes c d stands there owners older =
+      let cs = candidates mode from to in
+      sent-before (sending_order mode from.nodes rotation cs) (sending_total from.nodes rotation cs mode) cs (sending_order-strict mode from to rotation proper in_nodes) budget c d stands there
+      (sending_order-ascending mode is from.nodes rotation cs c d stands owners older)
+
+  -- in every mode a delta that cuts nothing sends each candidate
+  pub sent-uncut : IsProper from → rotation < from.nodes → (delta_of mode from.nodes rotation budget (candidates mode from to)).cut ≡ 0 → (c : Item) → Contains (candidates mode from to) c → Contains sent_items c
+  sent-uncut proper in_nodes none c stands =
+      let cs = candidates mode from to in
+      let order = sending_order mode from.nodes rotation cs in
+      sent-Contains order (sending_total from.nodes rotation cs mode) cs (sending_order-strict mode from to rotation proper in_nodes) budget c stands
+      (leb-false budget (before_count order cs c) (count_by-none (λ d. leb budget (before_count order cs d)) cs none c stands))
+
+  -- and a budget for all candidates cuts none
+  pub cut-none : length (candidates mode from to) ≤ budget → (delta_of mode from.nodes rotation budget (candidates mode from to)).cut ≡ 0
+  cut-none enough = cut_count-none (sending_order mode from.nodes rotation (candidates mode from to)) (sending_total from.nodes rotation (candidates mode from to) mode) (candidates mode from to) budget enough

@@ -1,0 +1,208 @@
+-- A table's entries that a digest doesn't know, owner by owner, are the candidates in another order.
+use Rattle.std.proofs.Common.{◌≡◌, ◌≢◌, ℕ, ◌+◌, ◌<◌, ◌≤◌, Bool, true, false, cond, not, ◌&&◌, eqb, ltb, List, [], ◌∷◌, ◌++◌, length, map, take, get_or, All, Some, inl, inr, refl, sym, ap, ◌∙◌, subst, arith}
+use Rattle.std.specs.Prelude.{filter, Contains, IsPermutation}
+use Rattle.std.specs.List.{AllPairs}
+use Rattle.std.specs.declared.cmp.Ordering.TheVariants.{Less, Equal}
+use Rattle.std.specs.Ordering.{nat_cmp, ordering_then, is_eq}
+use Rattle.std.specs.Cmp.{tied_itself}
+use Rattle.std.proofs.lemmas.Bool.{cases_lt, eq-eqb, ne_eqb, eqb-true, lt-ltb, ltb-true, le-ltb, and_parts, and_from, both_ways, not-true}
+use Rattle.std.proofs.lemmas.List.{append-nil, append_assoc, map-append, take_more}
+use Rattle.std.proofs.lemmas.List.Elements.{All-contains, All-map, Contains-get_or, Contains-append_left, Contains-append_right, Contains-append_cases, filter-append}
+use Rattle.std.proofs.lemmas.List.Kept.{AllPairs-filter}
+use Rattle.bench_types.specs.declared.entries.Entry.{Entry}
+use Rattle.bench_types.specs.declared.entries.Item.{Item}
+use Rattle.bench_types.specs.Entry.{version_of}
+use Rattle.node_table.specs.Table.{Table, entry_at, greatest_version, items_of, IsProper}
+use Rattle.node_table.specs.Rows.{AreAbove}
+use Rattle.node_table.specs.Applied.{stands_at}
+use Rattle.node_table.proofs.Comparing.{nat_cmp-less, nat_cmp-equal}
+use Rattle.node_table.proofs.Items.{IsApart, apart-items_of, entry_at-items_of, Contains-items_of}
+use Rattle.node_table.proofs.Laws.{tied-stands_at}
+use Rattle.node_table.proofs.Versions.{version_at-le-greatest_version}
+use Rattle.reconcile.specs.Candidates.{items_above}
+use Rattle.reconcile.specs.Digests.{DigestView, version_told, told_version}
+use Rattle.reconcile.specs.Newer.{AreNewer, item_with, newer_items, IsCandidate, AreCandidates}
+use Rattle.reconcile.specs.Keys.{item_in, items_in}
+use Rattle.reconcile.specs.Ranks.{version_order}
+use Rattle.reconcile.specs.declared.orders.Candidate.{Candidate}
+use Rattle.reconcile.proofs.Members.{Contains-filter, Contains-kept, Contains-map, AllPairs-append, AllPairs-map, same_members}
+use Rattle.reconcile.proofs.Runs.{version_total}
+
+module _ (t : Table) (told : DigestView) (owner : ℕ) where
+  -- where one version is told of all keys of an owner, the entries above it aren't known
+  pub newer-above : (version : ℕ) (entries : List Entry) → ((key : ℕ) → version_told told owner key ≡ version) → AreAbove t owner version entries → AreNewer t told owner entries
+  newer-above version entries same above = record {
+    rising = above.rising;
+    held = λ e there. (above.held e there).0;
+    all = λ key e held newer. above.all key e held (subst (λ v. v < e.version) (same key) newer);
+  }
+
+  -- and where that is the greatest there are none
+  pub newer-none : (version : ℕ) → IsProper t → ((key : ℕ) → version_told told owner key ≡ version) → greatest_version t owner ≤ version → AreNewer t told owner []
+  newer-none version proper same most = record {
+    rising = λ i j d lt in_range. absurd (omega arith);
+    held = λ e (k, lt, is). absurd (omega arith);
+    all = λ key e held newer. absurd (omega (arith, most, subst (λ v. v < e.version) (same key) newer, ap version_of held, version_at-le-greatest_version t owner key (proper.in_place owner key e held).key_below));
+  }
+
+  -- all entries of an owner have those among them that aren't known
+  pub newer-row : (entries : List Entry) → AreAbove t owner 0 entries → AreNewer t told owner entries
+  newer-row entries above = record {
+    rising = above.rising;
+    held = λ e there. (above.held e there).0;
+    all = λ key e held newer. above.all key e held (omega (arith, newer));
+  }
+
+-- the keys of a proper table's entries are in range
+pub newer-keys : (t : Table) (told : DigestView) (owner : ℕ) (entries : List Entry) → IsProper t → AreNewer t told owner entries → All (λ (e : Entry). e.key < t.keys) entries
+newer-keys t told owner entries proper newer k d lt =
+    let e = get_or entries k d in
+    (proper.in_place owner e.key e (newer.held e (Contains-get_or entries k d lt))).key_below
+
+-- one more entry is looked at
+module _ (told : DigestView) (owner : ℕ) (entries : List Entry) (n : ℕ) (before : List Item) (found : List Candidate) (so_far : items_in found ≡ before ++ newer_items told owner (take n entries)) (lt : n < length entries) (d : Entry) where
+  one_more : before ++ newer_items told owner (take (n + 1) entries) ≡ (before ++ newer_items told owner (take n entries)) ++ newer_items told owner (get_or entries n d ∷ [])
+  one_more =
+      ap (λ es. before ++ newer_items told owner es) (take_more entries n d lt)
+      ∙ ap (λ is. before ++ filter (λ (i : Item). ltb (told_version told i) i.entry.version) is) (map-append (item_with owner) (take n entries) (get_or entries n d ∷ []))
+      ∙ ap (λ is. before ++ is) (filter-append (λ (i : Item). ltb (told_version told i) i.entry.version) (map (item_with owner) (take n entries)) (item_with owner (get_or entries n d) ∷ []))
+      ∙ sym (append_assoc before (newer_items told owner (take n entries)) (newer_items told owner (get_or entries n d ∷ [])))
+
+  -- and isn't known
+  pub newer_items-more : (c : Candidate) → c.item ≡ item_with owner (get_or entries n d) → version_told told owner (get_or entries n d).key < (get_or entries n d).version → items_in (found ++ c ∷ []) ≡ before ++ newer_items told owner (take (n + 1) entries)
+  newer_items-more c is newer =
+      let e = get_or entries n d in
+      map-append item_in found (c ∷ [])
+      ∙ (λ i. so_far i ++ is i ∷ [])
+      ∙ ap (λ b. (before ++ newer_items told owner (take n entries)) ++ cond b (item_with owner e ∷ []) []) (sym (lt-ltb (version_told told owner e.key) e.version newer))
+      ∙ sym one_more
+
+  -- or is known
+  pub newer_items-known : (get_or entries n d).version ≤ version_told told owner (get_or entries n d).key → items_in found ≡ before ++ newer_items told owner (take (n + 1) entries)
+  newer_items-known known =
+      let e = get_or entries n d in
+      so_far
+      ∙ sym (append-nil (before ++ newer_items told owner (take n entries)))
+      ∙ ap (λ b. (before ++ newer_items told owner (take n entries)) ++ cond b (item_with owner e ∷ []) []) (sym (le-ltb (version_told told owner e.key) e.version known))
+      ∙ sym one_more
+
+module _ (t : Table) (told : DigestView) (receiver : ℕ) where
+  -- before the first owner there are none
+  pub candidates-none : AreCandidates t told receiver 0 []
+  candidates-none = record {
+    rising = λ i j d lt in_range. absurd (omega arith);
+    each = λ i (k, lt, is). absurd (omega arith);
+    all = λ i is lt. absurd (omega arith);
+  }
+
+  -- the receiver's own are none
+  pub candidates-own : (bound : ℕ) (items : List Item) → bound ≡ receiver → AreCandidates t told receiver bound items → AreCandidates t told receiver (bound + 1) items
+  candidates-own bound items own so_far = record {
+    rising = so_far.rising;
+    each = λ i there. let one = so_far.each i there in (one.0, omega (arith, one.1));
+    all = λ i is lt. elim (cases_lt i.owner bound) [
+      | inl below ↦ so_far.all i is below
+      | inr last ↦ absurd (is.other (omega (arith, own)))
+    ];
+  }
+
+  module _ (bound : ℕ) (items : List Item) (entries : List Entry) (other : bound ≢ receiver) (so_far : AreCandidates t told receiver bound items) (newer : AreNewer t told bound entries) where
+    abbrev is_newer : Item → Bool
+    is_newer i = ltb (told_version told i) i.entry.version
+
+    abbrev IsHere : Item → Type 0
+    IsHere i = (entry_at t bound i.entry.key ≡ Some i.entry) × (i.owner ≡ bound)
+
+    here : (i : Item) → Contains (newer_items told bound entries) i → IsHere i × (is_newer i ≡ true)
+    here i there =
+        let kept = Contains-kept is_newer (map (item_with bound) entries) i there in
+        (All-contains IsHere (map (item_with bound) entries) i (All-map IsHere (item_with bound) entries (λ k d lt. (newer.held (get_or entries k d) (Contains-get_or entries k d lt), refl))) kept.0, kept.1)
+
+    candidate_here : (i : Item) → Contains (newer_items told bound entries) i → IsCandidate t told receiver i × (i.owner < bound + 1)
+    candidate_here i there =
+        let one = here i there in (
+          record {
+            held = subst (λ o. entry_at t o i.entry.key ≡ Some i.entry) (sym one.0.1) one.0.0;
+            newer = ltb-true (told_version told i) i.entry.version one.1;
+            other = λ e. other (sym one.0.1 ∙ e);
+          },
+          omega (arith, one.0.1),
+        )
+
+    rising_here : AllPairs (λ i j. version_order i j ≡ Less) (newer_items told bound entries)
+    rising_here =
+        AllPairs-filter (λ i j. version_order i j ≡ Less) is_newer (map (item_with bound) entries)
+        (AllPairs-map (λ i j. version_order i j ≡ Less) (item_with bound) entries
+        (λ i j d lt in_range. ap (λ o. ordering_then o (ordering_then (nat_cmp (get_or entries i d).version (get_or entries j d).version) (nat_cmp (get_or entries i d).key (get_or entries j d).key))) (nat_cmp-equal bound bound refl) ∙ newer.rising i j d lt in_range))
+
+    -- the next owner's come behind
+    pub candidates-more : AreCandidates t told receiver (bound + 1) (items ++ newer_items told bound entries)
+    candidates-more = record {
+      rising = AllPairs-append (λ i j. version_order i j ≡ Less) items (newer_items told bound entries) so_far.rising rising_here
+          (λ i j before behind. ap (λ o. ordering_then o (ordering_then (nat_cmp i.entry.version j.entry.version) (nat_cmp i.entry.key j.entry.key))) (nat_cmp-less i.owner j.owner (omega (arith, (so_far.each i before).1, (here j behind).0.1))));
+      each = λ i there. elim (Contains-append_cases items (newer_items told bound entries) i there) [
+        | inl before ↦ let one = so_far.each i before in (one.0, omega (arith, one.1))
+        | inr behind ↦ candidate_here i behind
+      ];
+      all = λ i is lt. elim (cases_lt i.owner bound) [
+        | inl below ↦ Contains-append_left items (newer_items told bound entries) i (so_far.all i is below)
+        | inr last ↦ Contains-append_right items (newer_items told bound entries) i (among i is (omega arith))
+      ];
+    }
+      where
+        among : (i : Item) → IsCandidate t told receiver i → i.owner ≡ bound → Contains (newer_items told bound entries) i
+        among i is at =
+            let same : item_with bound i.entry ≡ i = λ n. record { owner = sym at n; entry = i.entry } in
+            Contains-filter is_newer (map (item_with bound) entries) i
+            (subst (Contains (map (item_with bound) entries)) same (Contains-map (item_with bound) entries i.entry (newer.all i.entry.key i.entry (subst (λ o. entry_at t o i.entry.key ≡ Some i.entry) at is.held) (subst (λ o. version_told told o i.entry.key < i.entry.version) at is.newer))))
+            (lt-ltb (told_version told i) i.entry.version is.newer)
+
+  -- all of them are the definition's, in another order
+  module _ (items : List Item) (proper : IsProper t) (are : AreCandidates t told receiver t.nodes items) where
+    abbrev unknown : Item → Bool
+    unknown i = not (eqb i.owner receiver) && ltb (told_version told i) i.entry.version
+
+    defined_apart : IsApart (items_above (told_version told) receiver (items_of t))
+    defined_apart = AllPairs-filter (λ (i j : Item). stands_at i.owner i.entry.key j ≡ false) unknown (items_of t)
+        (λ i j d lt in_range. sym (tied-stands_at (get_or (items_of t) i d).owner (get_or (items_of t) i d).entry.key (get_or (items_of t) j d)) ∙ ap is_eq (apart-items_of t proper i j d lt in_range))
+
+    found_apart : IsApart items
+    found_apart i j d lt in_range =
+        let x = get_or items i d in
+        let y = get_or items j d in
+        elim (stands_at x.owner x.entry.key y) as (λ b. stands_at x.owner x.entry.key y ≡ b → b ≡ false) [
+          | true ↦ λ one. absurd (clash x y (are.rising i j d lt in_range) (are.each x (Contains-get_or items i d (omega arith))).0.held (are.each y (Contains-get_or items j d in_range)).0.held (and_parts (eqb y.owner x.owner) (eqb y.entry.key x.entry.key) one))
+          | false ↦ λ _. refl
+        ] refl
+      where
+        some_same : (d e : Entry) → Some d ≡ Some e → d ≡ e
+        some_same d e is = cc
+
+        clash : (x y : Item) → version_order x y ≡ Less → entry_at t x.owner x.entry.key ≡ Some x.entry → entry_at t y.owner y.entry.key ≡ Some y.entry → (eqb y.owner x.owner ≡ true) × (eqb y.entry.key x.entry.key ≡ true) → ⊥
+        clash x y less held_x held_y (owners, keys) =
+            let owner_is = eqb-true y.owner x.owner owners in
+            let key_is = eqb-true y.entry.key x.entry.key keys in
+            let entry_is = some_same y.entry x.entry (sym held_y ∙ (λ n. entry_at t (owner_is n) (key_is n)) ∙ held_x) in
+            let same : y ≡ x = λ n. record { owner = owner_is n; entry = entry_is n } in
+            let tied = subst (λ (z : Item). version_order x z ≡ Less) same less in
+            let impossible : Less ≡ Equal = sym tied ∙ tied_itself version_total x in cc
+
+    pub candidates-permuted : IsPermutation (items_above (told_version told) receiver (items_of t)) items
+    candidates-permuted = same_members (items_above (told_version told) receiver (items_of t)) items defined_apart found_apart to from
+      where
+        to : (i : Item) → Contains (items_above (told_version told) receiver (items_of t)) i → Contains items i
+        to i there =
+            let kept = Contains-kept unknown (items_of t) i there in
+            let parts = and_parts (not (eqb i.owner receiver)) (ltb (told_version told i) i.entry.version) kept.1 in
+            let held = entry_at-items_of t i proper kept.0 in
+            are.all i (record {
+              held = held;
+              newer = ltb-true (told_version told i) i.entry.version parts.1;
+              other = λ e. absurd (both_ways (eqb i.owner receiver) (not-true _ parts.0) (eq-eqb i.owner receiver e));
+            }) (proper.in_place i.owner i.entry.key i.entry held).owner_below
+
+        from : (i : Item) → Contains items i → Contains (items_above (told_version told) receiver (items_of t)) i
+        from i there =
+            let one = (are.each i there).0 in
+            Contains-filter unknown (items_of t) i (Contains-items_of t i.owner i.entry.key i.entry one.held)
+            (and_from (not (eqb i.owner receiver)) (ltb (told_version told i) i.entry.version) (ap not (ne_eqb i.owner receiver one.other)) (lt-ltb (told_version told i) i.entry.version one.newer))

@@ -1,0 +1,38 @@
+-- What holds of every sending order, and of every delta from one table to another. Source: the LADIS 2008 paper, which
+-- demands that a message has each owner's entries in ascending version; the rest is this project's.
+use Rattle.std.specs.Prelude.{◌≡◌, ℕ, ◌<◌, ◌≤◌, List, length, slice_index_or, Contains}
+use Rattle.std.specs.Cmp.{IsTotalOrder}
+use Rattle.bench_types.specs.declared.entries.Item.{Item}
+use Rattle.bench_types.specs.declared.exchanges.Mode.{Mode}
+use Rattle.node_table.specs.Table.{Table, IsProper}
+use Rattle.reconcile.specs.Candidates.{IsScuttleMode, candidates}
+use Rattle.reconcile.specs.Deltas.{DeltaView, delta_between}
+use Rattle.reconcile.specs.Order.{sending_order}
+
+-- of any items, in every mode and with every rotation, the sending order is total
+abbrev pub SendingOrdersAreTotal : Type 0
+SendingOrdersAreTotal = (mode : Mode) (nodes rotation : ℕ) (cs : List Item) → IsTotalOrder (sending_order mode nodes rotation cs)
+
+-- of each owner the items ascend in version
+abbrev pub AscendByOwner : List Item → Type 0
+AscendByOwner items =
+    (j k : ℕ) (d : Item) → j < k → k < length items
+    → (slice_index_or items j d).owner ≡ (slice_index_or items k d).owner
+    → (slice_index_or items j d).entry.version ≤ (slice_index_or items k d).entry.version
+
+-- and so do those of every delta of a scuttle mode
+abbrev pub ScuttleDeltasAscend : Type 0
+ScuttleDeltasAscend =
+    (mode : Mode) (rotation budget : ℕ) (from to : Table) → IsScuttleMode mode
+    → AscendByOwner (delta_between mode rotation budget from to).items
+
+-- it has each of these items
+abbrev pub SendsAll : List Item → DeltaView → Type 0
+SendsAll items delta = (c : Item) → Contains items c → Contains delta.items c
+
+-- in every mode a delta that cuts nothing sends all candidates
+abbrev pub UncutDeltasSendAll : Type 0
+UncutDeltasSendAll =
+    (mode : Mode) (rotation budget : ℕ) (from to : Table) → IsProper from → rotation < from.nodes
+    → (delta_between mode rotation budget from to).cut ≡ 0
+    → SendsAll (candidates mode from to) (delta_between mode rotation budget from to)

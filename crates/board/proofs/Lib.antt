@@ -1,0 +1,13 @@
+pub mod Sums
+pub mod Releases
+pub mod Parts
+pub mod Keeps
+pub mod Telling
+pub mod Claims
+pub mod Moving
+pub mod Finishing
+pub mod Ends
+pub mod Calls
+pub mod Filling
+pub mod Scheduled
+pub mod Returning

@@ -1,0 +1,40 @@
+use Rattle.std.proofs.Common.{rules, ap, ◌∙◌, refl, ◌∷◌, [], None, Some}
+use Rattle.board.specs.Boards.{plan_of}
+use Rattle.board.specs.Plan.{initiator_of, responder_of}
+use Rattle.board.specs.Plays.{view}
+use Rattle.planner.specs.Sharing.{exchange_at}
+use Rattle.board.proofs.Moving.{empties}
+use Rattle.board.proofs.Calls.{word_zero, first_out, second_out, both_out}
+use Rattle.board.proofs.boards.Board.take_out.Goals as goal
+
+pub exchange-responder-requires : goal.exchange-responder-requires
+exchange-responder-requires c =
+    let plan = plan_of c.args.self.now in
+    let out = c.requires.out in
+    let found = c.exchange-exchange.ensures.value ∙ ap (λ l. exchange_at l.exchanges c.args.i) c.args.self.now.planned.1 in (
+      c.requires.id,
+      first_out (view plan c.args.raw.now.me.0.seat (c.args.i ∷ []) []) (initiator_of plan c.args.i) (responder_of plan c.args.i) (initiator_of plan c.args.i) c.exchange-exchange.result.responder (Some out.initiator) (Some out.responder) None c.args.raw.now.me c.args.raw.now.me c.args.raw.now.me
+          out.seat refl (ap (λ e. e.responder) found),
+    )
+
+pub exchange-initiator-requires : goal.exchange-initiator-requires
+exchange-initiator-requires c =
+    let plan = plan_of c.args.self.now in
+    let out = c.requires.out in
+    let found = c.exchange-exchange.ensures.value ∙ ap (λ l. exchange_at l.exchanges c.args.i) c.args.self.now.planned.1 in (
+      search rules,
+      second_out (view plan c.args.raw.now.me.0.seat (c.args.i ∷ []) []) (initiator_of plan c.args.i) (responder_of plan c.args.i) c.exchange-exchange.result.initiator c.exchange-exchange.result.responder (Some out.initiator) (Some out.responder) None c.args.raw.now.me c.exchange-responder.new.seat.me c.turn.new.self.me
+          out.seat (ap (λ e. e.initiator) found) (ap (λ e. e.responder) found) c.exchange-responder.ensures.3 c.turn.ensures.2,
+    )
+
+pub load-requires : goal.load-requires
+load-requires c =
+    let plan = plan_of c.args.self.now in
+    let out = c.requires.out in
+    let found = c.exchange-exchange.ensures.value ∙ ap (λ l. exchange_at l.exchanges c.args.i) c.args.self.now.planned.1 in (
+      search rules,
+      word_zero c.args.self.now,
+      empties plan _ _ c.exchange-initiator.new.seat.me c.args.raw.now.me.0.seat c.args.i out.parts
+          (both_out (view plan c.args.raw.now.me.0.seat (c.args.i ∷ []) []) (initiator_of plan c.args.i) (responder_of plan c.args.i) c.exchange-exchange.result.initiator c.exchange-exchange.result.responder (Some out.initiator) (Some out.responder) None c.args.raw.now.me c.exchange-responder.new.seat.me c.turn.new.self.me
+          out.seat (ap (λ e. e.initiator) found) (ap (λ e. e.responder) found) c.exchange-responder.ensures.3 c.turn.ensures.2 None c.exchange-initiator.new.seat.me c.exchange-initiator.ensures.3),
+    )

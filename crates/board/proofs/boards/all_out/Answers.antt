@@ -1,0 +1,34 @@
+use Rattle.std.proofs.Common.{rules, arith, ap, sym, ◌∙◌, ◌∷◌, ◌++◌, [], ◌≡◌, length, vec_capacity, take, ℕ, suc, ◌+◌}
+use Rattle.std.proofs.lemmas.List.{length_push}
+use Rattle.std.proofs.lemmas.Option.{same_Some}
+use lib.ListN.{get_elem?}
+use Rattle.board.proofs.Filling.{taken_next}
+use Rattle.board.proofs.boards.all_out.Goals as goal
+use Rattle.board.proofs.boards.all_out.Goals.{in-Some, in_default}
+
+pub loop-i-preserved : goal.loop-i-preserved
+loop-i-preserved c =
+    let i = c.loop-i.i in
+    let inv = c.loop-i.invariant in
+    let next : suc i ≡ i + 1 = omega arith in (
+      search rules,
+      search rules,
+      search rules,
+      search rules,
+      elim c.match-take.branch [
+        | in-Some w ↦ omega (arith, inv.4, ap (λ r. length r.items) w.room-is, ap length w.push_reserved.ensures.items, length_push c.loop-i.room.items w.in-Some.table)
+        | in_default w ↦ omega (arith, inv.4, ap (λ r. length r.items) w.room-is)
+      ],
+      elim c.match-take.branch [
+        | in-Some w ↦ ap vec_capacity w.room-is ∙ w.push_reserved.ensures.capacity ∙ inv.5
+        | in_default w ↦ ap vec_capacity w.room-is ∙ inv.5
+      ],
+      λ kept is.
+          let there = taken_next kept i c.take.result (ap (λ xs. get_elem? xs i) (sym (inv.2 ∙ is)) ∙ c.take.ensures.value) in
+          elim c.match-take.branch [
+            | in-Some w ↦
+                let same : w.in-Some.table ≡ there.0 = same_Some w.in-Some.table there.0 (sym w.in-Some.is ∙ there.1) in
+                ap (λ r. r.items) w.room-is ∙ w.push_reserved.ensures.items ∙ (λ t. inv.6 kept is t ++ same t ∷ []) ∙ sym there.2 ∙ ap (λ (n : ℕ). take n kept) next
+            | in_default w ↦ absurd (w.in_default.not-Some there.0 there.1)
+          ],
+    )

@@ -1,0 +1,9 @@
+use Rattle.std.proofs.Common.{◌≡◌, ◌+◌, ◌++◌, length, map, reverse, vec_capacity}
+use Rattle.planner.specs.Places.{in_place}
+use Rattle.board.proofs.boards.into_slots.Given as goal
+
+abbrev pub invariant-loop : goal.invariant-loop
+invariant-loop l =
+    (map in_place l.fn.tables.items ≡ map in_place l.tables.items ++ reverse l.slots.items)
+    × (vec_capacity l.tables ≡ vec_capacity l.fn.tables)
+    × (length l.tables.items + l.counter ≡ length l.fn.tables.items)

@@ -1,0 +1,121 @@
+-- What the calls of a board say. Source: this project.
+use Rattle.std.specs.Prelude.{◌≡◌, ◌≢◌, ℕ, ◌+◌, ◌<◌, ◌≤◌, ◌↔◌, ◌⊎◌, Bool, true, List, ◌++◌, length, All, Option, None, Some}
+use Rattle.round_plan.specs.Plan.{RoundListView}
+use Rattle.bench_types.specs.declared.exchanges.Rules.{Rules}
+use Rattle.bench_types.specs.declared.faults.Fault.{Fault}
+use Rattle.bench_types.specs.declared.faults.Fault.TheVariants.{Unfinished}
+use Rattle.atomic_table.specs.Seated.{TableId}
+use Rattle.bench_types.specs.declared.exchanges.Exchange.{Exchange}
+use Rattle.node_table.specs.NodeTableView.{NodeTableView}
+use Rattle.planner.specs.Neighbours.{predecessors, pending_of, successors}
+use Rattle.board.specs.Weights.{times, Has}
+use Rattle.board.specs.SeatView.{SeatView, IsWhole, with_held, with_told, without_held, with_made, freed_by, having_seen, having_stopped}
+use Rattle.board.specs.Plan.{BoardPlan, table_at, initiator_of, responder_of, exchanged_at}
+use Rattle.board.specs.Keys.{key_plan}
+use Rattle.board.specs.Plays.{Rests, LookTells}
+use Rattle.cluster.specs.Tables.{tables_in}
+use Rattle.cluster.specs.Folds.{fold_of}
+use Rattle.board.specs.declared.boards.Board.{Board}
+use Rattle.board.specs.declared.boards.Seat.{Seat}
+use Rattle.board.specs.declared.boards.Hold.{Hold}
+use Rattle.board.specs.declared.boards.Claim.{Claim}
+use Rattle.board.specs.declared.boards.Claim.TheVariants.{Held, Taken, NotReady}
+use Rattle.board.specs.declared.boards.Freed.{Freed}
+use Rattle.board.specs.declared.boards.Progress.{Progress}
+
+abbrev pub board_id : Board → TableId
+board_id board = board.table.shared.table_id
+
+-- what the board was made of
+abbrev pub plan_of : Board → BoardPlan
+plan_of board = key_plan board.table.shared.key
+
+abbrev pub exchanges_of : Board → List Exchange
+exchanges_of board = (plan_of board).list.exchanges
+
+-- what contracts see of a seat
+abbrev pub seat_view : Seat → SeatView
+seat_view seat = seat.raw.me.0.seat
+
+-- the board made the seat, or another seat of it was split to make it
+pub record IsSeatOf (seat : Seat) (board : Board) : Type 0 where
+  pub id : seat.raw.table_id ≡ board_id board
+  pub plan : seat.raw.me.0.plan ≡ plan_of board
+  pub rests : Rests seat.raw.me
+  pub within : (i : ℕ) → Has seat.raw.me.0.seat.held i → i < length (exchanges_of board)
+
+-- an index stands in none of the seat's lists of claimed exchanges
+abbrev pub IsNewTo : SeatView → ℕ → Type 0
+IsNewTo v i = times i v.made + times i v.held + times i v.told + times i v.known ≡ 0
+
+-- a hold of an exchange, with the two tables that it finds in list order
+pub record IsHoldOf (plan : BoardPlan) (i : ℕ) (hold : Hold) : Type 0 where
+  pub index : hold.index ≡ i
+  pub initiator : hold.initiator.table ≡ table_at plan (initiator_of plan i) i
+  pub responder : hold.responder.table ≡ table_at plan (responder_of plan i) i
+
+-- a claim that was refused since another has the exchange, and one that came too early
+pub record IsRefused (plan : BoardPlan) (v : SeatView) (i : ℕ) : Type 0 where
+  pub unknown : IsNewTo v i
+  pub pending : pending_of plan.list.exchanges i ≢ 0
+  pub freed : times i v.freed ≡ 0
+  pub waits : ¬ All (λ j. 0 < times j v.made + times j v.known) (predecessors plan.list.exchanges i)
+
+abbrev pub AreMade : BoardPlan → SeatView → ℕ → Type 0
+AreMade plan v i = All (Has v.made) (predecessors plan.list.exchanges i)
+
+-- what a claim answers, and what it makes of the seat
+abbrev pub Claims : BoardPlan → SeatView → ℕ → Claim → SeatView → Type 0
+Claims plan old i (Held hold) new = IsHoldOf plan i hold × (new ≡ with_held old i) × IsNewTo old i × (IsWhole old → AreMade plan old i)
+Claims plan old i Taken new = (new ≡ with_told old i) × (IsWhole old → Has (old.made ++ old.held) i)
+Claims plan old i NotReady new = (new ≡ old) × IsRefused plan old i
+
+-- what put_back asks: the seat has claimed it, and the tables are those that the exchange leaves
+pub record MayPutBack (plan : BoardPlan) (v : SeatView) (hold : Hold) : Type 0 where
+  pub held : Has v.held hold.index
+  pub initiator : hold.initiator.table ≡ (exchanged_at plan hold.index).initiator
+  pub responder : hold.responder.table ≡ (exchanged_at plan hold.index).responder
+
+-- the answer names some of the successors, each in its place
+abbrev pub Among : Option ℕ → Option ℕ → Type 0
+Among named all = (named ≡ None) ⊎ (named ≡ all)
+
+-- and where the seat is whole those whose predecessors it has made
+abbrev pub NamesReady : BoardPlan → SeatView → Option ℕ → Option ℕ → Type 0
+NamesReady plan v named all = (j : ℕ) → all ≡ Some j → (named ≡ Some j) ↔ AreMade plan v j
+
+pub record IsPutBack (plan : BoardPlan) (old : SeatView) (i : ℕ) (freed : Freed) (new : SeatView) : Type 0 where
+  pub seen : ℕ
+  pub is_stopped : Bool
+  pub seat : new ≡ freed_by (freed_by (with_made (without_held old i) i seen is_stopped) freed.first) freed.second
+  pub rises : old.seen ≤ seen + 1
+  pub stays : old.is_stopped ≡ true → is_stopped ≡ true
+  pub first : Among freed.first (successors plan.list.exchanges i).first
+  pub second : Among freed.second (successors plan.list.exchanges i).second
+  pub whole_first : IsWhole old → NamesReady plan new freed.first (successors plan.list.exchanges i).first
+  pub whole_second : IsWhole old → NamesReady plan new freed.second (successors plan.list.exchanges i).second
+
+-- a count of finished exchanges, and whether a stop was called
+abbrev pub Looks : BoardPlan → SeatView → Progress → SeatView → Type 0
+Looks plan old progress new = (new ≡ having_seen old progress.finished progress.stopped) × LookTells plan.list.exchanges old progress.finished progress.stopped
+
+pub record HasStopped (old new : SeatView) : Type 0 where
+  pub seen : ℕ
+  pub seat : new ≡ having_stopped old seen
+  pub rises : old.seen ≤ seen
+
+-- the tables of list order, where all exchanges are finished
+abbrev pub AreLeft : BoardPlan → List NodeTableView → Type 0
+AreLeft plan tables = tables_in tables ≡ (fold_of plan.rules plan.tables plan.list.exchanges).tables
+
+-- fewer are finished than there are, and so the seat has seen fewer
+abbrev pub IsUnfinished : BoardPlan → SeatView → Fault → Type 0
+IsUnfinished plan v fault = (fault ≡ Unfinished) × ((v.seen < length plan.list.exchanges) × (length v.made < length plan.list.exchanges))
+
+-- each exchange was put back by a whole seat, once
+abbrev pub HasMadeAll : BoardPlan → SeatView → Type 0
+HasMadeAll plan v = (length v.made ≡ length plan.list.exchanges) × ((i : ℕ) → i < length plan.list.exchanges → times i v.made ≡ 1)
+
+-- a board was made of these
+abbrev pub IsMadeOf : Rules → RoundListView → List NodeTableView → Board → Type 0
+IsMadeOf rules list tables board = plan_of board ≡ record { rules = rules; list = list; tables = tables_in tables }

@@ -1,0 +1,12 @@
+pub mod Weights
+pub mod SeatView
+pub mod Plan
+pub mod Rule
+pub mod Laws
+pub mod Plays
+pub mod Keys
+pub mod Boards
+pub use Rattle.exchange.specs.Exchanged
+pub use Rattle.cluster.specs.Tables
+pub use Rattle.cluster.specs.Folds
+pub use Rattle.planner.specs.Neighbours

@@ -1,0 +1,342 @@
+//! A board, the seats that use it, and what its calls answer.
+ghost use Rattle.std.specs.Prelude.{List, ◌≡◌, ◌+◌, ◌/◌, ◌<◌, ◌≤◌, ℕ, None, Some, [], ◌∷◌, length, map, reverse, slice_index_or, IfSome, IfErr, IfOk, IsErrOf, IsOkUnless, vec_capacity};
+ghost use Rattle.bench_types.specs.declared.faults.Fault.TheVariants.{OutOfMemory};
+ghost use Rattle.planner.specs.Neighbours.{pending_of};
+ghost use Rattle.round_plan.specs.Plan.{IsRoundPlan};
+ghost use Rattle.planner.specs.Places.{in_place};
+ghost use Rattle.std.specs.List.{range_with_len};
+ghost use Rattle.std.specs.Mem.Slots.{slots_items, slots_len, IsFull};
+ghost use Rattle.node_table.specs.NodeTableView.{NodeTableView};
+ghost use Rattle.bench_types.specs.declared.faults.Fault.TheVariants.{Unfinished};
+ghost use Rattle.cluster.specs.Tables.{tables_in, IsCluster};
+ghost use Rattle.board.specs.SeatView.{IsWhole, first_seat, split_left, split_right, joined, having_seen, having_stopped, with_held};
+ghost use Rattle.board.specs.Plan.{IsBoardPlan, table_at, initiator_of, responder_of};
+ghost use Rattle.board.specs.Keys.{key_plan};
+ghost use Rattle.board.specs.Plays.{resting, IsApart, LookTells, HasOut, OwesNext, IsReleased, HasFinished, first_words_of};
+
+use crate::plays::{
+    Both, Empty, Finish, Halt, Key, Look, Order, Part, Release, Retake, Show, Take,
+};
+use crate::views::View;
+use atomic_table::{Closed, Refused, Table};
+use bench_types::{Fault, Rules};
+use node_table::NodeTable;
+use planner::Deps;
+use std::alloc::Global;
+use std::snapshot::Snapshot;
+
+type Raw = atomic_table::Seat<Option<NodeTable>, View>;
+
+// The word of an exchange: how many predecessors haven't released it, or `TAKEN`.
+const READY: u64 = 0;
+
+const TAKEN: u64 = 3;
+
+// The count word counts by twos, and is odd where a stop was called.
+const ONE_FINISHED: u64 = 2;
+
+const STOP: u64 = 1;
+
+/// What one thread uses a board with. It has no bytes.
+#[derive(Drop)]
+pub struct Seat {
+    raw: Raw,
+}
+
+/// A claimed exchange, and the tables of its two nodes, taken out of the board.
+#[derive(Drop)]
+pub struct Hold {
+    pub index: u32,
+    pub initiator: NodeTable,
+    pub responder: NodeTable,
+}
+
+/// What came of a claim.
+#[derive(Drop)]
+pub enum Claim {
+    Held(Hold),
+    /// The exchange was claimed before.
+    Taken,
+    /// An exchange that it waits for isn't put back yet.
+    NotReady,
+}
+
+/// The exchanges that a `put_back` made ready: the next of the initiator, and that of the responder
+/// where it is another one.
+#[derive(Clone, Copy, Debug, PartialEq, Eq)]
+pub struct Freed {
+    pub first: Option<u32>,
+    pub second: Option<u32>,
+}
+
+/// How many exchanges are put back, and whether some seat has called for a stop.
+#[derive(Clone, Copy, Debug, PartialEq, Eq)]
+pub struct Progress {
+    pub finished: u32,
+    pub stopped: bool,
+}
+
+/// The tables of all nodes, which threads take out two at a time and put back.
+#[derive(Drop)]
+pub struct Board {
+    table: Table<Option<NodeTable>, View, Key, Order, Global>,
+    deps: Deps,
+    // Room for all tables, for `close`.
+    room: Vec<NodeTable>,
+    ghost planned: { IsBoardPlan (key_plan table.shared.key) × (deps ≡ (key_plan table.shared.key).list) },
+    ghost words: { table.shared.table_id.words ≡ length deps.exchanges + 1 },
+    ghost slots: { table.shared.table_id.slots ≡ deps.nodes },
+    ghost roomy: { (room.items ≡ []) × (deps.nodes ≤ vec_capacity room) },
+}
+
+impl Board {
+    ghost use Rattle.board.specs.Boards.{IsMadeOf, board_id, plan_of, exchanges_of, seat_view, IsSeatOf, Claims, MayPutBack, IsPutBack, IsHoldOf, Looks, HasStopped, AreLeft, IsUnfinished, HasMadeAll};
+
+    /// A board of a list's exchanges and the tables of its nodes, in order, and the first seat, which has
+    /// all parts. An error is lack of memory, and the tables are then given up. Costs a step for each
+    /// exchange and each node.
+    pub fn new(
+        alloc: Global,
+        deps: Deps,
+        rules: Rules,
+        tables: Vec<NodeTable>,
+    ) -> Result<(Board, Seat), Fault>
+        requires cluster { IsCluster deps.nodes (tables_in tables.items) }
+        ensures plan { IfOk result (λ made. IsMadeOf rules deps tables.items made.0) }
+        ensures seat { IfOk result (λ made. IsSeatOf made.1 made.0 × (seat_view made.1 ≡ first_seat)) }
+        ensures only { IsOkUnless result OutOfMemory }
+    {
+        let key = Key {
+            rules,
+            list: Snapshot::of(&deps),
+            tables: Snapshot::of(&tables),
+        };
+        let words = first_words(alloc, &deps)?;
+        let (slots, room) = into_slots(alloc, tables)?;
+        match Table::new(alloc, &words, slots, &key) {
+            Ok((table, raw)) => Ok((Board { table, deps, room }, Seat { raw })),
+            Err(Refused { slots: _ }) => Err(Fault::OutOfMemory),
+        }
+    }
+
+    /// Claims an exchange of the list. Costs a compare-and-exchange, and where it is held two moves of
+    /// a table's head and a load.
+    pub fn claim(&self, seat: &mut Seat, i: u32) -> Claim
+        requires within { i < length (exchanges_of self.now) }
+        requires seat { IsSeatOf seat.old self.now }
+        ensures seat { IsSeatOf seat.new self.now }
+        ensures claim { Claims (plan_of self.now) (seat_view seat.old) i result (seat_view seat.new) }
+    {
+        let word = i as usize + 1;
+        let found = self
+            .table
+            .shared
+            .compare_exchange::<Take>(&mut seat.raw, word, READY, TAKEN);
+        if found == READY {
+            Claim::Held(self.take_out(&mut seat.raw, i))
+        } else if found == TAKEN {
+            Claim::Taken
+        } else {
+            Claim::NotReady
+        }
+    }
+
+    // The tables of a claimed exchange leave its slots.
+    fn take_out(&self, raw: &mut Raw, i: u32) -> Hold
+        requires within { i < length (exchanges_of self.now) }
+        requires id { raw.old.table_id ≡ board_id self.now }
+        requires out { HasOut (plan_of self.now) i raw.old.me }
+        ensures id { raw.new.table_id ≡ raw.old.table_id }
+        ensures seat { raw.new.me ≡ (resting (plan_of self.now) (with_held raw.old.me.0.seat i), []) }
+        ensures hold { IsHoldOf (plan_of self.now) i result }
+    {
+        let exchange = self.deps.exchange(i);
+        let shared = &self.table.shared;
+        let responder = shared.exchange(raw, exchange.responder as usize, None);
+        raw.turn();
+        let initiator = shared.exchange(raw, exchange.initiator as usize, None);
+        shared.load::<Empty>(raw, 0);
+        let (Some(initiator), Some(responder)) = (initiator, responder) else {
+            unreachable!()
+        };
+        Hold {
+            index: i,
+            initiator,
+            responder,
+        }
+    }
+
+    /// Puts back the tables that a claimed exchange leaves, and releases the exchanges that wait for it.
+    /// Names those that this made ready. Costs an addition and at most two subtractions, beside a load
+    /// and two moves of a table's head.
+    pub fn put_back(&self, seat: &mut Seat, hold: Hold) -> Freed
+        requires seat { IsSeatOf seat.old self.now }
+        requires hold { MayPutBack (plan_of self.now) (seat_view seat.old) hold }
+        ensures seat { IsSeatOf seat.new self.now }
+        ensures put_back { IsPutBack (plan_of self.now) (seat_view seat.old) hold.index result (seat_view seat.new) }
+    {
+        let i = hold.index;
+        self.put_in(&mut seat.raw, hold);
+        let after = self.deps.after(i);
+        let first = self.release(&mut seat.raw, after.first);
+        let second = self.release(&mut seat.raw, after.second);
+        Freed { first, second }
+    }
+
+    // The tables of a held exchange go back into its slots, and it counts as finished.
+    fn put_in(&self, raw: &mut Raw, hold: Hold)
+        requires within { hold.index < length (exchanges_of self.now) }
+        requires id { raw.old.table_id ≡ board_id self.now }
+        requires rests { raw.old.me ≡ (resting (plan_of self.now) raw.old.me.0.seat, []) }
+        requires parts { 0 < raw.old.me.0.seat.parts }
+        requires hold { MayPutBack (plan_of self.now) raw.old.me.0.seat hold }
+        ensures id { raw.new.table_id ≡ raw.old.table_id }
+        ensures seat { HasFinished (plan_of self.now) raw.old.me.0.seat hold.index raw.new.me }
+    {
+        let Hold {
+            index,
+            initiator,
+            responder,
+        } = hold;
+        let exchange = self.deps.exchange(index);
+        let shared = &self.table.shared;
+        shared.load::<Retake>(raw, index as usize + 1);
+        shared.exchange(raw, exchange.responder as usize, Some(responder));
+        raw.turn();
+        shared.exchange(raw, exchange.initiator as usize, Some(initiator));
+        shared.fetch_add::<Finish>(raw, 0, ONE_FINISHED);
+    }
+
+    // Releases an exchange, if there is one. Names it where this made it ready.
+    fn release(&self, raw: &mut Raw, next: Option<u32>) -> Option<u32>
+        requires id { raw.old.table_id ≡ board_id self.now }
+        requires owes { OwesNext (plan_of self.now) raw.old.me next }
+        ensures id { raw.new.table_id ≡ raw.old.table_id }
+        ensures none { next ≡ None → (result ≡ None) × (raw.new.me ≡ raw.old.me) }
+        ensures released { IfSome next (λ j. IsReleased (plan_of self.now) raw.old.me j result raw.new.me) }
+    {
+        let j = next?;
+        let found = self
+            .table
+            .shared
+            .fetch_sub::<Release>(raw, j as usize + 1, 1);
+        if found == 1 { Some(j) } else { None }
+    }
+
+    /// How many exchanges are put back, and whether a stop was called. Costs a load.
+    pub fn look(&self, seat: &mut Seat) -> Progress
+        requires seat { IsSeatOf seat.old self.now }
+        ensures seat { IsSeatOf seat.new self.now }
+        ensures progress { Looks (plan_of self.now) (seat_view seat.old) result (seat_view seat.new) }
+    {
+        let word = self.table.shared.load::<Look>(&mut seat.raw, 0);
+        Progress {
+            finished: (word / 2) as u32,
+            stopped: word % 2 == 1,
+        }
+    }
+
+    /// Calls for a stop, which all later looks answer. Costs one atomic step.
+    pub fn stop(&self, seat: &mut Seat)
+        requires seat { IsSeatOf seat.old self.now }
+        ensures seat { IsSeatOf seat.new self.now }
+        ensures stopped { HasStopped (seat_view seat.old) (seat_view seat.new) }
+    {
+        self.table.shared.fetch_or::<Halt>(&mut seat.raw, 0, STOP);
+    }
+
+    /// A second seat, for another thread. Costs a load.
+    pub fn split(&self, seat: &mut Seat) -> Seat
+        requires seat { IsSeatOf seat.old self.now }
+        requires parts { 2 ≤ (seat_view seat.old).parts }
+        ensures seats { IsSeatOf seat.new self.now × IsSeatOf result self.now }
+        ensures left { seat_view seat.new ≡ split_left (seat_view seat.old) }
+        ensures right { seat_view result ≡ split_right (seat_view seat.old) }
+    {
+        Seat {
+            raw: self.table.shared.split_seat::<Part>(&mut seat.raw),
+        }
+    }
+
+    /// Takes in another seat. Costs two loads.
+    pub fn join(&self, seat: &mut Seat, other: Seat)
+        requires seats { IsSeatOf seat.old self.now × IsSeatOf other self.now }
+        ensures seat { IsSeatOf seat.new self.now }
+        ensures joined { seat_view seat.new ≡ joined (seat_view seat.old) (seat_view other) }
+        ensures apart { IsApart (exchanges_of self.now) (seat_view seat.new) }
+    {
+        self.table
+            .shared
+            .join_seat::<Both>(&mut seat.raw, other.raw);
+        self.table.shared.load::<Show>(&mut seat.raw, 0);
+    }
+
+    /// The tables of all nodes, in order, where all exchanges are put back. Else they are given up. Takes
+    /// no memory. Costs a step for each node.
+    pub fn close(self, seat: Seat) -> Result<Vec<NodeTable>, Fault>
+        requires seat { IsSeatOf seat self }
+        ensures tables { IfOk result (λ tables. AreLeft (plan_of self) tables.items) }
+        ensures unfinished { IfErr result (IsUnfinished (plan_of self) (seat_view seat)) }
+        ensures whole { IfOk result (λ _. IsWhole (seat_view seat) → HasMadeAll (plan_of self) (seat_view seat)) }
+    {
+        let Board { table, deps, room } = self;
+        let closed = table.close_with(seat.raw);
+        let finished = closed.word(0) / 2;
+        let tables = all_out(closed, room);
+        if finished < u64::from(deps.len()) {
+            return Err(Fault::Unfinished);
+        }
+        Ok(tables)
+    }
+}
+
+// The count word, and the word of each exchange.
+fn first_words(alloc: Global, deps: &Deps) -> Result<Vec<u64>, Fault>
+    ensures kept { IsRoundPlan deps.now }
+    ensures words { IfOk result (λ ws. ws.items ≡ first_words_of deps.now.exchanges) }
+    ensures only { IsOkUnless result OutOfMemory }
+{
+    let mut words = Vec::with_capacity(alloc, deps.len() as usize + 1)?;
+    words.push(0)?;
+    for i in 0..deps.len() {
+        words.push(u64::from(deps.pending(i)))?;
+    }
+    Ok(words)
+}
+
+// Each table in a slot of its own, and the emptied vector.
+fn into_slots(
+    alloc: Global,
+    mut tables: Vec<NodeTable>,
+) -> Result<(Vec<Option<NodeTable>>, Vec<NodeTable>), Fault>
+    ensures slots { IfOk result (λ p. p.0.items ≡ map in_place tables.items) }
+    ensures room { IfOk result (λ p. (p.1.items ≡ []) × (length tables.items ≤ vec_capacity p.1)) }
+    ensures only { IsOkUnless result OutOfMemory }
+{
+    let mut slots = Vec::with_capacity(alloc, tables.len())?;
+    for _ in 0..tables.len() {
+        if let Some(table) = tables.pop() {
+            slots.push(Some(table))?;
+        }
+    }
+    slots.reverse();
+    Ok((slots, tables))
+}
+
+// The tables of all slots, in a vector that has room for them.
+fn all_out(
+    mut closed: Closed<Option<NodeTable>, Global>,
+    mut room: Vec<NodeTable>,
+) -> Vec<NodeTable>
+    requires full { IsFull closed.slots }
+    requires room { (room.items ≡ []) × (slots_len closed.slots ≤ vec_capacity room) }
+    ensures { (kept : List NodeTableView) → slots_items closed.slots ≡ map in_place kept → result.items ≡ kept }
+{
+    for i in 0..closed.slot_count() {
+        if let Some(table) = closed.take(i) {
+            room.push_reserved(table);
+        }
+    }
+    closed.free();
+    room
+}

@@ -1,0 +1,14 @@
+//! What holds of every board at each moment, and of every hold. The calls do nothing.
+
+ghost use Rattle.board.specs.Laws.{EachKeepsASchedule, EachMayBePutBack};
+
+/// At each moment what seats have put back and what they hold are the finished and the running exchanges
+/// of some lawful schedule, and the table of a node of which none runs is the one of its state.
+pub fn every_board_keeps_a_schedule()
+    ensures { EachKeepsASchedule }
+{}
+
+/// What an exchange leaves of a hold's tables may be put back.
+pub fn every_exchange_may_be_put_back()
+    ensures { EachMayBePutBack }
+{}

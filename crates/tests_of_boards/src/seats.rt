@@ -1,0 +1,90 @@
+//! Seats that claim, look and stop.
+
+ghost use Rattle.std.specs.Prelude.{ℕ, ◌≡◌, ◌<◌, length};
+ghost use Rattle.board.specs.Weights.{Has};
+ghost use Rattle.board.specs.Boards.{exchanges_of, IsSeatOf, seat_view};
+
+use crate::small_boards::{board_of, list_of};
+use bench_types::Fault;
+use board::{Board, Claim, Hold, Progress, Seat};
+use std::alloc::AllocGlobal;
+use std::process::Abort;
+
+/// Two pairs of nodes that meet twice.
+const TWICE: &[(u32, u32)] = &[(0, 2), (1, 3), (2, 0), (3, 1)];
+
+// The answer in a word.
+fn answer_to(claim: &Claim) -> &'static str {
+    match claim {
+        Claim::Held(_) => "held",
+        Claim::Taken => "taken",
+        Claim::NotReady => "not ready",
+    }
+}
+
+pub(crate) fn expect_claim(rt: &impl Abort, board: &Board, seat: &mut Seat, i: u32, answer: &str)
+    requires within { i < length (exchanges_of board.now) }
+    requires seat { IsSeatOf seat.old board.now }
+    ensures seat { IsSeatOf seat.new board.now }
+    ensures parts { (seat_view seat.new).parts ≡ (seat_view seat.old).parts }
+    ensures held { (k : ℕ) → Has (seat_view seat.old).held k → Has (seat_view seat.new).held k }
+{
+    let claim = board.claim(seat, i);
+    assert_eq!(rt; answer_to(&claim), answer);
+}
+
+fn expect_unfinished(rt: &impl Abort, board: Board, seat: Seat)
+    requires seat { IsSeatOf seat board }
+{
+    match board.close(seat) {
+        Ok(_) => panic!(rt; "closed"),
+        Err(fault) => assert_eq!(rt; fault, Fault::Unfinished),
+    }
+}
+
+fn claims(rt: &(impl Abort + AllocGlobal)) -> Result<(), Fault> {
+    let (board, mut first) = board_of(rt, &list_of(rt, 4, TWICE))?;
+    let mut second = board.split(&mut first);
+    expect_claim(rt, &board, &mut first, 0, "held");
+    expect_claim(rt, &board, &mut second, 1, "held");
+    expect_claim(rt, &board, &mut second, 0, "taken");
+    expect_claim(rt, &board, &mut second, 2, "not ready");
+    expect_claim(rt, &board, &mut second, 3, "not ready");
+    board.join(&mut first, second);
+    expect_unfinished(rt, board, first);
+    Ok(())
+}
+
+fn closes_a_fresh_board(rt: &(impl Abort + AllocGlobal)) -> Result<(), Fault> {
+    let (board, seat) = board_of(rt, &list_of(rt, 4, TWICE))?;
+    expect_unfinished(rt, board, seat);
+    Ok(())
+}
+
+fn stops(rt: &(impl Abort + AllocGlobal)) -> Result<(), Fault> {
+    let (board, mut first) = board_of(rt, &list_of(rt, 4, TWICE))?;
+    let mut second = board.split(&mut first);
+    board.stop(&mut first);
+    let progress = Progress {
+        finished: 0,
+        stopped: true,
+    };
+    assert_eq!(rt; board.look(&mut second), progress);
+    expect_claim(rt, &board, &mut second, 0, "held");
+    Ok(())
+}
+
+#[test]
+fn claims_of_two_seats(rt: HostRuntime) {
+    claims(&rt).expect(&rt, "memory");
+}
+
+#[test]
+fn a_fresh_board_is_unfinished(rt: HostRuntime) {
+    closes_a_fresh_board(&rt).expect(&rt, "memory");
+}
+
+#[test]
+fn a_stop_is_seen(rt: HostRuntime) {
+    stops(&rt).expect(&rt, "memory");
+}

@@ -1,0 +1,75 @@
+//! What the program does for its words.
+
+ghost use Rattle.std.specs.Prelude.{OnOk, IfErr};
+ghost use Rattle.command_line.specs.Jobs.{IsChecked, IsCheckFault, IsReportedWith, IsRunFaultWith, IsPerformed, IsJobFault};
+
+use bench::{check_input, compare, run};
+use bench_types::{Discard, Fault, Push, Sink, Source};
+use report::write_text;
+use std::alloc::Global;
+use std::fs;
+use std::rt::Files;
+use std::thread::Threads;
+
+/// What the words of a command line ask for.
+#[derive(Clone, Copy, Debug, PartialEq, Eq)]
+pub enum Job<'a> {
+    /// To check a scenario.
+    Check,
+    /// To run it and write its report, and its trace to a file where one is named.
+    Run { trace: Option<&'a str> },
+    /// To compare the modes.
+    Compare,
+}
+
+/// Reads a scenario and does the job: `out` gets what is asked for. The file of a trace is made anew
+/// before anything is read; where it can't be made, the fault is `WriteFailed`.
+pub fn perform<H: Threads + Sync + Files, R: Source, W: Sink>(
+    rt: &H,
+    alloc: Global,
+    job: Job,
+    reader: &mut R,
+    out: &mut W,
+) -> Result<(), Fault>
+    ensures performed { OnOk result (IsPerformed R.Source reader.old reader.new W.Sink out.old out.new
+        ⟦<Discard as Sink>⟧ ⟦<Push<H::File> as Sink>⟧ job.entry) }
+    ensures fault { IfErr result (IsJobFault R.Source reader.old reader.new W.Sink out.old out.new
+        ⟦<Discard as Sink>⟧ ⟦<Push<H::File> as Sink>⟧ job.entry) }
+{
+    match job {
+        Job::Check => check(alloc, reader, out),
+        Job::Run { trace } => run_with(rt, alloc, trace, reader, out),
+        Job::Compare => compare(rt, alloc, reader, out),
+    }
+}
+
+// Runs a scenario, with its trace to a file of this name where there is one.
+fn run_with<H: Threads + Sync + Files, R: Source, W: Sink>(
+    rt: &H,
+    alloc: Global,
+    trace: Option<&str>,
+    reader: &mut R,
+    out: &mut W,
+) -> Result<(), Fault>
+    ensures reported { OnOk result (IsReportedWith R.Source reader.old reader.new W.Sink out.old out.new
+        ⟦<Discard as Sink>⟧ ⟦<Push<H::File> as Sink>⟧ trace.entry) }
+    ensures fault { IfErr result (IsRunFaultWith R.Source reader.old reader.new W.Sink out.old out.new
+        ⟦<Discard as Sink>⟧ ⟦<Push<H::File> as Sink>⟧ trace.entry) }
+{
+    match trace {
+        None => run(rt, alloc, reader, out, &mut Discard),
+        Some(path) => match fs::create(rt, path) {
+            Ok(file) => run(rt, alloc, reader, out, &mut Push::new(file)),
+            Err(_) => Err(Fault::WriteFailed),
+        },
+    }
+}
+
+// Reads a scenario whole and says that it is one.
+fn check<R: Source, W: Sink>(alloc: Global, reader: &mut R, out: &mut W) -> Result<(), Fault>
+    ensures checked { OnOk result (IsChecked R.Source reader.old reader.new W.Sink out.old out.new) }
+    ensures fault { IfErr result (IsCheckFault R.Source reader.old reader.new W.Sink out.old out.new) }
+{
+    check_input(alloc, reader)?;
+    write_text(out, b"ok\n")
+}

@@ -1,0 +1,9 @@
+//! The command line of the program: which words ask for what, and what comes of it.
+#![tactic(auto)]
+
+mod jobs;
+mod programs;
+mod words;
+
+pub use jobs::{Job, perform};
+pub use programs::main_with;

@@ -1,0 +1,105 @@
+//! The program, from its words to its status.
+
+ghost use Rattle.std.specs.Prelude.{◌≡◌, ◌≤◌, OnOk, IfErr};
+ghost use Rattle.bench_types.specs.declared.faults.Fault.{Fault};
+ghost use Rattle.command_line.specs.Statuses.{status_of, HelpIsWritten, HelpIsFaulty};
+ghost use Rattle.command_line.specs.Jobs.{IsDone, IsStoppedByFault};
+
+use crate::jobs::perform;
+use crate::words::job_of;
+use bench_types::{Discard, Fault, Push, Sink, Source};
+use clap::Error;
+use clap::error::ErrorKind;
+use report::write_text;
+use std::alloc::Global;
+use std::convert::AsStr;
+use std::rt::Files;
+use std::thread::Threads;
+
+// What the program ends with.
+const DONE: u8 = 0;
+
+const FAULT: u8 = 1;
+
+const REFUSED: u8 = 2;
+
+/// Does what the words ask for, which are those behind the program's name. The status is 0 where it
+/// was done, 1 after a fault, whose line goes to `err`, and 2 where the words are refused, whose
+/// text goes to `err`; help goes to `out`. That `err` fails changes no status.
+pub fn main_with<H: Threads + Sync + Files, S: AsStr, R: Source, W: Sink, E: Sink>(
+    rt: &H,
+    alloc: Global,
+    words: &[S],
+    reader: &mut R,
+    out: &mut W,
+    err: &mut E,
+) -> u8
+    ensures status { result ≤ 2 }
+    ensures done { result ≡ 0 → IsDone R.Source reader.old reader.new W.Sink out.old out.new
+        ⟦<Discard as Sink>⟧ ⟦<Push<H::File> as Sink>⟧ }
+    ensures fault { result ≡ 1 → IsStoppedByFault R.Source reader.old reader.new W.Sink out.old out.new
+        ⟦<Discard as Sink>⟧ ⟦<Push<H::File> as Sink>⟧ }
+    ensures refused { result ≡ 2 → (reader.new ≡ reader.old) × (out.new ≡ out.old) }
+{
+    match job_of(alloc, words) {
+        Ok(job) => {
+            let done = perform(rt, alloc, job, reader, out);
+            status_of(alloc, done, err)
+        }
+        Err(error) => answer_words(alloc, &error, out, err),
+    }
+}
+
+// The status after a job, or after help. The line of a fault goes to `err`.
+fn status_of<E: Sink>(alloc: Global, done: Result<(), Fault>, err: &mut E) -> u8
+    ensures { result ≡ status_of done }
+{
+    match done {
+        Ok(()) => DONE,
+        Err(fault) => {
+            explain(alloc, fault, err);
+            FAULT
+        }
+    }
+}
+
+// The status where the words ask for help or are refused, or memory ran out.
+fn answer_words<W: Sink, E: Sink>(alloc: Global, error: &Error, out: &mut W, err: &mut E) -> u8
+    ensures status { result ≤ 2 }
+    ensures done { result ≡ 0 → HelpIsWritten W.Sink out.old out.new }
+    ensures fault { result ≡ 1 → (fault : Fault) × HelpIsFaulty W.Sink out.old out.new fault }
+    ensures refused { result ≡ 2 → out.new ≡ out.old }
+{
+    if error.kind() == ErrorKind::OutOfMemory {
+        status_of(alloc, Err(Fault::OutOfMemory), err)
+    } else if error.use_stderr() {
+        refuse(alloc, error, err);
+        REFUSED
+    } else {
+        let done = print(alloc, error, out);
+        status_of(alloc, done, err)
+    }
+}
+
+// Prints help.
+fn print<W: Sink>(alloc: Global, help: &Error, out: &mut W) -> Result<(), Fault>
+    ensures written { OnOk result (HelpIsWritten W.Sink out.old out.new) }
+    ensures fault { IfErr result (HelpIsFaulty W.Sink out.old out.new) }
+{
+    let text = format!(in alloc; "{help}")?;
+    write_text(out, text.as_bytes())
+}
+
+// Says why the words are refused, if that can be said.
+fn refuse<E: Sink>(alloc: Global, error: &Error, err: &mut E) {
+    if let Ok(text) = format!(in alloc; "{error}") {
+        let _ = write_text(err, text.as_bytes());
+    }
+}
+
+// Says what the fault is, if that can be said.
+fn explain<E: Sink>(alloc: Global, fault: Fault, err: &mut E) {
+    if let Ok(line) = format!(in alloc; "{fault}\n") {
+        let _ = write_text(err, line.as_bytes());
+    }
+}

@@ -1,0 +1,212 @@
+//! What the program prints and ends with, by its words.
+
+use crate::texts::{FOUR_MODES, FOUR_MODES_COMPARED, TWO_NODES, TWO_NODES_REPORT};
+use bench_types::{Pull, Push};
+use command_line::main_with;
+use std::io::{self, ErrorKind, Write};
+use std::process::Abort;
+use std::test::Fail;
+
+// What a program was given, and what it has to print and end with.
+#[derive(Clone, Copy)]
+struct Case<'a> {
+    words: &'a [&'a str],
+    text: &'a str,
+    status: u8,
+    out: &'a str,
+    err: &'a str,
+}
+
+const CASES: [Case; 6] = [
+    Case {
+        words: &["check"],
+        text: TWO_NODES,
+        status: 0,
+        out: "ok\n",
+        err: "",
+    },
+    Case {
+        words: &["check"],
+        text: "",
+        status: 1,
+        out: "",
+        err: "fault 4: missing field format\n",
+    },
+    Case {
+        words: &["run"],
+        text: TWO_NODES,
+        status: 0,
+        out: TWO_NODES_REPORT,
+        err: "",
+    },
+    Case {
+        words: &["run"],
+        text: "[[parti",
+        status: 1,
+        out: "",
+        err: "fault 2: input is not TOML\n",
+    },
+    Case {
+        words: &["compare"],
+        text: FOUR_MODES,
+        status: 0,
+        out: FOUR_MODES_COMPARED,
+        err: "",
+    },
+    Case {
+        words: &["compare"],
+        text: "format = 2",
+        status: 1,
+        out: "",
+        err: "fault 6: field format is out of range\n",
+    },
+];
+
+#[test]
+fn command_line_statuses(rt: HostRuntime) -> Result<(), Fail> {
+    for case in CASES {
+        let mut reader = Pull::new(case.text.as_bytes());
+        let mut out = Push::new(Vec::new(rt.alloc()));
+        let mut err = Push::new(Vec::new(rt.alloc()));
+        let status = main_with(&rt, rt.alloc(), case.words, &mut reader, &mut out, &mut err);
+        assert!(rt; status == case.status, "{:?}", case.words);
+        assert!(rt;
+            out.into_inner().as_slice() == case.out.as_bytes(),
+            "{:?}",
+            case.words
+        );
+        assert!(rt;
+            err.into_inner().as_slice() == case.err.as_bytes(),
+            "{:?}",
+            case.words
+        );
+    }
+    Ok(())
+}
+
+// Words that are refused, and how the text on standard error begins.
+const REFUSED: [(&[&str], &str); 9] = [
+    (
+        &[],
+        "error: 'gossip_bench' requires a subcommand but one was not provided",
+    ),
+    (&["walk"], "error: unrecognized subcommand 'walk'"),
+    (&["help"], "error: unrecognized subcommand 'help'"),
+    (
+        &["check", "more"],
+        "error: unexpected argument 'more' found",
+    ),
+    (
+        &["check", "--trace", "file"],
+        "error: unexpected argument '--trace' found",
+    ),
+    (
+        &["compare", "--trace", "file"],
+        "error: unexpected argument '--trace' found",
+    ),
+    (
+        &["run", "--trace"],
+        "error: a value is required for '--trace <FILE>' but none was supplied",
+    ),
+    (
+        &["run", "--trace", "a", "--trace", "b"],
+        "error: the argument '--trace <FILE>' cannot be used multiple times",
+    ),
+    (
+        &["--version"],
+        "error: unexpected argument '--version' found",
+    ),
+];
+
+#[test]
+fn command_lines_of_the_program(rt: HostRuntime) -> Result<(), Fail> {
+    for (words, begin) in REFUSED {
+        let mut reader = Pull::new(TWO_NODES.as_bytes());
+        let mut out = Push::new(Vec::new(rt.alloc()));
+        let mut err = Push::new(Vec::new(rt.alloc()));
+        let status = main_with(&rt, rt.alloc(), words, &mut reader, &mut out, &mut err);
+        assert!(rt; status == 2, "{words:?}");
+        assert!(rt; out.into_inner().is_empty() && reader.into_inner().len() == TWO_NODES.len());
+        assert!(rt;
+            err.into_inner().as_slice().starts_with(begin.as_bytes()),
+            "{words:?}"
+        );
+    }
+    Ok(())
+}
+
+// Words that ask for help, and what stands in it.
+const HELP: [(&[&str], &str); 3] = [
+    (&["--help"], "Usage: gossip_bench <COMMAND>"),
+    (
+        &["-h"],
+        "compare  Run the scenario under each mode and print all rows",
+    ),
+    (&["run", "--help"], "--trace <FILE>"),
+];
+
+#[test]
+fn help_is_printed(rt: HostRuntime) -> Result<(), Fail> {
+    for (words, part) in HELP {
+        let mut reader = Pull::new(TWO_NODES.as_bytes());
+        let mut out = Push::new(Vec::new(rt.alloc()));
+        let mut err = Push::new(Vec::new(rt.alloc()));
+        let status = main_with(&rt, rt.alloc(), words, &mut reader, &mut out, &mut err);
+        let help = String::from_utf8(out.into_inner()).ok().ok_or("a text")?;
+        assert!(rt; status == 0 && err.into_inner().is_empty(), "{words:?}");
+        assert!(rt; help.contains(part), "{words:?}");
+    }
+    Ok(())
+}
+
+// A writer that takes nothing.
+#[derive(Drop)]
+struct Closed;
+
+impl Write for Closed {
+    fn write(&mut self, _bytes: &[u8]) -> io::Result<usize> {
+        Err(io::Error::from(ErrorKind::BrokenPipe))
+    }
+
+    fn flush(&mut self) -> io::Result<()> {
+        Ok(())
+    }
+}
+
+// The words that print, and the status where nothing takes what is printed.
+const PRINTING: [&[&str]; 4] = [&["check"], &["run"], &["compare"], &["--help"]];
+
+#[test]
+fn a_closed_output_is_fault_13(rt: HostRuntime) -> Result<(), Fail> {
+    for words in PRINTING {
+        let mut reader = Pull::new(TWO_NODES.as_bytes());
+        let mut err = Push::new(Vec::new(rt.alloc()));
+        let mut out = Push::new(Closed);
+        let status = main_with(&rt, rt.alloc(), words, &mut reader, &mut out, &mut err);
+        assert!(rt; status == 1, "{words:?}");
+        assert!(rt;
+            err.into_inner().as_slice() == b"fault 13: writing failed\n".as_slice(),
+            "{words:?}"
+        );
+    }
+    Ok(())
+}
+
+// Words, and the status that they have although nobody takes what is said of it.
+const UNHEARD: [(&[&str], u8); 3] = [
+    (&["run"], 0),
+    (&["walk"], 2),
+    (&["run", "--trace", "no/such/folder"], 1),
+];
+
+#[test]
+fn a_closed_error_stream_changes_no_status(rt: HostRuntime) -> Result<(), Fail> {
+    for (words, wanted) in UNHEARD {
+        let mut reader = Pull::new(TWO_NODES.as_bytes());
+        let mut out = Push::new(Vec::new(rt.alloc()));
+        let mut err = Push::new(Closed);
+        let status = main_with(&rt, rt.alloc(), words, &mut reader, &mut out, &mut err);
+        assert!(rt; status == wanted, "{words:?}");
+    }
+    Ok(())
+}

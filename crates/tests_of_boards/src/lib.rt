@@ -2,6 +2,8 @@
 #![tactic(auto)]
 
 #[cfg(test)]
+mod long_lists;
+#[cfg(test)]
 mod seats;
 #[cfg(test)]
 mod small_boards;

@@ -4,7 +4,7 @@ ghost use Rattle.std.specs.Prelude.{ℕ, ◌≡◌, ◌<◌, length};
 ghost use Rattle.board.specs.Weights.{Has};
 ghost use Rattle.board.specs.Boards.{exchanges_of, IsSeatOf, seat_view};
 
-use crate::small_boards::{board_of, list_of};
+use crate::small_boards::{ONE_ENTRY, board_of, list_of};
 use bench_types::Fault;
 use board::{Board, Claim, Hold, Progress, Seat};
 use std::alloc::AllocGlobal;
@@ -43,7 +43,7 @@ fn expect_unfinished(rt: &impl Abort, board: Board, seat: Seat)
 }
 
 fn claims(rt: &(impl Abort + AllocGlobal)) -> Result<(), Fault> {
-    let (board, mut first) = board_of(rt, &list_of(rt, 4, TWICE))?;
+    let (board, mut first) = board_of(rt, &list_of(rt, 4, TWICE), 1, &ONE_ENTRY)?;
     let mut second = board.split(&mut first);
     expect_claim(rt, &board, &mut first, 0, "held");
     expect_claim(rt, &board, &mut second, 1, "held");
@@ -56,13 +56,13 @@ fn claims(rt: &(impl Abort + AllocGlobal)) -> Result<(), Fault> {
 }
 
 fn closes_a_fresh_board(rt: &(impl Abort + AllocGlobal)) -> Result<(), Fault> {
-    let (board, seat) = board_of(rt, &list_of(rt, 4, TWICE))?;
+    let (board, seat) = board_of(rt, &list_of(rt, 4, TWICE), 1, &ONE_ENTRY)?;
     expect_unfinished(rt, board, seat);
     Ok(())
 }
 
 fn stops(rt: &(impl Abort + AllocGlobal)) -> Result<(), Fault> {
-    let (board, mut first) = board_of(rt, &list_of(rt, 4, TWICE))?;
+    let (board, mut first) = board_of(rt, &list_of(rt, 4, TWICE), 1, &ONE_ENTRY)?;
     let mut second = board.split(&mut first);
     board.stop(&mut first);
     let progress = Progress {

@@ -1,12 +1,13 @@
-//! Boards of a few nodes, each of which has written its one key once.
+//! Boards of nodes that have written each of their keys once.
 
 ghost use Rattle.std.specs.Prelude.{◌≡◌, ◌∷◌, [], ◌≤◌, ◌<◌, length, map, IfOk};
 ghost use Rattle.bench_types.specs.declared.exchanges.Exchange.{Exchange};
-ghost use Rattle.bench_types.specs.declared.exchanges.Mode.TheVariants.{ScuttleBreadth};
-ghost use Rattle.cluster.specs.Tables.{tables_in, IsCluster};
+ghost use Rattle.bench_types.specs.declared.limits.TheConstants.{MOST_NODES, MOST_KEYS};
+ghost use Rattle.cluster.specs.Tables.{tables_in, IsCluster, IsTableOf};
 ghost use Rattle.board.specs.Boards.{plan_of, IsSeatOf, seat_view};
 ghost use Rattle.board.specs.SeatView.{first_seat};
 
+use bench_types::limits::{MOST_KEYS, MOST_NODES};
 use bench_types::{Exchange, Fault, Mode, Rules};
 use board::{Board, Seat};
 use node_table::NodeTable;
@@ -50,32 +51,57 @@ pub(crate) fn list_of(
     list
 }
 
-// The tables of so many nodes, each of which has written its one key once.
-fn tables_of(rt: &impl Abort, alloc: Global, nodes: u32) -> Result<Vec<NodeTable>, Fault>
-    requires few { (1 ≤ nodes) × (nodes ≤ 8) }
+// A node's table, of which it has written each key once.
+fn table_of(
+    rt: &impl Abort,
+    alloc: Global,
+    node: u32,
+    nodes: u32,
+    keys: u32,
+) -> Result<NodeTable, Fault>
+    requires node { node < nodes }
+    requires nodes { nodes ≤ MOST_NODES }
+    requires keys { (1 ≤ keys) × (keys ≤ MOST_KEYS) }
+    ensures { IfOk result (λ t. IsTableOf nodes keys node t.table) }
+{
+    let mut table = NodeTable::new(alloc, node, nodes, keys)?;
+    for key in 0..keys {
+        assert!(rt; table.greatest(node) < MOST_KEYS);
+        table.write_own(key, 7, 1)?;
+    }
+    Ok(table)
+}
+
+/// The tables of so many nodes, each of which has written its keys once.
+pub(crate) fn tables_of(
+    rt: &impl Abort,
+    alloc: Global,
+    nodes: u32,
+    keys: u32,
+) -> Result<Vec<NodeTable>, Fault>
+    requires nodes { (1 ≤ nodes) × (nodes ≤ MOST_NODES) }
+    requires keys { (1 ≤ keys) × (keys ≤ MOST_KEYS) }
     ensures { IfOk result (λ tables. IsCluster nodes (tables_in tables.items)) }
 {
     let mut tables = Vec::new(alloc);
     for node in 0..nodes {
-        let mut table = NodeTable::new(alloc, node, nodes, 1)?;
-        assert_eq!(rt; table.greatest(node), 0);
-        table.write_own(0, 7, 1)?;
-        assert_eq!(rt; table.node(), node);
-        tables.push(table)?;
+        tables.push(table_of(rt, alloc, node, nodes, keys)?)?;
     }
     Ok(tables)
 }
 
-/// A board of a round's exchanges, and its first seat.
+/// A board of a round's exchanges, and its first seat. Each node has written its keys once.
 pub(crate) fn board_of(
     rt: &(impl Abort + AllocGlobal),
     list: &RoundList,
+    keys: u32,
+    rules: &Rules,
 ) -> Result<(Board, Seat), Fault>
-    requires few { (1 ≤ list.now.nodes) × (list.now.nodes ≤ 8) }
+    requires keys { (1 ≤ keys) × (keys ≤ MOST_KEYS) }
     ensures list { IfOk result (λ made. (plan_of made.0).list ≡ list.now) }
-    ensures rules { IfOk result (λ made. (plan_of made.0).rules ≡ record { mode = ScuttleBreadth; budget = 1 }) }
+    ensures rules { IfOk result (λ made. (plan_of made.0).rules ≡ rules.now) }
     ensures seat { IfOk result (λ made. IsSeatOf made.1 made.0 × (seat_view made.1 ≡ first_seat)) }
 {
-    let tables = tables_of(rt, rt.alloc(), list.nodes())?;
-    Board::new(rt.alloc(), Deps::new(rt.alloc(), list)?, ONE_ENTRY, tables)
+    let tables = tables_of(rt, rt.alloc(), list.nodes(), keys)?;
+    Board::new(rt.alloc(), Deps::new(rt.alloc(), list)?, *rules, tables)
 }

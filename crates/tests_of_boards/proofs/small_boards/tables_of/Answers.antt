@@ -8,35 +8,28 @@ use Rattle.cluster.specs.Tables.{tables_in, table_of_node, IsTableOf}
 use Rattle.tests_of_boards.proofs.small_boards.tables_of.Goals as goal
 
 -- one more table in order
-one_more : (nodes : ℕ) (ks : List NodeTableView) (k : NodeTableView) (i : ℕ) → length ks ≡ i → ((n : ℕ) → n < i → IsTableOf nodes 1 n (table_of_node (tables_in ks) n)) → IsTableOf nodes 1 i k.table
-    → (n : ℕ) → n < i + 1 → IsTableOf nodes 1 n (table_of_node (tables_in (ks ++ k ∷ [])) n)
-one_more nodes ks k i size so_far next n lt = subst (λ ts. IsTableOf nodes 1 n (table_of_node ts n)) (sym (map-append (λ (x : NodeTableView). x.table) ks (k ∷ []))) (elim (cases_lt n i) [
-  | inl before ↦ subst (IsTableOf nodes 1 n) (sym (get_or_append_left (tables_in ks) (k.table ∷ []) (empty_table 0 0 0) n (omega (arith, before, length-map ks (λ (x : NodeTableView). x.table), size)))) (so_far n before)
+one_more : (nodes keys : ℕ) (ks : List NodeTableView) (k : NodeTableView) (i : ℕ) → length ks ≡ i → ((n : ℕ) → n < i → IsTableOf nodes keys n (table_of_node (tables_in ks) n)) → IsTableOf nodes keys i k.table
+    → (n : ℕ) → n < i + 1 → IsTableOf nodes keys n (table_of_node (tables_in (ks ++ k ∷ [])) n)
+one_more nodes keys ks k i size so_far next n lt = subst (λ ts. IsTableOf nodes keys n (table_of_node ts n)) (sym (map-append (λ (x : NodeTableView). x.table) ks (k ∷ []))) (elim (cases_lt n i) [
+  | inl before ↦ subst (IsTableOf nodes keys n) (sym (get_or_append_left (tables_in ks) (k.table ∷ []) (empty_table 0 0 0) n (omega (arith, before, length-map ks (λ (x : NodeTableView). x.table), size)))) (so_far n before)
   | inr from ↦
       let here : length (tables_in ks) ≡ n = omega (arith, lt, from, length-map ks (λ (x : NodeTableView). x.table), size) in
       let is : i ≡ n = omega (arith, here, length-map ks (λ (x : NodeTableView). x.table), size) in
-      subst (λ m. IsTableOf nodes 1 m (table_of_node (tables_in ks ++ k.table ∷ []) m)) here
-      (subst (IsTableOf nodes 1 (length (tables_in ks))) (sym (get_or-append_seam (tables_in ks) k.table [] (empty_table 0 0 0))) (subst (λ m. IsTableOf nodes 1 m k.table) (is ∙ sym here) next))
+      subst (λ m. IsTableOf nodes keys m (table_of_node (tables_in ks ++ k.table ∷ []) m)) here
+      (subst (IsTableOf nodes keys (length (tables_in ks))) (sym (get_or-append_seam (tables_in ks) k.table [] (empty_table 0 0 0))) (subst (λ m. IsTableOf nodes keys m k.table) (is ∙ sym here) next))
 ])
 
 pub loop-node-preserved : goal.loop-node-preserved
 loop-node-preserved g c =
-    let written = c.in_ok-write_own.ensures.ok in
-    let opened = c.in_ok-table.ensures.empty in
-    let items = c.in_ok-push.ensures.items in
-    let next : IsTableOf c.args.nodes 1 c.loop-node.node-counter c.write_own.new.self.table = record {
-      node = ap (λ (t : Table). t.node) written ∙ ap (λ (t : Table). t.node) opened;
-      nodes = ap (λ (t : Table). t.nodes) written ∙ ap (λ (t : Table). t.nodes) opened;
-      keys = ap (λ (t : Table). t.keys) written ∙ ap (λ (t : Table). t.keys) opened;
-    } in (
-      ap length items ∙ length_push c.loop-node.tables.items c.write_own.new.self ∙ ap (λ n. n + 1) c.loop-node.invariant.0,
-      λ n lt. subst (λ ks. IsTableOf c.args.nodes 1 n (table_of_node (tables_in ks) n)) (sym items) (one_more c.args.nodes c.loop-node.tables.items c.write_own.new.self c.loop-node.node-counter c.loop-node.invariant.0 c.loop-node.invariant.1 next n lt),
+    let items = c.in_ok-push.ensures.items in (
+      ap length items ∙ length_push c.loop-node.tables.items c.in_ok-table_of.field-0 ∙ ap (λ n. n + 1) c.loop-node.invariant.0,
+      λ n lt. subst (λ ks. IsTableOf c.args.nodes c.args.keys n (table_of_node (tables_in ks) n)) (sym items) (one_more c.args.nodes c.args.keys c.loop-node.tables.items c.in_ok-table_of.field-0 c.loop-node.node c.loop-node.invariant.0 c.loop-node.invariant.1 c.in_ok-table_of.ensures n lt),
     )
 
 pub returns : goal.returns
 returns g c =
-    let last : c.loop-node.node-counter ≡ c.args.nodes = omega (arith, c.loop-node-test.false, c.loop-node.auto.node-counter-end) in
+    let last : c.loop-node.node ≡ c.args.nodes = omega (arith, c.loop-node-test.false, c.loop-node.auto.node-end) in
     let table = λ (n : ℕ) (lt : n < c.args.nodes). c.loop-node.invariant.1 n (omega (arith, lt, last)) in record {
       size = length-map c.loop-node.tables.items (λ (x : NodeTableView). x.table) ∙ c.loop-node.invariant.0 ∙ last;
-      tables = λ n lt. subst (λ keys. IsTableOf c.args.nodes keys n (table_of_node (tables_in c.loop-node.tables.items) n)) (sym (table 0 (omega (arith, c.requires.few.0))).keys) (table n lt);
+      tables = λ n lt. subst (λ keys. IsTableOf c.args.nodes keys n (table_of_node (tables_in c.loop-node.tables.items) n)) (sym (table 0 (omega (arith, c.requires.nodes.0))).keys) (table n lt);
     }

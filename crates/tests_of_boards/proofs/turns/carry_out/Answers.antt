@@ -2,7 +2,6 @@ use Rattle.std.proofs.Common.{rules, ◌≡◌, ◌∙◌, sym, ap, subst, refl,
 use Rattle.std.proofs.lemmas.Option.{get_or_from_slice_get}
 use Rattle.bench_types.specs.declared.exchanges.Exchange.{Exchange}
 use Rattle.bench_types.specs.declared.exchanges.Rules.{Rules}
-use Rattle.bench_types.specs.declared.exchanges.Mode.TheVariants.{ScuttleBreadth}
 use Rattle.round_plan.specs.Plan.{RoundListView}
 use Rattle.exchange.specs.Exchanged.{IsExchanged}
 use Rattle.planner.specs.Sharing.{exchange_at, no_exchange}
@@ -14,12 +13,12 @@ pub put_back-requires-clause-hold : goal.put_back-requires-clause-hold
 put_back-requires-clause-hold g c =
     let plan = plan_of c.args.board.now in
     let hold = c.args.hold in
-    let p = c.exchange.new.initiator in
-    let q = c.exchange.new.responder in
-    let sent = c.in_ok-exchange.field-0 in
+    let p = c.checked_exchange.new.initiator in
+    let q = c.checked_exchange.new.responder in
+    let sent = c.in_ok-checked_exchange.field-0 in
     let got : c.get.result ≡ Some c.expect-plan.result = search rules in
     let planned : exchange_at plan.list.exchanges hold.index ≡ c.expect-plan.result =
     ap (λ (l : RoundListView). exchange_at l.exchanges hold.index) c.requires.list ∙ get_or_from_slice_get c.args.list.now.exchanges hold.index c.expect-plan.result no_exchange (sym c.get.ensures.value ∙ got) in
     may_be_put_back plan (seat_view c.args.seat.now) hold (record { index = hold.index; initiator = p; responder = q }) sent c.requires.hold c.requires.held refl
     (subst (λ (r : Rules). IsExchanged r (exchange_at plan.list.exchanges hold.index) hold.initiator hold.responder p q sent) (sym c.requires.rules)
-    (subst (λ (e : Exchange). IsExchanged (record { mode = ScuttleBreadth; budget = 1 }) e hold.initiator hold.responder p q sent) (sym planned) c.in_ok-exchange.ensures.ok))
+    (subst (λ (e : Exchange). IsExchanged c.args.rules.now e hold.initiator hold.responder p q sent) (sym planned) c.in_ok-checked_exchange.ensures))

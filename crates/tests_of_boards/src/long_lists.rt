@@ -1,0 +1,176 @@
+//! A long list, done in list order and by two, three and four threads.
+
+ghost use Rattle.std.specs.Prelude.{◌≡◌, ◌<◌, ◌≤◌};
+ghost use Rattle.tests_of_boards.specs.declared.long_lists.TheConstants.{NODES};
+
+use crate::small_boards::{board_of, tables_of};
+use crate::threads::{Order, Worked, work_in_four, work_in_three, work_in_two};
+use crate::turns::checked_exchange;
+use bench_types::{Exchange, Fault, Mode, Rules};
+use node_table::NodeTable;
+use round_plan::RoundList;
+use std::alloc::AllocGlobal;
+use std::process::Abort;
+use std::thread::Threads;
+
+const NODES: u32 = 256;
+
+const KEYS: u32 = 4;
+
+const EXCHANGES: u32 = 2000;
+
+const BUDGET: u32 = 40;
+
+/// Numbers without an order that one could see.
+#[derive(Drop)]
+struct Numbers {
+    state: u64,
+}
+
+impl Numbers {
+    fn below(&mut self, bound: u32) -> u32
+        requires { 1 ≤ bound }
+        ensures { result < bound }
+    {
+        self.state = self
+            .state
+            .wrapping_mul(6_364_136_223_846_793_005)
+            .wrapping_add(1_442_695_040_888_963_407);
+        ((self.state >> 33) % u64::from(bound)) as u32
+    }
+}
+
+// An exchange of two nodes, of which one in eight loses a message.
+fn drawn(numbers: &mut Numbers) -> Exchange {
+    let initiator = numbers.below(NODES);
+    let responder = (initiator + 1 + numbers.below(NODES - 1)) % NODES;
+    let loss = numbers.below(24);
+    Exchange {
+        initiator,
+        responder,
+        lost1: loss == 1,
+        lost2: loss == 2,
+        lost3: loss == 3,
+        rotation: numbers.below(NODES),
+    }
+}
+
+fn long_list(rt: &(impl Abort + AllocGlobal)) -> RoundList
+    ensures { result.nodes ≡ NODES }
+{
+    let mut numbers = Numbers { state: 2008 };
+    let mut exchanges = Vec::new(rt.alloc());
+    for _ in 0..EXCHANGES {
+        exchanges.push(drawn(&mut numbers)).expect(rt, "memory");
+    }
+    let list = RoundList::of(NODES, 0, exchanges).expect(rt, "a list of these nodes");
+    assert!(rt; list.nodes() == NODES && list.len() == EXCHANGES);
+    list
+}
+
+// The tables that are left where one thread does the exchanges in list order.
+fn in_list_order(
+    rt: &(impl Abort + AllocGlobal),
+    list: &RoundList,
+    rules: &Rules,
+) -> Result<Vec<NodeTable>, Fault>
+    requires budget { 1 ≤ rules.now.budget }
+{
+    let mut tables = tables_of(rt, rt.alloc(), NODES, KEYS)?;
+    for plan in list.exchanges() {
+        exchange_two(rt, &mut tables, plan, rules)?;
+    }
+    Ok(tables)
+}
+
+fn exchange_two(
+    rt: &(impl Abort + AllocGlobal),
+    tables: &mut [NodeTable],
+    plan: &Exchange,
+    rules: &Rules,
+) -> Result<(), Fault>
+    requires budget { 1 ≤ rules.now.budget }
+{
+    let initiator = plan.initiator as usize;
+    let responder = plan.responder as usize;
+    assert!(rt; initiator < tables.len() && responder < tables.len() && initiator != responder);
+    if initiator < responder {
+        let (below, from) = tables.split_at_mut(responder);
+        checked_exchange(rt, &mut below[initiator], &mut from[0], plan, rules)?;
+    } else {
+        let (below, from) = tables.split_at_mut(initiator);
+        checked_exchange(rt, &mut from[0], &mut below[responder], plan, rules)?;
+    }
+    Ok(())
+}
+
+fn holds_the_same(one: &NodeTable, two: &NodeTable) -> bool {
+    one.node() == two.node()
+        && one.nodes() == two.nodes()
+        && (0..one.nodes()).all(|owner| one.row(owner) == two.row(owner))
+}
+
+fn expect_the_same(rt: &impl Abort, tables: &[NodeTable], wanted: &[NodeTable]) {
+    assert_eq!(rt; tables.len(), wanted.len());
+    assert!(rt;
+        tables
+            .iter()
+            .zip(wanted)
+            .all(|(one, two)| holds_the_same(one, two))
+    );
+}
+
+// Each exchange was put back by one thread, once.
+fn expect_each_once(rt: &impl Abort, mut made: Vec<u32>) {
+    made.sort_unstable();
+    assert_eq!(rt; made.len(), EXCHANGES as usize);
+    assert!(rt; made.iter().zip(0..EXCHANGES).all(|(i, at)| *i == at));
+}
+
+// Three times on a board of its own: by two, three and four threads.
+fn expect_list_order<R: Abort + AllocGlobal + Threads + Sync>(
+    rt: &R,
+    list: &RoundList,
+    mode: Mode,
+) -> Result<(), Fault> {
+    let rules = Rules {
+        mode,
+        budget: BUDGET,
+    };
+    let wanted = in_list_order(rt, list, &rules)?;
+    for threads in 2..=4 {
+        expect_shared(rt, list, &rules, threads, &wanted)?;
+    }
+    Ok(())
+}
+
+fn expect_shared<R: Abort + AllocGlobal + Threads + Sync>(
+    rt: &R,
+    list: &RoundList,
+    rules: &Rules,
+    threads: u32,
+    wanted: &[NodeTable],
+) -> Result<(), Fault>
+    requires budget { 1 ≤ rules.now.budget }
+{
+    let (board, mut first) = board_of(rt, list, KEYS, rules)?;
+    let second = board.split(&mut first);
+    let third = board.split(&mut first);
+    let fourth = board.split(&mut first);
+    let Worked { seat, made } = match threads {
+        2 => work_in_two(rt, &board, list, rules, (first, second), Order::Shuffled),
+        3 => work_in_three(rt, &board, list, rules, first, (second, third)),
+        _ => work_in_four(rt, &board, list, rules, (first, second), (third, fourth)),
+    };
+    expect_each_once(rt, made);
+    expect_the_same(rt, &board.close(seat)?, wanted);
+    Ok(())
+}
+
+#[test]
+fn a_long_list_by_several_threads(rt: HostRuntime) {
+    let list = long_list(&rt);
+    for mode in Mode::ALL {
+        expect_list_order(&rt, &list, mode).expect(&rt, "memory");
+    }
+}

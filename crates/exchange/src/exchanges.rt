@@ -22,9 +22,9 @@ use std::alloc::Global;
 /// is sent; only that room stays taken.
 ///
 /// Where no message is lost, a scuttle mode copies a number for each owner and compares it with the
-/// other side's, on both sides, and of the entries it looks at those that one side lacks. A precise
-/// mode looks at each entry of both tables twice, and sorts what is sent. To this come both calls of
-/// `apply`. What a lost message leaves unsent isn't worked out.
+/// other side's, on both sides. Each side looks at its entries of the owners where its own number is
+/// greater. A precise mode looks at each entry of both tables twice, and sorts what is sent. To this
+/// come both calls of `apply`. What a lost message leaves unsent isn't worked out.
 pub fn exchange(
     alloc: Global,
     initiator: &mut NodeTable,

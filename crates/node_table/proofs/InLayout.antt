@@ -2,7 +2,6 @@
 use Rattle.std.proofs.Common.{◌≡◌, ◌≢◌, ℕ, zero, suc, ◌+◌, ◌-◌, ◌<◌, ◌≤◌, cond, ◌==◌, true, false, List, [], ◌∷◌, length, get_or, set, drop, max, Some, None, inl, inr, refl, sym, ap, ◌∙◌, subst, arith}
 use Rattle.std.specs.Prelude.{sum_by}
 use Rattle.std.specs.List.{AllPairs, Contains}
-use Rattle.std.specs.Ordering.{is_lt}
 use Rattle.std.proofs.lemmas.Bool.{cases_lt, cases_eq, eq-eqb, ne_eqb, eqb-true}
 use Rattle.std.proofs.lemmas.List.{nil_from_length, length-drop, length-set, get_or-drop, get_or-set_same, get_or-set_other}
 use Rattle.std.proofs.lemmas.List.Elements.{All-map, All-contains}
@@ -13,9 +12,9 @@ use Rattle.node_table.specs.declared.layouts.Row.{Row}
 use Rattle.node_table.specs.declared.layouts.Layout.{Layout}
 use Rattle.node_table.specs.Table.{Table, entry_at, version_at, greatest_version, count_of, IsInPlace, IsProper}
 use Rattle.node_table.specs.Rows.{StandsBefore, AreAbove, AreGreatest}
-use Rattle.node_table.specs.Layouts.{row_of, rows_of, row_at, row_len, entry_in, held_in, table_in, with_entry, HaveTwoKeys, IsRow, IsInSlots, AreLaid, IsLayout, IsIndexOf, IsRankOf, IsPlaced}
+use Rattle.node_table.specs.Layouts.{row_of, rows_of, row_at, row_len, entry_in, held_in, table_in, with_entry, HaveTwoKeys, IsRow, IsInSlots, AreLaid, IsLayout, IsIndexOf, IsRankAbove, IsPlaced}
 use Rattle.node_table.proofs.Greatest.{greatest_version-unique, place_less}
-use Rattle.node_table.proofs.InRow.{rank_place, absent_from_end, before_from}
+use Rattle.node_table.proofs.InRow.{rank_place, absent_from_end}
 use Rattle.node_table.proofs.InRows.{get-held_in, len-held_in, held_in-put, entry_in-none}
 use Rattle.node_table.proofs.Laid.{row_at-get_or, row_at-past, total-rows, length-row_of}
 use Rattle.node_table.proofs.Entered.{greatest-with_own, greatest-with_other}
@@ -161,26 +160,14 @@ module _ (l : Layout) (sound : IsLayout l) where
   whole_row owner below = above_in l sound owner 0 0 below (omega arith) (λ k d lt. absurd (omega arith)) (λ k d le lt. (is_row l sound owner below).written k d lt)
 
   -- and what stands behind all entries of a version is held above that
-  pub above_rank : (owner version rank : ℕ) (last : Entry) → owner < l.nodes → last.version ≡ version → l.keys ≤ last.key → IsRankOf (row_at l.slots.items l.rows.items owner) last rank → AreAbove (table_in l) owner version (drop rank (row_at l.slots.items l.rows.items owner))
-  above_rank owner version rank last below version_is beyond ranked = above_in l sound owner version rank below ranked.within front behind
+  pub above_rank : (owner version rank : ℕ) → owner < l.nodes → IsRankAbove (row_at l.slots.items l.rows.items owner) version rank → AreAbove (table_in l) owner version (drop rank (row_at l.slots.items l.rows.items owner))
+  above_rank owner version rank below ranked = above_in l sound owner version rank below ranked.within front ranked.behind
     where
-      behind : (k : ℕ) (d : Entry) → rank ≤ k → k < length (row_at l.slots.items l.rows.items owner) → version < (get_or (row_at l.slots.items l.rows.items owner) k d).version
-      behind k d le lt = elim (place_less (rank_place last) (rank_place (get_or (row_at l.slots.items l.rows.items owner) k d)) (ranked.behind k d le lt)) [
-        | inl later ↦ omega (arith, later)
-        | inr same ↦ absurd (omega (arith, same.1, (is_row l sound owner below).keys_below k d lt))
-      ]
-
-      at_rank : (d : Entry) → 0 < rank → (get_or (row_at l.slots.items l.rows.items owner) (rank - 1) d).version ≤ version
-      at_rank d some = elim (cases_lt version (get_or (row_at l.slots.items l.rows.items owner) (rank - 1) d).version) [
-        | inr le ↦ le
-        | inl above ↦ let contrary : true ≡ false = sym (ap is_lt (before_from last (get_or (row_at l.slots.items l.rows.items owner) (rank - 1) d) (omega arith))) ∙ ranked.front d some in cc
-      ]
-
       front : (k : ℕ) (d : Entry) → k < rank → (get_or (row_at l.slots.items l.rows.items owner) k d).version ≤ version
       front k d lt = elim (cases_eq k (rank - 1)) [
-        | inl same ↦ subst (λ j. (get_or (row_at l.slots.items l.rows.items owner) j d).version ≤ version) (sym same) (at_rank d (omega arith))
+        | inl same ↦ subst (λ j. (get_or (row_at l.slots.items l.rows.items owner) j d).version ≤ version) (sym same) (ranked.front d (omega arith))
         | inr other ↦ elim (place_less (rank_place (get_or (row_at l.slots.items l.rows.items owner) k d)) (rank_place (get_or (row_at l.slots.items l.rows.items owner) (rank - 1) d)) ((is_row l sound owner below).rising k (rank - 1) d (omega arith) (omega (arith, ranked.within)))) [
-          | inl lower ↦ omega (arith, lower, at_rank d (omega arith))
-          | inr tied ↦ omega (arith, tied.0, at_rank d (omega arith))
+          | inl lower ↦ omega (arith, lower, ranked.front d (omega arith))
+          | inr tied ↦ omega (arith, tied.0, ranked.front d (omega arith))
         ]
       ]

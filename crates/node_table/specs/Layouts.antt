@@ -130,6 +130,12 @@ pub record IsRankOf (row : List Entry) (entry : Entry) (rank : ℕ) : Type 0 whe
   pub front : (d : Entry) → 0 < rank → is_lt (entry_cmp entry (slice_index_or row (rank - 1) d)) ≡ false
   pub behind : (k : ℕ) (d : Entry) → rank ≤ k → k < length row → StandsBefore entry (slice_index_or row k d)
 
+-- so many entries at the front: the last of them isn't above a version, and the others are
+pub record IsRankAbove (row : List Entry) (version rank : ℕ) : Type 0 where
+  pub within : rank ≤ length row
+  pub front : (d : Entry) → 0 < rank → (slice_index_or row (rank - 1) d).version ≤ version
+  pub behind : (k : ℕ) (d : Entry) → rank ≤ k → k < length row → version < (slice_index_or row k d).version
+
 -- the row after an entry came in
 pub record IsPut (keys : ℕ) (entry : Entry) (before after : List Entry) : Type 0 where
   pub row : IsRow keys after

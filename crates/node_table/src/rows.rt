@@ -4,7 +4,7 @@
 ghost use Rattle.std.specs.Prelude.{◌≡◌, ◌≢◌, ◌+◌, ◌-◌, ◌<◌, ◌≤◌, All, length, take, remove};
 ghost use Rattle.std.specs.Ordering.{is_lt};
 ghost use Rattle.node_table.specs.Rows.{entry_cmp};
-ghost use Rattle.node_table.specs.Layouts.{entry_in, IsRow, IsIndexOf, IsRankOf, IsPut};
+ghost use Rattle.node_table.specs.Layouts.{entry_in, IsRow, IsIndexOf, IsRankOf, IsRankAbove, IsPut};
 
 use bench_types::Entry;
 
@@ -39,6 +39,20 @@ pub(crate) fn rank_of(row: &[Entry], entry: Entry) -> usize
     let mut rank = row.len();
     while rank > 0 && stands_before(entry, row[rank - 1]) {
         rank -= 1;
+    }
+    rank
+}
+
+// How many entries at the front aren't above a version, where they ascend. It looks at each, so that
+// nothing that it does next hangs on a guess.
+pub(crate) fn rank_above(row: &[Entry], version: u32) -> usize
+    ensures { IsRankAbove row.now version result }
+{
+    let mut rank = 0;
+    for (index, held) in row.iter().enumerate() {
+        if held.version <= version {
+            rank = index + 1;
+        }
     }
     rank
 }

@@ -4,7 +4,7 @@ ghost use Rattle.std.specs.Prelude.{◌≡◌, ◌≢◌, ◌↔◌, ◌+◌, �
 ghost use Rattle.bench_types.specs.declared.faults.Fault.TheVariants.{OutOfMemory};
 
 use crate::layouts::{Layout, Row};
-use crate::rows::{find, index_of, rank_of};
+use crate::rows::{find, index_of, rank_above};
 use bench_types::limits::{LEAST_KEYS, MOST_KEYS, MOST_NODES};
 use bench_types::{Entry, Fault, Item};
 use std::alloc::Global;
@@ -90,14 +90,14 @@ impl NodeTable {
         self.layout.row(owner)
     }
 
-    /// Those above a version. Nothing is copied, and one step is made for each of them.
+    /// Those above a version. Nothing is copied, and each entry of the owner is looked at once.
     pub fn above(&self, owner: u32, version: u32) -> &[Entry]
         requires { owner < self.now.table.nodes }
         ensures entries { AreAbove self.now.table owner version result.now }
         ensures proper { IsProper self.now.table }
     {
         let row = self.layout.row(owner);
-        &row[rank_of(row, last_of(version))..]
+        &row[rank_above(row, version)..]
     }
 
     /// The greatest version held of each owner, in order, 0 where none is. Nothing is copied or
@@ -261,18 +261,5 @@ impl NodeTable {
             count: self.layout.count,
         };
         Ok(NodeTable { layout })
-    }
-}
-
-// An entry behind all of a version.
-fn last_of(version: u32) -> Entry
-    ensures version { result.version ≡ version }
-    ensures key { result.key ≡ 2 ^ 32 - 1 }
-{
-    Entry {
-        key: u32::MAX,
-        version,
-        value: 0,
-        born: 0,
     }
 }

@@ -1,5 +1,5 @@
 -- How far candidates have got what their mode looks at first.
-use Rattle.std.proofs.Common.{◌≡◌, ℕ, zero, suc, ◌+◌, ◌-◌, ◌<◌, ◌≤◌, eqb, List, [], ◌∷◌, length, map, get_or, set, All, inl, inr, refl, sym, ap, ◌∙◌, subst, arith, add-one}
+use Rattle.std.proofs.Common.{◌≡◌, ℕ, zero, suc, ◌+◌, ◌-◌, ◌<◌, eqb, List, [], ◌∷◌, length, map, get_or, set, All, inl, inr, refl, sym, ap, ◌∙◌, subst, arith, add-one}
 use Rattle.std.specs.Prelude.{count_by}
 use Rattle.std.specs.List.Sorted.{IsSorted}
 use Rattle.std.proofs.lemmas.Bool.{cases_lt}
@@ -9,7 +9,7 @@ use Rattle.std.proofs.Math.Seq.{map-set_same}
 use Rattle.bench_types.specs.declared.entries.Item.{Item}
 use Rattle.reconcile.specs.declared.orders.Candidate.{Candidate}
 use Rattle.reconcile.specs.Order.{rank_among, owner_count}
-use Rattle.reconcile.specs.Keys.{item_in, items_in, reversed, without_first, rest_of, AllFirst}
+use Rattle.reconcile.specs.Keys.{item_in, items_in, reversed, without_first, rest_of}
 use Rattle.reconcile.specs.Ranks.{version_order, item_at, CountsLast, IsRun, Follows}
 use Rattle.reconcile.proofs.Runs.{run_owner, run_version, run_same, rank_of_run}
 
@@ -44,9 +44,6 @@ keying_more first old new n key so_far lt is =
         | inr at_least ↦ let same : k ≡ n = omega arith in rw same (rw (get_or-set_same new n one d lt) is)
       ];
     }
-
-pub keying_all : (first : Item → ℕ) (old new : List Candidate) (n : ℕ) → IsKeying first old new n → length new ≤ n → AllFirst first new
-keying_all first old new n done le = λ k d lt. done.keyed k (omega arith) d
 
 -- the first n candidates have their ranks, and the run follows up to there
 pub record IsRanking (old new : List Candidate) (owner_start version_start n : ℕ) : Type 0 where

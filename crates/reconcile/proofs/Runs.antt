@@ -49,16 +49,6 @@ owners_rise items sorted i j d le lt =
     ]
 
 module _ (items : List Item) (sorted : IsSorted version_order items) where
-  pub run_first : IsRun items 0 0 0
-  run_first = record {
-    order = omega arith;
-    reached = omega arith;
-    before = λ j lt. absurd (omega arith);
-    owner = λ j from to. ap (λ k. (item_at items k).owner) {x = j} {y = 0} (omega arith);
-    older = λ j from to. absurd (omega arith);
-    same = λ j from to. ap (λ k. (item_at items k).entry.version) {x = j} {y = 0} (omega arith);
-  }
-
   -- another owner begins
   pub run_owner : (a b at : ℕ) → IsRun items a b at → suc at < length items → (item_at items (suc at)).owner ≢ (item_at items at).owner → IsRun items (suc at) (suc at) (suc at)
   run_owner a b at run lt differs = record {

@@ -1,5 +1,5 @@
 -- What a digest tells is what the table holds, and what is sent stood among the candidates.
-use Rattle.std.proofs.Common.{◌≡◌, ◌≢◌, ℕ, zero, suc, ◌+◌, ◌<◌, ◌≤◌, Bool, true, false, cond, not, ◌&&◌, eqb, ltb, List, [], ◌∷◌, length, get_or, All, Some, None, refl, sym, ap, ◌∙◌, subst, arith}
+use Rattle.std.proofs.Common.{◌≡◌, ◌≢◌, ℕ, zero, suc, ◌+◌, ◌<◌, Bool, true, false, cond, not, ◌&&◌, eqb, ltb, List, [], ◌∷◌, get_or, All, Some, None, refl, sym, ap, ◌∙◌, subst}
 use Rattle.std.specs.Prelude.{filter}
 use Rattle.std.specs.List.{filter_map, range_with_len, cons_option}
 use Rattle.std.specs.declared.cmp.Ordering.{Ordering}
@@ -86,15 +86,3 @@ pub answer-in_place : (mode : Mode) (rotation budget : ℕ) (from : Table) (rece
 answer-in_place mode rotation budget from receiver told proper =
     let cs = items_above (told_version told) receiver (items_of from) in
     All-sent (λ (i : Item). (i.owner ≢ receiver) × IsItemInPlace from.nodes from.keys i) (sending_order mode from.nodes rotation cs) cs budget (candidates-in_place from (told_version told) receiver proper)
-
--- and nothing is sent past the budget
-pub length-sent-le : {X : Type 0} (order : X → X → Ordering) (cs : List X) (budget : ℕ) → length (sent order cs budget) ≤ budget
-length-sent-le order cs budget = places 0 budget
-  where
-    places : (a n : ℕ) → length (filter_map (at_place order cs) (range_with_len a n)) ≤ n
-    places a zero = omega arith
-    places a (suc n) =
-        elim (at_place order cs a) as (λ o. length (cons_option o (filter_map (at_place order cs) (range_with_len (a + 1) n))) ≤ suc n) [
-          | None ↦ omega (arith, places (a + 1) n)
-          | Some x ↦ omega (arith, places (a + 1) n)
-        ]

@@ -6,7 +6,7 @@ ghost use Rattle.std.specs.List.{AllPairs};
 ghost use Rattle.std.specs.declared.cmp.Ordering.TheVariants.{Less};
 ghost use Rattle.bench_types.specs.Mode.{told_by};
 ghost use Rattle.reconcile.specs.Newer.{AddsNewer, AreCandidates};
-ghost use Rattle.reconcile.specs.Order.{rank_among, owner_count};
+ghost use Rattle.reconcile.specs.Order.{rank_among, owner_count, rotated};
 ghost use Rattle.reconcile.specs.Deltas.{answer_of, IsDeltaToReceiver, MayTake};
 ghost use Rattle.reconcile.specs.Digests.{IsOfKind};
 ghost use Rattle.reconcile.specs.Keys.{items_in, rest_of, age_key, first_key, second_key, reversed, AllSet, AllFirst, AreFirstItems, ComeFirst, SetsStay, IsSet, OwnersRise, number_order};
@@ -35,9 +35,10 @@ pub(crate) struct Candidate {
 /// What is sent to a receiver whose digest came in: the first `budget` candidates in the order of
 /// the mode. It takes memory in proportion to the candidates alone.
 ///
-/// A scuttle mode compares a number for each owner, and of the entries it looks at the candidates
-/// alone. Nothing is sorted: they are gone over once for each number of them that an owner has, so
-/// at most once for each key, until the budget is reached. A precise mode looks at each entry once.
+/// A scuttle mode compares a number for each owner, and looks at the entries of those where its own
+/// is greater. Nothing is sorted: the candidates are gone over once for each number of them that an
+/// owner has, so at most once for each key, until the budget is reached. A precise mode looks at
+/// each entry once.
 /// It sorts what is sent: where the budget cuts, a selection parts it from the rest.
 pub fn delta(
     alloc: Global,
@@ -149,9 +150,23 @@ fn candidate_of(item: Item, turns: Turns) -> Candidate
 {
     Candidate {
         first: age_key(turns.mode, item.entry.born),
-        turn: (item.owner + turns.nodes - turns.rotation) % turns.nodes,
+        turn: turn_of(item.owner, turns),
         second: version_key(turns.mode, item.entry.version),
         item,
+    }
+}
+
+// Where an owner stands, counted from the rotation on.
+fn turn_of(owner: u32, turns: Turns) -> u32
+    requires limit { turns.nodes ≤ 4096 }
+    requires owner { owner < turns.nodes }
+    requires rotation { turns.rotation < turns.nodes }
+    ensures { result ≡ rotated turns.nodes turns.rotation owner }
+{
+    if owner < turns.rotation {
+        owner + turns.nodes - turns.rotation
+    } else {
+        owner - turns.rotation
     }
 }
 

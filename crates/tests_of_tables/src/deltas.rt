@@ -1,15 +1,13 @@
 //! Deltas by hand: what is sent of one table in each mode, and of many tables against a program that
 //! places each candidate by counting those that come before it.
 
-use crate::fixtures::{expect_items, expect_number, item, new_table, next, take, try_write};
+use crate::fixtures::{expect_items, expect_number, item, new_table, next, take};
+use crate::model::{NODES, Turn, count_before, small_table};
 use bench_types::{Item, Mode};
 use node_table::NodeTable;
 use reconcile::{Delta, Digest, delta};
 use std::alloc::Global;
-use std::cmp::Ordering;
 use std::process::Abort;
-
-const NODES: u32 = 4;
 
 // One owner's versions 3 and 5 and another's version 1.
 const OLD: Item = item!(1, 0, 3, 0, 2);
@@ -31,14 +29,6 @@ fn sender(rt: &impl Abort, alloc: Global) -> NodeTable {
     let mut table = new_table(rt, alloc, 3, NODES, 2);
     take(rt, &mut table, &[OLD, NEW, OTHER]);
     table
-}
-
-// How a delta is ordered and cut.
-#[derive(Clone, Copy)]
-struct Turn {
-    mode: Mode,
-    rotation: u32,
-    budget: u32,
 }
 
 // What one table's node sends in answer to the digest of the other's.
@@ -141,35 +131,6 @@ fn precise_newest_leaves_a_gap(rt: HostRuntime) {
     expect_first(&rt, rt.alloc(), Mode::ScuttleDepth, [3, 0]);
 }
 
-// A small table that holds about so many of ten entries. Two keys of an owner may have one version.
-fn small_table(rt: &impl Abort, alloc: Global, state: &mut u64, node: u32, full: u32) -> NodeTable {
-    assert!(rt; node < NODES);
-    let mut table = new_table(rt, alloc, node, NODES, 3);
-    for key in 0..3 {
-        if next(state, 10) < full {
-            let _version = try_write(rt, &mut table, key, 0, 1).expect(rt, "memory");
-        }
-    }
-    take(rt, &mut table, &others(rt, alloc, state, node, full));
-    table
-}
-
-// Entries of the other owners, about so many of ten.
-fn others(rt: &impl Abort, alloc: Global, state: &mut u64, node: u32, full: u32) -> Vec<Item> {
-    let mut held = Vec::new(alloc);
-    for owner in 0..NODES {
-        for key in 0..3 {
-            let version = next(state, 4).saturating_add(1);
-            let born = next(state, 3).saturating_add(1);
-            if owner != node && next(state, 10) < full {
-                let item = item!(owner, key, version, 0, born);
-                held.push(item).expect(rt, "memory");
-            }
-        }
-    }
-    held
-}
-
 // What the receiver may lack.
 fn lacked(
     rt: &impl Abort,
@@ -195,55 +156,6 @@ fn lacked(
         }
     }
     found
-}
-
-// How far behind the rotation an owner comes.
-fn place(turn: Turn, owner: u32) -> u32 {
-    owner.wrapping_add(NODES).wrapping_sub(turn.rotation) % NODES
-}
-
-// How many candidates of an owner have a lower version.
-fn count_below(all: &[Item], owner: u32, version: u32) -> u32 {
-    let mut count = 0u32;
-    for item in all {
-        if item.owner == owner && item.entry.version < version {
-            count = count.saturating_add(1);
-        }
-    }
-    count
-}
-
-// How two candidates compare.
-fn compare(turn: Turn, all: &[Item], a: Item, b: Item) -> Ordering {
-    let count = |i: Item| count_below(all, i.owner, u32::MAX);
-    let rank = |i: Item| count_below(all, i.owner, i.entry.version);
-    let turns = place(turn, a.owner).cmp(&place(turn, b.owner));
-    let versions = a.entry.version.cmp(&b.entry.version);
-    let keys = a.entry.key.cmp(&b.entry.key);
-    let births = a.entry.born.cmp(&b.entry.born);
-    match turn.mode {
-        Mode::ScuttleBreadth => rank(a).cmp(&rank(b)).then(turns).then(keys),
-        Mode::ScuttleDepth => {
-            let counts = count(b).cmp(&count(a));
-            counts.then(turns).then(versions).then(keys)
-        }
-        Mode::PreciseOldest => births.then(turns).then(versions).then(keys),
-        Mode::PreciseNewest => {
-            let newest = births.reverse().then(turns);
-            newest.then(versions.reverse()).then(keys)
-        }
-    }
-}
-
-// How many candidates come before this one.
-fn count_before(turn: Turn, all: &[Item], item: Item) -> usize {
-    let mut count = 0usize;
-    for other in all {
-        if compare(turn, all, *other, item) == Ordering::Less {
-            count = count.saturating_add(1);
-        }
-    }
-    count
 }
 
 // Compares the item that is sent at a place.

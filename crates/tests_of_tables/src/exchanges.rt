@@ -7,13 +7,13 @@ use node_table::NodeTable;
 use std::alloc::Global;
 use std::process::Abort;
 
-// How two nodes meet, and which message is lost first, if any.
+/// How two nodes meet, and which message is lost first, if any.
 #[derive(Clone, Copy)]
-struct Plan {
-    fate: Fate,
-    rotation: u32,
-    mode: Mode,
-    budget: u32,
+pub(crate) struct Plan {
+    pub(crate) fate: Fate,
+    pub(crate) rotation: u32,
+    pub(crate) mode: Mode,
+    pub(crate) budget: u32,
 }
 
 const PLAN: Plan = Plan {
@@ -63,8 +63,9 @@ fn expect_record(rt: &impl Abort, sent: Record, fate: Fate, wanted: [u32; 6]) {
     assert_eq!(rt; sent, record);
 }
 
-// Two nodes meet, and their record is compared.
-fn expect_sent(
+/// Two nodes meet, and their record is compared: the sizes of both digests, the entries sent back and
+/// forth, and their cuts.
+pub(crate) fn expect_sent(
     rt: &impl Abort,
     alloc: Global,
     first: &mut NodeTable,

@@ -11,6 +11,10 @@ mod fixtures;
 #[cfg(test)]
 mod lags;
 #[cfg(test)]
+mod listed;
+#[cfg(test)]
+mod model;
+#[cfg(test)]
 mod records;
 #[cfg(test)]
 mod tables;

@@ -1,11 +1,15 @@
 -- What the board's rule comes to: at each moment the board stands where a lawful schedule leads. And what a caller does
--- with a hold: it carries out the exchange and puts back what that leaves. Source: this project.
+-- with a hold: it may carry out the exchange, and puts back what that leaves. Source: this project.
 use Rattle.std.specs.Prelude.{◌≡◌, ℕ, ◌<◌, true, false, nat_lt, List, length, Some}
 use mathlib.Core.Option.{some}
 use lib.ListN.{get_elem?}
+use Rattle.bench_types.specs.declared.exchanges.Exchange.{Exchange}
 use Rattle.bench_types.specs.declared.exchanges.Record.{Record}
+use Rattle.node_table.specs.Table.{Table}
 use Rattle.node_table.specs.NodeTableView.{NodeTableView}
+use Rattle.round_plan.specs.Plan.{IsRoundPlan}
 use Rattle.exchange.specs.Exchanged.{IsExchanged}
+use Rattle.cluster.specs.Tables.{IsCluster}
 use Rattle.planner.specs.declared.events.Event.{Event}
 use Rattle.planner.specs.Sharing.{exchange_at, takes_part}
 use Rattle.planner.specs.Schedules.{is_finished, is_running, IsLawful}
@@ -31,6 +35,20 @@ pub record IsScheduled (plan : BoardPlan) (s : State Slot View) : Type 0 where
 
 abbrev pub EachKeepsASchedule : Type 0
 EachKeepsASchedule = (plan : BoardPlan) (s : State Slot View) → Orderly plan s → IsScheduled plan s
+
+-- the tables that an exchange may be carried out on: those of its two nodes, with as many owners and keys each, and its
+-- rotation is one of the owners
+pub record MayBeExchanged (e : Exchange) (initiator responder : Table) : Type 0 where
+  pub first : initiator.node ≡ e.initiator
+  pub second : responder.node ≡ e.responder
+  pub nodes : initiator.nodes ≡ responder.nodes
+  pub keys : initiator.keys ≡ responder.keys
+  pub rotation : e.rotation < initiator.nodes
+
+-- and so may the tables of each hold, where a board was made of a round's list and the tables of all its nodes
+abbrev pub EachHoldMayBeExchanged : Type 0
+EachHoldMayBeExchanged = (plan : BoardPlan) (i : ℕ) (hold : Hold) → IsRoundPlan plan.list → IsCluster plan.list.nodes plan.tables → i < length plan.list.exchanges
+    → IsHoldOf plan i hold → MayBeExchanged (exchange_at plan.list.exchanges i) hold.initiator.table hold.responder.table
 
 -- the exchange of a hold was carried out on its tables, which are left with this
 abbrev pub IsCarriedOut : BoardPlan → Hold → Hold → Record → Type 0

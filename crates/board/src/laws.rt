@@ -1,11 +1,16 @@
 //! What holds of every board at each moment, and of every hold. The calls do nothing.
 
-ghost use Rattle.board.specs.Laws.{EachKeepsASchedule, EachMayBePutBack};
+ghost use Rattle.board.specs.Laws.{EachKeepsASchedule, EachHoldMayBeExchanged, EachMayBePutBack};
 
 /// At each moment what seats have put back and what they hold are the finished and the running exchanges
 /// of some lawful schedule, and the table of a node of which none runs is the one of its state.
 pub fn every_board_keeps_a_schedule()
     ensures { EachKeepsASchedule }
+{}
+
+/// The exchange of a hold may be carried out on its tables.
+pub fn every_hold_may_be_exchanged()
+    ensures { EachHoldMayBeExchanged }
 {}
 
 /// What an exchange leaves of a hold's tables may be put back.

@@ -1,16 +1,21 @@
 //! A long list, done in list order and by two, three and four threads.
 
 ghost use Rattle.std.specs.Prelude.{◌≡◌, ◌<◌, ◌≤◌};
+ghost use Rattle.bench_types.specs.declared.limits.TheConstants.{MOST_WORKERS};
 ghost use Rattle.tests_of_boards.specs.declared.long_lists.TheConstants.{NODES};
 
+use crate::pools::run_fresh;
 use crate::small_boards::{board_of, tables_of};
 use crate::threads::{Order, Worked, work_in_four, work_in_three, work_in_two};
 use crate::turns::checked_exchange;
-use bench_types::{Exchange, Fault, Mode, Rules};
+use bench_types::limits::MOST_WORKERS;
+use bench_types::{Exchange, Fault, Mode, Record, Rules};
 use node_table::NodeTable;
+use pool::FreeGate;
 use round_plan::RoundList;
 use std::alloc::AllocGlobal;
 use std::process::Abort;
+use std::sync::Wait;
 use std::thread::Threads;
 
 const NODES: u32 = 256;
@@ -68,19 +73,27 @@ fn long_list(rt: &(impl Abort + AllocGlobal)) -> RoundList
     list
 }
 
-// The tables that are left where one thread does the exchanges in list order.
+/// What a list leaves: the tables, by node, and the records, in list order.
+#[derive(Drop)]
+struct Left {
+    tables: Vec<NodeTable>,
+    records: Vec<Record>,
+}
+
+// What is left where one thread does the exchanges in list order.
 fn in_list_order(
     rt: &(impl Abort + AllocGlobal),
     list: &RoundList,
     rules: &Rules,
-) -> Result<Vec<NodeTable>, Fault>
+) -> Result<Left, Fault>
     requires budget { 1 ≤ rules.now.budget }
 {
     let mut tables = tables_of(rt, rt.alloc(), NODES, KEYS)?;
+    let mut records = Vec::new(rt.alloc());
     for plan in list.exchanges() {
-        exchange_two(rt, &mut tables, plan, rules)?;
+        records.push(exchange_two(rt, &mut tables, plan, rules)?)?;
     }
-    Ok(tables)
+    Ok(Left { tables, records })
 }
 
 fn exchange_two(
@@ -88,7 +101,7 @@ fn exchange_two(
     tables: &mut [NodeTable],
     plan: &Exchange,
     rules: &Rules,
-) -> Result<(), Fault>
+) -> Result<Record, Fault>
     requires budget { 1 ≤ rules.now.budget }
 {
     let initiator = plan.initiator as usize;
@@ -96,12 +109,11 @@ fn exchange_two(
     assert!(rt; initiator < tables.len() && responder < tables.len() && initiator != responder);
     if initiator < responder {
         let (below, from) = tables.split_at_mut(responder);
-        checked_exchange(rt, &mut below[initiator], &mut from[0], plan, rules)?;
+        checked_exchange(rt, &mut below[initiator], &mut from[0], plan, rules)
     } else {
         let (below, from) = tables.split_at_mut(initiator);
-        checked_exchange(rt, &mut from[0], &mut below[responder], plan, rules)?;
+        checked_exchange(rt, &mut from[0], &mut below[responder], plan, rules)
     }
-    Ok(())
 }
 
 fn holds_the_same(one: &NodeTable, two: &NodeTable) -> bool {
@@ -127,8 +139,8 @@ fn expect_each_once(rt: &impl Abort, mut made: Vec<u32>) {
     assert!(rt; made.iter().zip(0..EXCHANGES).all(|(i, at)| *i == at));
 }
 
-// Three times on a board of its own: by two, three and four threads.
-fn expect_list_order<R: Abort + AllocGlobal + Threads + Sync>(
+// Each board is done by two, three and four threads, and each list by so many workers.
+fn expect_list_order<R: Abort + AllocGlobal + Threads + Wait + Sync>(
     rt: &R,
     list: &RoundList,
     mode: Mode,
@@ -141,6 +153,25 @@ fn expect_list_order<R: Abort + AllocGlobal + Threads + Sync>(
     for threads in 2..=4 {
         expect_shared(rt, list, &rules, threads, &wanted)?;
     }
+    for workers in [1, 2, 3, 5, MOST_WORKERS] {
+        expect_pooled(rt, list, &rules, workers, &wanted)?;
+    }
+    Ok(())
+}
+
+fn expect_pooled<R: Abort + AllocGlobal + Threads + Wait + Sync>(
+    rt: &R,
+    list: &RoundList,
+    rules: &Rules,
+    workers: u32,
+    wanted: &Left,
+) -> Result<(), Fault>
+    requires workers { (1 ≤ workers) × (workers ≤ MOST_WORKERS) }
+    requires budget { 1 ≤ rules.now.budget }
+{
+    let (tables, records) = run_fresh(rt, list, KEYS, rules, workers, &FreeGate)?;
+    expect_the_same(rt, &tables, &wanted.tables);
+    assert!(rt; *records == *wanted.records);
     Ok(())
 }
 
@@ -149,7 +180,7 @@ fn expect_shared<R: Abort + AllocGlobal + Threads + Sync>(
     list: &RoundList,
     rules: &Rules,
     threads: u32,
-    wanted: &[NodeTable],
+    wanted: &Left,
 ) -> Result<(), Fault>
     requires budget { 1 ≤ rules.now.budget }
 {
@@ -163,7 +194,7 @@ fn expect_shared<R: Abort + AllocGlobal + Threads + Sync>(
         _ => work_in_four(rt, &board, list, rules, (first, second), (third, fourth)),
     };
     expect_each_once(rt, made);
-    expect_the_same(rt, &board.close(seat)?, wanted);
+    expect_the_same(rt, &board.close(seat)?, &wanted.tables);
     Ok(())
 }
 
@@ -171,6 +202,6 @@ fn expect_shared<R: Abort + AllocGlobal + Threads + Sync>(
 fn a_long_list_by_several_threads(rt: HostRuntime) {
     let list = long_list(&rt);
     for mode in Mode::ALL {
-        expect_list_order(&rt, &list, mode).expect(&rt, "memory");
+        expect_list_order(&rt, &list, mode).expect(&rt, "memory and threads");
     }
 }

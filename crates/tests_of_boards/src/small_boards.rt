@@ -22,6 +22,19 @@ pub(crate) const ONE_ENTRY: Rules = Rules {
     budget: 1,
 };
 
+/// Four pairs, and then each node meets one of another pair. At each of its two meetings a node is told of one key
+/// that it lacks.
+pub(crate) const CROSSING: &[(u32, u32)] = &[
+    (0, 1),
+    (2, 3),
+    (4, 5),
+    (6, 7),
+    (1, 2),
+    (3, 4),
+    (5, 6),
+    (7, 0),
+];
+
 fn between(initiator: u32, responder: u32) -> Exchange {
     Exchange {
         initiator,

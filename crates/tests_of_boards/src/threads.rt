@@ -3,7 +3,7 @@
 ghost use Rattle.std.specs.Prelude.{◌≡◌, ◌<◌, ◌≤◌, length};
 ghost use Rattle.board.specs.Boards.{plan_of, exchanges_of, IsSeatOf};
 
-use crate::small_boards::{ONE_ENTRY, board_of, list_of};
+use crate::small_boards::{CROSSING, ONE_ENTRY, board_of, list_of};
 use crate::turns::carry_out;
 use bench_types::{Fault, Rules};
 use board::{Board, Claim, Seat};
@@ -12,19 +12,6 @@ use std::alloc::AllocGlobal;
 use std::process::Abort;
 use std::thread;
 use std::thread::Threads;
-
-/// Four pairs, and then each node meets one of another pair. At each of its two meetings a node is told of one key
-/// that it lacks.
-const CROSSING: &[(u32, u32)] = &[
-    (0, 1),
-    (2, 3),
-    (4, 5),
-    (6, 7),
-    (1, 2),
-    (3, 4),
-    (5, 6),
-    (7, 0),
-];
 
 /// How often a thread goes through the list at most.
 const TURNS: u32 = 1_000_000;

@@ -1,5 +1,5 @@
 use Rattle.board.specs.Boards.{plan_of, seat_view}
-use Rattle.tests_of_boards.proofs.Claims.{parts_stay, held_stay}
+use Rattle.board.proofs.Claimed.{parts_stay, held_stay}
 use Rattle.tests_of_boards.proofs.seats.expect_claim.Goals as goal
 
 pub returns-clause-parts : goal.returns-clause-parts

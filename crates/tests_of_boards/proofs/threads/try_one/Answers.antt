@@ -1,5 +1,5 @@
 use Rattle.board.specs.Boards.{plan_of, seat_view}
-use Rattle.tests_of_boards.proofs.Claims.{now_held}
+use Rattle.board.proofs.Claimed.{now_held}
 use Rattle.tests_of_boards.proofs.threads.try_one.Goals as goal
 
 pub carry_out-requires-clause-held : goal.carry_out-requires-clause-held

@@ -1,5 +1,5 @@
 use Rattle.board.specs.Boards.{plan_of, seat_view}
-use Rattle.tests_of_boards.proofs.Claims.{now_held}
+use Rattle.board.proofs.Claimed.{now_held}
 use Rattle.tests_of_boards.proofs.turns.held.Goals as goal
 
 pub returns-clause-held : goal.returns-clause-held

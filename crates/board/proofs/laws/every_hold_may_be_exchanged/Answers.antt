@@ -1,0 +1,5 @@
+use Rattle.board.proofs.Meeting.{may_be_exchanged}
+use Rattle.board.proofs.laws.every_hold_may_be_exchanged.Goals as goal
+
+pub returns : goal.returns
+returns c = may_be_exchanged

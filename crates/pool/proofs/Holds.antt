@@ -1,0 +1,76 @@
+-- A hold of a job's board: its exchange may be carried out, and what that leaves is put back.
+use Rattle.std.proofs.Common.{◌≡◌, ℕ, ◌<◌, List, length, Option, None, Some, IfSome, inl, inr, refl, sym, ap, ◌∙◌, subst, arith}
+use Rattle.bench_types.specs.declared.exchanges.Exchange.{Exchange}
+use Rattle.bench_types.specs.declared.exchanges.Record.{Record}
+use Rattle.bench_types.specs.declared.exchanges.Rules.{Rules}
+use Rattle.node_table.specs.NodeTableView.{NodeTableView}
+use Rattle.round_plan.specs.Plan.{RoundListView, IsRoundPlan}
+use Rattle.exchange.specs.Exchanged.{Exchanged, exchanged, IsExchanged}
+use Rattle.cluster.specs.Tables.{IsCluster}
+use Rattle.planner.specs.Sharing.{exchange_at}
+use Rattle.planner.specs.Neighbours.{as_list, successors}
+use Rattle.board.specs.Weights.{Has, times, only}
+use Rattle.board.specs.SeatView.{SeatView}
+use Rattle.board.specs.Plan.{BoardPlan, table_at, responder_of, exchanged_at}
+use Rattle.board.specs.Boards.{plan_of, IsHoldOf, MayPutBack, Among, IsPutBack}
+use Rattle.board.specs.Laws.{MayBeExchanged, IsCarriedOut}
+use Rattle.board.specs.declared.boards.Board.{Board}
+use Rattle.board.specs.declared.boards.Freed.{Freed}
+use Rattle.board.specs.declared.boards.Hold.{Hold}
+use Rattle.board.proofs.Meeting.{may_be_exchanged}
+use Rattle.board.proofs.Returning.{may_be_put_back}
+use Rattle.board.proofs.Releases.{successor_within}
+use Rattle.board.proofs.Sums.{total-append, only-same}
+use Rattle.pool.specs.Jobs.{IsJob}
+use Rattle.pool.specs.Reports.{AreOfList}
+
+module _ (board : Board) (list : RoundListView) (rules : Rules) (job : IsJob board list rules) (es : List Exchange) (read : es ≡ list.exchanges) (hold : Hold) (found : IsHoldOf (plan_of board) hold.index hold) where
+  abbrev plan : BoardPlan
+  plan = plan_of board
+
+  same_exchange : exchange_at plan.list.exchanges hold.index ≡ exchange_at es hold.index
+  same_exchange = ap (λ (l : RoundListView). exchange_at l.exchanges hold.index) job.same_list ∙ ap (λ xs. exchange_at xs hold.index) (sym read)
+
+  pub hold_meets : IsRoundPlan list → hold.index < length plan.list.exchanges → MayBeExchanged (exchange_at es hold.index) hold.initiator.table hold.responder.table
+  hold_meets round within =
+      subst (λ (e : Exchange). MayBeExchanged e hold.initiator.table hold.responder.table) same_exchange
+      (may_be_exchanged plan hold.index hold (subst IsRoundPlan (sym job.same_list) round) (subst (λ (l : RoundListView). IsCluster l.nodes plan.tables) (sym job.same_list) job.cluster) within found)
+
+  module _ (p q : NodeTableView) (sent : Record) (done : IsExchanged rules (exchange_at es hold.index) hold.initiator hold.responder p q sent) where
+    carried_out : IsCarriedOut plan hold (record { index = hold.index; initiator = p; responder = q }) sent
+    carried_out =
+        subst (λ (r : Rules). IsExchanged r (exchange_at plan.list.exchanges hold.index) hold.initiator hold.responder p q sent) (sym job.same_rules)
+        (subst (λ (e : Exchange). IsExchanged rules e hold.initiator hold.responder p q sent) (sym same_exchange) done)
+
+    pub hold_returns : (v : SeatView) → Has v.held hold.index → MayPutBack plan v (record { index = hold.index; initiator = p; responder = q })
+    hold_returns v held = may_be_put_back plan v hold (record { index = hold.index; initiator = p; responder = q }) sent found held refl carried_out
+
+    pub sent_in_order : sent ≡ (exchanged_at plan hold.index).sent
+    sent_in_order =
+        let e = exchange_at plan.list.exchanges hold.index in
+        sym (
+        ap (λ t. (exchanged plan.rules e t (table_at plan (responder_of plan hold.index) hold.index)).sent) (sym found.initiator)
+        ∙ ap (λ t. (exchanged plan.rules e hold.initiator.table t).sent) (sym found.responder)
+        ∙ ap (λ (x : Exchanged). x.sent) carried_out
+        )
+
+-- what a put_back makes ready stands in the list
+module _ (plan : BoardPlan) (i : ℕ) (within : i < length plan.list.exchanges) where
+  once : (j : ℕ) (x : Option ℕ) → x ≡ Some j → times j (as_list x) ≡ 1
+  once j x is = ap (λ y. times j (as_list y)) is ∙ omega (arith, only-same j)
+
+  first_within : (j : ℕ) → (successors plan.list.exchanges i).first ≡ Some j → j < length plan.list.exchanges
+  first_within j is =
+      successor_within plan.list.exchanges i j (omega (arith, once j (successors plan.list.exchanges i).first is, total-append (only j) (as_list (successors plan.list.exchanges i).first) (as_list (successors plan.list.exchanges i).second))) within
+
+  second_within : (j : ℕ) → (successors plan.list.exchanges i).second ≡ Some j → j < length plan.list.exchanges
+  second_within j is =
+      successor_within plan.list.exchanges i j (omega (arith, once j (successors plan.list.exchanges i).second is, total-append (only j) (as_list (successors plan.list.exchanges i).first) (as_list (successors plan.list.exchanges i).second))) within
+
+  named_within : (named all : Option ℕ) → Among named all → ((j : ℕ) → all ≡ Some j → j < length plan.list.exchanges) → IfSome named (λ j. j < length plan.list.exchanges)
+  named_within None all among every = tt
+  named_within (Some j) all (inl none) every = absurd (cc)
+  named_within (Some j) all (inr same) every = every j (sym same)
+
+  pub freed_in_list : (old : SeatView) (freed : Freed) (new : SeatView) → IsPutBack plan old i freed new → AreOfList plan freed
+  freed_in_list old freed new told = (named_within freed.first (successors plan.list.exchanges i).first told.first first_within, named_within freed.second (successors plan.list.exchanges i).second told.second second_within)

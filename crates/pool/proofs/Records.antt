@@ -1,0 +1,24 @@
+-- The records that a worker keeps.
+use Rattle.std.proofs.Common.{◌≡◌, ℕ, List, [], ◌∷◌, ◌++◌, map, All, sym, ap, ◌∙◌, subst, arith}
+use Rattle.std.proofs.lemmas.List.{map-append}
+use Rattle.std.proofs.lemmas.List.Elements.{All-append, All-cons}
+use Rattle.board.specs.SeatView.{SeatView}
+use Rattle.board.specs.Plan.{BoardPlan, exchanged_at}
+use Rattle.board.specs.declared.boards.Freed.{Freed}
+use Rattle.collector.specs.declared.collectors.Stamped.{Stamped}
+use Rattle.pool.specs.Reports.{HasDone, AreRecordsOf}
+
+-- with one more, after a claim that leaves what was made
+pub one_more_record : (plan : BoardPlan) (old claimed new : SeatView) (stamps more : List Stamped) (i : ℕ) (stamped : Stamped) (freed : Freed) → claimed.made ≡ old.made → more ≡ stamps ++ stamped ∷ []
+    → AreRecordsOf plan old stamps → HasDone plan claimed i stamped freed new → AreRecordsOf plan new more
+one_more_record plan old claimed new stamps more i stamped freed same pushed so_far done = record {
+  made =
+      ap (map (λ (s : Stamped). s.index)) pushed
+      ∙ map-append (λ (s : Stamped). s.index) stamps (stamped ∷ [])
+      ∙ ap (λ l. l ++ stamped.index ∷ []) (so_far.made ∙ sym same)
+      ∙ ap (λ j. claimed.made ++ j ∷ []) done.index
+      ∙ sym (ap (λ (v : SeatView). v.made) done.put_back.seat);
+  sent = subst (All (λ (s : Stamped). s.outcome ≡ (exchanged_at plan s.index).sent)) (sym pushed)
+      (All-append (λ (s : Stamped). s.outcome ≡ (exchanged_at plan s.index).sent) stamps (stamped ∷ []) so_far.sent
+      (All-cons (λ (s : Stamped). s.outcome ≡ (exchanged_at plan s.index).sent) stamped [] (done.sent ∙ ap (λ j. (exchanged_at plan j).sent) (sym done.index)) (λ k d lt. absurd (omega arith))));
+}

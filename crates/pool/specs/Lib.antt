@@ -1,0 +1,10 @@
+pub mod Runs
+pub mod Turns
+pub mod Gathering
+pub mod Joined
+pub mod Reports
+pub mod Deques
+pub mod Jobs
+pub use Rattle.cluster.specs.Tables
+pub use Rattle.cluster.specs.Folds
+pub use Rattle.board.specs.Boards

@@ -1,0 +1,236 @@
+//! Several workers, each a thread of its own.
+
+ghost use Rattle.std.specs.Prelude.{◌≡◌, ◌+◌, ◌<◌, ◌≤◌, ◌⊎◌, [], All, length, IfOk, IfErr, IsOkUnless, OnOk, vec_len, vec_capacity};
+ghost use Rattle.bench_types.specs.declared.faults.Fault.TheVariants.{OutOfMemory, NoThread};
+ghost use Rattle.bench_types.specs.declared.limits.TheConstants.{MOST_WORKERS};
+ghost use Rattle.cluster.specs.Tables.{tables_in, IsCluster};
+ghost use Rattle.board.specs.SeatView.{first_seat};
+ghost use Rattle.board.specs.Boards.{plan_of, seat_view, IsSeatOf};
+ghost use Rattle.pool.specs.Runs.{AreExchanged, IsPoolFault};
+ghost use Rattle.pool.specs.Reports.{IsFreshSeat, IsReport};
+ghost use Rattle.pool.specs.Joined.{HasTakenIn, HasSeenAll, IsOfBoard, AreTogether};
+
+use crate::deques::{Limit, Tasks, deal};
+use crate::gates::Gate;
+use crate::gathering::in_list_order;
+use crate::workers::{Job, Report};
+use bench_types::limits::MOST_WORKERS;
+use bench_types::{Fault, Record, Rules};
+use board::{Board, Seat};
+use collector::Stamped;
+use node_table::NodeTable;
+use planner::Deps;
+use round_plan::RoundList;
+use std::alloc::Global;
+use std::marker::Brand;
+use std::snapshot::Snapshot;
+use std::sync::Wait;
+use std::thread;
+use std::thread::{Promise, PromisedHandle, Scope, Threads};
+
+// What the thread of a worker promises: the report of a seat of one part.
+#[derive(Drop)]
+pub(crate) struct Back(Snapshot<Board>);
+
+impl Promise<Report> for Back {
+    ghost kept_by = { λ back report. IsReport back.0.value 1 report };
+}
+
+type Handle = PromisedHandle<Report, Back>;
+
+/// Carries out the exchanges of a list by so many workers, each in a thread.
+pub(crate) fn exchange_in_threads<R: Threads + Wait + Sync, G: Gate + Sync>(
+    rt: &R,
+    alloc: Global,
+    list: &RoundList,
+    tables: Vec<NodeTable>,
+    workers: u32,
+    gate: &G,
+    rules: &Rules,
+) -> Result<(Vec<NodeTable>, Vec<Record>), Fault>
+    requires several { 2 ≤ workers }
+    requires many { workers ≤ MOST_WORKERS }
+    requires cluster { IsCluster list.now.nodes (tables_in tables.items) }
+    requires budget { 1 ≤ rules.now.budget }
+    ensures exchanged { IfOk result (λ p. AreExchanged rules.now list.now.exchanges tables.items p.0.items p.1.items) }
+    ensures fault { IfErr result (IsPoolFault workers) }
+{
+    by_workers::<Brand, R, G>(rt, alloc, list, tables, workers, gate, rules)
+}
+
+// The same, where a type knows how long the list is.
+fn by_workers<L: Limit + Send + Sync, R: Threads + Wait + Sync, G: Gate + Sync>(
+    rt: &R,
+    alloc: Global,
+    list: &RoundList,
+    tables: Vec<NodeTable>,
+    workers: u32,
+    gate: &G,
+    rules: &Rules,
+) -> Result<(Vec<NodeTable>, Vec<Record>), Fault>
+    requires limit { L.limit ≡ length list.now.exchanges }
+    requires several { 2 ≤ workers }
+    requires many { workers ≤ MOST_WORKERS }
+    requires cluster { IsCluster list.now.nodes (tables_in tables.items) }
+    requires budget { 1 ≤ rules.now.budget }
+    ensures exchanged { IfOk result (λ p. AreExchanged rules.now list.now.exchanges tables.items p.0.items p.1.items) }
+    ensures fault { IfErr result (IsPoolFault workers) }
+{
+    let deps = Deps::new(alloc, list)?;
+    let tasks = deal::<L>(alloc, workers, deps.first_ready())?;
+    let (board, seat) = Board::new(alloc, deps, *rules, tables)?;
+    let job = Job {
+        alloc,
+        board: &board,
+        list,
+        rules,
+        gate,
+    };
+    let (seat, stamps) = run_workers(rt, &job, seat, tasks)?;
+    let Ok(tables) = board.close(seat) else {
+        unreachable!()
+    };
+    let records = in_list_order(alloc, list.len(), &stamps)?;
+    Ok((tables, records))
+}
+
+// Starts a thread for each worker and joins them all. Answers the whole seat, and the records of the workers.
+fn run_workers<L: Limit + Send + Sync, R: Threads + Wait + Sync, G: Gate + Sync>(
+    rt: &R,
+    job: &Job<G>,
+    seat: Seat,
+    tasks: Vec<Tasks<L>>,
+) -> Result<(Seat, Vec<Stamped>), Fault>
+    requires limit { L.limit ≡ length job.now.list.now.exchanges }
+    requires several { 2 ≤ vec_len tasks }
+    requires many { vec_len tasks ≤ MOST_WORKERS }
+    requires seat { IsSeatOf seat job.now.board.now }
+    requires first { seat_view seat ≡ first_seat }
+    ensures made { IfOk result (λ p. HasSeenAll job.now.board.now p.0 p.1.items) }
+    ensures fault { IfErr result (IsPoolFault (vec_len tasks)) }
+{
+    thread::scope(
+        thread::scope_env(),
+        rt,
+        |scope| -> Result<(Seat, Vec<Stamped>), Fault>
+            requires limit { L.limit ≡ length job.now.list.now.exchanges }
+            requires several { 2 ≤ vec_len tasks }
+            requires many { vec_len tasks ≤ MOST_WORKERS }
+            requires seat { IsSeatOf seat job.now.board.now }
+            requires first { seat_view seat ≡ first_seat }
+            ensures made { IfOk result (λ p. HasSeenAll job.entry.now.board.now p.0 p.1.items) }
+            ensures fault { IfErr result (IsPoolFault (vec_len tasks)) }
+        { run_in_scope(scope, rt, job, seat, tasks) },
+    )
+}
+
+// The same, in an open scope.
+fn run_in_scope<'s, 'e: 's, L: Limit + Send + Sync + 'e, R: Threads + Wait + Sync, G: Gate + Sync>(
+    scope: &Scope<'s, &'e ()>,
+    rt: &'e R,
+    job: &'e Job<'e, G>,
+    mut seat: Seat,
+    tasks: Vec<Tasks<L>>,
+) -> Result<(Seat, Vec<Stamped>), Fault>
+    requires limit { L.limit ≡ length job.now.list.now.exchanges }
+    requires several { 2 ≤ vec_len tasks }
+    requires many { vec_len tasks ≤ MOST_WORKERS }
+    requires seat { IsSeatOf seat job.now.board.now }
+    requires first { seat_view seat ≡ first_seat }
+    ensures made { IfOk result (λ p. HasSeenAll job.now.board.now p.0 p.1.items) }
+    ensures fault { IfErr result (IsPoolFault (vec_len tasks)) }
+{
+    let mut handles = Vec::with_capacity(job.alloc, tasks.len())?;
+    let started = start_all(scope, rt, job, &mut seat, tasks, &mut handles);
+    if started.is_err() {
+        job.board.stop(&mut seat);
+    }
+    let joined = join_all(rt, job.alloc, job.board, &mut seat, handles);
+    started?;
+    let stamps = joined?;
+    // A whole seat, so it learns that all exchanges are put back.
+    job.board.look(&mut seat);
+    Ok((seat, stamps))
+}
+
+// Starts a thread for each worker, with a seat of its own.
+fn start_all<'s, 'e: 's, L: Limit + Send + Sync + 'e, R: Threads + Wait + Sync, G: Gate + Sync>(
+    scope: &Scope<'s, &'e ()>,
+    rt: &'e R,
+    job: &'e Job<'e, G>,
+    seat: &mut Seat,
+    tasks: Vec<Tasks<L>>,
+    handles: &mut Vec<Handle>,
+) -> Result<(), Fault>
+    requires limit { L.limit ≡ length job.now.list.now.exchanges }
+    requires seat { IsFreshSeat job.now.board.now seat.old }
+    requires parts { vec_len tasks < (seat_view seat.old).parts }
+    requires none { handles.old.items ≡ [] }
+    requires room { vec_len tasks ≤ vec_capacity handles.old }
+    ensures seat { IsFreshSeat job.now.board.now seat.new }
+    ensures parts { OnOk result ((seat_view seat.new).parts + vec_len handles.new ≡ (seat_view seat.old).parts) }
+    ensures count { OnOk result (vec_len handles.new ≡ vec_len tasks) }
+    ensures promised { All (IsOfBoard job.now.board.now) handles.new.items }
+    ensures only { IsOkUnless result NoThread }
+{
+    for own in tasks {
+        let part = job.board.split(seat);
+        let back = Back(Snapshot::of(job.board));
+        let started = scope.spawn_with(
+            back,
+            move || -> Report
+                requires limit { L.limit ≡ length job.now.list.now.exchanges }
+                requires seat { IsFreshSeat job.now.board.now part }
+                ensures { IsReport job.entry.now.board.now (seat_view part).parts result }
+            { job.work(rt, part, own) },
+        );
+        match started {
+            Ok(handle) => handles.push_reserved(handle),
+            Err(_) => return Err(Fault::NoThread),
+        }
+    }
+    Ok(())
+}
+
+// Joins the threads, and their seats to another. Answers the records of all, in the order of joining.
+fn join_all<R: Threads>(
+    rt: &R,
+    alloc: Global,
+    board: &Board,
+    seat: &mut Seat,
+    handles: Vec<Handle>,
+) -> Result<Vec<Stamped>, Fault>
+    requires seat { IsSeatOf seat.old board.now }
+    requires made { (seat_view seat.old).made ≡ [] }
+    requires promised { All (IsOfBoard board.now) handles.items }
+    ensures seat { IsSeatOf seat.new board.now }
+    ensures parts { (seat_view seat.new).parts ≡ (seat_view seat.old).parts + vec_len handles }
+    ensures joined { IfOk result (λ stamps. HasTakenIn board.now (vec_len handles) seat.old seat.new stamps.items) }
+    ensures fault { IfErr result (λ f. f ≡ OutOfMemory) }
+{
+    let mut all = Ok(Vec::new(alloc));
+    for handle in handles {
+        let Report {
+            seat: part,
+            outcome,
+        } = handle.join(rt);
+        board.join(seat, part);
+        all = with_more(all, outcome);
+    }
+    all
+}
+
+// The records of both, or the first fault.
+fn with_more(
+    all: Result<Vec<Stamped>, Fault>,
+    more: Result<Vec<Stamped>, Fault>,
+) -> Result<Vec<Stamped>, Fault>
+    requires first { IfErr all (λ f. f ≡ OutOfMemory) }
+    requires second { IfErr more (λ f. f ≡ OutOfMemory) }
+    ensures together { IfOk result (AreTogether all more) }
+    ensures fault { IfErr result (λ f. f ≡ OutOfMemory) }
+{
+    let mut all = all?;
+    all.extend_from_slice(&more?)?;
+    Ok(all)
+}

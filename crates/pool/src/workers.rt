@@ -1,0 +1,163 @@
+//! What the workers of a list share, and the body of one of them.
+
+ghost use Rattle.std.specs.Prelude.{◌≡◌, ◌<◌, ◌↔◌, length, IfOk, OnOk, OnErr, IsOkUnless, IsTrue};
+ghost use Rattle.bench_types.specs.declared.faults.Fault.TheVariants.{OutOfMemory};
+ghost use Rattle.board.specs.Weights.{Has};
+ghost use Rattle.board.specs.Boards.{plan_of, seat_view, IsSeatOf, IsHoldOf};
+ghost use Rattle.pool.specs.Jobs.{IsJob};
+
+use crate::deques::{Limit, Tasks};
+use crate::gates::Gate;
+use bench_types::{Fault, Rules};
+use board::{Board, Claim, Freed, Hold, Seat};
+use collector::Stamped;
+use crossbeam_utils::Backoff;
+use exchange::exchange;
+use round_plan::RoundList;
+use std::alloc::Global;
+use std::sync::Wait;
+
+/// What all workers of a list share.
+#[derive(Drop)]
+pub(crate) struct Job<'a, G> {
+    pub alloc: Global,
+    pub board: &'a Board,
+    pub list: &'a RoundList,
+    pub rules: &'a Rules,
+    pub gate: &'a G,
+    ghost planned: { IsJob board.now list.now rules.now },
+}
+
+/// What a worker comes back with: its seat, and the records of the exchanges that it has put back, or
+/// lack of memory.
+#[derive(Drop)]
+pub(crate) struct Report {
+    pub seat: Seat,
+    pub outcome: Result<Vec<Stamped>, Fault>,
+}
+
+impl<'a, G: Gate> Job<'a, G> {
+    ghost use Rattle.pool.specs.Reports.{HasDone, AreRecordsOf, IsFreshSeat, IsReport, SeesTheEnd, StaysAtWork};
+
+    /// Carries out exchanges of the list until it sees that all are finished or that a stop was called. On
+    /// lack of memory it calls for a stop.
+    pub(crate) fn work<L: Limit, R: Wait>(
+        &self,
+        rt: &R,
+        mut seat: Seat,
+        mut tasks: Tasks<L>,
+    ) -> Report
+        requires limit { L.limit ≡ length self.now.list.now.exchanges }
+        requires seat { IsFreshSeat self.now.board.now seat }
+        ensures { IsReport self.now.board.now (seat_view seat).parts result }
+    {
+        let outcome = self.carry_out_all(rt, &mut seat, &mut tasks);
+        if outcome.is_err() {
+            self.board.stop(&mut seat);
+        }
+        Report { seat, outcome }
+    }
+
+    // Answers the records of what was put back.
+    fn carry_out_all<L: Limit, R: Wait>(
+        &self,
+        rt: &R,
+        seat: &mut Seat,
+        tasks: &mut Tasks<L>,
+    ) -> Result<Vec<Stamped>, Fault>
+        requires limit { L.limit ≡ length self.now.list.now.exchanges }
+        requires seat { IsFreshSeat self.now.board.now seat.old }
+        ensures seat { IsSeatOf seat.new self.now.board.now }
+        ensures stays { StaysAtWork (seat_view seat.old) (seat_view seat.new) }
+        ensures records { IfOk result
+            (λ stamps. AreRecordsOf (plan_of self.now.board.now) (seat_view seat.new) stamps.items) }
+        ensures ends { OnOk result (SeesTheEnd (plan_of self.now.board.now) (seat_view seat.new)) }
+        ensures only { IsOkUnless result OutOfMemory }
+    {
+        let mut stamps = Vec::new(self.alloc);
+        let backoff = Backoff::new();
+        for _ in rt.forever() {
+            if let Some(i) = tasks.next() {
+                self.try_one(seat, tasks, &mut stamps, i)?;
+                backoff.reset();
+            } else if self.sees_the_end(seat) {
+                break;
+            } else {
+                backoff.snooze();
+            }
+        }
+        Ok(stamps)
+    }
+
+    // Whether all exchanges are put back, or a stop was called.
+    fn sees_the_end(&self, seat: &mut Seat) -> bool
+        requires seat { IsSeatOf seat.old self.now.board.now }
+        ensures seat { IsSeatOf seat.new self.now.board.now }
+        ensures made { (seat_view seat.new).made ≡ (seat_view seat.old).made }
+        ensures stays { StaysAtWork (seat_view seat.old) (seat_view seat.new) }
+        ensures ends { IsTrue result ↔ SeesTheEnd (plan_of self.now.board.now) (seat_view seat.new) }
+    {
+        let progress = self.board.look(seat);
+        progress.stopped || progress.finished == self.list.len()
+    }
+
+    // Claims an exchange, and where it is held carries it out and keeps its record. What that made ready
+    // goes on the worker's own deque.
+    fn try_one<L: Limit>(
+        &self,
+        seat: &mut Seat,
+        tasks: &mut Tasks<L>,
+        stamps: &mut Vec<Stamped>,
+        i: u32,
+    ) -> Result<(), Fault>
+        requires limit { L.limit ≡ length self.now.list.now.exchanges }
+        requires within { i < L.limit }
+        requires seat { IsSeatOf seat.old self.now.board.now }
+        requires records { AreRecordsOf (plan_of self.now.board.now) (seat_view seat.old) stamps.old.items }
+        ensures seat { IsSeatOf seat.new self.now.board.now }
+        ensures stays { StaysAtWork (seat_view seat.old) (seat_view seat.new) }
+        ensures records { OnOk result
+            (AreRecordsOf (plan_of self.now.board.now) (seat_view seat.new) stamps.new.items) }
+        ensures only { IsOkUnless result OutOfMemory }
+    {
+        let Claim::Held(hold) = self.board.claim(seat, i) else {
+            return Ok(());
+        };
+        let (stamped, freed) = self.carry_out(seat, hold)?;
+        if let Some(next) = freed.first {
+            tasks.push(next)?;
+        }
+        if let Some(next) = freed.second {
+            tasks.push(next)?;
+        }
+        stamps.push(stamped)?;
+        Ok(())
+    }
+
+    /// Carries out the exchange of a hold and puts it back, between `enter` and `leave` of the gate. Answers
+    /// its record, and which exchanges that made ready. An error is lack of memory; the gate wasn't left then,
+    /// and the hold is given up.
+    pub(crate) fn carry_out(
+        &self,
+        seat: &mut Seat,
+        mut hold: Hold,
+    ) -> Result<(Stamped, Freed), Fault>
+        requires seat { IsSeatOf seat.old self.now.board.now }
+        requires held { Has (seat_view seat.old).held hold.index }
+        requires hold { IsHoldOf (plan_of self.now.board.now) hold.index hold }
+        ensures seat { IsSeatOf seat.new self.now.board.now }
+        ensures done { IfOk result (λ done.
+            HasDone (plan_of self.now.board.now) (seat_view seat.old) hold.index done.0 done.1 (seat_view seat.new)) }
+        ensures err { OnErr result (seat_view seat.new ≡ seat_view seat.old) }
+        ensures only { IsOkUnless result OutOfMemory }
+    {
+        let index = hold.index;
+        let plan = self.list.exchanges()[index as usize];
+        self.gate.enter(index);
+        let (initiator, responder) = (&mut hold.initiator, &mut hold.responder);
+        let outcome = exchange(self.alloc, initiator, responder, &plan, self.rules)?;
+        let freed = self.board.put_back(seat, hold);
+        self.gate.leave(index);
+        Ok((Stamped { index, outcome }, freed))
+    }
+}

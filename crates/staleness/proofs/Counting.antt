@@ -1,17 +1,47 @@
--- What was counted of each node, in whatever threads, comes to the figures of all.
-use Rattle.std.proofs.Common.{◌≡◌, ℕ, zero, suc, ◌+◌, ◌*◌, ◌<◌, ◌≤◌, List, [], ◌∷◌, length, get_or, All, refl, ap, ◌∙◌, subst, arith}
+-- What was counted by owner, in whatever parts, comes to the figures of all.
+use Rattle.std.proofs.Common.{◌≡◌, ℕ, zero, suc, ◌+◌, ◌*◌, ◌/◌, ◌<◌, ◌≤◌, min, List, [], ◌∷◌, length, get_or, All, Result, Ok, Err, IsOk, IfOk, sym, ap, ◌∙◌, subst, arith}
+use Rattle.std.specs.declared.alloc.AllocError.{AllocError}
 use Rattle.std.specs.List.{AllZip, range_with_len}
+use Rattle.std.proofs.Math.Nat.{lt-div-mul-add}
 use Rattle.std.proofs.lemmas.List.FromFn.{length-range_with_len}
 use Rattle.std.proofs.lemmas.Slice.Zip.{AllZip-long}
 use Rattle.bench_types.specs.declared.rows.Figures.{Figures}
 use Rattle.node_table.specs.Table.{Table}
+use Rattle.cluster.specs.Tables.{table_of_node, IsCluster}
 use Rattle.staleness.specs.declared.lists.Write.{Write}
-use Rattle.staleness.specs.Figures.{sum_below, most_below, figures_at, node_figures, figures_of}
-use Rattle.staleness.specs.Cluster.{IsCounted, AreCounted}
-use Rattle.staleness.proofs.Sums.{sum_below-same, most_below-same}
+use Rattle.staleness.specs.Figures.{sum_below, most_below, staleness_at, stale_count, rounds_behind, figures_of}
+use Rattle.staleness.specs.Copies.{owner_figures, part_figures}
+use Rattle.staleness.specs.Cluster.{IsCounted, AreCounted, figures_found, found_at}
+use Rattle.staleness.proofs.Places.{one_more}
+use Rattle.staleness.proofs.Sums.{sum_below-same, most_below-same, sum_below-swap, most_below-swap, sum_below-parts, most_below-parts}
+
+-- by owner, by key and then by node they are the same
+module _ (round : ℕ) (tables : List Table) (lists : List (List Write)) (cluster : IsCluster (length tables) tables) where
+  abbrev keys : ℕ
+  keys = (table_of_node tables 0).keys
+
+  abbrev stale : ℕ → ℕ → ℕ → ℕ
+  stale p r k = stale_count (staleness_at round tables lists p r k)
+
+  abbrev rounds : ℕ → ℕ → ℕ → ℕ
+  rounds p r k = rounds_behind (staleness_at round tables lists p r k)
+
+  pub stale_by_owner : sum_below (length tables) (λ r. (owner_figures round tables lists r).stale) ≡ sum_below (length tables) (λ p. sum_below (length tables) (λ r. sum_below (table_of_node tables p).keys (stale p r)))
+  stale_by_owner =
+      sum_below-same (λ r. sum_below keys (λ k. sum_below (length tables) (λ p. stale p r k))) (λ r. sum_below (length tables) (λ p. sum_below keys (stale p r))) (length tables) (λ r lt. sym (sum_below-swap (λ p k. stale p r k) (length tables) keys))
+      ∙ sum_below-swap (λ r p. sum_below keys (stale p r)) (length tables) (length tables)
+      ∙ sum_below-same (λ p. sum_below (length tables) (λ r. sum_below keys (stale p r))) (λ p. sum_below (length tables) (λ r. sum_below (table_of_node tables p).keys (stale p r))) (length tables)
+      (λ p lt. ap (λ n. sum_below (length tables) (λ r. sum_below n (stale p r))) (sym (cluster.tables p lt).keys))
+
+  pub most_by_owner : most_below (length tables) (λ r. (owner_figures round tables lists r).greatest) ≡ most_below (length tables) (λ p. most_below (length tables) (λ r. most_below (table_of_node tables p).keys (rounds p r)))
+  most_by_owner =
+      most_below-same (λ r. most_below keys (λ k. most_below (length tables) (λ p. rounds p r k))) (λ r. most_below (length tables) (λ p. most_below keys (rounds p r))) (length tables) (λ r lt. sym (most_below-swap (λ p k. rounds p r k) (length tables) keys))
+      ∙ most_below-swap (λ r p. most_below keys (rounds p r)) (length tables) (length tables)
+      ∙ most_below-same (λ p. most_below (length tables) (λ r. most_below keys (rounds p r))) (λ p. most_below (length tables) (λ r. most_below (table_of_node tables p).keys (rounds p r))) (length tables)
+      (λ p lt. ap (λ n. most_below (length tables) (λ r. most_below n (rounds p r))) (sym (cluster.tables p lt).keys))
 
 -- what a list has for each number of a range stands at its place
-at_place : (R : ℕ → Figures → Type 0) (from n : ℕ) (parts : List Figures) → AllZip R (range_with_len from n) parts → (k : ℕ) (d : Figures) → k < n → R (from + k) (get_or parts k d)
+at_place : (R : ℕ → Result Figures AllocError → Type 0) (from n : ℕ) (parts : List (Result Figures AllocError)) → AllZip R (range_with_len from n) parts → (k : ℕ) (d : Result Figures AllocError) → k < n → R (from + k) (get_or parts k d)
 at_place R from zero parts each k d lt = absurd (omega arith)
 at_place R from (suc n) [] each k d lt = absurd each
 at_place R from (suc n) (f ∷ fs) each zero d lt = let same : from ≡ from + 0 = omega arith in subst (λ m. R m f) same each.0
@@ -19,33 +49,52 @@ at_place R from (suc n) (f ∷ fs) each (suc k) d lt =
     let same : from + 1 + k ≡ from + suc k = omega arith in
     subst (λ m. R m (get_or fs k d)) same (at_place R (from + 1) n fs each.1 k d (omega arith))
 
-module _ (round : ℕ) (tables : List Table) (lists : List (List Write)) (parts : List Figures) (each : AreCounted round tables lists parts) where
-  counted : (k : ℕ) (d : Figures) → k < length tables → IsCounted round tables lists k (get_or parts k d)
-  counted k d lt = let same : 0 + k ≡ k = omega arith in subst (λ n. IsCounted round tables lists n (get_or parts k d)) same (at_place (IsCounted round tables lists) 0 (length tables) parts each k d lt)
+module _ (round : ℕ) (tables : List Table) (lists : List (List Write)) (size count : ℕ) (parts : List (Result Figures AllocError)) (each : AreCounted round tables lists size count parts) where
+  counted : (k : ℕ) (d : Result Figures AllocError) → k < count → IfOk (get_or parts k d) (IsCounted round tables lists size k)
+  counted k d lt = let same : 0 + k ≡ k = omega arith in
+      subst (λ n. IfOk (get_or parts k d) (IsCounted round tables lists size n)) same (at_place (λ part found. IfOk found (IsCounted round tables lists size part)) 0 count parts each k d lt)
 
-  pub as_many : length parts ≡ length tables
-  as_many = AllZip-long (IsCounted round tables lists) (range_with_len 0 (length tables)) parts each ∙ length-range_with_len 0 (length tables)
+  pub as_many : length parts ≡ count
+  as_many = AllZip-long (λ part found. IfOk found (IsCounted round tables lists size part)) (range_with_len 0 count) parts each ∙ length-range_with_len 0 count
 
-  pub few_parts : length parts ≤ 4096
-  few_parts = elim (length tables) as (λ n. length tables ≡ n → length parts ≤ 4096) [
-    | zero ↦ λ none. omega (arith, as_many)
-    | suc n ↦ λ some. omega (arith, as_many, (counted 0 (record { stale = 0; greatest = 0 }) (omega arith)).few)
-  ] refl
+  pub bounded : All (λ (r : Result Figures AllocError). IfOk r (λ f. f.stale ≤ 4096 * 4096 * 64)) parts
+  bounded k d lt = bound (get_or parts k d) (counted k d (omega (arith, as_many)))
+    where
+      bound : (r : Result Figures AllocError) → IfOk r (IsCounted round tables lists size k) → IfOk r (λ f. f.stale ≤ 4096 * 4096 * 64)
+      bound (Ok f) is = is.bound
+      bound (Err e) is = tt
 
-  pub bounded : All (λ (f : Figures). f.stale ≤ 4096 * 64) parts
-  bounded k d lt = (counted k d (omega (arith, as_many))).bound
+  abbrev nothing : Result Figures AllocError
+  nothing = Ok (record { stale = 0; greatest = 0 })
 
-  pub stale_of_all : sum_below (length parts) (λ i. (figures_at parts i).stale) ≡ sum_below (length tables) (λ p. (node_figures round tables lists p).stale)
-  stale_of_all =
-      ap (λ n. sum_below n (λ i. (figures_at parts i).stale)) as_many
-      ∙ sum_below-same (λ i. (figures_at parts i).stale) (λ p. (node_figures round tables lists p).stale) (length tables) (λ k lt. ap (λ (f : Figures). f.stale) (counted k (record { stale = 0; greatest = 0 }) lt).figures)
-
-  pub greatest_of_all : most_below (length parts) (λ i. (figures_at parts i).greatest) ≡ most_below (length tables) (λ p. (node_figures round tables lists p).greatest)
-  greatest_of_all =
-      ap (λ n. most_below n (λ i. (figures_at parts i).greatest)) as_many
-      ∙ most_below-same (λ i. (figures_at parts i).greatest) (λ p. (node_figures round tables lists p).greatest) (length tables) (λ k lt. ap (λ (f : Figures). f.greatest) (counted k (record { stale = 0; greatest = 0 }) lt).figures)
+  found : All IsOk parts → (k : ℕ) → k < count → found_at parts k ≡ part_figures round tables lists size k
+  found ok k lt = at (get_or parts k nothing) (ok k nothing (omega (arith, as_many))) (counted k nothing lt)
+    where
+      at : (r : Result Figures AllocError) → IsOk r → IfOk r (IsCounted round tables lists size k) → figures_found r ≡ part_figures round tables lists size k
+      at (Ok f) ok is = is.figures
+      at (Err e) ok is = cc
 
   -- so do their sum and the greatest of them
-  pub figures_of_all : (total : Figures) → total.stale ≡ sum_below (length parts) (λ i. (figures_at parts i).stale) → total.greatest ≡ most_below (length parts) (λ i. (figures_at parts i).greatest) → total ≡ figures_of round tables lists
+  pub figures_of_all : IsCluster (length tables) tables → length tables ≤ count * size → All IsOk parts → (total : Figures) → total.stale ≡ sum_below (length parts) (λ i. (found_at parts i).stale) → total.greatest ≡ most_below (length parts) (λ i. (found_at parts i).greatest) → total ≡ figures_of round tables lists
   unfolding figures_of
-  figures_of_all total stale_is greatest_is = λ i. record { stale = (stale_is ∙ stale_of_all) i; greatest = (greatest_is ∙ greatest_of_all) i }
+  figures_of_all cluster all ok total stale_is greatest_is =
+      let whole : min (count * size) (length tables) ≡ length tables = omega arith in
+      let stale_all : total.stale ≡ (figures_of round tables lists).stale =
+      stale_is
+      ∙ ap (λ n. sum_below n (λ i. (found_at parts i).stale)) as_many
+      ∙ sum_below-same (λ i. (found_at parts i).stale) (λ i. (part_figures round tables lists size i).stale) count (λ k lt. ap (λ (f : Figures). f.stale) (found ok k lt))
+      ∙ sum_below-parts (λ r. (owner_figures round tables lists r).stale) (length tables) size count
+      ∙ ap (λ n. sum_below n (λ r. (owner_figures round tables lists r).stale)) whole
+      ∙ stale_by_owner round tables lists cluster in
+      let greatest_all : total.greatest ≡ (figures_of round tables lists).greatest =
+      greatest_is
+      ∙ ap (λ n. most_below n (λ i. (found_at parts i).greatest)) as_many
+      ∙ most_below-same (λ i. (found_at parts i).greatest) (λ i. (part_figures round tables lists size i).greatest) count (λ k lt. ap (λ (f : Figures). f.greatest) (found ok k lt))
+      ∙ most_below-parts (λ r. (owner_figures round tables lists r).greatest) (length tables) size count
+      ∙ ap (λ n. most_below n (λ r. (owner_figures round tables lists r).greatest)) whole
+      ∙ most_by_owner round tables lists cluster in
+      λ i. record { stale = stale_all i; greatest = greatest_all i }
+
+-- so many parts of a size are enough
+pub enough : (n size : ℕ) → 1 ≤ size → n ≤ (n / size + 1) * size
+enough n size some = omega (arith, lt-div-mul-add {a = n} {b = size} some, one_more (n / size) size)

@@ -1,9 +1,11 @@
 pub mod Rising
 pub mod Last
 pub mod Linking
+pub mod Births
 pub mod Walking
 pub mod Sums
-pub mod Lagging
-pub mod Sharing
+pub mod Rows
+pub mod Seen
+pub mod Places
 pub mod OwnParts
 pub mod Counting

@@ -12,7 +12,7 @@ use Rattle.std.proofs.lemmas.List.{drop_all, length-reverse, get_or-reverse, get
 use Rattle.std.proofs.lemmas.List.Folds.{find-append}
 use Rattle.staleness.specs.declared.lists.Link.{Link}
 use Rattle.staleness.specs.declared.lists.Write.{Write}
-use Rattle.staleness.specs.Writes.{next_write, IsNumbered, is_write_of, is_missed, last_write, first_missed}
+use Rattle.staleness.specs.Writes.{next_write, IsNumbered, is_write_of, is_missed, last_write, first_missed, born_in_order}
 use Rattle.staleness.specs.Linked.{as_write, shown, shown_from, version_or_zero, IsLinked, IsOwnerList}
 use Rattle.staleness.specs.Latest.{keyed, write_of, IsLatest, AreFirst}
 use Rattle.staleness.proofs.Rising.{rising_put}
@@ -80,7 +80,7 @@ missed_true : (key version : ℕ) (w : Write) → w.key ≡ key → version < w.
 missed_true key version w same above = rw (eq-eqb w.key key same, lt-ltb version w.version above)
 
 -- a write of the key above the version was missed
-missed_some : (ws : List Write) (key version i : ℕ) (d : Write) → i < length ws → (get_or ws i d).key ≡ key → version < (get_or ws i d).version → first_missed ws key version ≢ None
+pub missed_some : (ws : List Write) (key version i : ℕ) (d : Write) → i < length ws → (get_or ws i d).key ≡ key → version < (get_or ws i d).version → first_missed ws key version ≢ None
 missed_some ws key version i d lt same above = found_some (is_missed key version) ws i d lt (missed_true key version (get_or ws i d) same above)
 
 -- the write stands where its version says
@@ -352,11 +352,12 @@ firsts_after ws firsts firsts' w (suc n) numbered some is begins pushed same =
     subst (λ vs. AreFirst vs (ws ++ w ∷ [])) (sym (same (omega arith))) (firsts_kept ws firsts w numbered some (omega (arith, is)) begins)
 
 -- what the list keeps, after a push
-pub kept_pushed : (ls ls' : List Link) (firsts' latest' : List Write) (w : Write) → length (shown ls) + 1 < 2 ^ 32
-    → shown ls' ≡ shown ls ++ w ∷ [] → IsLinked ls' → AreFirst firsts' (shown ls ++ w ∷ []) → IsLatest latest' (shown ls ++ w ∷ []) → IsOwnerList ls' firsts' latest'
-kept_pushed ls ls' firsts' latest' w few pushed linked begins ends = record {
+pub kept_pushed : (ls ls' : List Link) (firsts' latest' : List Write) (in_order' : Bool) (w : Write) → length (shown ls) + 1 < 2 ^ 32
+    → shown ls' ≡ shown ls ++ w ∷ [] → IsLinked ls' → AreFirst firsts' (shown ls ++ w ∷ []) → IsLatest latest' (shown ls ++ w ∷ []) → in_order' ≡ born_in_order (shown ls ++ w ∷ []) → IsOwnerList ls' firsts' latest' in_order'
+kept_pushed ls ls' firsts' latest' in_order' w few pushed linked begins ends in_order = record {
   few = omega (arith, length-shown ls', ap length pushed, length-append (shown ls) (w ∷ []));
   linked = linked;
   begins = subst (AreFirst firsts') (sym pushed) begins;
   ends = subst (IsLatest latest') (sym pushed) ends;
+  in_order_is = in_order ∙ ap born_in_order (sym pushed);
 }

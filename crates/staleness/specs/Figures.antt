@@ -22,10 +22,6 @@ most_below (suc n) f = max (most_below n f) (f n)
 abbrev pub writes_at : List (List Write) → ℕ → List Write
 writes_at lists r = slice_index_or lists r []
 
--- what was counted of a node
-abbrev pub figures_at : List Figures → ℕ → Figures
-figures_at parts p = slice_index_or parts p (record { stale = 0; greatest = 0 })
-
 -- how long a version of a key has been behind an owner's list, if it is
 abbrev pub staleness_of : ℕ → List Write → ℕ → ℕ → Option ℕ
 staleness_of round writes key version = option_map (λ w. round - w.born + 1) (first_missed writes key version)
@@ -40,13 +36,6 @@ stale_count staleness = if is_some staleness then 1 else 0
 
 abbrev pub rounds_behind : Option ℕ → ℕ
 rounds_behind staleness = unwrap_or staleness 0
-
--- what the versions of so many keys come to against an owner's list
-abbrev pub lag_figures : ℕ → List Write → ℕ → (ℕ → ℕ) → Figures
-lag_figures round writes keys version = record {
-  stale = sum_below keys (λ k. stale_count (staleness_of round writes k (version k)));
-  greatest = most_below keys (λ k. rounds_behind (staleness_of round writes k (version k)));
-}
 
 -- the figures of one node's copies of one owner's keys, of all its copies, and of all nodes
 abbrev pub copy_figures : ℕ → List Table → List (List Write) → ℕ → ℕ → Figures

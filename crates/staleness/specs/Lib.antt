@@ -3,7 +3,7 @@ pub mod Latest
 pub mod Linked
 pub mod Figures
 pub mod Cluster
-pub mod Lags
+pub mod Copies
 pub use Rattle.node_table.specs.Table
 pub use Rattle.node_table.specs.Rows
 pub use Rattle.node_table.specs.NodeTableView

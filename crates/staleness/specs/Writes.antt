@@ -1,6 +1,6 @@
 -- The writes of an owner, in order. Only the owner writes its own state, and its n-th write has version n, from 1.
 -- Source: the LADIS 2008 paper; the numbers and `born`, the round of a write, are this project's.
-use Rattle.std.specs.Prelude.{◌≡◌, ℕ, ◌<◌, ◌≤◌, ◌==◌, ◌&&◌, nat_lt, List, length, reverse, find, slice_index_or, All, Bool, Option}
+use Rattle.std.specs.Prelude.{◌≡◌, ℕ, ◌<◌, ◌≤◌, ◌==◌, ◌&&◌, nat_lt, nat_le, List, [], ◌∷◌, length, reverse, find, slice_index_or, All, Bool, true, Option}
 use Rattle.bench_types.specs.Entry.{next_version}
 use Rattle.staleness.specs.declared.lists.Write.{Write}
 
@@ -31,3 +31,17 @@ first_missed writes key version = find (is_missed key version) writes
 -- none was made after this round
 abbrev pub AreBornBy : ℕ → List Write → Type 0
 AreBornBy round writes = All (λ w. w.born ≤ round) writes
+
+-- the round of the last write, or a round where there is none
+abbrev pub last_born : ℕ → List Write → ℕ
+last_born born [] = born
+last_born born (w ∷ ws) = last_born w.born ws
+
+-- none was made before this round, nor before the one in front of it
+abbrev pub in_order_from : ℕ → List Write → Bool
+in_order_from born [] = true
+in_order_from born (w ∷ ws) = nat_le born w.born && in_order_from w.born ws
+
+-- no write was made in an earlier round than one before it
+abbrev pub born_in_order : List Write → Bool
+born_in_order writes = in_order_from 0 writes

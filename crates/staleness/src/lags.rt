@@ -1,18 +1,20 @@
 //! How far the copies of all nodes lag behind their owners.
 
-ghost use Rattle.std.specs.Prelude.{◌≡◌, ℕ, ◌+◌, ◌*◌, ◌^◌, ◌-◌, ◌<◌, ◌≤◌, max, All, IfOk, IsOkUnless, length, slice_index_or, Bool};
+ghost use Rattle.std.specs.Prelude.{◌≡◌, ℕ, ◌+◌, ◌*◌, ◌/◌, ◌^◌, ◌<◌, ◌≤◌, max, All, IfOk, IsOk, IsOkUnless, OnOk, length, slice_index_or};
 ghost use Rattle.bench_types.specs.declared.faults.Fault.TheVariants.{OutOfMemory};
+ghost use Rattle.staleness.specs.declared.copies.Copies.{Copies};
+ghost use Rattle.staleness.specs.Writes.{AreBornBy};
 ghost use Rattle.node_table.specs.Table.{version_at};
-ghost use Rattle.staleness.specs.Writes.{AreBornBy, IsNumbered};
-ghost use Rattle.staleness.specs.Figures.{sum_below, most_below, figures_at, staleness_of, stale_count, rounds_behind, lag_figures, node_figures, figures_of};
-ghost use Rattle.cluster.specs.Tables.{tables_in, IsCluster};
-ghost use Rattle.staleness.specs.Cluster.{OwnPartsAreLastWrites, AreCountable, IsCounted, AreCounted};
-ghost use Rattle.staleness.specs.Lags.{has_key, key_of_entry, is_held, is_unheld, known_count, lag_among};
+ghost use Rattle.staleness.specs.Figures.{sum_below, most_below, staleness_of, staleness_at, rounds_behind, figures_of};
+ghost use Rattle.staleness.specs.Copies.{copies_of, key_figures, owner_figures, owners_figures, part_figures};
+ghost use Rattle.cluster.specs.Tables.{tables_in, table_of_node, IsCluster};
+ghost use Rattle.staleness.specs.Cluster.{AreCountable, IsCounted, AreCounted, found_at};
 
+use crate::copies::{Copies, copies_of};
 use crate::lists::OwnerList;
-use bench_types::limits::MOST_KEYS;
-use bench_types::{Entry, Fault, Figures};
+use bench_types::{Fault, Figures};
 use node_table::NodeTable;
+use rayon::current_num_threads;
 use rayon::prelude::*;
 use std::alloc::{AllocError, Global};
 use std::thread::Threads;
@@ -34,169 +36,196 @@ fn joined(one: Figures, other: Figures) -> Figures
     }
 }
 
-// What the keys lag of which the node's copy of an owner holds an entry, and how many of them have the
-// version of a write of the owner's.
-fn lag_of_held(table: &NodeTable, owner: u32, list: &OwnerList, round: u32) -> (u32, Figures)
-    requires owner { owner < table.now.table.nodes }
+// For how many rounds a version of a key has been behind its owner's list, 0 where it isn't.
+fn rounds_behind(list: &OwnerList, key: u32, version: u32, round: u32) -> u32
     requires round { round ≤ 100000 }
     requires born { AreBornBy round list.now }
-    requires numbered { IsNumbered list.now }
-    ensures known { result.0
-        ≡ sum_below table.now.table.keys (known_count list.now (version_at table.now.table owner)) }
-    ensures figures { result.1 ≡ lag_among (is_held table.now.table owner)
-        round list.now table.now.table.keys (version_at table.now.table owner) }
-    ensures few { result.1.stale ≤ table.now.table.keys }
-    ensures limit { table.now.table.keys ≤ MOST_KEYS }
+    ensures { result ≡ rounds_behind (staleness_of round list.now key version) }
 {
-    let mut known = 0;
-    let mut total = NOTHING_STALE;
-    for entry in table.row(owner) {
-        if list.has_write(entry.key, entry.version) {
-            known += 1;
+    match list.first_missed(key, version) {
+        Some(missed) => round - missed.born + 1,
+        None => 0,
+    }
+}
+
+// The most rounds that one of the copies of a key has been so, by a look at the list for each of them.
+fn most_rounds_behind(
+    tables: &[NodeTable],
+    lists: &[OwnerList],
+    owner: u32,
+    key: u32,
+    round: u32,
+) -> u32
+    requires countable { AreCountable round (tables_in tables.now) lists.now }
+    requires owner { owner < length tables.now }
+    ensures { result ≡ most_below (length tables.now)
+        (λ p. rounds_behind (staleness_at round (tables_in tables.now) lists.now p owner key)) }
+{
+    let list = &lists[owner as usize];
+    let mut most = 0;
+    for table in tables {
+        if table.node() != owner {
+            most = most.max(rounds_behind(list, key, version_of(table, owner, key), round));
         }
-        total = joined(total, lag_of_entry(list, entry, round));
     }
-    (known, total)
+    most
 }
 
-// What an entry lags behind its owner's list.
-fn lag_of_entry(list: &OwnerList, entry: &Entry, round: u32) -> Figures
-    requires written { 0 < entry.now.version }
-    requires round { round ≤ 100000 }
-    requires born { AreBornBy round list.now }
-    ensures stale { result.stale ≡ stale_count (staleness_of round list.now entry.now.key entry.now.version) }
-    ensures greatest { result.greatest ≡ rounds_behind (staleness_of round list.now entry.now.key entry.now.version) }
+// The version that a table holds of an owner's key, 0 where it holds none.
+fn version_of(table: &NodeTable, owner: u32, key: u32) -> u32
+    ensures { result ≡ version_at table.now.table owner key }
 {
-    match list.first_missed(entry.key, entry.version) {
-        Some(missed) => lag_since(missed.born, round),
-        None => NOTHING_STALE,
+    match table.get(owner, key) {
+        Some(entry) => entry.version,
+        None => 0,
     }
 }
 
-// What a key lags of which the first write missed was made in a round.
-fn lag_since(born: u32, round: u32) -> Figures
-    requires past { born ≤ round }
-    requires limit { round ≤ 100000 }
-    ensures { result ≡ record { stale = 1; greatest = round - born + 1 } }
+// What the copies of a key lag behind its owner's list. Where the writes stand in the order of their
+// rounds, the one of the least version lags most.
+fn lag_of_key(
+    tables: &[NodeTable],
+    lists: &[OwnerList],
+    owner: u32,
+    key: u32,
+    copies: Copies,
+    round: u32,
+) -> Figures
+    requires countable { AreCountable round (tables_in tables.now) lists.now }
+    requires owner { owner < length tables.now }
+    requires copies { copies ≡ copies_of (tables_in tables.now) lists.now owner key (length tables.now) }
+    ensures { result ≡ key_figures round (tables_in tables.now) lists.now owner key }
 {
+    let list = &lists[owner as usize];
+    let in_order = list.is_in_order();
+    let others = (tables.len() - 1) as u32;
+    let stale = if copies.current == 0 {
+        0
+    } else {
+        others - copies.fresh
+    };
+    let greatest = if in_order {
+        let least = if copies.held < others {
+            0
+        } else {
+            copies.least
+        };
+        rounds_behind(list, key, least, round)
+    } else {
+        most_rounds_behind(tables, lists, owner, key, round)
+    };
     Figures {
-        stale: 1,
-        greatest: round - born + 1,
+        stale: u64::from(stale),
+        greatest,
     }
 }
 
-// Which keys are among those of a row.
-fn keys_of(row: &[Entry]) -> [bool; MOST_KEYS as usize]
-    requires { All (λ e. e.key < MOST_KEYS) row.now }
-    ensures size { length result ≡ MOST_KEYS }
-    ensures keys { (key : ℕ) (d : Bool)
-        → key < MOST_KEYS → slice_index_or result key d ≡ has_key key_of_entry row.now key }
-{
-    let mut held = [false; MOST_KEYS as usize];
-    for entry in row {
-        held[entry.key as usize] = true;
-    }
-    held
-}
-
-// What the keys lag that an owner has written and of which the node's copy holds nothing.
-fn lag_of_others(table: &NodeTable, owner: u32, list: &OwnerList, round: u32) -> Figures
-    requires owner { owner < table.now.table.nodes }
-    requires round { round ≤ 100000 }
-    requires born { AreBornBy round list.now }
-    ensures figures { result ≡ lag_among (is_unheld table.now.table owner)
-        round list.now table.now.table.keys (version_at table.now.table owner) }
-    ensures few { result.stale ≤ table.now.table.keys }
-{
-    let keys = table.keys();
-    let held = keys_of(table.row(owner));
-    let mut total = NOTHING_STALE;
-    for first in list.firsts() {
-        if first.key < keys && !held[first.key as usize] {
-            total = joined(total, lag_since(first.born, round));
-        }
-    }
-    total
-}
-
-// What a node's copy of an owner lags behind the owner's list. Where each key that was written is held,
-// it is read off the row alone.
-fn lag_of_copy(table: &NodeTable, owner: u32, list: &OwnerList, round: u32) -> Figures
-    requires owner { owner < table.now.table.nodes }
-    requires round { round ≤ 100000 }
-    requires born { AreBornBy round list.now }
-    ensures { result ≡ lag_figures round list.now table.now.table.keys (version_at table.now.table owner) }
-{
-    if list.is_empty() {
-        return NOTHING_STALE;
-    }
-    let written = list.firsts().len();
-    let (known, held) = lag_of_held(table, owner, list, round);
-    if written <= known as usize {
-        return held;
-    }
-    joined(held, lag_of_others(table, owner, list, round))
-}
-
-// What all copies that a node holds lag behind their owners' lists.
-fn lag_of_node(tables: &[NodeTable], lists: &[OwnerList], node: usize, round: u32) -> Figures
-    requires node { node < length tables.now }
-    requires cluster { IsCluster (length tables.now) (tables_in tables.now) }
-    requires one_list_each { length lists.now ≡ length tables.now }
-    requires round { round ≤ 100000 }
-    requires born { All (AreBornBy round) lists.now }
-    ensures figures { result ≡ node_figures round (tables_in tables.now) lists.now node }
-    ensures few { length tables.now ≤ 4096 }
+// What the copies of an owner lag behind its list, given what was seen of each key from a place on.
+fn lag_of_owner(
+    tables: &[NodeTable],
+    lists: &[OwnerList],
+    owner: u32,
+    copies: &[Copies],
+    start: usize,
+    round: u32,
+) -> Figures
+    requires countable { AreCountable round (tables_in tables.now) lists.now }
+    requires owner { owner < length tables.now }
+    requires within { start + (table_of_node (tables_in tables.now) 0).keys ≤ length copies.now }
+    requires copies { (key : ℕ) (d : Copies) → key < (table_of_node (tables_in tables.now) 0).keys
+        → slice_index_or copies.now (start + key) d
+        ≡ copies_of (tables_in tables.now) lists.now owner key (length tables.now) }
+    ensures figures { result ≡ owner_figures round (tables_in tables.now) lists.now owner }
     ensures bound { result.stale ≤ 4096 * 64 }
 {
-    let table = &tables[node];
-    let holder = table.node() as usize;
     let mut total = NOTHING_STALE;
-    for (owner, list) in lists.iter().enumerate() {
-        if owner != holder {
-            total = joined(total, lag_of_copy(table, owner as u32, list, round));
-        }
+    for key in 0..tables[0].keys() {
+        let seen = copies[start + key as usize];
+        total = joined(total, lag_of_key(tables, lists, owner, key, seen, round));
     }
     total
+}
+
+// What the copies of a range of owners lag behind their lists.
+fn lag_of_owners(
+    alloc: Global,
+    tables: &[NodeTable],
+    lists: &[OwnerList],
+    from: usize,
+    owners: usize,
+    round: u32,
+) -> Result<Figures, AllocError>
+    requires countable { AreCountable round (tables_in tables.now) lists.now }
+    requires owners { from + owners ≤ length tables.now }
+    ensures figures { IfOk result (λ f. f ≡ owners_figures round (tables_in tables.now) lists.now from owners) }
+    ensures bound { IfOk result (λ f. f.stale ≤ 4096 * 4096 * 64) }
+{
+    let keys = match tables.first() {
+        Some(table) => table.keys(),
+        None => return Ok(NOTHING_STALE),
+    };
+    let copies = copies_of(alloc, tables, lists, from, owners, keys)?;
+    let mut total = NOTHING_STALE;
+    for at in 0..owners {
+        let start = at * keys as usize;
+        total = joined(
+            total,
+            lag_of_owner(tables, lists, (from + at) as u32, &copies, start, round),
+        );
+    }
+    Ok(total)
 }
 
 // How many triples are worth a thread of their own.
 const TRIPLES_OF_A_THREAD: usize = 65_536;
 
-// How many nodes are. It bears on the time alone.
-fn nodes_of_a_thread(tables: &[NodeTable]) -> usize {
+// How many owners a thread gets. It bears on time and memory alone.
+fn owners_of_a_thread(rt: &impl Threads, tables: &[NodeTable]) -> usize
+    requires { IsCluster (length tables.now) (tables_in tables.now) }
+    ensures some { 1 ≤ result }
+    ensures few { length tables.now ≤ 4096 }
+{
     let keys = match tables.first() {
         Some(table) => table.keys(),
         None => 1,
     };
     let triples = tables.len().saturating_mul(keys as usize);
-    (TRIPLES_OF_A_THREAD / triples.max(1)).max(1)
+    let least = TRIPLES_OF_A_THREAD / triples.max(1);
+    (tables.len() / current_num_threads(rt))
+        .max(least)
+        .saturating_add(1)
 }
 
-// What several nodes come to together.
-fn joined_all(parts: &[Figures]) -> Figures
-    requires few { length parts.now ≤ 4096 }
-    requires bound { All (λ f. f.stale ≤ 4096 * 64) parts.now }
-    ensures stale { result.stale ≡ sum_below (length parts.now) (λ i. (figures_at parts.now i).stale) }
-    ensures greatest { result.greatest ≡ most_below (length parts.now) (λ i. (figures_at parts.now i).greatest) }
+// What several parts come to together.
+fn joined_all(parts: &[Result<Figures, AllocError>]) -> Result<Figures, Fault>
+    requires few { length parts.now ≤ 4097 }
+    requires bound { All (λ r. IfOk r (λ f. f.stale ≤ 4096 * 4096 * 64)) parts.now }
+    ensures stale { IfOk result (λ f. f.stale ≡ sum_below (length parts.now) (λ i. (found_at parts.now i).stale)) }
+    ensures greatest { IfOk result
+        (λ f. f.greatest ≡ most_below (length parts.now) (λ i. (found_at parts.now i).greatest)) }
+    ensures each { OnOk result (All IsOk parts.now) }
+    ensures only { IsOkUnless result OutOfMemory }
 {
     let mut total = NOTHING_STALE;
     for part in parts {
-        total = joined(total, *part);
+        match part {
+            Ok(part) => total = joined(total, *part),
+            Err(_) => return Err(Fault::OutOfMemory),
+        }
     }
-    total
+    Ok(total)
 }
 
 /// The figures at the end of a round, down nodes included: how many keys of copies are below the
 /// last writes in their owners' lists, and the greatest number of rounds since the first write that
 /// one of them missed, that round included.
 ///
-/// It goes over the nodes in threads, where there are enough of them, each with a range of them one
-/// after another, and what it answers does not depend on how. It goes once over the row of each copy.
-/// For each held entry there is one look at the owner's list, and one more where it is stale: the
-/// first write that was missed is read off a link. A copy that lacks keys costs a second pass over its
-/// row, and a step for each key that the owner has written. Where an owner has written nothing, no row
-/// is looked at. It takes memory for the figures of each node, and an error is want of that.
+/// It goes over the owners in threads, where there are enough of them, each with a range of them one
+/// after another, and what it answers does not depend on how. Each thread goes once over the rows of
+/// its owners, table by table. Then there are a search among an owner's keys and one look at its list
+/// for each of its keys; but where a list has a write of an earlier round than one before it, a look
+/// for each copy of each key. It takes memory, 16 bytes for each owner and key, and an error is want of
+/// that.
 pub fn figures(
     rt: &(impl Threads + Sync),
     alloc: Global,
@@ -206,35 +235,58 @@ pub fn figures(
 ) -> Result<Figures, Fault>
     requires cluster { IsCluster (length tables.now) (tables_in tables.now) }
     requires one_list_each { length lists.now ≡ length tables.now }
-    requires own_parts { OwnPartsAreLastWrites (tables_in tables.now) lists.now }
     requires round { round ≤ 100000 }
     requires born { All (AreBornBy round) lists.now }
     ensures figures { IfOk result (λ f. f ≡ figures_of round (tables_in tables.now) lists.now) }
     ensures only { IsOkUnless result OutOfMemory }
 {
-    let of_nodes = figures_of_nodes(rt, alloc, tables, lists, round)?;
-    Ok(joined_all(&of_nodes))
+    let size = owners_of_a_thread(rt, tables);
+    let parts = figures_of_parts(rt, alloc, tables, lists, size, round)?;
+    joined_all(&parts)
 }
 
-// What each node's copies lag, by node.
-fn figures_of_nodes(
+// What the copies of each part of so many owners lag, in order.
+fn figures_of_parts(
     rt: &(impl Threads + Sync),
     alloc: Global,
     tables: &[NodeTable],
     lists: &[OwnerList],
+    size: usize,
     round: u32,
-) -> Result<Vec<Figures>, AllocError>
-    requires { AreCountable round (tables_in tables.now) lists.now }
-    ensures { IfOk result (λ parts. AreCounted round (tables_in tables.now) lists.now parts.items) }
+) -> Result<Vec<Result<Figures, AllocError>>, AllocError>
+    requires some { 1 ≤ size }
+    requires countable { AreCountable round (tables_in tables.now) lists.now }
+    ensures { IfOk result
+        (λ v. AreCounted round (tables_in tables.now) lists.now size (length tables.now / size + 1) v.items) }
 {
-    (0..tables.len())
+    (0..tables.len() / size + 1)
         .into_par_iter()
-        .with_min_len(nodes_of_a_thread(tables))
         .map(
-            |node: usize| -> Figures
-                requires { AreCountable round (tables_in tables.now) lists.now × (node < length tables.now) }
-                ensures { IsCounted round (tables_in tables.entry.now) lists.entry.now node result }
-            { lag_of_node(tables, lists, node, round) },
+            |part: usize| -> Result<Figures, AllocError>
+                requires { AreCountable round (tables_in tables.now) lists.now × (1 ≤ size)
+                    × (part ≤ length tables.now / size) }
+                ensures { IfOk result
+                    (IsCounted round (tables_in tables.entry.now) lists.entry.now size part) }
+            { lag_of_part(alloc, tables, lists, size, part, round) },
         )
         .collect(rt, alloc)
+}
+
+// What the copies of a part of so many owners lag.
+fn lag_of_part(
+    alloc: Global,
+    tables: &[NodeTable],
+    lists: &[OwnerList],
+    size: usize,
+    part: usize,
+    round: u32,
+) -> Result<Figures, AllocError>
+    requires some { 1 ≤ size }
+    requires part { part ≤ length tables.now / size }
+    requires countable { AreCountable round (tables_in tables.now) lists.now }
+    ensures { IfOk result (IsCounted round (tables_in tables.now) lists.now size part) }
+{
+    let from = part * size;
+    let owners = size.min(tables.len() - from);
+    lag_of_owners(alloc, tables, lists, from, owners, round)
 }

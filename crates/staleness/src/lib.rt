@@ -2,6 +2,7 @@
 //! round, which are how many keys of copies are stale and the most rounds that one has been so.
 #![tactic(auto)]
 
+mod copies;
 mod lags;
 mod lists;
 

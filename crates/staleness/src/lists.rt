@@ -1,9 +1,9 @@
 //! The writes of one owner, in order.
 
-ghost use Rattle.std.specs.Prelude.{◌≡◌, ℕ, ◌+◌, ◌^◌, ◌-◌, ◌<◌, ◌≤◌, ◌==◌, None, Some, ◌++◌, ◌∷◌, [], Result, Ok, Err, OnOk, OnErr, IfOk, IfErr, IsOkUnless, List, length, find, drop, slice_index_or, vec_len, vec_capacity};
+ghost use Rattle.std.specs.Prelude.{◌≡◌, ℕ, ◌+◌, ◌^◌, ◌-◌, ◌<◌, ◌≤◌, ◌==◌, nat_le, None, Some, ◌++◌, ◌∷◌, [], Result, Ok, Err, OnOk, OnErr, IfOk, IfErr, IsOkUnless, List, length, find, drop, slice_index_or, vec_len, vec_capacity};
 ghost use Rattle.std.specs.FinMap.{put as put_entry};
 ghost use Rattle.std.specs.Ordering.{nat_cmp};
-ghost use Rattle.staleness.specs.Writes.{next_write, is_write_of, last_write, first_missed};
+ghost use Rattle.staleness.specs.Writes.{next_write, is_write_of, last_write, first_missed, last_born};
 ghost use Rattle.staleness.specs.Latest.{keyed, write_of, KeysRise, IsIndexOfKey, IsGapForKey};
 ghost use Rattle.staleness.specs.Linked.{shown, version_or_zero, IsLinked};
 ghost use Rattle.bench_types.specs.declared.faults.Fault.TheVariants.{OutOfMemory};
@@ -38,6 +38,8 @@ pub struct OwnerList {
     // The first write of each key and the last one, by key.
     firsts: Vec<Write>,
     latest: Vec<Write>,
+    // Whether no write was made in an earlier round than one before it.
+    in_order: bool,
 }
 
 impl Model for OwnerList {
@@ -50,13 +52,12 @@ impl Model for OwnerList {
 
     ghost view = { λ l. shown l.links.items };
 
-    ghost invariant = { λ l. IsOwnerList l.links.items l.firsts.items l.latest.items };
+    ghost invariant = { λ l. IsOwnerList l.links.items l.firsts.items l.latest.items l.in_order };
 }
 
 impl OwnerList {
-    ghost use Rattle.staleness.specs.Writes.{next_write, IsNumbered, first_missed};
-    ghost use Rattle.staleness.specs.Latest.{AreFirst};
-    ghost use Rattle.staleness.specs.Lags.{has_write};
+    ghost use Rattle.staleness.specs.Writes.{next_write, last_write, first_missed, IsNumbered, born_in_order};
+    ghost use Rattle.staleness.specs.Linked.{version_or_zero};
 
     /// The list of an owner that has written nothing. It takes no memory yet.
     pub fn new(alloc: Global) -> OwnerList
@@ -66,6 +67,7 @@ impl OwnerList {
             links: Vec::new(alloc),
             firsts: Vec::new(alloc),
             latest: Vec::new(alloc),
+            in_order: true,
         }
     }
 
@@ -84,6 +86,7 @@ impl OwnerList {
         self.latest.reserve(1)?;
         let before = put(&mut self.latest, write);
         put_first(&mut self.firsts, before, write);
+        self.in_order = self.in_order && comes_in_order(&self.links, born);
         append(&mut self.links, before, write);
         Ok(())
     }
@@ -103,32 +106,57 @@ impl OwnerList {
         self.links.is_empty()
     }
 
-    /// Whether the write of a version has the key. One step.
-    pub(crate) fn has_write(&self, key: u32, version: u32) -> bool
-        requires { 0 < version }
-        ensures { result ≡ has_write self.now key version }
+    /// Whether no write was made in an earlier round than one before it.
+    pub(crate) fn is_in_order(&self) -> bool
+        ensures value { result ≡ born_in_order self.now }
+        ensures numbered { IsNumbered self.now }
+        ensures few { length self.now < 2 ^ 32 }
     {
-        match self.links.get(version as usize - 1) {
-            Some(link) => link.key == key,
-            None => false,
+        self.in_order
+    }
+
+    /// The version of the last write of a key, 0 where there is none: a binary search among the keys.
+    pub(crate) fn current(&self, key: u32) -> u32
+        ensures { result ≡ version_or_zero (last_write self.now key) }
+    {
+        match write_in(&self.latest, key) {
+            Some(write) => write.version,
+            None => 0,
         }
     }
 
     /// The first write of a key above a version. Where the write of that version has the key, this
-    /// is one step; else it is looked for behind that version.
+    /// is one step; above 0 it is a binary search among the keys; else it is looked for behind that
+    /// version.
     pub(crate) fn first_missed(&self, key: u32, version: u32) -> Option<Write>
-        requires { 0 < version }
         ensures { result ≡ first_missed self.now key version }
     {
-        missed_after(&self.links, key, version as usize - 1)
+        match version.checked_sub(1) {
+            Some(at) => missed_after(&self.links, key, at as usize),
+            None => write_in(&self.firsts, key),
+        }
     }
+}
 
-    /// The first write of each key that was written, by key.
-    pub(crate) fn firsts(&self) -> &[Write]
-        ensures firsts { AreFirst result.now self.now }
-        ensures numbered { IsNumbered self.now }
-    {
-        &self.firsts
+// The write of a key, if any.
+fn write_in(writes: &[Write], key: u32) -> Option<Write>
+    requires { KeysRise writes.now }
+    ensures { result ≡ write_of writes.now key }
+{
+    match search(writes, key) {
+        Ok(at) => Some(writes[at]),
+        Err(_) => None,
+    }
+}
+
+// Whether a write of a round comes in order behind those before it.
+fn comes_in_order(links: &[Link], born: u32) -> bool
+    requires few { length links.now < 2 ^ 32 }
+    ensures { result ≡ nat_le (last_born 0 (shown links.now)) born }
+{
+    match links.last() {
+        Some(link) => link.born <= born,
+        None => true,
     }
 }
 

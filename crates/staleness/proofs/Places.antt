@@ -1,0 +1,26 @@
+-- Where an owner's keys lie among those of all owners.
+use Rattle.std.proofs.Common.{◌≡◌, ◌≢◌, ℕ, zero, suc, ◌+◌, ◌-◌, ◌*◌, ◌<◌, ◌≤◌, ◌⊎◌, inl, inr, arith}
+use Rattle.std.proofs.lemmas.Bool.{cases_lt}
+use Rattle.std.proofs.Math.Nat.{mul_comm, add-mul}
+use Rattle.std.proofs.lemmas.Nat.{mul-add-lt}
+
+turned : (a b : ℕ) → a * b ≡ b * a
+turned = mul_comm
+
+-- an owner's keys lie apart from another's
+pub apart : (a b key keys : ℕ) → key < keys → a ≢ b → (a * keys + key < b * keys) ⊎ (b * keys + keys ≤ a * keys + key)
+apart a b key keys lt other = elim (cases_lt a b) [
+  | inl before ↦ inl (omega (arith, mul-add-lt a keys key b before lt, turned keys b))
+  | inr behind ↦ inr (omega (arith, mul-add-lt b keys (keys - 1) a (omega arith) (omega arith), turned keys a))
+]
+
+-- and among them
+pub within : (a owners key keys : ℕ) → a < owners → key < keys → a * keys + key < owners * keys
+within a owners key keys lt below = omega (arith, mul-add-lt a keys key owners lt below, turned keys owners)
+
+pub all_within : (a owners keys : ℕ) → a < owners → a * keys + keys ≤ owners * keys
+all_within a owners zero lt = omega arith
+all_within a owners (suc n) lt = omega (arith, within a owners n (suc n) lt (omega arith))
+
+pub one_more : (a keys : ℕ) → (a + 1) * keys ≡ a * keys + keys
+one_more a keys = omega (arith, add-mul a 1 keys)

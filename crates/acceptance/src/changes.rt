@@ -12,11 +12,12 @@
 use crate::outcomes::{check_line, run_line};
 use std::alloc::{AllocError, AllocGlobal, Global};
 use std::rt::Files;
+use std::sync::Wait;
 use std::thread::Threads;
 use std::{fs, io};
 
 /// How many rows of a table are as stored, or the first that is not.
-pub fn table_line<R: Files + Threads + AllocGlobal + Sync>(
+pub fn table_line<R: Files + Threads + Wait + AllocGlobal + Sync>(
     rt: &R,
     case: &str,
 ) -> io::Result<String> {
@@ -37,7 +38,7 @@ pub fn table_line<R: Files + Threads + AllocGlobal + Sync>(
     Ok(format!(in alloc; "{rows} rows as stored")?)
 }
 
-fn outcome<R: Files + Threads + AllocGlobal + Sync>(
+fn outcome<R: Files + Threads + Wait + AllocGlobal + Sync>(
     rt: &R,
     text: &[u8],
     stored: &str,

@@ -11,7 +11,8 @@
 //! | `changed` | tables of changes to the scenario `small/two_nodes.toml` |
 //!
 //! Beside a scenario `NAME.toml` of the first three stand the texts that it must give, byte for byte:
-//! `NAME.report.csv`, and where they are wanted `NAME.trace.csv` and `NAME.comparison.csv`.
+//! `NAME.report.csv`, and where they are wanted `NAME.trace.csv` and `NAME.comparison.csv`. It must give
+//! them for every number of workers.
 #![tactic(auto)]
 
 mod changes;
@@ -22,6 +23,7 @@ use changes::table_line;
 use outcomes::{refusal, run_line};
 use std::alloc::AllocGlobal;
 use std::rt::Files;
+use std::sync::Wait;
 use std::thread::Threads;
 use std::{fs, io};
 
@@ -34,7 +36,10 @@ fn main(rt: HostRuntime) -> io::Result<()> {
     Ok(())
 }
 
-fn line_of<R: Files + Threads + AllocGlobal + Sync>(rt: &R, case: &str) -> io::Result<String> {
+fn line_of<R: Files + Threads + Wait + AllocGlobal + Sync>(
+    rt: &R,
+    case: &str,
+) -> io::Result<String> {
     if case.starts_with("changed/") {
         return table_line(rt, case);
     }

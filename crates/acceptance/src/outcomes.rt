@@ -1,11 +1,16 @@
 //! What comes of a text.
 
+ghost use Rattle.std.specs.Prelude.{◌≤◌};
+ghost use Rattle.bench_types.specs.declared.limits.TheConstants.{MOST_WORKERS};
+
 use crate::stored::compare_part;
 use bench::{check_input, compare, run};
+use bench_types::limits::MOST_WORKERS;
 use bench_types::{Fault, Pull, Push};
 use std::alloc::{AllocError, AllocGlobal};
 use std::io;
 use std::rt::Files;
+use std::sync::Wait;
 use std::thread::Threads;
 
 /// What a run and a comparison of a text answer, and what they have written.
@@ -19,13 +24,23 @@ pub struct Outcome {
 }
 
 impl Outcome {
-    fn of<R: Threads + AllocGlobal + Sync>(rt: &R, text: &[u8]) -> Outcome {
+    fn of<R: Threads + Wait + AllocGlobal + Sync>(rt: &R, text: &[u8], workers: u32) -> Outcome
+        requires few { 1 ≤ workers }
+        requires many { workers ≤ MOST_WORKERS }
+    {
         let alloc = rt.alloc();
         let mut report = Push::new(Vec::new(alloc));
         let mut trace = Push::new(Vec::new(alloc));
-        let answer = run(rt, alloc, &mut Pull::new(text), &mut report, &mut trace);
+        let answer = run(
+            rt,
+            alloc,
+            &mut Pull::new(text),
+            &mut report,
+            &mut trace,
+            workers,
+        );
         let mut comparison = Push::new(Vec::new(alloc));
-        let compared = compare(rt, alloc, &mut Pull::new(text), &mut comparison);
+        let compared = compare(rt, alloc, &mut Pull::new(text), &mut comparison, workers);
         Outcome {
             answer,
             report: report.into_inner(),
@@ -40,13 +55,39 @@ impl Outcome {
     }
 }
 
-/// Runs a text, and compares what it writes with each text that is stored of a case.
-pub fn run_line<R: Files + Threads + AllocGlobal + Sync>(
+/// Runs a text, and compares what it writes with each text that is stored of a case. It does so with 1,
+/// 2, 3, 4 and the most workers; where these don't come to the same line, it is that of the first that
+/// differs from one worker's.
+pub fn run_line<R: Files + Threads + Wait + AllocGlobal + Sync>(
     rt: &R,
     case: &str,
     text: &[u8],
 ) -> io::Result<String> {
-    let outcome = Outcome::of(rt, text);
+    let alone = line_with(rt, case, text, 1)?;
+    for workers in 2..5 {
+        let line = line_with(rt, case, text, workers)?;
+        if line.as_str() != alone.as_str() {
+            return Ok(format!(in rt.alloc(); "with {workers} workers {line}")?);
+        }
+    }
+    let line = line_with(rt, case, text, MOST_WORKERS)?;
+    if line.as_str() != alone.as_str() {
+        return Ok(format!(in rt.alloc(); "with {MOST_WORKERS} workers {line}")?);
+    }
+    Ok(alone)
+}
+
+// The line of a run with so many workers.
+fn line_with<R: Files + Threads + Wait + AllocGlobal + Sync>(
+    rt: &R,
+    case: &str,
+    text: &[u8],
+    workers: u32,
+) -> io::Result<String>
+    requires few { 1 ≤ workers }
+    requires many { workers ≤ MOST_WORKERS }
+{
+    let outcome = Outcome::of(rt, text, workers);
     if let Err(fault) = outcome.answer.and(outcome.compared) {
         return Ok(format!(in rt.alloc(); "{fault}")?);
     }
@@ -58,8 +99,11 @@ pub fn run_line<R: Files + Threads + AllocGlobal + Sync>(
 }
 
 /// Runs a text that is refused, and answers the line of its fault.
-pub fn refusal<R: Threads + AllocGlobal + Sync>(rt: &R, text: &[u8]) -> Result<String, AllocError> {
-    let outcome = Outcome::of(rt, text);
+pub fn refusal<R: Threads + Wait + AllocGlobal + Sync>(
+    rt: &R,
+    text: &[u8],
+) -> Result<String, AllocError> {
+    let outcome = Outcome::of(rt, text, 1);
     if outcome.has_written() {
         return String::from_str(rt.alloc(), "not refused before it wrote");
     }
@@ -70,7 +114,7 @@ pub fn refusal<R: Threads + AllocGlobal + Sync>(rt: &R, text: &[u8]) -> Result<S
 }
 
 /// The line of the fault of a text, or `ok`.
-pub fn check_line<R: Threads + AllocGlobal + Sync>(
+pub fn check_line<R: Threads + Wait + AllocGlobal + Sync>(
     rt: &R,
     text: &[u8],
 ) -> Result<String, AllocError> {

@@ -1,5 +1,5 @@
 -- How far a comparison of the modes has been written.
-use Rattle.std.proofs.Common.{◌≡◌, ℕ, ◌+◌, ◌<◌, ◌++◌, ◌∷◌, [], List, length, take, drop, get_or, refl, sym, ap, ◌∙◌, subst, append_assoc, arith, add-one, drop-cons, take-append-drop}
+use Rattle.std.proofs.Common.{◌≡◌, ℕ, ◌+◌, ◌<◌, ◌++◌, ◌∷◌, [], List, length, take, drop, get_or, inl, inr, refl, sym, ap, ◌∙◌, subst, append_assoc, arith, add-one, drop-cons, take-append-drop}
 use Rattle.std.specs.Prelude.{true, false}
 use Rattle.std.proofs.KnownBytes.{Appends-nil}
 use Rattle.std.proofs.lemmas.Grind.{flat_map-append}
@@ -7,20 +7,19 @@ use Rattle.std.proofs.lemmas.List.{append-nil, take_more}
 use Rattle.std.proofs.lemmas.List.FromFn.{map-range_with_len_more}
 use Rattle.bench_types.specs.declared.exchanges.Mode.{Mode}
 use Rattle.bench_types.specs.declared.faults.Fault.{Fault}
-use Rattle.bench_types.specs.declared.faults.Fault.TheVariants.{OutOfMemory}
 use Rattle.bench_types.specs.declared.rows.Row.{Row}
 use Rattle.bench_types.specs.declared.sinks.Sink.{Ghosts as Sink}
 use Rattle.bench_types.specs.Mode.{modes}
+use Rattle.pool.specs.Runs.{IsPoolFault}
 use Rattle.report.specs.Compare.{compare_header_line, compare_line, compare_lines}
 use Rattle.report.specs.Output.{IsWritten, IsWriteFault}
 use Rattle.scenario.specs.Settings.{Settings, with_mode}
-use Rattle.bench.specs.Comparisons.{lines_upto, lines_under, lines_of_modes, comparison_text, IsFaultInRounds, IsFaultInModes}
+use Rattle.bench.specs.Comparisons.{lines_upto, lines_under, lines_of_modes, comparison_text, IsFaultInRound, IsFaultInRounds, IsFaultInModes}
 use Rattle.simulation.specs.RoundView.{RoundView}
 use Rattle.simulation.specs.Outcomes.{row_in}
 use Rattle.bench.specs.Reports.{rows_upto}
-use Rattle.bench.specs.Runs.{IsFaultAfter}
-use Rattle.simulation.specs.Simulation.{SimView, PlaysNext}
-use Rattle.bench.proofs.Reporting.{written_then, fault_behind}
+use Rattle.simulation.specs.Simulation.{SimView, PlaysNext, IsStepFault}
+use Rattle.bench.proofs.Reporting.{written_then, fault_behind, step_fault}
 
 -- nothing was written to a sink that is sound and flushed
 pub nothing_written : {W : Type 0} (sink : Sink W) (now : W) → sink.failed now ≡ false → sink.flushed now ≡ true → IsWritten sink now now []
@@ -34,8 +33,20 @@ pub record AreRoundsWritten {W : Type 0} (sink : Sink W) (old now : W) (s : Sett
   pub written : IsWritten sink old now (lines_upto s rounds)
 
 -- the next round wasn't played
-pub stops_before : {W : Type 0} (sink : Sink W) (old now : W) (s : Settings) (rounds : ℕ) → rounds < s.rounds → IsWritten sink old now (lines_upto s rounds) → IsFaultInRounds sink old now [] s OutOfMemory
-stops_before sink old now s rounds more written = record { rounds = rounds; within = more; stops = (now, written, refl) }
+pub stops_before : {W : Type 0} (sink : Sink W) (old now : W) (s : Settings) (rounds workers : ℕ) (fault : Fault) → rounds < s.rounds → IsWritten sink old now (lines_upto s rounds) → IsPoolFault workers fault → IsFaultInRounds sink old now [] s workers fault
+stops_before sink old now s rounds workers fault more written pool = record { rounds = rounds; within = more; stops = inl (pool, written) }
+
+pub stops_at_step : {W : Type 0} (sink : Sink W) (old now : W) (s : Settings) (sim sim' : SimView) (rounds workers : ℕ) (fault : Fault) → AreRoundsWritten sink old now s sim rounds → rounds < s.rounds → IsStepFault workers sim sim' fault → IsFaultInRounds sink old now [] s workers fault
+stops_at_step sink old now s sim sim' rounds workers fault so_far more stop =
+    let left : sim.rounds_done < sim.settings.rounds = subst (λ (t : Settings). sim.rounds_done < t.rounds) (sym so_far.settings) (omega (arith, more, so_far.done)) in
+    stops_before sink old now s rounds workers fault more so_far.written (step_fault workers sim sim' fault so_far.unbroken left stop)
+
+-- a fault in a round behind a text
+in_round_behind : {W : Type 0} (sink : Sink W) (old now new : W) (text whole line : List ℕ) (workers : ℕ) (fault : Fault) → IsWritten sink old now text → IsFaultInRound sink now new whole line workers fault → IsFaultInRound sink old new (text ++ whole) line workers fault
+in_round_behind sink old now new text whole line workers fault first stop = elim stop [
+  | inl lost ↦ inl (lost.0, written_then sink old now new text whole first lost.1)
+  | inr cut ↦ inr (fault_behind sink old now new text whole line fault first cut)
+]
 
 -- the next round was played
 module _ {W : Type 0} (sink : Sink W) (old now : W) (s : Settings) (sim sim' : SimView) (rounds : ℕ) (round : RoundView) (so_far : AreRoundsWritten sink old now s sim rounds) (played : PlaysNext sim sim' round) (mode : Mode) (mode_is : mode ≡ s.mode) (row : Row) (row_is : row ≡ round.row) where
@@ -51,11 +62,11 @@ module _ {W : Type 0} (sink : Sink W) (old now : W) (s : Settings) (sim sim' : S
       ∙ flat_map-append (compare_line s.mode) (rows_upto s rounds) (row_in s (rounds + 1) ∷ [])
       ∙ ap (λ l. lines_upto s rounds ++ l) (append-nil (compare_line s.mode (row_in s (rounds + 1))))
 
-  pub stops_in_line : (after : W) (fault : Fault) → rounds < s.rounds → IsWriteFault sink now after (compare_line mode row) fault → IsFaultInRounds sink old after [] s fault
-  stops_in_line after fault more stop = record {
+  pub stops_in_line : (after : W) (workers : ℕ) (fault : Fault) → rounds < s.rounds → IsWriteFault sink now after (compare_line mode row) fault → IsFaultInRounds sink old after [] s workers fault
+  stops_in_line after workers fault more stop = record {
     rounds = rounds;
     within = more;
-    stops = (now, so_far.written, subst (λ l. IsWriteFault sink now after l fault) line_is stop);
+    stops = inr (now, so_far.written, subst (λ l. IsWriteFault sink now after l fault) line_is stop);
   }
 
   pub rounds_more : (after : W) → IsWritten sink now after (compare_line mode row) → AreRoundsWritten sink old after s sim' (rounds + 1)
@@ -85,9 +96,9 @@ module _ {W : Type 0} (sink : Sink W) (old now after : W) (s : Settings) (ms : L
       ∙ flat_map-append (lines_under s) (take i ms) (get_or ms i d ∷ [])
       ∙ ap (λ l. lines_of_modes s (take i ms) ++ l) (append-nil (lines_under s (get_or ms i d)))
 
-  pub stops_in_mode : (fault : Fault) → IsFaultInRounds sink now after [] under fault → IsFaultInModes sink old after [] s ms fault
-  stops_in_mode fault stop =
-      let here = subst (λ (t : Settings). IsFaultInRounds sink now after [] t fault) is_under stop in
+  pub stops_in_mode : (workers : ℕ) (fault : Fault) → IsFaultInRounds sink now after [] under workers fault → IsFaultInModes sink old after [] s ms workers fault
+  stops_in_mode workers fault stop =
+      let here = subst (λ (t : Settings). IsFaultInRounds sink now after [] t workers fault) is_under stop in
       record {
         done = take i ms;
         next = get_or ms i d;
@@ -96,7 +107,7 @@ module _ {W : Type 0} (sink : Sink W) (old now after : W) (s : Settings) (ms : L
         stops = record {
           rounds = here.rounds;
           within = here.within;
-          stops = fault_behind sink old now after (lines_of_modes s (take i ms)) _ _ fault so_far.written here.stops;
+          stops = in_round_behind sink old now after (lines_of_modes s (take i ms)) _ _ workers fault so_far.written here.stops;
         };
       }
 
@@ -107,8 +118,8 @@ module _ {W : Type 0} (sink : Sink W) (old now after : W) (s : Settings) (ms : L
   }
 
 -- behind the header
-pub stops_behind_header : {W : Type 0} (sink : Sink W) (old now new : W) (s : Settings) (fault : Fault) → IsWritten sink old now compare_header_line → IsFaultInModes sink now new [] s modes fault → IsFaultInModes sink old new compare_header_line s modes fault
-stops_behind_header sink old now new s fault header stop = record {
+pub stops_behind_header : {W : Type 0} (sink : Sink W) (old now new : W) (s : Settings) (workers : ℕ) (fault : Fault) → IsWritten sink old now compare_header_line → IsFaultInModes sink now new [] s modes workers fault → IsFaultInModes sink old new compare_header_line s modes workers fault
+stops_behind_header sink old now new s workers fault header stop = record {
   done = stop.done;
   next = stop.next;
   rest = stop.rest;
@@ -116,9 +127,9 @@ stops_behind_header sink old now new s fault header stop = record {
   stops = record {
     rounds = stop.stops.rounds;
     within = stop.stops.within;
-    stops = subst (λ whole. IsFaultAfter sink old new whole (compare_line stop.next (row_in (with_mode s stop.next) (stop.stops.rounds + 1))) fault)
+    stops = subst (λ whole. IsFaultInRound sink old new whole (compare_line stop.next (row_in (with_mode s stop.next) (stop.stops.rounds + 1))) workers fault)
         (sym (append_assoc compare_header_line (lines_of_modes s stop.done) (lines_upto (with_mode s stop.next) stop.stops.rounds)))
-        (fault_behind sink old now new compare_header_line _ _ fault header stop.stops.stops);
+        (in_round_behind sink old now new compare_header_line _ _ workers fault header stop.stops.stops);
   };
 }
 

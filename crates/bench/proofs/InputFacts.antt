@@ -1,6 +1,6 @@
 -- What a source gave up to a pull, and then by that pull; and what reading a scenario comes to.
 use Rattle.std.proofs.Common.{◌≡◌, ◌≢◌, ◌<◌, ◌≤◌, ◌+◌, ◌++◌, ◌∙◌, ℕ, Bool, true, false, List, Option, None, Some, Result, Ok, Err, IfSome, IfOk, IfErr, inl, inr, length, take, arith, ap, refl, sym, subst, length-append}
-use Rattle.std.specs.Prelude.{IsErrAnd, IsSomeAnd}
+use Rattle.std.specs.Prelude.{IsErrAnd, IsSomeAnd, OnOk}
 use Rattle.std.proofs.lemmas.List.{length-take-le}
 use Rattle.std.proofs.KnownBytes.{Consumes-trans}
 use Rattle.std.specs.Io.KnownBytes.{Consumes}
@@ -47,16 +47,17 @@ at_fault (Err handed) fault P is holds = subst P (sym is) holds
 -- the check of a text that was read whole accepts it, or comes to its fault
 module _ {R : Type 0} (source : Source R) (old new : R) (text : List ℕ) (whole : IsReadWhole source old new text) where
   pub accepted : (answer : Result Settings Fault) → IfOk answer (λ s. text_checked text ≡ Ok s)
-      → IfOk answer (λ s. IsSomeAnd (document_of text) (λ table. Says table s)) → IfOk answer (λ s. IsRead source old new (Ok s))
-  accepted (Ok s) checked says = record { text = text; whole = whole; checked = checked; says = says; first = tt }
-  accepted (Err fault) checked says = tt
+      → IfOk answer (λ s. IsSomeAnd (document_of text) (λ table. Says table s)) → OnOk answer (first_fault (document_of text) ≡ None)
+      → IfOk answer (λ s. IsRead source old new (Ok s))
+  accepted (Ok s) checked says no_fault = record { text = text; whole = whole; checked = checked; says = says; no_fault = no_fault; first = tt }
+  accepted (Err fault) checked says no_fault = tt
 
   refused : (fault : Fault) → IsFaultOfCheck fault → fault ≢ OutOfMemory → (fault ≢ OutOfMemory → text_checked text ≡ Err fault)
       → (fault ≢ OutOfMemory → first_fault (document_of text) ≡ Some fault) → IsInputFault source old new fault
   refused fault of_check other checked first = inr (record {
     of_check = of_check;
     not_memory = other;
-    read = record { text = text; whole = whole; checked = checked other; says = tt; first = first other };
+    read = record { text = text; whole = whole; checked = checked other; says = tt; no_fault = tt; first = first other };
   })
 
   pub fault_of_check : (answer : Result Settings Fault) → IfErr answer IsFaultOfCheck → IfErr answer (λ fault. fault ≢ OutOfMemory → text_checked text ≡ Err fault)

@@ -1,3 +1,4 @@
 pub mod InputFacts
 pub mod Reporting
 pub mod Comparison
+pub mod Endings

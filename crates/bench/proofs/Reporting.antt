@@ -1,5 +1,5 @@
 -- How far the report and the trace have been written.
-use Rattle.std.proofs.Common.{◌≡◌, ℕ, ◌+◌, ◌<◌, ◌++◌, ◌∷◌, [], List, refl, sym, ap, ◌∙◌, subst, append_assoc, arith}
+use Rattle.std.proofs.Common.{◌≡◌, ℕ, ◌+◌, ◌<◌, ◌++◌, ◌∷◌, [], List, inl, inr, refl, sym, ap, ◌∙◌, subst, append_assoc, arith}
 use Rattle.std.specs.Prelude.{false, Result, IfErr, IsErrAnd}
 use Rattle.std.proofs.KnownBytes.{Appends-trans}
 use Rattle.std.proofs.lemmas.Grind.{flat_map-append}
@@ -8,19 +8,19 @@ use Rattle.std.proofs.lemmas.List.{append-nil, map-id}
 use Rattle.std.proofs.lemmas.List.FromFn.{map-range_with_len_more}
 use Rattle.bench_types.specs.declared.exchanges.Record.{Record}
 use Rattle.bench_types.specs.declared.faults.Fault.{Fault}
-use Rattle.bench_types.specs.declared.faults.Fault.TheVariants.{OutOfMemory}
 use Rattle.bench_types.specs.declared.rows.Row.{Row}
 use Rattle.bench_types.specs.declared.sinks.Sink.{Ghosts as Sink}
 use Rattle.round_plan.specs.Plan.{RoundListView}
+use Rattle.pool.specs.Runs.{IsPoolFault}
 use Rattle.report.specs.Output.{IsWritten, IsWriteFault}
 use Rattle.report.specs.Trace.{trace_header_line, trace_lines}
 use Rattle.report.specs.Report.{report_header_line, report_line, report_lines}
 use Rattle.scenario.specs.Settings.{Settings}
 use Rattle.simulation.specs.RoundView.{RoundView}
 use Rattle.simulation.specs.Outcomes.{row_in}
-use Rattle.simulation.specs.Simulation.{SimView, PlaysNext}
+use Rattle.simulation.specs.Simulation.{SimView, PlaysNext, IsStepFault}
 use Rattle.bench.specs.Reports.{rows_upto, trace_in, traces_upto, report_upto, trace_upto, report_text, trace_text}
-use Rattle.bench.specs.Runs.{IsFaultAfter, AreWritten, IsWritingFault, StoppingPlace, StopsAt, lines_after, row_after}
+use Rattle.bench.specs.Runs.{IsFaultAfter, AreWritten, IsWritingFault, StoppingPlace, StopsAt, round_after, lines_after, row_after}
 use Rattle.bench.proofs.InputFacts.{at_fault}
 
 -- one text behind another
@@ -83,15 +83,27 @@ pub lines_given : (round : RoundView) (row : Row) (list : RoundListView) (record
 lines_given round row list records row_is list_is records_are = λ i. trace_lines (row_is i).round (list_is i).exchanges (records_are i)
 
 -- a fault that is handed on
-pub stopped_at : {W X : Type 0} (sink : Sink W) (old new : W) (sink' : Sink X) (old' new' : X) (s : Settings) (r : Result (Unit {0}) Fault) (fault : Fault) (place : StoppingPlace)
-    → IsErrAnd r (λ handed. handed ≡ fault) → StopsAt sink old new sink' old' new' s fault place → IfErr r (IsWritingFault sink old new sink' old' new' s)
-stopped_at sink old new sink' old' new' s r fault place handed stops =
-    at_fault r fault (IsWritingFault sink old new sink' old' new' s) handed (record { place = place; stops = stops })
+pub stopped_at : {W X : Type 0} (sink : Sink W) (old new : W) (sink' : Sink X) (old' new' : X) (s : Settings) (workers : ℕ) (r : Result (Unit {0}) Fault) (fault : Fault) (place : StoppingPlace)
+    → IsErrAnd r (λ handed. handed ≡ fault) → StopsAt sink old new sink' old' new' s workers fault place → IfErr r (IsWritingFault sink old new sink' old' new' s workers)
+stopped_at sink old new sink' old' new' s workers r fault place handed stops =
+    at_fault r fault (IsWritingFault sink old new sink' old' new' s workers) handed (record { place = place; stops = stops })
+
+-- where a round is left and none has failed, the fault of a step is that of its workers
+pub step_fault : (workers : ℕ) (sim sim' : SimView) (fault : Fault) → sim.broken ≡ false → sim.rounds_done < sim.settings.rounds → IsStepFault workers sim sim' fault → IsPoolFault workers fault
+step_fault workers sim sim' fault unbroken more stop = elim stop [
+  | inl failed ↦ failed.0
+  | inr refused ↦ elim refused.0 [
+    | inl broken ↦ absurd (cc (broken.1, unbroken))
+    | inr finished ↦ absurd (omega (arith, more, finished.2))
+  ]
+]
 
 module _ {W X : Type 0} (sink : Sink W) (old now : W) (sink' : Sink X) (old' now' : X) (s : Settings) (sim : SimView) (rounds : ℕ) (so_far : AreWrittenUpto sink old now sink' old' now' s sim rounds) where
   -- the next round wasn't played
-  pub stops_before : rounds < s.rounds → StopsAt sink old now sink' old' now' s OutOfMemory (lines_after rounds)
-  stops_before more = (more, so_far.report, (now', so_far.trace, refl))
+  pub stops_before : (workers : ℕ) (sim' : SimView) (fault : Fault) → rounds < s.rounds → IsStepFault workers sim sim' fault → StopsAt sink old now sink' old' now' s workers fault (round_after rounds)
+  stops_before workers sim' fault more stop =
+      let left : sim.rounds_done < sim.settings.rounds = subst (λ (t : Settings). sim.rounds_done < t.rounds) (sym so_far.settings) (omega (arith, more, so_far.done)) in
+      (more, step_fault workers sim sim' fault so_far.unbroken left stop, so_far.report, so_far.trace)
 
   -- all rounds were
   pub all_written : rounds ≡ s.rounds → AreWritten sink old now sink' old' now' s
@@ -113,12 +125,12 @@ module _ {W X : Type 0} (sink : Sink W) (old now : W) (sink' : Sink X) (old' now
     traced after' written =
         subst (IsWritten sink' old' after') (sym (trace_more s rounds)) (written_then sink' old' now' after' (trace_upto s rounds) (trace_in s (rounds + 1)) so_far.trace (subst (IsWritten sink' now' after') lines_here written))
 
-    pub stops_in_lines : (after' : X) (fault : Fault) → rounds < s.rounds → IsWriteFault sink' now' after' lines fault → StopsAt sink old now sink' old' after' s fault (lines_after rounds)
-    stops_in_lines after' fault more stop = (more, so_far.report, (now', so_far.trace, subst (λ l. IsWriteFault sink' now' after' l fault) lines_here stop))
+    pub stops_in_lines : (after' : X) (workers : ℕ) (fault : Fault) → rounds < s.rounds → IsWriteFault sink' now' after' lines fault → StopsAt sink old now sink' old' after' s workers fault (lines_after rounds)
+    stops_in_lines after' workers fault more stop = (more, so_far.report, (now', so_far.trace, subst (λ l. IsWriteFault sink' now' after' l fault) lines_here stop))
 
-    pub stops_in_row : (row : Row) → row ≡ round.row → (after : W) (after' : X) (fault : Fault) → rounds < s.rounds → IsWritten sink' now' after' lines
-        → IsWriteFault sink now after (report_line row) fault → StopsAt sink old after sink' old' after' s fault (row_after rounds)
-    stops_in_row row row_is after after' fault more written stop =
+    pub stops_in_row : (row : Row) → row ≡ round.row → (after : W) (after' : X) (workers : ℕ) (fault : Fault) → rounds < s.rounds → IsWritten sink' now' after' lines
+        → IsWriteFault sink now after (report_line row) fault → StopsAt sink old after sink' old' after' s workers fault (row_after rounds)
+    stops_in_row row row_is after after' workers fault more written stop =
         (more, (now, so_far.report, subst (λ r. IsWriteFault sink now after (report_line r) fault) (row_here row row_is) stop), traced after' written)
 
     pub one_more : (row : Row) → row ≡ round.row → (after : W) (after' : X) → IsWritten sink' now' after' lines → IsWritten sink now after (report_line row)

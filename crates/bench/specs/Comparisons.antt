@@ -7,6 +7,7 @@ use Rattle.bench_types.specs.Mode.{modes}
 use Rattle.bench_types.specs.declared.faults.Fault.{Fault}
 use Rattle.bench_types.specs.declared.sinks.Sink.{Ghosts as Sink}
 use Rattle.bench_types.specs.declared.sources.Source.{Ghosts as Source}
+use Rattle.pool.specs.Runs.{IsPoolFault}
 use Rattle.report.specs.Compare.{compare_header_line, compare_line, compare_lines}
 use Rattle.report.specs.Output.{IsWritten, IsWriteFault}
 use Rattle.scenario.specs.Settings.{Settings, with_mode}
@@ -29,27 +30,33 @@ lines_of_modes s ms = flat_map (lines_under s) ms
 unfoldable pub comparison_text : Settings → List ℕ
 comparison_text s = compare_header_line ++ lines_of_modes s modes
 
--- the text `whole` and the lines of the first so many rounds of a scenario were written, and then writing the line of
--- the next round came to this fault
-pub record IsFaultInRounds {W : Type 0} (sink : Sink W) (old new : W) (whole : List ℕ) (s : Settings) (fault : Fault) : Type 0 where
+-- a text was written, and then the next round wasn't carried out, or writing its line came to this fault
+abbrev pub IsFaultInRound : {W : Type 0} → Sink W → W → W → List ℕ → List ℕ → ℕ → Fault → Type 0
+IsFaultInRound sink old new whole line workers fault =
+    (IsPoolFault workers fault × IsWritten sink old new whole)
+    ⊎ IsFaultAfter sink old new whole line fault
+
+-- the text `whole` and the lines of the first so many rounds of a scenario were written, and then the next round or its
+-- line came to this fault
+pub record IsFaultInRounds {W : Type 0} (sink : Sink W) (old new : W) (whole : List ℕ) (s : Settings) (workers : ℕ) (fault : Fault) : Type 0 where
   pub rounds : ℕ
   pub within : rounds < s.rounds
-  pub stops : IsFaultAfter sink old new (whole ++ lines_upto s rounds) (compare_line s.mode (row_in s (rounds + 1))) fault
+  pub stops : IsFaultInRound sink old new (whole ++ lines_upto s rounds) (compare_line s.mode (row_in s (rounds + 1))) workers fault
 
 -- the text `whole` and all lines of the first of these modes were written, and then writing those of the next mode
 -- came to this fault
-pub record IsFaultInModes {W : Type 0} (sink : Sink W) (old new : W) (whole : List ℕ) (s : Settings) (ms : List Mode) (fault : Fault) : Type 0 where
+pub record IsFaultInModes {W : Type 0} (sink : Sink W) (old new : W) (whole : List ℕ) (s : Settings) (ms : List Mode) (workers : ℕ) (fault : Fault) : Type 0 where
   pub done : List Mode
   pub next : Mode
   pub rest : List Mode
   pub order : ms ≡ done ++ (next ∷ rest)
-  pub stops : IsFaultInRounds sink old new (whole ++ lines_of_modes s done) (with_mode s next) fault
+  pub stops : IsFaultInRounds sink old new (whole ++ lines_of_modes s done) (with_mode s next) workers fault
 
--- the fault of writing the comparison: at the header, or behind it
-abbrev pub IsComparingFault : {W : Type 0} → Sink W → W → W → Settings → Fault → Type 0
-IsComparingFault sink old new s fault =
+-- the fault of a comparison behind its reading: at the header, or behind it
+abbrev pub IsComparingFault : {W : Type 0} → Sink W → W → W → Settings → ℕ → Fault → Type 0
+IsComparingFault sink old new s workers fault =
     IsWriteFault sink old new compare_header_line fault
-    ⊎ IsFaultInModes sink old new compare_header_line s modes fault
+    ⊎ IsFaultInModes sink old new compare_header_line s modes workers fault
 
 module _ {R W : Type 0} (source : Source R) (reader reader' : R) (sink : Sink W) (old new : W) where
   -- a scenario was read, and its comparison was written; its own mode has no effect on it
@@ -64,12 +71,12 @@ module _ {R W : Type 0} (source : Source R) (reader reader' : R) (sink : Sink W)
     pub input : IsInputFault source reader reader' fault
     pub same : new ≡ old
 
-  -- a scenario was read, and then writing its comparison came to this fault
-  pub record IsComparisonStopped (fault : Fault) : Type 0 where
+  -- a scenario was read, and then its comparison with so many workers came to this fault
+  pub record IsComparisonStopped (workers : ℕ) (fault : Fault) : Type 0 where
     pub settings : Settings
     pub read : IsRead source reader reader' (Ok settings)
-    pub written : IsComparingFault sink old new settings fault
+    pub written : IsComparingFault sink old new settings workers fault
 
   -- the fault of a comparison
-  abbrev pub IsCompareFault : Fault → Type 0
-  IsCompareFault fault = IsNothingCompared fault ⊎ IsComparisonStopped fault
+  abbrev pub IsCompareFault : ℕ → Fault → Type 0
+  IsCompareFault workers fault = IsNothingCompared fault ⊎ IsComparisonStopped workers fault

@@ -1,7 +1,7 @@
 -- What reading an input comes to. `source` has the words of a source: what it has left, and whether it has failed.
 -- `old` and `new` are its states before and after the call. What is said of the bytes holds where the source doesn't
 -- tell them. Source: this project.
-use Rattle.std.specs.Prelude.{ℕ, ◌≡◌, ◌≢◌, ◌⊎◌, ◌+◌, ◌<◌, ◌≤◌, true, false, List, Some, Result, Err, IfSome, IfOk, IfErr, IsSomeAnd, length}
+use Rattle.std.specs.Prelude.{ℕ, ◌≡◌, ◌≢◌, ◌⊎◌, ◌+◌, ◌<◌, ◌≤◌, true, false, List, Some, None, Result, Err, IfSome, IfOk, OnOk, IfErr, IsSomeAnd, length}
 use Rattle.std.specs.Io.KnownBytes.{Consumes, IsAtEnd}
 use Rattle.bench_types.specs.declared.faults.Fault.{Fault}
 use Rattle.bench_types.specs.declared.faults.Fault.TheVariants.{OutOfMemory, TooLong, ReadFailed}
@@ -55,13 +55,14 @@ IsReadingFault source old new TooLong = IsTooLong source old new
 IsReadingFault source old new ReadFailed = HasFailed source old new
 IsReadingFault source old new _ = ⊥
 
--- a text was read whole, and this is the answer of its check: settings that are what its document says, or the fault
--- of the first check that fails
+-- a text was read whole, and this is the answer of its check: settings that are what its document says, where no check
+-- fails, or the fault of the first check that fails
 pub record IsRead {R : Type 0} (source : Source R) (old new : R) (answer : Result Settings Fault) : Type 0 where
   pub text : List ℕ
   pub whole : IsReadWhole source old new text
   pub checked : text_checked text ≡ answer
   pub says : IfOk answer (λ settings. IsSomeAnd (document_of text) (λ table. Says table settings))
+  pub no_fault : OnOk answer (first_fault (document_of text) ≡ None)
   pub first : IfErr answer (λ fault. first_fault (document_of text) ≡ Some fault)
 
 -- a text was read whole, and this is the fault of its check

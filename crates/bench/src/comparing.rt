@@ -1,65 +1,82 @@
 //! The modes beside each other, from bytes to bytes.
 
-ghost use Rattle.std.specs.Prelude.{◌≡◌, [], true, false, IfOk, OnOk, IfErr};
+ghost use Rattle.std.specs.Prelude.{◌≡◌, ◌≤◌, [], true, false, IfOk, OnOk, IfErr};
+ghost use Rattle.bench_types.specs.declared.limits.TheConstants.{MOST_WORKERS};
 ghost use Rattle.report.specs.Output.{IsWritten};
+ghost use Rattle.bench.specs.Runs.{TellsOfFailing, ComesOnceAccepted};
 ghost use Rattle.bench.specs.Comparisons.{lines_upto, lines_of_modes, IsFaultInRounds, IsFaultInModes, IsCompared, IsCompareFault};
 
 use crate::runs::check_input;
+use bench_types::limits::MOST_WORKERS;
 use bench_types::{Fault, Mode, Sink, Source};
+use pool::FreeGate;
 use report::{compare_header, write_compare_row};
 use scenario::Scenario;
 use simulation::Sim;
 use std::alloc::Global;
+use std::sync::Wait;
 use std::thread::Threads;
 
 /// Reads a scenario, and writes the comparison of the modes: the header, and for each mode, in the
 /// order of `Mode::ALL`, the row of each round of the scenario under that mode. The scenario's own
-/// mode has no effect. Nothing is written where the scenario is at fault or reading failed.
-pub fn compare<H: Threads + Sync, R: Source, W: Sink>(
+/// mode has no effect. Nothing is written where the scenario is at fault or reading failed. Workers are as
+/// for `run`.
+pub fn compare<H: Threads + Wait + Sync, R: Source, W: Sink>(
     rt: &H,
     alloc: Global,
     reader: &mut R,
     writer: &mut W,
+    workers: u32,
 ) -> Result<(), Fault>
+    requires few { 1 ≤ workers }
+    requires many { workers ≤ MOST_WORKERS }
     ensures compared { OnOk result (IsCompared R.Source reader.old reader.new W.Sink writer.old writer.new) }
-    ensures fault { IfErr result (IsCompareFault R.Source reader.old reader.new W.Sink writer.old writer.new) }
+    ensures fault { IfErr result (IsCompareFault R.Source reader.old reader.new W.Sink writer.old writer.new workers) }
+    ensures checked_first { IfErr result (ComesOnceAccepted R.Source reader.old reader.new) }
+    ensures failing_end { IfErr result (TellsOfFailing W.Sink writer.old writer.new) }
 {
     let scenario = check_input(alloc, reader)?;
     compare_header(alloc, writer)?;
-    write_modes(rt, alloc, scenario, &Mode::ALL, writer)
+    write_modes(rt, alloc, scenario, &Mode::ALL, writer, workers)
 }
 
 // All rounds of a scenario under each of these modes in turn.
-fn write_modes<H: Threads + Sync, W: Sink>(
+fn write_modes<H: Threads + Wait + Sync, W: Sink>(
     rt: &H,
     alloc: Global,
     mut scenario: Scenario,
     modes: &[Mode],
     writer: &mut W,
+    workers: u32,
 ) -> Result<(), Fault>
+    requires few { 1 ≤ workers }
+    requires many { workers ≤ MOST_WORKERS }
     requires sound { W.failed writer.old ≡ false }
     requires flushed { W.flushed writer.old ≡ true }
     ensures written { OnOk result (IsWritten W.Sink writer.old writer.new (lines_of_modes scenario modes.now)) }
-    ensures fault { IfErr result (IsFaultInModes W.Sink writer.old writer.new [] scenario modes.now) }
+    ensures fault { IfErr result (IsFaultInModes W.Sink writer.old writer.new [] scenario modes.now workers) }
 {
     for mode in modes {
-        scenario = write_all_rounds(rt, alloc, scenario.with_mode(*mode), writer)?;
+        scenario = write_all_rounds(rt, alloc, scenario.with_mode(*mode), writer, workers)?;
     }
     Ok(())
 }
 
 // All rounds of a scenario, which is handed back.
-fn write_all_rounds<H: Threads + Sync, W: Sink>(
+fn write_all_rounds<H: Threads + Wait + Sync, W: Sink>(
     rt: &H,
     alloc: Global,
     scenario: Scenario,
     writer: &mut W,
+    workers: u32,
 ) -> Result<Scenario, Fault>
+    requires few { 1 ≤ workers }
+    requires many { workers ≤ MOST_WORKERS }
     requires sound { W.failed writer.old ≡ false }
     requires flushed { W.flushed writer.old ≡ true }
     ensures same { IfOk result (λ s. s ≡ scenario) }
     ensures written { OnOk result (IsWritten W.Sink writer.old writer.new (lines_upto scenario scenario.rounds)) }
-    ensures fault { IfErr result (IsFaultInRounds W.Sink writer.old writer.new [] scenario) }
+    ensures fault { IfErr result (IsFaultInRounds W.Sink writer.old writer.new [] scenario workers) }
 {
     let mode = scenario.mode();
     let rounds = scenario.rounds();
@@ -68,7 +85,7 @@ fn write_all_rounds<H: Threads + Sync, W: Sink>(
         Err((fault, _)) => return Err(fault),
     };
     for _ in 0..rounds {
-        let round = sim.step(rt)?;
+        let round = sim.step(rt, workers, &FreeGate)?;
         write_compare_row(alloc, writer, mode, &round.row())?;
     }
     Ok(sim.into_scenario())

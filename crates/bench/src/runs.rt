@@ -1,38 +1,52 @@
 //! A whole run, from bytes to bytes.
 
-ghost use Rattle.std.specs.Prelude.{◌≡◌, false, Ok, IfOk, OnOk, IfErr};
+ghost use Rattle.std.specs.Prelude.{◌≡◌, ◌≤◌, false, Ok, IfOk, OnOk, IfErr};
+ghost use Rattle.bench_types.specs.declared.limits.TheConstants.{MOST_WORKERS};
 ghost use Rattle.bench.specs.Inputs.{IsRead, IsInputFault};
-ghost use Rattle.bench.specs.Runs.{AreWritten, IsWritingFault, IsReported, IsRunFault};
+ghost use Rattle.bench.specs.Runs.{AreWritten, IsWritingFault, IsReported, IsRunFault, TellsOfFailing, ComesOnceAccepted};
 
 use crate::inputs::read_all;
+use bench_types::limits::MOST_WORKERS;
 use bench_types::{Fault, Sink, Source};
+use pool::FreeGate;
 use report::{report_header, trace_header, write_report_row, write_trace_rows};
 use scenario::{Scenario, read};
 use simulation::Sim;
 use std::alloc::Global;
+use std::sync::Wait;
 use std::thread::Threads;
 
 /// Reads a scenario, and writes the report of its run to `writer` and its trace to `trace`: the two
 /// headers, and after each round its exchanges and its row. `Discard` serves where no trace is
 /// wanted. Nothing is written where the scenario is at fault or reading failed.
-pub fn run<H: Threads + Sync, R: Source, W: Sink, X: Sink>(
+///
+/// What is written is the same for every number of workers. With one, the exchanges of a round are done one
+/// after another; with more, so many threads do them in each round, and where one can't be started the fault
+/// is `NoThread`.
+pub fn run<H: Threads + Wait + Sync, R: Source, W: Sink, X: Sink>(
     rt: &H,
     alloc: Global,
     reader: &mut R,
     writer: &mut W,
     trace: &mut X,
+    workers: u32,
 ) -> Result<(), Fault>
+    requires few { 1 ≤ workers }
+    requires many { workers ≤ MOST_WORKERS }
     ensures reported { OnOk result
         (IsReported R.Source reader.old reader.new W.Sink writer.old writer.new X.Sink trace.old trace.new) }
     ensures fault { IfErr result
-        (IsRunFault R.Source reader.old reader.new W.Sink writer.old writer.new X.Sink trace.old trace.new) }
+        (IsRunFault R.Source reader.old reader.new W.Sink writer.old writer.new X.Sink trace.old trace.new workers) }
+    ensures checked_first { IfErr result (ComesOnceAccepted R.Source reader.old reader.new) }
+    ensures failing_end { IfErr result (λ fault.
+        TellsOfFailing W.Sink writer.old writer.new fault × TellsOfFailing X.Sink trace.old trace.new fault) }
 {
     let scenario = check_input(alloc, reader)?;
     let mut sim = match Sim::new(alloc, scenario) {
         Ok(sim) => sim,
         Err((fault, _)) => return Err(fault),
     };
-    write_texts(rt, alloc, &mut sim, writer, trace)
+    write_texts(rt, alloc, &mut sim, writer, trace, workers)
 }
 
 /// Reads a scenario whole and checks it.
@@ -46,24 +60,27 @@ pub fn check_input<R: Source>(alloc: Global, reader: &mut R) -> Result<Scenario,
 
 // Both headers, and all rounds of a simulation that stands before its first: after each its exchanges,
 // then its row.
-fn write_texts<H: Threads + Sync, W: Sink, X: Sink>(
+fn write_texts<H: Threads + Wait + Sync, W: Sink, X: Sink>(
     rt: &H,
     alloc: Global,
     sim: &mut Sim,
     writer: &mut W,
     trace: &mut X,
+    workers: u32,
 ) -> Result<(), Fault>
+    requires few { 1 ≤ workers }
+    requires many { workers ≤ MOST_WORKERS }
     requires unbroken { sim.old.broken ≡ false }
     requires first { sim.old.rounds_done ≡ 0 }
     ensures written { OnOk result
         (AreWritten W.Sink writer.old writer.new X.Sink trace.old trace.new sim.old.settings) }
     ensures fault { IfErr result
-        (IsWritingFault W.Sink writer.old writer.new X.Sink trace.old trace.new sim.old.settings) }
+        (IsWritingFault W.Sink writer.old writer.new X.Sink trace.old trace.new sim.old.settings workers) }
 {
     report_header(alloc, writer)?;
     trace_header(alloc, trace)?;
     for _ in 0..sim.rounds() {
-        let round = sim.step(rt)?;
+        let round = sim.step(rt, workers, &FreeGate)?;
         let row = round.row();
         write_trace_rows(alloc, trace, row.round, round.list(), round.records())?;
         write_report_row(alloc, writer, &row)?;

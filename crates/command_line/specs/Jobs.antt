@@ -1,8 +1,9 @@
 -- What a job comes to. `source` and `sink` have the words of the two ends of the program, `discard` those of the sink
 -- where no trace is wanted, and `file` those of the sink over the file of a trace. Source: this project.
-use Rattle.std.specs.Prelude.{◌≡◌, ℕ, ◌⊎◌, List, Ok, Some, None, Option, codes}
+use Rattle.std.specs.Prelude.{◌≡◌, ℕ, ◌≤◌, ◌⊎◌, List, Ok, Some, None, Option, codes}
 use Rattle.bench_types.specs.declared.faults.Fault.{Fault}
 use Rattle.bench_types.specs.declared.faults.Fault.TheVariants.{WriteFailed}
+use Rattle.bench_types.specs.declared.limits.TheConstants.{MOST_WORKERS}
 use Rattle.bench_types.specs.declared.sinks.Sink.{Ghosts as Sink}
 use Rattle.bench_types.specs.declared.sources.Source.{Ghosts as Source}
 use Rattle.bench.specs.Inputs.{IsRead, IsInputFault}
@@ -13,6 +14,15 @@ use Rattle.scenario.specs.Settings.{Settings}
 use Rattle.command_line.specs.Statuses.{HelpIsWritten, HelpIsFaulty}
 use Rattle.command_line.specs.declared.jobs.Job.{Job}
 use Rattle.command_line.specs.declared.jobs.Job.TheVariants.{Check, Run, Compare}
+
+-- there may be so many workers
+abbrev pub AreLawfulWorkers : ℕ → Type 0
+AreLawfulWorkers workers = (1 ≤ workers) × (workers ≤ MOST_WORKERS)
+
+abbrev pub HasLawfulWorkers : Job → Type 0
+HasLawfulWorkers Check = Unit {0}
+HasLawfulWorkers (Run trace workers) = AreLawfulWorkers workers
+HasLawfulWorkers (Compare workers) = AreLawfulWorkers workers
 
 -- what is printed of a scenario that is lawful
 abbrev pub ok_line : List ℕ
@@ -47,23 +57,24 @@ module _ {R W : Type 0} (source : Source R) (reader reader' : R) (sink : Sink W)
     IsReportedWith None = (d d' : D) × IsReported source reader reader' sink old new discard d d'
     IsReportedWith (Some path) = (f f' : F) × IsReported source reader reader' sink old new file f f'
 
-    -- the fault of that
-    abbrev pub IsRunFaultWith : {P : Type 0} → Option P → Fault → Type 0
-    IsRunFaultWith None fault = (d d' : D) × IsRunFault source reader reader' sink old new discard d d' fault
-    IsRunFaultWith (Some path) fault =
-        HasNoFile fault ⊎ ((f f' : F) × IsRunFault source reader reader' sink old new file f f' fault)
+    -- the fault of that, with so many workers
+    abbrev pub IsRunFaultWith : {P : Type 0} → Option P → ℕ → Fault → Type 0
+    IsRunFaultWith None workers fault =
+        (d d' : D) × IsRunFault source reader reader' sink old new discard d d' workers fault
+    IsRunFaultWith (Some path) workers fault =
+        HasNoFile fault ⊎ ((f f' : F) × IsRunFault source reader reader' sink old new file f f' workers fault)
 
     -- the job was done
     abbrev pub IsPerformed : Job → Type 0
     IsPerformed Check = IsChecked
-    IsPerformed (Run trace) = IsReportedWith trace
-    IsPerformed Compare = IsCompared source reader reader' sink old new
+    IsPerformed (Run trace workers) = IsReportedWith trace
+    IsPerformed (Compare workers) = IsCompared source reader reader' sink old new
 
     -- the fault of a job
     abbrev pub IsJobFault : Job → Fault → Type 0
     IsJobFault Check fault = IsCheckFault fault
-    IsJobFault (Run trace) fault = IsRunFaultWith trace fault
-    IsJobFault Compare fault = IsCompareFault source reader reader' sink old new fault
+    IsJobFault (Run trace workers) fault = IsRunFaultWith trace workers fault
+    IsJobFault (Compare workers) fault = IsCompareFault source reader reader' sink old new workers fault
 
     -- the words asked for a job, and it was done; or they asked for help, and it was written and nothing read
     abbrev pub IsDone : Type 0

@@ -1,7 +1,7 @@
 //! What the program does for its words.
 
 ghost use Rattle.std.specs.Prelude.{OnOk, IfErr};
-ghost use Rattle.command_line.specs.Jobs.{IsChecked, IsCheckFault, IsReportedWith, IsRunFaultWith, IsPerformed, IsJobFault};
+ghost use Rattle.command_line.specs.Jobs.{AreLawfulWorkers, HasLawfulWorkers, IsChecked, IsCheckFault, IsReportedWith, IsRunFaultWith, IsPerformed, IsJobFault};
 
 use bench::{check_input, compare, run};
 use bench_types::{Discard, Fault, Push, Sink, Source};
@@ -9,28 +9,36 @@ use report::write_text;
 use std::alloc::Global;
 use std::fs;
 use std::rt::Files;
+use std::sync::Wait;
 use std::thread::Threads;
 
-/// What the words of a command line ask for.
+/// What the words of a command line ask for. Workers are how many threads do the exchanges of a round, from 1
+/// to `MOST_WORKERS`.
 #[derive(Clone, Copy, Debug, PartialEq, Eq)]
 pub enum Job<'a> {
     /// To check a scenario.
     Check,
     /// To run it and write its report, and its trace to a file where one is named.
-    Run { trace: Option<&'a str> },
+    Run {
+        trace: Option<&'a str>,
+        workers: u32,
+    },
     /// To compare the modes.
-    Compare,
+    Compare {
+        workers: u32,
+    },
 }
 
 /// Reads a scenario and does the job: `out` gets what is asked for. The file of a trace is made anew
 /// before anything is read; where it can't be made, the fault is `WriteFailed`.
-pub fn perform<H: Threads + Sync + Files, R: Source, W: Sink>(
+pub fn perform<H: Threads + Wait + Sync + Files, R: Source, W: Sink>(
     rt: &H,
     alloc: Global,
     job: Job,
     reader: &mut R,
     out: &mut W,
 ) -> Result<(), Fault>
+    requires workers { HasLawfulWorkers job }
     ensures performed { OnOk result (IsPerformed R.Source reader.old reader.new W.Sink out.old out.new
         ⟦<Discard as Sink>⟧ ⟦<Push<H::File> as Sink>⟧ job.entry) }
     ensures fault { IfErr result (IsJobFault R.Source reader.old reader.new W.Sink out.old out.new
@@ -38,28 +46,30 @@ pub fn perform<H: Threads + Sync + Files, R: Source, W: Sink>(
 {
     match job {
         Job::Check => check(alloc, reader, out),
-        Job::Run { trace } => run_with(rt, alloc, trace, reader, out),
-        Job::Compare => compare(rt, alloc, reader, out),
+        Job::Run { trace, workers } => run_with(rt, alloc, trace, reader, out, workers),
+        Job::Compare { workers } => compare(rt, alloc, reader, out, workers),
     }
 }
 
 // Runs a scenario, with its trace to a file of this name where there is one.
-fn run_with<H: Threads + Sync + Files, R: Source, W: Sink>(
+fn run_with<H: Threads + Wait + Sync + Files, R: Source, W: Sink>(
     rt: &H,
     alloc: Global,
     trace: Option<&str>,
     reader: &mut R,
     out: &mut W,
+    workers: u32,
 ) -> Result<(), Fault>
+    requires workers { AreLawfulWorkers workers }
     ensures reported { OnOk result (IsReportedWith R.Source reader.old reader.new W.Sink out.old out.new
         ⟦<Discard as Sink>⟧ ⟦<Push<H::File> as Sink>⟧ trace.entry) }
     ensures fault { IfErr result (IsRunFaultWith R.Source reader.old reader.new W.Sink out.old out.new
-        ⟦<Discard as Sink>⟧ ⟦<Push<H::File> as Sink>⟧ trace.entry) }
+        ⟦<Discard as Sink>⟧ ⟦<Push<H::File> as Sink>⟧ trace.entry workers) }
 {
     match trace {
-        None => run(rt, alloc, reader, out, &mut Discard),
+        None => run(rt, alloc, reader, out, &mut Discard, workers),
         Some(path) => match fs::create(rt, path) {
-            Ok(file) => run(rt, alloc, reader, out, &mut Push::new(file)),
+            Ok(file) => run(rt, alloc, reader, out, &mut Push::new(file), workers),
             Err(_) => Err(Fault::WriteFailed),
         },
     }

@@ -2,8 +2,10 @@
 #![tactic(auto)]
 
 mod jobs;
+mod processes;
 mod programs;
 mod words;
 
 pub use jobs::{Job, perform};
+pub use processes::run_process;
 pub use programs::main_with;

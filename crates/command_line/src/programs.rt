@@ -14,6 +14,7 @@ use report::write_text;
 use std::alloc::Global;
 use std::convert::AsStr;
 use std::rt::Files;
+use std::sync::Wait;
 use std::thread::Threads;
 
 // What the program ends with.
@@ -21,12 +22,12 @@ const DONE: u8 = 0;
 
 const FAULT: u8 = 1;
 
-const REFUSED: u8 = 2;
+pub(crate) const REFUSED: u8 = 2;
 
 /// Does what the words ask for, which are those behind the program's name. The status is 0 where it
 /// was done, 1 after a fault, whose line goes to `err`, and 2 where the words are refused, whose
 /// text goes to `err`; help goes to `out`. That `err` fails changes no status.
-pub fn main_with<H: Threads + Sync + Files, S: AsStr, R: Source, W: Sink, E: Sink>(
+pub fn main_with<H: Threads + Wait + Sync + Files, S: AsStr, R: Source, W: Sink, E: Sink>(
     rt: &H,
     alloc: Global,
     words: &[S],
@@ -51,7 +52,7 @@ pub fn main_with<H: Threads + Sync + Files, S: AsStr, R: Source, W: Sink, E: Sin
 }
 
 // The status after a job, or after help. The line of a fault goes to `err`.
-fn status_of<E: Sink>(alloc: Global, done: Result<(), Fault>, err: &mut E) -> u8
+pub(crate) fn status_of<E: Sink>(alloc: Global, done: Result<(), Fault>, err: &mut E) -> u8
     ensures { result ≡ status_of done }
 {
     match done {

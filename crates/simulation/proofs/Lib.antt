@@ -1,9 +1,8 @@
 pub mod Writing
-pub mod Pairs
-pub mod Turns
 pub mod Begun
 pub mod Restarting
 pub mod Standing
 pub mod Lags
+pub mod Playing
 pub mod Stepping
 pub mod Soundness

@@ -1,5 +1,4 @@
 pub mod Rounds
-pub mod Turns
 pub mod Soundness
 pub mod Lists
 pub mod Standing
@@ -10,6 +9,7 @@ pub mod Simulation
 pub use Rattle.exchange.specs.Exchanged
 pub use Rattle.cluster.specs.Tables
 pub use Rattle.cluster.specs.Folds
+pub use Rattle.pool.specs.Runs
 pub use Rattle.exchange.specs.Owns
 pub use Rattle.round_plan.specs.Plan
 pub use Rattle.round_plan.specs.Writes

@@ -5,7 +5,7 @@ use Rattle.std.specs.Coded.{Coded, code_by, coded×, coded_ℕ, coded_bool, code
 use Rattle.scenario.specs.contracts.scenarios.Scenario as scenario
 use Rattle.staleness.specs.contracts.lists.OwnerList as owner_list
 use Rattle.bench_types.specs.declared.faults.Fault.{Fault}
-use Rattle.bench_types.specs.declared.faults.Fault.TheVariants.{OutOfMemory, Broken, Finished}
+use Rattle.bench_types.specs.declared.faults.Fault.TheVariants.{Broken, Finished}
 use Rattle.simulation.specs.declared.sims.Cluster.{Cluster}
 use Rattle.node_table.specs.Table.{Table}
 use Rattle.node_table.specs.NodeTableView.{NodeTableView, kept_code}
@@ -13,6 +13,7 @@ use Rattle.scenario.specs.Settings.{Settings}
 use Rattle.staleness.specs.declared.lists.Write.{Write}
 use Rattle.simulation.specs.RoundView.{RoundView}
 use Rattle.cluster.specs.Tables.{tables_in}
+use Rattle.pool.specs.Runs.{IsPoolFault}
 use Rattle.simulation.specs.Rounds.{tables_after}
 use Rattle.simulation.specs.Outcomes.{played_of, IsPlayedFrom}
 use Rattle.simulation.specs.Soundness.{AreSound, OnlyRestartsForget}
@@ -84,14 +85,14 @@ pub record PlaysNext (old new : SimView) (round : RoundView) : Type 0 where
 abbrev pub MayStep : SimView → Type 0
 MayStep v = (v.broken ≡ false) × (v.rounds_done < v.settings.rounds)
 
--- a step that failed
-abbrev pub IsFailedBy : SimView → SimView → Fault → Type 0
-IsFailedBy old new fault = (fault ≡ OutOfMemory) × MayStep old × (new.broken ≡ true) × (new.settings ≡ old.settings) × (new.rounds_done ≡ old.rounds_done)
+-- a step that failed with so many workers
+abbrev pub IsFailedBy : ℕ → SimView → SimView → Fault → Type 0
+IsFailedBy workers old new fault = IsPoolFault workers fault × MayStep old × (new.broken ≡ true) × (new.settings ≡ old.settings) × (new.rounds_done ≡ old.rounds_done)
 
 -- a step that had nothing to do
 abbrev pub IsRefusedBy : SimView → Fault → Type 0
 IsRefusedBy old fault = ((fault ≡ Broken) × (old.broken ≡ true)) ⊎ ((fault ≡ Finished) × (old.broken ≡ false) × (old.rounds_done ≡ old.settings.rounds))
 
 -- the fault of a step; one that had nothing to do has changed nothing
-abbrev pub IsStepFault : SimView → SimView → Fault → Type 0
-IsStepFault old new fault = IsFailedBy old new fault ⊎ (IsRefusedBy old fault × (new ≡ old))
+abbrev pub IsStepFault : ℕ → SimView → SimView → Fault → Type 0
+IsStepFault workers old new fault = IsFailedBy workers old new fault ⊎ (IsRefusedBy old fault × (new ≡ old))

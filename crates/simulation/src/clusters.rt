@@ -1,26 +1,22 @@
 //! All nodes' tables and the lists of what their owners wrote, and how a round changes them.
 
-ghost use Rattle.std.specs.Prelude.{◌≡◌, ℕ, ◌+◌, ◌-◌, ◌^◌, ◌<◌, ◌≤◌, ◌++◌, ◌∷◌, [], All, List, length, map, slice_index_or, IfOk, OnOk, IsOkUnless};
+ghost use Rattle.std.specs.Prelude.{◌≡◌, ℕ, ◌+◌, ◌-◌, ◌^◌, ◌<◌, ◌≤◌, ◌++◌, ◌∷◌, [], All, List, length, map, IfOk, OnOk, IsOkUnless};
 ghost use Rattle.bench_types.specs.declared.faults.Fault.TheVariants.{OutOfMemory};
-ghost use Rattle.bench_types.specs.declared.exchanges.Record.{Record};
 ghost use Rattle.bench_types.specs.Entry.{AreNextAfter};
 ghost use Rattle.node_table.specs.Table.{empty_table, greatest_version, with_own_writes};
 ghost use Rattle.staleness.specs.Figures.{writes_at};
 ghost use Rattle.staleness.specs.Cluster.{write_of_entry, OwnPartIsLastWrites};
 ghost use Rattle.staleness.specs.Writes.{AreBornBy};
 ghost use Rattle.round_plan.specs.Writes.{born_in};
-ghost use Rattle.bench_types.specs.Exchange.{IsPlanned};
-ghost use Rattle.cluster.specs.Tables.{tables_in, IsCluster};
+ghost use Rattle.cluster.specs.Tables.{tables_in};
 ghost use Rattle.cluster.specs.Clusters.{KeepOwnParts};
-ghost use Rattle.simulation.specs.Rounds.{opening_tables, restarted, written, begun, rules_of};
-ghost use Rattle.simulation.specs.Turns.{IsExchanged, AreExchanged};
+ghost use Rattle.simulation.specs.Rounds.{opening_tables, restarted, written, begun};
 ghost use Rattle.simulation.specs.Standing.{StandAfterRound};
 
+use bench_types::Fault;
 use bench_types::limits::MOST_ROUNDS;
-use bench_types::{Exchange, Fault, Record, Rules};
-use exchange::exchange;
 use node_table::NodeTable;
-use round_plan::{OwnWrite, RoundList, restarts_now, writes_of};
+use round_plan::{OwnWrite, restarts_now, writes_of};
 use scenario::Scenario;
 use staleness::OwnerList;
 use std::alloc::Global;
@@ -132,49 +128,4 @@ fn write_own(
         list.push(write.key, round)?;
     }
     Ok(())
-}
-
-/// The exchanges of a round, in the order of its list, with their records in that order.
-pub(crate) fn exchange_all(
-    alloc: Global,
-    tables: &mut [NodeTable],
-    list: &RoundList,
-    rules: &Rules,
-) -> Result<Vec<Record>, Fault>
-    requires budget { 1 ≤ rules.now.budget }
-    requires tables { IsCluster list.now.nodes (tables_in tables.old) }
-    ensures folded { IfOk result (λ v. AreExchanged rules.now list.now tables.old tables.new v.items) }
-    ensures count { IfOk result (λ v. length v.items ≡ length list.now.exchanges) }
-    ensures own { OnOk result (KeepOwnParts (tables_in tables.old) (tables_in tables.new)) }
-    ensures only { IsOkUnless result OutOfMemory }
-{
-    let mut records = Vec::with_capacity(alloc, list.len() as usize)?;
-    for plan in list.exchanges() {
-        records.push(exchange_pair(alloc, tables, plan, rules)?)?;
-    }
-    Ok(records)
-}
-
-// One exchange of two of the tables.
-fn exchange_pair(
-    alloc: Global,
-    tables: &mut [NodeTable],
-    plan: &Exchange,
-    rules: &Rules,
-) -> Result<Record, Fault>
-    requires budget { 1 ≤ rules.now.budget }
-    requires tables { IsCluster (length tables.old) (tables_in tables.old) }
-    requires planned { IsPlanned (length tables.old) plan.now }
-    ensures exchanged { IfOk result (IsExchanged rules.now plan.now tables.old tables.new) }
-    ensures only { IsOkUnless result OutOfMemory }
-{
-    let initiator = plan.initiator as usize;
-    let responder = plan.responder as usize;
-    if initiator < responder {
-        let (below, from) = tables.split_at_mut(responder);
-        exchange(alloc, &mut below[initiator], &mut from[0], plan, rules)
-    } else {
-        let (below, from) = tables.split_at_mut(initiator);
-        exchange(alloc, &mut from[0], &mut below[responder], plan, rules)
-    }
 }

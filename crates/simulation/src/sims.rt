@@ -2,26 +2,29 @@
 
 ghost use Rattle.std.specs.Prelude.{◌≡◌, ℕ, ◌+◌, ◌-◌, ◌<◌, ◌≤◌, ◌⊎◌, true, false, [], IfOk, IfErr, OnOk, IsOkUnless};
 ghost use Rattle.bench_types.specs.declared.faults.Fault.TheVariants.{OutOfMemory};
+ghost use Rattle.bench_types.specs.declared.limits.TheConstants.{MOST_WORKERS};
 ghost use Rattle.scenario.specs.Settings.{IsLawfulScenario};
 ghost use Rattle.staleness.specs.Figures.{figures_of};
 ghost use Rattle.simulation.specs.RoundView.{RoundView};
 ghost use Rattle.cluster.specs.Tables.{tables_in};
-ghost use Rattle.simulation.specs.Rounds.{opening_tables, round_of};
+ghost use Rattle.pool.specs.Runs.{IsPoolFault};
+ghost use Rattle.simulation.specs.Rounds.{opening_tables, begun, round_of};
 ghost use Rattle.simulation.specs.Rows.{row_of};
 ghost use Rattle.simulation.specs.Standing.{StandAfterRound};
 ghost use Rattle.simulation.specs.Simulation.{tables_of, lists_of, HasPlayed, AreTablesAfter, PlaysNext, MayStep, IsRefusedBy, IsStepFault};
-ghost use Rattle.simulation.specs.Outcomes.{IsPlayedFrom};
 
-use crate::clusters::{begin_round, empty_lists, empty_tables, exchange_all};
+use crate::clusters::{begin_round, empty_lists, empty_tables};
 use crate::rounds::Round;
-use bench_types::limits::MOST_ROUNDS;
+use bench_types::limits::{MOST_ROUNDS, MOST_WORKERS};
 use bench_types::{Fault, Rules};
 use node_table::NodeTable;
+use pool::{Gate, run_list};
 use round_plan::round_list;
 use scenario::Scenario;
 use staleness::{OwnerList, figures};
 use std::alloc::Global;
 use std::marker::Model;
+use std::sync::Wait;
 use std::thread::Threads;
 
 /// A simulation of a scenario. A fault within a round breaks it: its tables are then given up.
@@ -56,7 +59,8 @@ impl Sim {
     /// The simulation before its first round, where all tables are empty. It takes memory for the
     /// nodes, and hands the scenario back where that is refused.
     pub fn new(alloc: Global, scenario: Scenario) -> Result<Sim, (Fault, Scenario)>
-        ensures opens { IfOk result (λ sim. (sim.settings ≡ scenario) × (sim.rounds_done ≡ 0) × (sim.broken ≡ false)) }
+        ensures opens { IfOk result
+            (λ sim. (sim.settings ≡ scenario) × (sim.rounds_done ≡ 0) × (sim.broken ≡ false)) }
         ensures empty { IfOk result (λ sim. tables_in sim.tables ≡ opening_tables scenario) }
         ensures hands_back { IfErr result (λ e. (e.0 ≡ OutOfMemory) × (e.1 ≡ scenario)) }
     {
@@ -71,18 +75,32 @@ impl Sim {
         }
     }
 
-    /// Carries out the next round: the restarts, the writes by node, the exchanges of the round's list
-    /// in order, the figures. It answers `Broken` where an earlier round failed and `Finished` where
-    /// all rounds are done, and then changes nothing; any other fault breaks the simulation.
-    pub fn step<R: Threads + Sync>(&mut self, rt: &R) -> Result<Round, Fault>
+    /// Carries out the next round: the restarts, the writes by node, the exchanges of the round's list,
+    /// the figures. It comes to the same for every number of workers and every gate.
+    ///
+    /// With one worker the exchanges are done in list order and no thread is started for them. With more,
+    /// each is a thread that lives for the round. The gate is told of each exchange.
+    ///
+    /// It answers `Broken` where an earlier round failed and `Finished` where all rounds are done, and then
+    /// changes nothing. Any other fault breaks the simulation: `OutOfMemory`, or `NoThread` where a worker
+    /// couldn't be started.
+    pub fn step<R: Threads + Wait + Sync, G: Gate + Sync>(
+        &mut self,
+        rt: &R,
+        workers: u32,
+        gate: &G,
+    ) -> Result<Round, Fault>
+        requires few { 1 ≤ workers }
+        requires many { workers ≤ MOST_WORKERS }
         ensures played { IfOk result (PlaysNext self.old self.new) }
-        ensures fails { IfErr result (IsStepFault self.old self.new) }
+        ensures fails { IfErr result (IsStepFault workers self.old self.new) }
     {
         self.check_step()?;
-        let Some(mut cluster) = self.cluster.take() else {
+        let Some(cluster) = self.cluster.take() else {
             return Err(Fault::Broken);
         };
-        let round = cluster.play(rt, self.alloc, &self.scenario, self.rounds_done + 1)?;
+        let next = self.rounds_done + 1;
+        let (cluster, round) = cluster.play(rt, self.alloc, &self.scenario, next, workers, gate)?;
         self.cluster = Some(cluster);
         self.rounds_done += 1;
         Ok(round)
@@ -163,56 +181,48 @@ impl Cluster {
         })
     }
 
-    fn play<R: Threads + Sync>(
-        &mut self,
+    // What a round begins with.
+    fn begin(&mut self, scenario: &Scenario, round: u32) -> Result<(), Fault>
+        requires first { 1 ≤ round }
+        requires last { round ≤ MOST_ROUNDS }
+        requires standing { StandAfterRound scenario.now (round - 1) (tables_of self.old) (lists_of self.old) }
+        ensures standing { OnOk result (StandAfterRound scenario.now round (tables_of self.new) (lists_of self.new)) }
+        ensures tables { OnOk result (tables_of self.new ≡ begun scenario.now round (tables_of self.old)) }
+        ensures only { IsOkUnless result OutOfMemory }
+    {
+        begin_round(scenario, &mut self.tables, &mut self.lists, round)
+    }
+
+    // A round. Where it fails, the tables are given up.
+    fn play<R: Threads + Wait + Sync, G: Gate + Sync>(
+        mut self,
         rt: &R,
         alloc: Global,
         scenario: &Scenario,
         round: u32,
-    ) -> Result<Round, Fault>
+        workers: u32,
+        gate: &G,
+    ) -> Result<(Cluster, Round), Fault>
+        requires few { 1 ≤ workers }
+        requires many { workers ≤ MOST_WORKERS }
         requires first { 1 ≤ round }
         requires last { round ≤ MOST_ROUNDS }
-        requires standing { StandAfterRound scenario.now (round - 1) (tables_of self.old) (lists_of self.old) }
-        ensures tables { OnOk result (tables_of self.new ≡ (round_of scenario.now round (tables_of self.old)).tables) }
-        ensures standing { OnOk result (StandAfterRound scenario.now round (tables_of self.new) (lists_of self.new)) }
-        ensures played { IfOk result (HasPlayed scenario.now round self.old self.new) }
-        ensures only { IsOkUnless result OutOfMemory }
+        requires standing { StandAfterRound scenario.now (round - 1) (tables_of self) (lists_of self) }
+        ensures tables { IfOk result (λ p. tables_of p.0 ≡ (round_of scenario.now round (tables_of self)).tables) }
+        ensures standing { IfOk result (λ p. StandAfterRound scenario.now round (tables_of p.0) (lists_of p.0)) }
+        ensures played { IfOk result (λ p. HasPlayed scenario.now round self p.0 p.1) }
+        ensures fault { IfErr result (IsPoolFault workers) }
     {
-        play_round(
-            rt,
-            alloc,
-            scenario,
-            &mut self.tables,
-            &mut self.lists,
-            round,
-        )
+        self.begin(scenario, round)?;
+        let list = round_list(rt, alloc, scenario, round)?;
+        let rules = Rules {
+            mode: scenario.mode(),
+            budget: scenario.budget(),
+        };
+        let Cluster { tables, lists } = self;
+        let (tables, records) = run_list(rt, alloc, &list, tables, workers, gate, &rules)?;
+        let lag = figures(rt, alloc, &tables, &lists, round)?;
+        let played = Round::of(round, list, records, lag);
+        Ok((Cluster { tables, lists }, played))
     }
-}
-
-// A round, on the tables and the lists of all nodes.
-fn play_round<R: Threads + Sync>(
-    rt: &R,
-    alloc: Global,
-    scenario: &Scenario,
-    tables: &mut [NodeTable],
-    lists: &mut [OwnerList],
-    round: u32,
-) -> Result<Round, Fault>
-    requires first { 1 ≤ round }
-    requires last { round ≤ MOST_ROUNDS }
-    requires standing { StandAfterRound scenario.now (round - 1) (tables_in tables.old) lists.old }
-    ensures tables { OnOk result (tables_in tables.new ≡ (round_of scenario.now round (tables_in tables.old)).tables) }
-    ensures standing { OnOk result (StandAfterRound scenario.now round (tables_in tables.new) lists.new) }
-    ensures played { IfOk result (IsPlayedFrom scenario.now round tables.old tables.new lists.new) }
-    ensures only { IsOkUnless result OutOfMemory }
-{
-    let rules = Rules {
-        mode: scenario.mode(),
-        budget: scenario.budget(),
-    };
-    begin_round(scenario, tables, lists, round)?;
-    let list = round_list(rt, alloc, scenario, round)?;
-    let records = exchange_all(alloc, tables, &list, &rules)?;
-    let lag = figures(rt, alloc, tables, lists, round)?;
-    Ok(Round::of(round, list, records, lag))
 }

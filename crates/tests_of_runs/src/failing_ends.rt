@@ -7,6 +7,7 @@ use bench_types::{Fault, Field, Pull, Push};
 use std::alloc::{AllocError, AllocGlobal, Global};
 use std::io::ErrorKind;
 use std::process::Abort;
+use std::sync::Wait;
 use std::thread::Threads;
 
 #[derive(Clone, Copy, PartialEq)]
@@ -84,7 +85,7 @@ struct Ran {
 }
 
 // A run of this text that reads and writes byte by byte until an end fails.
-fn run_until(rt: &(impl Threads + AllocGlobal + Sync), text: &str, calls: Calls) -> Ran {
+fn run_until(rt: &(impl Threads + Wait + AllocGlobal + Sync), text: &str, calls: Calls) -> Ran {
     let alloc = rt.alloc();
     let mut reader = Pull::new(Halting {
         rest: text.as_bytes(),
@@ -94,7 +95,7 @@ fn run_until(rt: &(impl Threads + AllocGlobal + Sync), text: &str, calls: Calls)
     });
     let mut report = Push::new(Drip::new(alloc, calls.report));
     let mut trace = Push::new(Drip::new(alloc, calls.trace));
-    let answer = run(rt, alloc, &mut reader, &mut report, &mut trace);
+    let answer = run(rt, alloc, &mut reader, &mut report, &mut trace, 1);
     Ran {
         answer,
         report: report.into_inner().taken,
@@ -171,7 +172,7 @@ fn byte_by_byte(rt: HostRuntime) -> Result<(), Fault> {
 
 // Runs in which a writer fails at each byte of the part behind the first so many.
 fn expect_fronts(
-    rt: &(impl Threads + Abort + AllocGlobal + Sync),
+    rt: &(impl Threads + Wait + Abort + AllocGlobal + Sync),
     place: usize,
     (end, part): (End, &str),
 ) -> Result<(), AllocError> {

@@ -116,7 +116,7 @@ fn checked_inputs(rt: HostRuntime) -> Result<(), Fault> {
 fn a_run_without_a_trace(rt: HostRuntime) {
     let mut reader = Pull::new(TWO_NODES.as_bytes());
     let mut writer = Push::new(Vec::new(rt.alloc()));
-    let answer = run(&rt, rt.alloc(), &mut reader, &mut writer, &mut Discard);
+    let answer = run(&rt, rt.alloc(), &mut reader, &mut writer, &mut Discard, 1);
     assert_eq!(rt; answer, Ok(()));
     assert!(rt; writer.into_inner().as_slice() == TWO_NODES_REPORT.as_bytes());
 }
@@ -128,7 +128,7 @@ fn bytes_behind_an_overlong_input(rt: HostRuntime) -> Result<(), Fault> {
     text.resize(MOST_BYTES + 8, b'#')?;
     let mut reader = Pull::new(text.as_slice());
     let mut writer = Push::new(Vec::new(rt.alloc()));
-    let answer = run(&rt, rt.alloc(), &mut reader, &mut writer, &mut Discard);
+    let answer = run(&rt, rt.alloc(), &mut reader, &mut writer, &mut Discard, 1);
     assert_eq!(rt; answer, Err(Fault::TooLong));
     assert_eq!(rt; reader.into_inner().len(), 7);
     assert!(rt; writer.into_inner().is_empty());

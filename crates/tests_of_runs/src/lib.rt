@@ -15,3 +15,5 @@ mod steps;
 mod texts;
 #[cfg(test)]
 mod values;
+#[cfg(test)]
+mod workers;

@@ -1,7 +1,7 @@
 //! Simulations, step by step.
 
 use crate::texts::TWO_NODES;
-use bench::{Round, Sim};
+use bench::{FreeGate, Round, Sim};
 use bench_types::{Exchange, Fate, Fault, Figures, Record, Row};
 use node_table::NodeTable;
 use scenario::read;
@@ -9,7 +9,7 @@ use std::alloc::Global;
 use std::process::Abort;
 
 // The simulation of a text, before its first round.
-fn sim_of(alloc: Global, text: &str) -> Result<Sim, Fault> {
+pub(crate) fn sim_of(alloc: Global, text: &str) -> Result<Sim, Fault> {
     match Sim::new(alloc, read(alloc, text.as_bytes())?) {
         Ok(sim) => Ok(sim),
         Err((fault, _)) => Err(fault),
@@ -80,7 +80,7 @@ fn two_nodes(rt: HostRuntime) -> Result<(), Fault> {
     let mut sim = sim_of(rt.alloc(), TWO_NODES)?;
     assert_eq!(rt; sim.rounds_done(), 0);
     expect_counts(&rt, &sim, 0);
-    let round = sim.step(&rt)?;
+    let round = sim.step(&rt, 1, &FreeGate)?;
     expect_exchanges(&rt, &round);
     expect_row(&rt, &round);
     expect_counts(&rt, &sim, 2);
@@ -96,9 +96,9 @@ fn expect_finished(rt: &impl Abort, sim: &Sim, answer: Option<Fault>) {
 #[test]
 fn steps_behind_the_last_round(rt: HostRuntime) -> Result<(), Fault> {
     let mut sim = sim_of(rt.alloc(), TWO_NODES)?;
-    sim.step(&rt)?;
+    sim.step(&rt, 1, &FreeGate)?;
     for _ in 0..2 {
-        let answer = sim.step(&rt).err();
+        let answer = sim.step(&rt, 1, &FreeGate).err();
         expect_finished(&rt, &sim, answer);
         expect_counts(&rt, &sim, 2);
     }
@@ -121,8 +121,8 @@ fn expect_missed(rt: &impl Abort, table: &NodeTable, missed: u32) {
 fn ring_of_four(rt: HostRuntime) -> Result<(), Fault> {
     let text = TWO_NODES.replace(rt.alloc(), "nodes = 2", "nodes = 4")?;
     let mut sim = sim_of(rt.alloc(), text.as_str())?;
-    sim.step(&rt)?;
-    assert_eq!(rt; sim.step(&rt).err(), Some(Fault::Finished));
+    sim.step(&rt, 1, &FreeGate)?;
+    assert_eq!(rt; sim.step(&rt, 1, &FreeGate).err(), Some(Fault::Finished));
     assert_eq!(rt; sim.tables().len(), 4);
     for (table, missed) in sim.tables().iter().zip([2, 3, 1, 2]) {
         expect_missed(&rt, table, missed);

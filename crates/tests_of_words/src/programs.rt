@@ -17,7 +17,7 @@ struct Case<'a> {
     err: &'a str,
 }
 
-const CASES: [Case; 6] = [
+const CASES: [Case; 9] = [
     Case {
         words: &["check"],
         text: TWO_NODES,
@@ -48,6 +48,27 @@ const CASES: [Case; 6] = [
     },
     Case {
         words: &["compare"],
+        text: FOUR_MODES,
+        status: 0,
+        out: FOUR_MODES_COMPARED,
+        err: "",
+    },
+    Case {
+        words: &["run", "--workers", "2"],
+        text: TWO_NODES,
+        status: 0,
+        out: TWO_NODES_REPORT,
+        err: "",
+    },
+    Case {
+        words: &["run", "--workers=64"],
+        text: TWO_NODES,
+        status: 0,
+        out: TWO_NODES_REPORT,
+        err: "",
+    },
+    Case {
+        words: &["compare", "--workers", "4"],
         text: FOUR_MODES,
         status: 0,
         out: FOUR_MODES_COMPARED,
@@ -85,7 +106,7 @@ fn command_line_statuses(rt: HostRuntime) -> Result<(), Fail> {
 }
 
 // Words that are refused, and how the text on standard error begins.
-const REFUSED: [(&[&str], &str); 9] = [
+const REFUSED: [(&[&str], &str); 16] = [
     (
         &[],
         "error: 'gossip_bench' requires a subcommand but one was not provided",
@@ -113,6 +134,34 @@ const REFUSED: [(&[&str], &str); 9] = [
         "error: the argument '--trace <FILE>' cannot be used multiple times",
     ),
     (
+        &["check", "--workers", "2"],
+        "error: unexpected argument '--workers' found",
+    ),
+    (
+        &["run", "--workers", "65"],
+        "error: invalid value '65' for '--workers <N>': 65 is not in 1..=64",
+    ),
+    (
+        &["run", "--workers", "0"],
+        "error: invalid value '0' for '--workers <N>': 0 is not in 1..=64",
+    ),
+    (
+        &["compare", "--workers", "65"],
+        "error: invalid value '65' for '--workers <N>': 65 is not in 1..=64",
+    ),
+    (
+        &["compare", "--workers", "two"],
+        "error: invalid value 'two' for '--workers <N>': invalid digit found in string",
+    ),
+    (
+        &["run", "--workers"],
+        "error: a value is required for '--workers <N>' but none was supplied",
+    ),
+    (
+        &["run", "--workers", "1", "--workers", "2"],
+        "error: the argument '--workers <N>' cannot be used multiple times",
+    ),
+    (
         &["--version"],
         "error: unexpected argument '--version' found",
     ),
@@ -136,13 +185,15 @@ fn command_lines_of_the_program(rt: HostRuntime) -> Result<(), Fail> {
 }
 
 // Words that ask for help, and what stands in it.
-const HELP: [(&[&str], &str); 3] = [
+const HELP: [(&[&str], &str); 5] = [
     (&["--help"], "Usage: gossip_bench <COMMAND>"),
     (
         &["-h"],
         "compare  Run the scenario under each mode and print all rows",
     ),
     (&["run", "--help"], "--trace <FILE>"),
+    (&["run", "--help"], "--workers <N>"),
+    (&["compare", "--help"], "--workers <N>"),
 ];
 
 #[test]

@@ -1,0 +1,110 @@
+//! Steps with several workers come to what they come to with one.
+
+ghost use Rattle.std.specs.Prelude.{◌≤◌};
+ghost use Rattle.bench_types.specs.declared.limits.TheConstants.{MOST_WORKERS};
+
+use crate::steps::sim_of;
+use crate::texts::{
+    A_NODE_DOWN_FOR_TWO_ROUNDS, ALL_NODES_DOWN, RESTART_WITHOUT_DOWNTIME, TWO_NODES,
+    TWO_NODES_CUT_BY_THE_BUDGET,
+};
+use bench::{FreeGate, Round, Sim};
+use bench_types::limits::MOST_WORKERS;
+use bench_types::{Fault, Row};
+use node_table::NodeTable;
+use std::alloc::AllocGlobal;
+use std::process::Abort;
+use std::sync::Wait;
+use std::thread::Threads;
+
+fn expect_same_round(rt: &impl Abort, round: &Round, alone: &Round) {
+    assert_eq!(rt; round.row(), alone.row());
+    assert_eq!(rt; round.list().exchanges(), alone.list().exchanges());
+    assert_eq!(rt; round.records(), alone.records());
+}
+
+fn expect_same_table(rt: &impl Abort, table: &NodeTable, alone: &NodeTable) {
+    assert_eq!(rt;
+        (table.node(), table.count()),
+        (alone.node(), alone.count())
+    );
+    for owner in 0..table.nodes() {
+        for key in 0..table.keys() {
+            assert_eq!(rt; table.get(owner, key), alone.get(owner, key));
+        }
+    }
+}
+
+fn expect_same_tables(rt: &impl Abort, sim: &Sim, alone: &Sim) {
+    assert_eq!(rt; sim.tables().len(), alone.tables().len());
+    for (table, alone) in sim.tables().iter().zip(alone.tables()) {
+        expect_same_table(rt, table, alone);
+    }
+}
+
+// All rounds of a text, with so many workers beside one.
+fn expect_same(
+    rt: &(impl Threads + Wait + Abort + AllocGlobal + Sync),
+    text: &str,
+    workers: u32,
+) -> Result<(), Fault>
+    requires few { 1 ≤ workers }
+    requires many { workers ≤ MOST_WORKERS }
+{
+    let mut sim = sim_of(rt.alloc(), text)?;
+    let mut alone = sim_of(rt.alloc(), text)?;
+    for _ in 0..sim.rounds() {
+        let round = sim.step(rt, workers, &FreeGate)?;
+        expect_same_round(rt, &round, &alone.step(rt, 1, &FreeGate)?);
+        expect_same_tables(rt, &sim, &alone);
+    }
+    Ok(())
+}
+
+fn expect_same_with_any(
+    rt: &(impl Threads + Wait + Abort + AllocGlobal + Sync),
+    text: &str,
+) -> Result<(), Fault> {
+    for workers in 1..4 {
+        expect_same(rt, text, workers)?;
+    }
+    expect_same(rt, text, MOST_WORKERS)
+}
+
+#[test]
+fn steps_with_workers(rt: HostRuntime) -> Result<(), Fault> {
+    let texts = [
+        TWO_NODES,
+        A_NODE_DOWN_FOR_TWO_ROUNDS,
+        TWO_NODES_CUT_BY_THE_BUDGET,
+        RESTART_WITHOUT_DOWNTIME,
+    ];
+    for text in texts {
+        expect_same_with_any(&rt, text)?;
+    }
+    Ok(())
+}
+
+#[test]
+fn a_ring_of_four_with_workers(rt: HostRuntime) -> Result<(), Fault> {
+    let text = TWO_NODES.replace(rt.alloc(), "nodes = 2", "nodes = 4")?;
+    expect_same_with_any(&rt, text.as_str())
+}
+
+// No node is up, so no exchange is made and nothing is written.
+#[test]
+fn all_nodes_down_with_workers(rt: HostRuntime) -> Result<(), Fault> {
+    let mut sim = sim_of(rt.alloc(), ALL_NODES_DOWN)?;
+    let row = Row {
+        round: 1,
+        exchanges: 0,
+        unreached: 0,
+        lost: 0,
+        entries: 0,
+        cut: 0,
+        stale: 0,
+        greatest: 0,
+    };
+    assert_eq!(rt; sim.step(&rt, MOST_WORKERS, &FreeGate)?.row(), row);
+    expect_same(&rt, ALL_NODES_DOWN, MOST_WORKERS)
+}

@@ -55,8 +55,8 @@ impl Outcome {
     }
 }
 
-/// Runs a text, and compares what it writes with each text that is stored of a case. It does so with 1,
-/// 2, 3, 4 and the most workers; where these don't come to the same line, it is that of the first that
+/// Runs a text, and compares what it writes with each text that is stored of a case. It does so with 1 to
+/// 5 and the most workers; where these don't come to the same line, it is that of the first that
 /// differs from one worker's.
 pub fn run_line<R: Files + Threads + Wait + AllocGlobal + Sync>(
     rt: &R,
@@ -64,7 +64,7 @@ pub fn run_line<R: Files + Threads + Wait + AllocGlobal + Sync>(
     text: &[u8],
 ) -> io::Result<String> {
     let alone = line_with(rt, case, text, 1)?;
-    for workers in 2..5 {
+    for workers in 2..=5 {
         let line = line_with(rt, case, text, workers)?;
         if line.as_str() != alone.as_str() {
             return Ok(format!(in rt.alloc(); "with {workers} workers {line}")?);

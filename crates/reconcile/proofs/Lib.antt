@@ -4,9 +4,6 @@ pub mod Told
 pub mod Members
 -- What the proofs of this crate's functions rest on.
 pub mod Counts
-pub mod Runs
-pub mod Ranking
-pub mod Owners
 pub mod Picked
 pub mod Places
 pub mod Ordered
@@ -17,3 +14,8 @@ pub mod Dense
 pub mod Front
 pub mod Newer
 pub mod Layers
+pub mod Turned
+pub mod Ranked
+pub mod RunLayers
+pub mod Found
+pub mod Answering

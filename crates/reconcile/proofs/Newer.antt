@@ -4,10 +4,10 @@ use Rattle.std.specs.Prelude.{filter, Contains, IsPermutation}
 use Rattle.std.specs.List.{AllPairs}
 use Rattle.std.specs.declared.cmp.Ordering.TheVariants.{Less, Equal}
 use Rattle.std.specs.Ordering.{nat_cmp, ordering_then, is_eq}
-use Rattle.std.specs.Cmp.{tied_itself}
+use Rattle.std.specs.Cmp.{IsTotalOrder, nat_cmp_total, on_total, then_total, tied_itself}
 use Rattle.std.proofs.lemmas.Bool.{cases_lt, eq-eqb, ne_eqb, eqb-true, lt-ltb, ltb-true, le-ltb, and_parts, and_from, both_ways, not-true}
 use Rattle.std.proofs.lemmas.List.{append-nil, append_assoc, map-append, take_more}
-use Rattle.std.proofs.lemmas.List.Elements.{All-contains, All-map, Contains-get_or, Contains-append_left, Contains-append_right, Contains-append_cases, filter-append}
+use Rattle.std.proofs.lemmas.List.Elements.{All-contains, All-head, All-tail, All-map, Contains-get_or, Contains-append_left, Contains-append_right, Contains-append_cases, filter-append}
 use Rattle.std.proofs.lemmas.List.Kept.{AllPairs-filter}
 use Rattle.bench_types.specs.declared.entries.Entry.{Entry}
 use Rattle.bench_types.specs.declared.entries.Item.{Item}
@@ -21,12 +21,13 @@ use Rattle.node_table.proofs.Laws.{tied-stands_at}
 use Rattle.node_table.proofs.Versions.{version_at-le-greatest_version}
 use Rattle.reconcile.specs.Candidates.{items_above}
 use Rattle.reconcile.specs.Digests.{DigestView, version_told, told_version}
-use Rattle.reconcile.specs.Newer.{AreNewer, item_with, newer_items, IsCandidate, AreCandidates}
+use Rattle.reconcile.specs.Newer.{AreNewer, item_with, newer_items, version_order, IsCandidate, AreCandidates}
 use Rattle.reconcile.specs.Keys.{item_in, items_in}
-use Rattle.reconcile.specs.Ranks.{version_order}
-use Rattle.reconcile.specs.declared.orders.Candidate.{Candidate}
+use Rattle.reconcile.specs.declared.candidates.Candidate.{Candidate}
 use Rattle.reconcile.proofs.Members.{Contains-filter, Contains-kept, Contains-map, AllPairs-append, AllPairs-map, same_members}
-use Rattle.reconcile.proofs.Runs.{version_total}
+
+pub version_total : IsTotalOrder version_order
+version_total = then_total (on_total (λ (i : Item). i.owner) nat_cmp_total) (then_total (on_total (λ (i : Item). i.entry.version) nat_cmp_total) (on_total (λ (i : Item). i.entry.key) nat_cmp_total))
 
 module _ (t : Table) (told : DigestView) (owner : ℕ) where
   -- where one version is told of all keys of an owner, the entries above it aren't known
@@ -37,14 +38,6 @@ module _ (t : Table) (told : DigestView) (owner : ℕ) where
     all = λ key e held newer. above.all key e held (subst (λ v. v < e.version) (same key) newer);
   }
 
-  -- and where that is the greatest there are none
-  pub newer-none : (version : ℕ) → IsProper t → ((key : ℕ) → version_told told owner key ≡ version) → greatest_version t owner ≤ version → AreNewer t told owner []
-  newer-none version proper same most = record {
-    rising = λ i j d lt in_range. absurd (omega arith);
-    held = λ e (k, lt, is). absurd (omega arith);
-    all = λ key e held newer. absurd (omega (arith, most, subst (λ v. v < e.version) (same key) newer, ap version_of held, version_at-le-greatest_version t owner key (proper.in_place owner key e held).key_below));
-  }
-
   -- all entries of an owner have those among them that aren't known
   pub newer-row : (entries : List Entry) → AreAbove t owner 0 entries → AreNewer t told owner entries
   newer-row entries above = record {
@@ -53,11 +46,31 @@ module _ (t : Table) (told : DigestView) (owner : ℕ) where
     all = λ key e held newer. above.all key e held (omega (arith, newer));
   }
 
+-- none is above the greatest version
+pub above-none : (t : Table) (owner version : ℕ) → IsProper t → greatest_version t owner ≤ version → AreAbove t owner version []
+above-none t owner version proper most = record {
+  rising = λ i j d lt in_range. absurd (omega arith);
+  held = λ e (k, lt, is). absurd (omega arith);
+  all = λ key e held newer. absurd (omega (arith, most, newer, ap version_of held, version_at-le-greatest_version t owner key (proper.in_place owner key e held).key_below));
+}
+
+-- entries above what is told are all newer
+pub newer_items-above : (t : Table) (told : DigestView) (owner version : ℕ) (entries : List Entry) → ((key : ℕ) → version_told told owner key ≡ version) → AreAbove t owner version entries → newer_items told owner entries ≡ map (item_with owner) entries
+newer_items-above t told owner version entries same above =
+    filter-all (λ (i : Item). ltb (told_version told i) i.entry.version) (map (item_with owner) entries)
+    (All-map (λ (i : Item). ltb (told_version told i) i.entry.version ≡ true) (item_with owner) entries
+    (λ k d lt. let e = get_or entries k d in
+    lt-ltb (version_told told owner e.key) e.version (subst (λ v. v < e.version) (sym (same e.key)) (above.held e (Contains-get_or entries k d lt)).1)))
+  where
+    filter-all : (p : Item → Bool) (xs : List Item) → All (λ x. p x ≡ true) xs → filter p xs ≡ xs
+    filter-all p [] each = refl
+    filter-all p (x ∷ xs) each = ap (λ b. cond b (x ∷ filter p xs) (filter p xs)) (All-head (λ y. p y ≡ true) x xs each) ∙ ap (λ ys. x ∷ ys) (filter-all p xs (All-tail (λ y. p y ≡ true) x xs each))
+
 -- the keys of a proper table's entries are in range
-pub newer-keys : (t : Table) (told : DigestView) (owner : ℕ) (entries : List Entry) → IsProper t → AreNewer t told owner entries → All (λ (e : Entry). e.key < t.keys) entries
-newer-keys t told owner entries proper newer k d lt =
+pub row-keys : (t : Table) (owner version : ℕ) (entries : List Entry) → IsProper t → AreAbove t owner version entries → All (λ (e : Entry). e.key < t.keys) entries
+row-keys t owner version entries proper above k d lt =
     let e = get_or entries k d in
-    (proper.in_place owner e.key e (newer.held e (Contains-get_or entries k d lt))).key_below
+    (proper.in_place owner e.key e (above.held e (Contains-get_or entries k d lt)).0).key_below
 
 -- one more entry is looked at
 module _ (told : DigestView) (owner : ℕ) (entries : List Entry) (n : ℕ) (before : List Item) (found : List Candidate) (so_far : items_in found ≡ before ++ newer_items told owner (take n entries)) (lt : n < length entries) (d : Entry) where

@@ -1,5 +1,5 @@
 -- Candidates sorted by their three numbers and by key are in the order of their mode.
-use Rattle.std.proofs.Common.{◌≡◌, ℕ, ◌+◌, ◌<◌, ◌^◌, Bool, eqb, List, length, get_or, take, All, inl, inr, refl, sym, ap, ◌∙◌, subst, arith}
+use Rattle.std.proofs.Common.{◌≡◌, ℕ, ◌+◌, ◌<◌, ◌^◌, Bool, eqb, List, length, get_or, take, inl, inr, refl, sym, ap, ◌∙◌, subst, arith}
 use Rattle.std.specs.Prelude.{IsPermutation}
 use Rattle.std.specs.List.Sorted.{IsSorted, IsSortedBy}
 use Rattle.std.specs.declared.cmp.Ordering.{Ordering}
@@ -9,16 +9,34 @@ use Rattle.std.specs.Cmp.{IsTotalOrder, nat_cmp_total, on_total, then_total}
 use Rattle.std.proofs.lemmas.Bool.{cases_order}
 use Rattle.std.proofs.lemmas.List.{get_or-map, get_or-take, length-map, length-take, take-map}
 use Rattle.std.proofs.lemmas.List.Sums.{count_by-le-length}
-use Rattle.std.proofs.lemmas.List.Elements.{All-map}
 use Rattle.std.proofs.lemmas.List.Sorted.{All-permutation, IsPermutation-map}
 use Rattle.bench_types.specs.declared.entries.Item.{Item}
 use Rattle.bench_types.specs.declared.exchanges.Mode.{Mode}
 use Rattle.bench_types.specs.declared.exchanges.Mode.TheVariants.{ScuttleBreadth, ScuttleDepth, PreciseOldest, PreciseNewest}
-use Rattle.reconcile.specs.declared.orders.Candidate.{Candidate}
-use Rattle.reconcile.specs.Order.{rotated, owner_count, sending_order}
-use Rattle.reconcile.specs.Keys.{item_in, items_in, reversed, first_key, second_key, AllSet, AllFirst, IsFront, AreFirst, AreFirstItems, number_order, without_first, rest_of}
-use Rattle.reconcile.proofs.Ranking.{no_candidate, All-unmap, items-rest}
+use Rattle.reconcile.specs.declared.candidates.Candidate.{Candidate}
+use Rattle.bench_types.specs.Mode.{told_by}
+use Rattle.bench_types.specs.declared.exchanges.Telling.TheVariants.{Each}
+use Rattle.reconcile.specs.Order.{rotated, rank_among, owner_count, sending_order}
+use Rattle.reconcile.specs.Candidates.{IsScuttleMode}
+use Rattle.reconcile.specs.Keys.{item_in, items_in, reversed, IsSet, AllSet, IsFront, AreFirst, AreFirstItems, number_order}
 use Rattle.node_table.proofs.Comparing.{nat_cmp-less, nat_cmp-equal, nat_cmp-greater}
+
+unfoldable pub no_candidate : Candidate
+no_candidate = record { first = 0; turn = 0; second = 0; item = record { owner = 0; entry = record { key = 0; version = 0; value = 0; born = 0 } } }
+
+-- what each mode looks at first, among all candidates
+abbrev pub first_key : Mode → List Item → Item → ℕ
+first_key ScuttleBreadth cs i = rank_among cs i
+first_key ScuttleDepth cs i = reversed (owner_count cs i)
+first_key PreciseOldest cs i = i.entry.born
+first_key PreciseNewest cs i = reversed i.entry.born
+
+-- what each mode looks at after the owner's turn
+abbrev pub second_key : Mode → Item → ℕ
+second_key ScuttleBreadth i = 0
+second_key ScuttleDepth i = i.entry.version
+second_key PreciseOldest i = i.entry.version
+second_key PreciseNewest i = reversed i.entry.version
 
 -- a list of candidates that is sorted by a test of their items is so as a list of items
 pub sorted_items : (lt : Item → Item → Bool) (cs : List Candidate) → IsSortedBy (λ c d. lt (item_in c) (item_in d)) cs → IsSortedBy lt (items_in cs)
@@ -50,60 +68,35 @@ nat_cmp-reversed a b in_a in_b = elim (cases_order a b) [
   ]
 ]
 
--- a candidate with its three numbers
-pub record IsKeyed (mode : Mode) (nodes rotation : ℕ) (items : List Item) (c : Candidate) : Type 0 where
-  pub first : c.first ≡ first_key mode items c.item
-  pub turn : c.turn ≡ rotated nodes rotation c.item.owner
-  pub second : c.second ≡ second_key mode c.item
-  pub version_fits : c.item.entry.version < 2 ^ 32
-  pub born_fits : c.item.entry.born < 2 ^ 32
-
 -- the keys alone, put in place of the numbers
 abbrev pub by_items : Mode → ℕ → ℕ → List Item → Item → Item → Ordering
 by_items mode ns s items i j = ordering_then (nat_cmp (first_key mode items i) (first_key mode items j)) (ordering_then (nat_cmp (rotated ns s i.owner) (rotated ns s j.owner)) (ordering_then (nat_cmp (second_key mode i) (second_key mode j)) (nat_cmp i.entry.key j.entry.key)))
 
-keys-items : (mode : Mode) (ns s : ℕ) (items : List Item) (c d : Candidate) → IsKeyed mode ns s items c → IsKeyed mode ns s items d → number_order c d ≡ by_items mode ns s items c.item d.item
-keys-items mode ns s items c d a b =
-    sym (four_in_turn (nat_cmp c.first d.first) (nat_cmp c.turn d.turn) (nat_cmp c.second d.second) (nat_cmp c.item.entry.key d.item.entry.key))
-    ∙ λ i. ordering_then (nat_cmp (a.first i) (b.first i)) (ordering_then (nat_cmp (a.turn i) (b.turn i)) (ordering_then (nat_cmp (a.second i) (b.second i)) (nat_cmp c.item.entry.key d.item.entry.key)))
-
 -- they compare as the mode says
-pub items-sending : (mode : Mode) (ns s : ℕ) (items : List Item) (i j : Item) → length items < 2 ^ 32 → i.entry.version < 2 ^ 32 → i.entry.born < 2 ^ 32 → j.entry.version < 2 ^ 32 → j.entry.born < 2 ^ 32 → by_items mode ns s items i j ≡ sending_order mode ns s items i j
-items-sending ScuttleBreadth ns s items i j few iv ib jv jb = refl
-items-sending ScuttleDepth ns s items i j few iv ib jv jb =
+pub scuttle-sending : (mode : Mode) → IsScuttleMode mode → (ns s : ℕ) (items : List Item) (i j : Item) → length items < 2 ^ 32 → by_items mode ns s items i j ≡ sending_order mode ns s items i j
+scuttle-sending ScuttleBreadth is ns s items i j few = refl
+scuttle-sending ScuttleDepth is ns s items i j few =
     ap (λ o. ordering_then o (ordering_then (nat_cmp (rotated ns s i.owner) (rotated ns s j.owner)) (ordering_then (nat_cmp i.entry.version j.entry.version) (nat_cmp i.entry.key j.entry.key))))
     (nat_cmp-reversed (owner_count items i) (owner_count items j) (omega (arith, count_by-le-length (λ (d : Item). eqb d.owner i.owner) items)) (omega (arith, count_by-le-length (λ (d : Item). eqb d.owner j.owner) items)))
-items-sending PreciseOldest ns s items i j few iv ib jv jb = refl
-items-sending PreciseNewest ns s items i j few iv ib jv jb =
-    λ n. ordering_then (nat_cmp-reversed i.entry.born j.entry.born ib jb n) (ordering_then (nat_cmp (rotated ns s i.owner) (rotated ns s j.owner)) (ordering_then (nat_cmp-reversed i.entry.version j.entry.version iv jv n) (nat_cmp i.entry.key j.entry.key)))
+scuttle-sending PreciseOldest is ns s items i j few = cc
+scuttle-sending PreciseNewest is ns s items i j few = cc
 
--- what the rest of a candidate tells
-record IsRest (mode : Mode) (ns s : ℕ) (c : Candidate) : Type 0 where
-  turn : c.turn ≡ rotated ns s c.item.owner
-  second : c.second ≡ second_key mode c.item
-  version_fits : c.item.entry.version < 2 ^ 32
-  born_fits : c.item.entry.born < 2 ^ 32
+-- and so do candidates of a precise mode by their numbers
+numbers-sending : (mode : Mode) → told_by mode ≡ Each → (ns s : ℕ) (items : List Item) (c d : Candidate) → IsSet mode ns s c → IsSet mode ns s d → number_order c d ≡ sending_order mode ns s items c.item d.item
+numbers-sending ScuttleBreadth is ns s items c d a b = cc
+numbers-sending ScuttleDepth is ns s items c d a b = cc
+numbers-sending PreciseOldest is ns s items c d a b =
+    sym (four_in_turn (nat_cmp c.first d.first) (nat_cmp c.turn d.turn) (nat_cmp c.second d.second) (nat_cmp c.item.entry.key d.item.entry.key))
+    ∙ λ i. ordering_then (nat_cmp (a.first i) (b.first i)) (ordering_then (nat_cmp (a.turn i) (b.turn i)) (ordering_then (nat_cmp (a.second i) (b.second i)) (nat_cmp c.item.entry.key d.item.entry.key)))
+numbers-sending PreciseNewest is ns s items c d a b =
+    sym (four_in_turn (nat_cmp c.first d.first) (nat_cmp c.turn d.turn) (nat_cmp c.second d.second) (nat_cmp c.item.entry.key d.item.entry.key))
+    ∙ (λ i. ordering_then (nat_cmp (a.first i) (b.first i)) (ordering_then (nat_cmp (a.turn i) (b.turn i)) (ordering_then (nat_cmp (a.second i) (b.second i)) (nat_cmp c.item.entry.key d.item.entry.key))))
+    ∙ λ n. ordering_then (nat_cmp-reversed c.item.entry.born d.item.entry.born a.born_fits b.born_fits n) (ordering_then (nat_cmp (rotated ns s c.item.owner) (rotated ns s d.item.owner)) (ordering_then (nat_cmp-reversed c.item.entry.version d.item.entry.version a.version_fits b.version_fits n) (nat_cmp c.item.entry.key d.item.entry.key)))
 
-module _ (mode : Mode) (ns s : ℕ) (old keyed moved : List Candidate) (count : ℕ) (few : length old < 2 ^ 32) (set : AllSet mode ns s old) (same : rest_of keyed ≡ rest_of old) (first : AllFirst (first_key mode (items_in old)) keyed) (moves : IsPermutation keyed moved) where
-  rest_is : All (λ c. IsRest mode ns s (without_first c)) keyed
-  rest_is = All-unmap (IsRest mode ns s) without_first keyed (subst (All (IsRest mode ns s)) (sym same)
-      (All-map (IsRest mode ns s) without_first old (λ k d lt. let one = set k d lt in record { turn = one.turn; second = one.second; version_fits = one.version_fits; born_fits = one.born_fits })))
-
-  pub all_keyed : All (IsKeyed mode ns s (items_in old)) moved
-  all_keyed = All-permutation (IsKeyed mode ns s (items_in old)) keyed moved moves
-      (λ k d lt. let one = rest_is k d lt in record { first = first k d lt; turn = one.turn; second = one.second; version_fits = one.version_fits; born_fits = one.born_fits })
-
-  compare : (j k : ℕ) (d : Candidate) → j < length moved → k < length moved → sending_order mode ns s (items_in old) (get_or moved j d).item (get_or moved k d).item ≡ number_order (get_or moved j d) (get_or moved k d)
-  compare j k d in_j in_k =
-      let a = all_keyed j d in_j in
-      let b = all_keyed k d in_k in
-      let x = get_or moved j d in
-      let y = get_or moved k d in
-      sym (keys-items mode ns s (items_in old) x y a b ∙ items-sending mode ns s (items_in old) x.item y.item (omega (arith, length-map old item_in)) a.version_fits a.born_fits b.version_fits b.born_fits)
-
+module _ (mode : Mode) (precise : told_by mode ≡ Each) (ns s : ℕ) (old : List Candidate) (count : ℕ) (set : AllSet mode ns s old) where
   -- a front by the numbers is one in the order of the mode
-  order_front : IsFront number_order count moved → IsFront (sending_order mode ns s (items_in old)) count (items_in moved)
-  order_front front = record {
+  order_front : (moved : List Candidate) → IsPermutation old moved → IsFront number_order count moved → IsFront (sending_order mode ns s (items_in old)) count (items_in moved)
+  order_front moved moves front = record {
     sorted = subst (IsSorted (sending_order mode ns s (items_in old))) (sym (take-map item_in count moved)) (sorted_items (λ c d. is_lt (sending_order mode ns s (items_in old) c d)) (take count moved) (λ k d from in_range.
         let short = length-take count moved in
         let next = get_or-take count moved (k + 1) d (omega arith) in
@@ -120,12 +113,17 @@ module _ (mode : Mode) (ns s : ℕ) (old keyed moved : List Candidate) (count : 
         ∙ ap is_lt (compare k j no_candidate (omega arith) (omega arith))
         ∙ front.first j k no_candidate before behind (omega arith);
   }
+    where
+      compare : (j k : ℕ) (d : Candidate) → j < length moved → k < length moved → sending_order mode ns s (items_in old) (get_or moved j d).item (get_or moved k d).item ≡ number_order (get_or moved j d) (get_or moved k d)
+      compare j k d in_j in_k =
+          let all = All-permutation (IsSet mode ns s) old moved moves set in
+          sym (numbers-sending mode precise ns s (items_in old) (get_or moved j d) (get_or moved k d) (all j d in_j) (all k d in_k))
 
--- and the items of the first by the numbers are the first in the order of the mode
-pub order_first : (mode : Mode) (ns s : ℕ) (old keyed : List Candidate) (count : ℕ) → length old < 2 ^ 32 → AllSet mode ns s old → rest_of keyed ≡ rest_of old → AllFirst (first_key mode (items_in old)) keyed → (items : List Item) → AreFirstItems count keyed items → AreFirst (sending_order mode ns s (items_in old)) count (items_in old) items
-order_first mode ns s old keyed count few set same first items (front, are, items_are) = record {
-  moved = items_in are.moved;
-  same = subst (λ is. IsPermutation is (items_in are.moved)) (items-rest keyed old same) (IsPermutation-map item_in keyed are.moved are.same);
-  front = order_front mode ns s old keyed are.moved count few set same first are.same are.front;
-  is = items_are ∙ ap items_in are.is ∙ sym (take-map item_in count are.moved);
-}
+  -- and the items of the first by the numbers are the first in the order of the mode
+  pub order_first : (items : List Item) → AreFirstItems count old items → AreFirst (sending_order mode ns s (items_in old)) count (items_in old) items
+  order_first items (front, are, items_are) = record {
+    moved = items_in are.moved;
+    same = IsPermutation-map item_in old are.moved are.same;
+    front = order_front are.moved are.same are.front;
+    is = items_are ∙ ap items_in are.is ∙ sym (take-map item_in count are.moved);
+  }

@@ -6,7 +6,7 @@ use Rattle.std.specs.declared.cmp.Ordering.{Ordering}
 use Rattle.std.specs.declared.cmp.Ordering.TheVariants.{Equal}
 use Rattle.std.specs.Ordering.{nat_cmp, ordering_then, is_lt}
 use Rattle.std.specs.Cmp.{IsTotalOrder}
-use Rattle.std.proofs.lemmas.List.{length-map, take_min}
+use Rattle.std.proofs.lemmas.List.{take_min}
 use Rattle.std.proofs.lemmas.List.Sums.{length-filter, count_by-le-length}
 use Rattle.std.proofs.lemmas.List.Elements.{All-filter}
 use Rattle.std.proofs.lemmas.List.Sorted.{IsPermutation-trans, length_permutation, sum_by-IsPermutation}
@@ -17,8 +17,7 @@ use Rattle.node_table.proofs.Proper.{items_sound, length-le-limit}
 use Rattle.bench_types.specs.declared.exchanges.Mode.TheVariants.{ScuttleBreadth, ScuttleDepth, PreciseOldest, PreciseNewest}
 use Rattle.reconcile.specs.Order.{rotated, rank_among, owner_count, sending_order}
 use Rattle.reconcile.specs.Deltas.{DeltaView, delta_of}
-use Rattle.reconcile.specs.declared.orders.Candidate.{Candidate}
-use Rattle.reconcile.specs.Keys.{item_in, items_in, IsFront, AreFirst}
+use Rattle.reconcile.specs.Keys.{IsFront, AreFirst}
 use Rattle.node_table.specs.View.{no_item}
 use Rattle.reconcile.proofs.Apart.{sending_total, sending_apart}
 use Rattle.reconcile.proofs.Front.{whole, whole-permutation, whole-sorted, whole-front}
@@ -108,5 +107,5 @@ front_sent mode t q found items s budget count proper in_s same first count_is =
     cut_is = omega (arith, count_is, length-all)
 
 -- and there are few enough to count
-pub length-candidates-lt : (t : Table) (q : Item → Bool) (found : List Candidate) → IsProper t → IsPermutation (filter q (items_of t)) (items_in found) → length found < 2 ^ 32
-length-candidates-lt t q found proper same = omega (arith, length-map found item_in, length_permutation (filter q (items_of t)) (items_in found) same, length-filter-le q (items_of t), length-items_of-le t proper)
+pub length-candidates-lt : (t : Table) (q : Item → Bool) (found : List Item) → IsProper t → IsPermutation (filter q (items_of t)) found → length found < 2 ^ 32
+length-candidates-lt t q found proper same = omega (arith, length_permutation (filter q (items_of t)) found same, length-filter-le q (items_of t), length-items_of-le t proper)

@@ -15,7 +15,7 @@ use Rattle.node_table.specs.View.{IsItemInPlace}
 use Rattle.node_table.proofs.Proper.{items_sound}
 use Rattle.reconcile.specs.Candidates.{items_above, candidates, known_version}
 use Rattle.reconcile.specs.Digests.{DigestView, Knowledge, Greatest, Each, telling_of, IsDigestOf, greatest_in, each_in, known_in, told_version}
-use Rattle.reconcile.specs.Deltas.{answer_of, MayTake}
+use Rattle.reconcile.specs.Deltas.{DeltaView, delta_of, answer_of, IsDeltaToReceiver, MayTake}
 use Rattle.reconcile.specs.Order.{sending_order}
 use Rattle.reconcile.specs.Picks.{at_place, sent}
 use Rattle.reconcile.proofs.Picked.{find_stands}
@@ -28,11 +28,11 @@ filter-same p q (x ∷ xs) same =
     ∙ ap (λ ys. cond (q x) (x ∷ ys) ys) (filter-same p q xs (All-tail (λ (i : Item). p i ≡ q i) x xs same))
 
 -- what a digest knows of an item, by its kind
-known_in-greatest : (k : Knowledge) (keys owner key : ℕ) → telling_of k ≡ telling.Greatest → known_in keys k owner key ≡ greatest_in k owner
+pub known_in-greatest : (k : Knowledge) (keys owner key : ℕ) → telling_of k ≡ telling.Greatest → known_in keys k owner key ≡ greatest_in k owner
 known_in-greatest (Greatest gs) keys owner key is = refl
 known_in-greatest (Each vs) keys owner key is = cc
 
-known_in-each : (k : Knowledge) (keys owner key : ℕ) → telling_of k ≡ telling.Each → known_in keys k owner key ≡ each_in keys k owner key
+pub known_in-each : (k : Knowledge) (keys owner key : ℕ) → telling_of k ≡ telling.Each → known_in keys k owner key ≡ each_in keys k owner key
 known_in-each (Greatest gs) keys owner key is = cc
 known_in-each (Each vs) keys owner key is = refl
 
@@ -86,3 +86,14 @@ pub answer-in_place : (mode : Mode) (rotation budget : ℕ) (from : Table) (rece
 answer-in_place mode rotation budget from receiver told proper =
     let cs = items_above (told_version told) receiver (items_of from) in
     All-sent (λ (i : Item). (i.owner ≢ receiver) × IsItemInPlace from.nodes from.keys i) (sending_order mode from.nodes rotation cs) cs budget (candidates-in_place from (told_version told) receiver proper)
+
+-- and it is the delta to every table that the digest is of
+pub answer-of_tables : (mode : Mode) (rotation budget : ℕ) (from : Table) (receiver : ℕ) (told : DigestView) (delta : DeltaView) → IsProper from → told.nodes ≡ from.nodes → told.keys ≡ from.keys → delta ≡ answer_of mode rotation budget from receiver told → IsDeltaToReceiver mode rotation budget from receiver told delta
+answer-of_tables mode rotation budget from receiver told delta proper nodes keys is to at of_to =
+    is
+    ∙ ap (λ r. delta_of mode from.nodes rotation budget (items_above (told_version told) r (items_of from))) (sym at)
+    ∙ ap (delta_of mode from.nodes rotation budget) (candidates-told mode from to told proper of_to nodes keys)
+
+pub answer-sound : (mode : Mode) (rotation budget : ℕ) (from : Table) (receiver : ℕ) (told : DigestView) (delta : DeltaView) → IsProper from → delta ≡ answer_of mode rotation budget from receiver told → MayTake receiver from.nodes from.keys delta.items
+answer-sound mode rotation budget from receiver told delta proper is =
+    subst (λ (d : DeltaView). MayTake receiver from.nodes from.keys d.items) (sym is) (answer-in_place mode rotation budget from receiver told proper)

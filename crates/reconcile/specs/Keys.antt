@@ -1,15 +1,14 @@
--- Candidates on the way into their order: each beside three numbers, by which and by the key they are sorted.
--- What comes later where it is greater stands as it is, and what comes earlier where it is greater is taken
+-- Candidates of a precise mode on the way into their order: each beside three numbers, by which and by the key they are
+-- sorted. What comes later where it is greater stands as it is, and what comes earlier where it is greater is taken
 -- from the greatest number of 32 bits. Source: this project.
 use Rattle.std.specs.Prelude.{◌≡◌, ℕ, ◌-◌, ◌<◌, ◌≤◌, ◌^◌, false, List, All, map, take, length, slice_index_or, IsPermutation, IsSorted}
 use Rattle.std.specs.Ordering.{nat_cmp, ordering_then, is_lt}
 use Rattle.std.specs.declared.cmp.Ordering.{Ordering}
-use Rattle.std.specs.List.Sorted.{IsNonDecreasingBy}
 use Rattle.bench_types.specs.declared.entries.Item.{Item}
 use Rattle.bench_types.specs.declared.exchanges.Mode.{Mode}
 use Rattle.bench_types.specs.declared.exchanges.Mode.TheVariants.{ScuttleBreadth, ScuttleDepth, PreciseOldest, PreciseNewest}
-use Rattle.reconcile.specs.declared.orders.Candidate.{Candidate}
-use Rattle.reconcile.specs.Order.{rotated, rank_among, owner_count, sending_order}
+use Rattle.reconcile.specs.declared.candidates.Candidate.{Candidate}
+use Rattle.reconcile.specs.Order.{rotated}
 
 abbrev pub item_in : Candidate → Item
 item_in c = c.item
@@ -20,33 +19,18 @@ items_in cs = map item_in cs
 abbrev pub reversed : ℕ → ℕ
 reversed n = 4294967295 - n
 
--- what the precise modes look at first
-abbrev pub age_key : Mode → Item → ℕ
-age_key ScuttleBreadth i = 0
-age_key ScuttleDepth i = 0
-age_key PreciseOldest i = i.entry.born
-age_key PreciseNewest i = reversed i.entry.born
+-- a round or a version as a number that is smaller where it comes first
+abbrev pub age_first : Mode → ℕ → ℕ
+age_first ScuttleBreadth age = age
+age_first ScuttleDepth age = age
+age_first PreciseOldest age = age
+age_first PreciseNewest age = reversed age
 
--- what each mode looks at first, among all candidates
-abbrev pub first_key : Mode → List Item → Item → ℕ
-first_key ScuttleBreadth cs i = rank_among cs i
-first_key ScuttleDepth cs i = reversed (owner_count cs i)
-first_key PreciseOldest cs i = i.entry.born
-first_key PreciseNewest cs i = reversed i.entry.born
-
--- what each mode looks at after the owner's turn
-abbrev pub second_key : Mode → Item → ℕ
-second_key ScuttleBreadth i = 0
-second_key ScuttleDepth i = i.entry.version
-second_key PreciseOldest i = i.entry.version
-second_key PreciseNewest i = reversed i.entry.version
-
--- a candidate with all that one item alone tells
+-- a candidate with its numbers
 pub record IsSet (mode : Mode) (nodes rotation : ℕ) (c : Candidate) : Type 0 where
-  pub age : c.first ≡ age_key mode c.item
+  pub first : c.first ≡ age_first mode c.item.entry.born
   pub turn : c.turn ≡ rotated nodes rotation c.item.owner
-  pub second : c.second ≡ second_key mode c.item
-  pub owner : c.item.owner < nodes
+  pub second : c.second ≡ age_first mode c.item.entry.version
   pub version_fits : c.item.entry.version < 2 ^ 32
   pub born_fits : c.item.entry.born < 2 ^ 32
 
@@ -74,25 +58,6 @@ pub record AreFirst {X : Type 0} (order : X → X → Ordering) (count : ℕ) (x
 abbrev pub AreFirstItems : ℕ → List Candidate → List Item → Type 0
 AreFirstItems count cs items = (first : List Candidate) × AreFirst number_order count cs first × (items ≡ items_in first)
 
--- they are the first so many of candidates in the order of a mode
-abbrev pub ComeFirst : Mode → ℕ → ℕ → ℕ → List Candidate → List Item → Type 0
-ComeFirst mode nodes rotation count cs = AreFirst (sending_order mode nodes rotation (items_in cs)) count (items_in cs)
-
 -- where the old ones were set, so are the new ones
 abbrev pub SetsStay : Mode → ℕ → ℕ → List Candidate → List Candidate → Type 0
 SetsStay mode nodes rotation old new = AllSet mode nodes rotation old → AllSet mode nodes rotation new
-
--- each has what its mode looks at first
-abbrev pub AllFirst : (Item → ℕ) → List Candidate → Type 0
-AllFirst first cs = All (λ c. c.first ≡ first c.item) cs
-
--- a candidate but for what its mode looks at first
-abbrev pub without_first : Candidate → Candidate
-without_first c = record c { first = 0 }
-
-abbrev pub rest_of : List Candidate → List Candidate
-rest_of cs = map without_first cs
-
--- the items stand by owner
-abbrev pub OwnersRise : List Item → Type 0
-OwnersRise items = IsNonDecreasingBy (λ (i : Item). i.owner) items

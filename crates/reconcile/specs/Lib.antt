@@ -7,8 +7,7 @@ pub mod Newer
 pub mod Deltas
 pub mod Laws
 pub mod Keys
-pub mod Layers
-pub mod Ranks
+pub mod Runs
 pub use Rattle.node_table.specs.Table
 pub use Rattle.node_table.specs.NodeTableView
 pub use Rattle.bench_types.specs.Entry

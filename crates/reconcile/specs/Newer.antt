@@ -1,6 +1,8 @@
 -- Entries of a table that a digest doesn't know. Source: this project.
 use Rattle.std.specs.Prelude.{◌≡◌, ◌≢◌, ℕ, ◌<◌, nat_lt, List, Some, ◌++◌, Contains, filter, map}
 use Rattle.std.specs.List.{AllPairs}
+use Rattle.std.specs.Ordering.{nat_cmp, ordering_then}
+use Rattle.std.specs.declared.cmp.Ordering.{Ordering}
 use Rattle.std.specs.declared.cmp.Ordering.TheVariants.{Less}
 use Rattle.bench_types.specs.declared.entries.Entry.{Entry}
 use Rattle.bench_types.specs.declared.entries.Item.{Item}
@@ -8,8 +10,7 @@ use Rattle.node_table.specs.Table.{Table, entry_at}
 use Rattle.node_table.specs.Rows.{StandsBefore}
 use Rattle.reconcile.specs.Digests.{DigestView, version_told, told_version}
 use Rattle.reconcile.specs.Keys.{items_in}
-use Rattle.reconcile.specs.Ranks.{version_order}
-use Rattle.reconcile.specs.declared.orders.Candidate.{Candidate}
+use Rattle.reconcile.specs.declared.candidates.Candidate.{Candidate}
 
 -- entries of an owner, ascending by version and then by key, with all those among them that a digest doesn't know
 pub record AreNewer (t : Table) (told : DigestView) (owner : ℕ) (entries : List Entry) : Type 0 where
@@ -27,6 +28,10 @@ newer_items told owner entries = filter (λ i. nat_lt (told_version told i) i.en
 -- candidates of these come behind
 abbrev pub AddsNewer : DigestView → ℕ → List Entry → List Candidate → List Candidate → Type 0
 AddsNewer told owner entries old new = items_in new ≡ items_in old ++ newer_items told owner entries
+
+-- by owner, then by version, then by key
+abbrev pub version_order : Item → Item → Ordering
+version_order a b = ordering_then (nat_cmp a.owner b.owner) (ordering_then (nat_cmp a.entry.version b.entry.version) (nat_cmp a.entry.key b.entry.key))
 
 -- an item of a table that a digest doesn't know, and not the receiver's own
 pub record IsCandidate (t : Table) (told : DigestView) (receiver : ℕ) (i : Item) : Type 0 where

@@ -43,8 +43,7 @@ impl Model for Digest {
 }
 
 impl Digest {
-    ghost use Rattle.reconcile.specs.Digests.{IsOfKind, told_greatest, told_each, version_told};
-    ghost use Rattle.reconcile.specs.Newer.{AreNewer};
+    ghost use Rattle.reconcile.specs.Digests.{IsOfKind, Knowledge, told_greatest, told_each};
 
     /// The digest that a mode asks of a table. In a scuttle mode it is a copy of a number for each
     /// owner; in a precise one it has a number for each key of each owner, and each entry is looked
@@ -91,36 +90,15 @@ impl Digest {
         }
     }
 
-    /// The version up to which it knows what an owner's key has.
-    pub(crate) fn version_told(&self, owner: u32, key: u32) -> u32
-        requires owner { owner < self.now.nodes }
-        requires key { key < self.now.keys }
-        ensures { result ≡ version_told self.now owner key }
+    /// The greatest version that is held of each owner, in order.
+    pub(crate) fn all_greatest(&self) -> &[u32]
+        requires kind { IsOfKind Telling.Greatest self.now }
+        ensures versions { self.now.knowledge ≡ Knowledge.Greatest result.now }
+        ensures count { length result.now ≡ self.now.nodes }
     {
         match &self.versions {
-            Versions::Greatest(greatest) => greatest[owner as usize],
-            Versions::Each(each) => each[version_index(self.keys, owner, key)],
-        }
-    }
-
-    /// Entries that a table holds of an owner, in order, with all those among them that are above
-    /// what it tells. In a scuttle mode they are no others.
-    pub(crate) fn row_above<'a>(&self, table: &'a NodeTable, owner: u32) -> &'a [Entry]
-        requires owner { owner < table.now.table.nodes }
-        requires nodes { self.now.nodes ≡ table.now.table.nodes }
-        requires keys { self.now.keys ≡ table.now.table.keys }
-        ensures { AreNewer table.now.table self.now owner result.now }
-    {
-        match &self.versions {
-            Versions::Greatest(greatest) => {
-                let told = greatest[owner as usize];
-                if told < table.greatest_versions()[owner as usize] {
-                    table.above(owner, told)
-                } else {
-                    &[]
-                }
-            }
-            Versions::Each(_) => table.row(owner),
+            Versions::Greatest(versions) => versions,
+            Versions::Each(_) => unreachable!(),
         }
     }
 }

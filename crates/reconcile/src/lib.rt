@@ -2,10 +2,12 @@
 //! order of a mode and cut by a budget.
 #![tactic(auto)]
 
+mod candidates;
 mod deltas;
 mod digests;
 pub mod laws;
 mod orders;
+mod runs;
 
 pub use deltas::Delta;
 pub use digests::Digest;

@@ -1,0 +1,87 @@
+-- Runs found owner by owner: their items are the candidates so far.
+use Rattle.std.proofs.Common.{◌≡◌, ◌≢◌, ℕ, ◌+◌, ◌<◌, List, [], ◌∷◌, ◌++◌, length, map, All, refl, sym, ap, ◌∙◌, subst, arith}
+use Rattle.std.specs.Prelude.{Contains}
+use Rattle.std.specs.List.{AllPairs}
+use Rattle.std.proofs.lemmas.Grind.{flat_map-append}
+use Rattle.std.proofs.lemmas.List.{append-nil}
+use Rattle.std.proofs.lemmas.List.Elements.{All-nil, All-cons, All-append, All-weaker, All-contains}
+use Rattle.bench_types.specs.declared.entries.Entry.{Entry}
+use Rattle.node_table.specs.Table.{Table}
+use Rattle.node_table.specs.Rows.{StandsBefore, AreAbove}
+use Rattle.reconcile.specs.Digests.{DigestView, version_told}
+use Rattle.reconcile.specs.Newer.{AreCandidates, item_with}
+use Rattle.reconcile.specs.Runs.{run_items, items_of_runs, OwnersRise, AreRuns}
+use Rattle.reconcile.specs.declared.runs.Run.{Run}
+use Rattle.reconcile.proofs.Members.{AllPairs-append}
+use Rattle.reconcile.proofs.Newer.{newer-above, newer_items-above, candidates-none, candidates-own, candidates-more}
+
+-- the runs of the owners below a bound
+pub record AreFound (t : Table) (told : DigestView) (receiver bound : ℕ) (runs : List Run) : Type 0 where
+  pub all : AreCandidates t told receiver bound (items_of_runs runs)
+  pub rise : OwnersRise runs
+  pub are : AreRuns runs
+  pub below : All (λ (r : Run). r.owner < bound) runs
+
+abbrev InOrder : Run → Type 0
+InOrder r = AllPairs StandsBefore r.entries.now
+
+AllPairs-one : {X : Type 0} (R : X → X → Type 0) (x : X) → AllPairs R (x ∷ [])
+AllPairs-one R x i j d lt in_range = absurd (omega arith)
+
+empty : (entries : List Entry) → length entries ≡ 0 → entries ≡ []
+empty [] none = refl
+empty (e ∷ entries) none = absurd (omega arith)
+
+module _ (t : Table) (told : DigestView) (receiver : ℕ) where
+  pub found-first : AreFound t told receiver 0 []
+  found-first = record {
+    all = candidates-none t told receiver;
+    rise = λ i j d lt in_range. absurd (omega arith);
+    are = record { apart = λ i j d lt in_range. absurd (omega arith); rising = All-nil InOrder };
+    below = All-nil (λ (r : Run). r.owner < 0);
+  }
+
+  module _ (bound : ℕ) (runs : List Run) (so_far : AreFound t told receiver bound runs) where
+    wider : All (λ (r : Run). r.owner < bound + 1) runs
+    wider = All-weaker (λ (r : Run). r.owner < bound) (λ (r : Run). r.owner < bound + 1) (λ r lt. omega (arith, lt)) runs so_far.below
+
+    -- the receiver has none
+    pub found-own : bound ≡ receiver → AreFound t told receiver (bound + 1) runs
+    found-own own = record { all = candidates-own t told receiver bound (items_of_runs runs) own so_far.all; rise = so_far.rise; are = so_far.are; below = wider }
+
+    module _ (version : ℕ) (entries : List Entry) (other : bound ≢ receiver) (same : (key : ℕ) → version_told told bound key ≡ version) (above : AreAbove t bound version entries) where
+      more : AreCandidates t told receiver (bound + 1) (items_of_runs runs ++ map (item_with bound) entries)
+      more = subst (λ is. AreCandidates t told receiver (bound + 1) (items_of_runs runs ++ is)) (newer_items-above t told bound version entries same above)
+          (candidates-more t told receiver bound (items_of_runs runs) entries other so_far.all (newer-above t told bound version entries same above))
+
+      -- an owner has none
+      pub found-none : length entries ≡ 0 → AreFound t told receiver (bound + 1) runs
+      found-none none = record {
+        all = subst (AreCandidates t told receiver (bound + 1)) (ap (λ es. items_of_runs runs ++ map (item_with bound) es) (empty entries none) ∙ append-nil (items_of_runs runs)) more;
+        rise = so_far.rise;
+        are = so_far.are;
+        below = wider;
+      }
+
+      -- or a run
+      pub found-more : (r : Run) → r.owner ≡ bound → r.entries.now ≡ entries → AreFound t told receiver (bound + 1) (runs ++ r ∷ [])
+      found-more r owner is = record {
+        all = subst (AreCandidates t told receiver (bound + 1)) items more;
+        rise = AllPairs-append (λ (p q : Run). p.owner < q.owner) runs (r ∷ []) so_far.rise (AllPairs-one (λ (p q : Run). p.owner < q.owner) r) (λ p q before behind. earlier p q before behind);
+        are = record {
+          apart = AllPairs-append (λ (p q : Run). p.owner ≢ q.owner) runs (r ∷ []) so_far.are.apart (AllPairs-one (λ (p q : Run). p.owner ≢ q.owner) r) (λ p q before behind e. absurd (omega (arith, e, earlier p q before behind)));
+          rising = All-append InOrder runs (r ∷ []) so_far.are.rising (All-cons InOrder r [] (subst (AllPairs StandsBefore) (sym is) above.rising) (All-nil InOrder));
+        };
+        below = All-append (λ (q : Run). q.owner < bound + 1) runs (r ∷ []) wider (All-cons (λ (q : Run). q.owner < bound + 1) r [] (omega (arith, owner)) (All-nil (λ (q : Run). q.owner < bound + 1)));
+      }
+        where
+          earlier : (p q : Run) → Contains runs p → Contains (r ∷ []) q → p.owner < q.owner
+          earlier p q before behind =
+              let last : q.owner ≡ bound = All-contains (λ (x : Run). x.owner ≡ bound) (r ∷ []) q (All-cons (λ (x : Run). x.owner ≡ bound) r [] owner (All-nil (λ (x : Run). x.owner ≡ bound))) behind in
+              omega (arith, last, All-contains (λ (x : Run). x.owner < bound) runs p so_far.below before)
+
+          items : items_of_runs runs ++ map (item_with bound) entries ≡ items_of_runs (runs ++ r ∷ [])
+          items =
+              ap (λ is. items_of_runs runs ++ is) (sym (append-nil (map (item_with bound) entries)))
+              ∙ (λ i. items_of_runs runs ++ (map (item_with (sym owner i)) (sym is i) ++ []))
+              ∙ sym (flat_map-append run_items runs (r ∷ []))

@@ -1,0 +1,31 @@
+use Rattle.std.proofs.Common.{◌+◌, sym, ap, ◌∙◌, subst}
+use Rattle.reconcile.specs.Keys.{items_in, AllSet}
+use Rattle.reconcile.specs.Newer.{AreCandidates}
+use Rattle.reconcile.proofs.Newer.{row-keys, newer-row, candidates-own, candidates-more}
+use Rattle.reconcile.proofs.candidates.candidates.Goals as goal
+use Rattle.reconcile.proofs.candidates.candidates.Goals.{then-owner-receiver+in_ok-push_newer, else-owner-receiver}
+
+pub push_newer-requires-clause-keys : goal.push_newer-requires-clause-keys
+push_newer-requires-clause-keys c = rw c.requires.keys (row-keys c.args.table.now.table c.loop-owner.owner 0 c.row.result.now c.nodes-owner-end.ensures.proper c.row.ensures.entries)
+
+pub loop-owner-preserved : goal.loop-owner-preserved
+loop-owner-preserved c =
+    let t = c.args.table.now.table in
+    let told = c.args.digest.now in
+    let so_far = c.loop-owner.invariant in
+    elim c.if-owner-receiver.branch [
+      | then-owner-receiver+in_ok-push_newer w ↦
+          let now = ap (λ v. v.items) w.found-is in
+          record {
+            all = subst (AreCandidates t told c.args.receiver (c.loop-owner.owner + 1)) (sym (ap items_in now ∙ w.in_ok-push_newer.ensures.items))
+                (candidates-more t told c.args.receiver c.loop-owner.owner (items_in c.loop-owner.found.items) w.row.result.now w.if-owner-receiver.true so_far.all (newer-row t told c.loop-owner.owner w.row.result.now w.row.ensures.entries));
+            set = subst (AllSet c.args.turns.mode c.args.turns.nodes c.args.turns.rotation) (sym now) (w.in_ok-push_newer.ensures.set so_far.set);
+          }
+      | else-owner-receiver w ↦
+          let now = ap (λ v. v.items) w.found-is in
+          record {
+            all = subst (λ cs. AreCandidates t told c.args.receiver (c.loop-owner.owner + 1) (items_in cs)) (sym now)
+                (candidates-own t told c.args.receiver c.loop-owner.owner (items_in c.loop-owner.found.items) w.if-owner-receiver.false so_far.all);
+            set = subst (AllSet c.args.turns.mode c.args.turns.nodes c.args.turns.rotation) (sym now) so_far.set;
+          }
+    ]

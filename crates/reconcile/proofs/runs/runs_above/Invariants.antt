@@ -1,0 +1,5 @@
+use Rattle.reconcile.proofs.Found.{AreFound}
+use Rattle.reconcile.proofs.runs.runs_above.Given as goal
+
+abbrev pub invariant-loop-owner : goal.invariant-loop-owner
+invariant-loop-owner l = AreFound l.table.table l.digest l.receiver l.owner l.runs.items

@@ -1,0 +1,189 @@
+//! What answers a digest that gives each version: the entries that it doesn't know, the oldest or the
+//! newest first.
+
+ghost use Rattle.std.specs.Prelude.{◌≡◌, ◌^◌, ◌<◌, ◌≤◌, All, length, IfOk, OnOk, IsOkUnless, IsPermutation, IsSorted};
+ghost use Rattle.bench_types.specs.declared.faults.Fault.TheVariants.{OutOfMemory};
+ghost use Rattle.bench_types.specs.Mode.{told_by};
+ghost use Rattle.node_table.specs.Table.{IsProper};
+ghost use Rattle.reconcile.specs.Deltas.{answer_of};
+ghost use Rattle.reconcile.specs.Digests.{IsOfKind};
+ghost use Rattle.reconcile.specs.Newer.{AddsNewer, AreCandidates};
+ghost use Rattle.reconcile.specs.Order.{rotated};
+ghost use Rattle.reconcile.specs.Keys.{items_in, age_first, AllSet, AreFirstItems, IsSet, SetsStay, number_order};
+
+use crate::deltas::Delta;
+use crate::digests::Digest;
+use crate::orders::Turns;
+use bench_types::{Entry, Fault, Item, Mode, Telling};
+use node_table::NodeTable;
+use std::alloc::Global;
+
+// A candidate on its way into the order. It stands by its three numbers and then by its key, and
+// where any of these is smaller it comes first.
+#[derive(Clone, Copy)]
+pub(crate) struct Candidate {
+    // What its mode looks at first.
+    pub(crate) first: u32,
+    // Where its owner stands, counted from the rotation on.
+    pub(crate) turn: u32,
+    // What its mode looks at next.
+    pub(crate) second: u32,
+    pub(crate) item: Item,
+}
+
+/// The answer in a precise mode: a look at each entry that is held. What is sent is sorted, and where
+/// the budget cuts, a selection parts it from the rest.
+pub(crate) fn precise_delta(
+    alloc: Global,
+    table: &NodeTable,
+    digest: &Digest,
+    receiver: u32,
+    turns: Turns,
+    budget: u32,
+) -> Result<Delta, Fault>
+    requires precise { told_by turns.mode ≡ Telling.Each }
+    requires proper { IsProper table.now.table }
+    requires kind { IsOfKind Telling.Each digest.now }
+    requires told { digest.now.nodes ≡ table.now.table.nodes }
+    requires keys { digest.now.keys ≡ table.now.table.keys }
+    requires nodes { turns.nodes ≡ table.now.table.nodes }
+    requires rotation { turns.rotation < turns.nodes }
+    ensures ok { IfOk result
+        (λ d. d ≡ answer_of turns.mode turns.rotation budget table.now.table receiver digest.now) }
+    ensures within { IfOk result (λ d. length d.items ≤ budget) }
+    ensures only { IsOkUnless result OutOfMemory }
+{
+    let mut found = candidates(alloc, table, digest, receiver, turns)?;
+    let sent = found.len().min(budget as usize);
+    let cut = (found.len() - sent) as u32;
+    let items = front_items(alloc, &mut found, sent)?;
+    Ok(Delta { items, cut })
+}
+
+// The entries that the digest doesn't know, but for the receiver's own, by owner, then by version and
+// then by key.
+fn candidates(
+    alloc: Global,
+    table: &NodeTable,
+    digest: &Digest,
+    receiver: u32,
+    turns: Turns,
+) -> Result<Vec<Candidate>, Fault>
+    requires precise { told_by turns.mode ≡ Telling.Each }
+    requires kind { IsOfKind Telling.Each digest.now }
+    requires told { digest.now.nodes ≡ table.now.table.nodes }
+    requires keys { digest.now.keys ≡ table.now.table.keys }
+    requires nodes { turns.nodes ≡ table.now.table.nodes }
+    requires rotation { turns.rotation < turns.nodes }
+    ensures all { IfOk result (λ v. AreCandidates table.now.table digest.now receiver turns.nodes (items_in v.items)) }
+    ensures set { IfOk result (λ v. AllSet turns.mode turns.nodes turns.rotation v.items) }
+    ensures only { IsOkUnless result OutOfMemory }
+{
+    let mut found = Vec::new(alloc);
+    for owner in 0..table.nodes() {
+        if owner != receiver {
+            push_newer(&mut found, digest, owner, table.row(owner), turns)?;
+        }
+    }
+    Ok(found)
+}
+
+// Adds those of an owner's entries that the digest doesn't know.
+fn push_newer(
+    found: &mut Vec<Candidate>,
+    digest: &Digest,
+    owner: u32,
+    row: &[Entry],
+    turns: Turns,
+) -> Result<(), Fault>
+    requires precise { told_by turns.mode ≡ Telling.Each }
+    requires kind { IsOfKind Telling.Each digest.now }
+    requires limit { turns.nodes ≤ 4096 }
+    requires told { digest.now.nodes ≡ turns.nodes }
+    requires owner { owner < turns.nodes }
+    requires keys { All (λ e. e.key < digest.now.keys) row.now }
+    requires rotation { turns.rotation < turns.nodes }
+    ensures items { OnOk result (AddsNewer digest.now owner row.now found.old.items found.new.items) }
+    ensures set { OnOk result (SetsStay turns.mode turns.nodes turns.rotation found.old.items found.new.items) }
+    ensures only { IsOkUnless result OutOfMemory }
+{
+    for entry in row {
+        if digest.version(owner, entry.key) < entry.version {
+            let entry = *entry;
+            found.push(candidate_of(Item { owner, entry }, turns))?;
+        }
+    }
+    Ok(())
+}
+
+// A candidate with its numbers.
+fn candidate_of(item: Item, turns: Turns) -> Candidate
+    requires precise { told_by turns.mode ≡ Telling.Each }
+    requires limit { turns.nodes ≤ 4096 }
+    requires owner { item.owner < turns.nodes }
+    requires rotation { turns.rotation < turns.nodes }
+    ensures item { result.item ≡ item }
+    ensures set { IsSet turns.mode turns.nodes turns.rotation result }
+{
+    Candidate {
+        first: age_first(turns.mode, item.entry.born),
+        turn: turn_of(item.owner, turns),
+        second: age_first(turns.mode, item.entry.version),
+        item,
+    }
+}
+
+// Where an owner stands, counted from the rotation on.
+fn turn_of(owner: u32, turns: Turns) -> u32
+    requires limit { turns.nodes ≤ 4096 }
+    requires owner { owner < turns.nodes }
+    requires rotation { turns.rotation < turns.nodes }
+    ensures { result ≡ rotated turns.nodes turns.rotation owner }
+{
+    if owner < turns.rotation {
+        owner + turns.nodes - turns.rotation
+    } else {
+        owner - turns.rotation
+    }
+}
+
+// A round or a version as a number that is smaller where it comes first.
+fn age_first(mode: Mode, age: u32) -> u32
+    requires { told_by mode ≡ Telling.Each }
+    ensures { result ≡ age_first mode age }
+{
+    match mode {
+        Mode::PreciseOldest => age,
+        Mode::PreciseNewest => u32::MAX - age,
+        Mode::ScuttleBreadth | Mode::ScuttleDepth => unreachable!(),
+    }
+}
+
+// The items of the first so many candidates by their three numbers and then by key, in that order.
+// The others aren't sorted.
+fn front_items(alloc: Global, order: &mut [Candidate], count: usize) -> Result<Vec<Item>, Fault>
+    requires { count ≤ length order.old }
+    ensures first { IfOk result (λ v. AreFirstItems count order.old v.items) }
+    ensures only { IsOkUnless result OutOfMemory }
+{
+    if count < order.len() {
+        let (front, _, _) = order.select_nth_unstable_by_key(
+            count,
+            |c| (c.first, c.turn, c.second, c.item.entry.key),
+        );
+        sorted_items(alloc, front)
+    } else {
+        sorted_items(alloc, order)
+    }
+}
+
+// The items of the candidates by their three numbers and then by key, in that order.
+fn sorted_items(alloc: Global, order: &mut [Candidate]) -> Result<Vec<Item>, Fault>
+    ensures same { IsPermutation order.old order.new }
+    ensures sorted { IsSorted number_order order.new }
+    ensures items { IfOk result (λ v. v.items ≡ items_in order.new) }
+    ensures only { IsOkUnless result OutOfMemory }
+{
+    order.sort_unstable_by_key(|c| (c.first, c.turn, c.second, c.item.entry.key));
+    Ok(order.iter().map(|c| c.item).collect(alloc)?)
+}

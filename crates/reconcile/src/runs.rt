@@ -1,0 +1,238 @@
+//! What answers a digest that gives the greatest version of each owner: the entries above it, owner
+//! by owner, and how they share out a budget.
+
+ghost use Rattle.std.specs.Prelude.{◌≡◌, ◌+◌, ◌^◌, ◌<◌, ◌≤◌, ◌++◌, All, length, map, take, IfOk, OnOk, IsOkUnless};
+ghost use Rattle.std.specs.List.{AllPairs};
+ghost use Rattle.bench_types.specs.declared.faults.Fault.TheVariants.{OutOfMemory};
+ghost use Rattle.bench_types.specs.Mode.{told_by};
+ghost use Rattle.node_table.specs.Rows.{StandsBefore, AreAbove};
+ghost use Rattle.node_table.specs.Table.{IsProper};
+ghost use Rattle.reconcile.specs.Deltas.{answer_of};
+ghost use Rattle.reconcile.specs.Digests.{IsOfKind};
+ghost use Rattle.reconcile.specs.Newer.{AreCandidates, item_with};
+ghost use Rattle.reconcile.specs.Order.{rank_among, owner_count};
+ghost use Rattle.reconcile.specs.Runs.{items_of_runs, entries_ranked, ranked, of_length, AddsLayer, AreLayered, AreRuns, IsTurned, OwnersRise, lengths_first};
+
+use crate::deltas::Delta;
+use crate::digests::Digest;
+use crate::orders::Turns;
+use bench_types::{Entry, Fault, Item, Mode, Telling};
+use node_table::NodeTable;
+use std::alloc::Global;
+
+// Entries of one owner, ascending by version and then by key.
+#[derive(Clone, Copy)]
+pub(crate) struct Run<'a> {
+    pub(crate) owner: u32,
+    pub(crate) entries: &'a [Entry],
+}
+
+/// The answer in a scuttle mode. Entries of those owners alone are looked at of whom the digest tells
+/// a smaller version than the table holds.
+pub(crate) fn scuttle_delta(
+    alloc: Global,
+    table: &NodeTable,
+    digest: &Digest,
+    receiver: u32,
+    turns: Turns,
+    budget: u32,
+) -> Result<Delta, Fault>
+    requires scuttle { told_by turns.mode ≡ Telling.Greatest }
+    requires proper { IsProper table.now.table }
+    requires kind { IsOfKind Telling.Greatest digest.now }
+    requires told { digest.now.nodes ≡ table.now.table.nodes }
+    requires nodes { turns.nodes ≡ table.now.table.nodes }
+    requires rotation { turns.rotation < turns.nodes }
+    ensures ok { IfOk result
+        (λ d. d ≡ answer_of turns.mode turns.rotation budget table.now.table receiver digest.now) }
+    ensures within { IfOk result (λ d. length d.items ≤ budget) }
+    ensures only { IsOkUnless result OutOfMemory }
+{
+    let mut runs = runs_above(alloc, table, digest, receiver)?;
+    turn_to(&mut runs, turns.rotation);
+    let found = count_of(&runs);
+    let sent = found.min(budget as usize);
+    let cut = (found - sent) as u32;
+    let items = match turns.mode {
+        Mode::ScuttleBreadth => by_rank(alloc, &runs, sent)?,
+        Mode::ScuttleDepth => by_length(alloc, &runs, sent)?,
+        Mode::PreciseOldest | Mode::PreciseNewest => unreachable!(),
+    };
+    Ok(Delta { items, cut })
+}
+
+// What the digest doesn't know of each owner but the receiver, by owner.
+fn runs_above<'a>(
+    alloc: Global,
+    table: &'a NodeTable,
+    digest: &Digest,
+    receiver: u32,
+) -> Result<Vec<Run<'a>>, Fault>
+    requires kind { IsOfKind Telling.Greatest digest.now }
+    requires told { digest.now.nodes ≡ table.now.table.nodes }
+    ensures all { IfOk result
+        (λ v. AreCandidates table.now.table digest.now receiver table.now.table.nodes (items_of_runs v.items)) }
+    ensures rise { IfOk result (λ v. OwnersRise v.items) }
+    ensures runs { IfOk result (λ v. AreRuns v.items) }
+    ensures only { IsOkUnless result OutOfMemory }
+{
+    let told = digest.all_greatest();
+    let mut runs = Vec::new(alloc);
+    for owner in 0..table.nodes() {
+        if owner != receiver {
+            let entries = entries_above(table, owner, told[owner as usize]);
+            if !entries.is_empty() {
+                runs.push(Run { owner, entries })?;
+            }
+        }
+    }
+    Ok(runs)
+}
+
+// The entries of an owner above a version. The row is looked at only where it has some.
+fn entries_above<'a>(table: &'a NodeTable, owner: u32, version: u32) -> &'a [Entry]
+    requires { owner < table.now.table.nodes }
+    ensures { AreAbove table.now.table owner version result.now }
+{
+    if version < table.greatest_versions()[owner as usize] {
+        table.above(owner, version)
+    } else {
+        &[]
+    }
+}
+
+// Brings the runs of the owners from the rotation on before the others.
+fn turn_to(runs: &mut [Run], rotation: u32)
+    requires { OwnersRise runs.old }
+    ensures { IsTurned rotation runs.old runs.new }
+{
+    let start = runs.partition_point(|run| run.owner < rotation);
+    runs.rotate_left(start);
+}
+
+// How many entries the runs have.
+fn count_of(runs: &[Run]) -> usize
+    requires { length (items_of_runs runs.now) < 2 ^ 32 }
+    ensures { result ≡ length (items_of_runs runs.now) }
+{
+    let mut count = 0;
+    for run in runs {
+        count += run.entries.len();
+    }
+    count
+}
+
+// How many entries the longest run has.
+fn longest(runs: &[Run]) -> usize
+    ensures all { All (λ r. length r.entries.now ≤ result) runs.now }
+    ensures within { result ≤ length (items_of_runs runs.now) }
+{
+    let mut most = 0;
+    for run in runs {
+        most = run.entries.len().max(most);
+    }
+    most
+}
+
+// The items of the first so many entries, by how many of their run have a smaller version.
+fn by_rank(alloc: Global, runs: &[Run], count: usize) -> Result<Vec<Item>, Fault>
+    requires runs { AreRuns runs.now }
+    ensures layers { IfOk result
+        (λ v. AreLayered (rank_among (items_of_runs runs.now)) count (items_of_runs runs.now) v.items) }
+    ensures only { IsOkUnless result OutOfMemory }
+{
+    let mut items = Vec::with_capacity(alloc, count)?;
+    for rank in 0..longest(runs) {
+        if items.len() == count {
+            return Ok(items);
+        }
+        push_ranked(&mut items, runs, rank, count)?;
+    }
+    Ok(items)
+}
+
+// Adds what each run has of a rank, as long as there are fewer items than so many.
+fn push_ranked(items: &mut Vec<Item>, runs: &[Run], rank: usize, count: usize) -> Result<(), Fault>
+    requires few { length items.old.items ≤ count }
+    requires runs { AreRuns runs.now }
+    ensures items { OnOk result (AddsLayer (ranked rank) count runs.now items.old.items items.new.items) }
+    ensures only { IsOkUnless result OutOfMemory }
+{
+    for run in runs {
+        push_entries(items, run.owner, entries_ranked(run.entries, rank), count)?;
+    }
+    Ok(())
+}
+
+// The entries of which so many have a smaller version.
+fn entries_ranked(entries: &[Entry], rank: usize) -> &[Entry]
+    requires { AllPairs StandsBefore entries.now }
+    ensures { result.now ≡ entries_ranked rank entries.now }
+{
+    if rank >= entries.len() {
+        return &[];
+    }
+    if rank > 0 && entries[rank - 1].version == entries[rank].version {
+        return &[];
+    }
+    for end in rank + 1..entries.len() {
+        if entries[end].version != entries[rank].version {
+            return &entries[rank..end];
+        }
+    }
+    &entries[rank..]
+}
+
+// The items of the first so many entries, those of the longest runs first.
+fn by_length(alloc: Global, runs: &[Run], count: usize) -> Result<Vec<Item>, Fault>
+    requires runs { AreRuns runs.now }
+    requires few { length (items_of_runs runs.now) < 2 ^ 32 }
+    ensures layers { IfOk result
+        (λ v. AreLayered (lengths_first (items_of_runs runs.now)) count (items_of_runs runs.now) v.items) }
+    ensures only { IsOkUnless result OutOfMemory }
+{
+    let mut items = Vec::with_capacity(alloc, count)?;
+    let most = longest(runs);
+    for shorter in 0..most {
+        if items.len() == count {
+            return Ok(items);
+        }
+        push_long(&mut items, runs, most - shorter, count)?;
+    }
+    Ok(items)
+}
+
+// Adds the runs of a length, as long as there are fewer items than so many.
+fn push_long(items: &mut Vec<Item>, runs: &[Run], len: usize, count: usize) -> Result<(), Fault>
+    requires { length items.old.items ≤ count }
+    ensures items { OnOk result (AddsLayer (of_length len) count runs.now items.old.items items.new.items) }
+    ensures only { IsOkUnless result OutOfMemory }
+{
+    for run in runs {
+        if run.entries.len() == len {
+            push_entries(items, run.owner, run.entries, count)?;
+        }
+    }
+    Ok(())
+}
+
+// Adds an owner's entries, as long as there are fewer items than so many.
+fn push_entries(
+    items: &mut Vec<Item>,
+    owner: u32,
+    entries: &[Entry],
+    count: usize,
+) -> Result<(), Fault>
+    requires { length items.old.items ≤ count }
+    ensures items { OnOk result
+        (items.new.items ≡ take count (items.old.items ++ map (item_with owner) entries.now)) }
+    ensures only { IsOkUnless result OutOfMemory }
+{
+    for entry in entries {
+        if items.len() < count {
+            let entry = *entry;
+            items.push(Item { owner, entry })?;
+        }
+    }
+    Ok(())
+}

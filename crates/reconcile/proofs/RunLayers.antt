@@ -2,25 +2,30 @@
 use Rattle.std.proofs.Common.{◌≡◌, ◌≢◌, ◌⊎◌, ℕ, zero, suc, ◌+◌, ◌<◌, ◌≤◌, ◌^◌, Bool, true, false, cond, ◌&&◌, eqb, ltb, List, [], ◌∷◌, ◌++◌, length, map, take, get_or, max, All, inl, inr, refl, sym, ap, ◌∙◌, subst, arith}
 use Rattle.std.specs.Prelude.{filter, count_by}
 use Rattle.std.specs.List.{AllPairs, flat_map}
-use Rattle.std.proofs.lemmas.Bool.{cases_order, eq-eqb, ne_eqb}
+use Rattle.std.proofs.lemmas.Bool.{ltb-false, cases_order, eq-eqb, ne_eqb}
 use Rattle.std.proofs.lemmas.Grind.{flat_map-append}
 use Rattle.std.proofs.lemmas.List.{append_assoc, map-append, take_more, length-append, length-map}
 use Rattle.std.proofs.lemmas.List.Folds.{length-flat_map-take}
-use Rattle.std.proofs.lemmas.List.Elements.{filter-append, All-nil, All-cons, All-weaker, All-head, All-tail, All-append, All-map}
+use Rattle.std.proofs.lemmas.List.Elements.{All-filter, filter-append, All-nil, All-cons, All-weaker, All-head, All-tail, All-append, All-map}
+use Rattle.std.proofs.lemmas.List.Kept.{AllPairs-filter}
 use Rattle.std.proofs.lemmas.List.Sums.{sum_by-append}
 use Rattle.bench_types.specs.declared.entries.Entry.{Entry}
 use Rattle.bench_types.specs.declared.entries.Item.{Item}
+use Rattle.node_table.specs.Rows.{StandsBefore}
 use Rattle.reconcile.specs.Keys.{reversed}
 use Rattle.reconcile.specs.Newer.{item_with}
 use Rattle.reconcile.specs.Order.{rank_among, owner_count}
 use Rattle.reconcile.specs.Runs.{run_items, items_of_runs, AreRuns, rank_in, ranked, of_length, lengths_first, layer_of}
 use Rattle.reconcile.specs.declared.runs.Run.{Run}
 use Rattle.reconcile.proofs.Counts.{count_by-cons_true, count_by-cons_false}
-use Rattle.reconcile.proofs.Ranked.{count_by-front_le, rank-le, versions-rise}
+use Rattle.reconcile.proofs.Ranked.{count_by-front_le, rank-le, ranked-beyond, versions-rise}
 use Rattle.reconcile.proofs.Turned.{owners-items}
 
 abbrev pub no_run : Run
 no_run = record { owner = 0; entries = record { ref_ptr = (0, 0); now = [] } }
+
+abbrev pub InOrder : Run → Type 0
+InOrder r = AllPairs StandsBefore r.entries.now
 
 -- a run's entries are among all, behind those of the runs before it
 pub length-run : (runs : List Run) (k : ℕ) (d : Run) → k < length runs → length (items_of_runs (take k runs)) + length (get_or runs k d).entries.now ≤ length (items_of_runs runs)
@@ -179,3 +184,19 @@ module _ (runs : List Run) (are : AreRuns runs) where
       All-map (IsLengthBelow most) (item_with r.owner) r.entries.now (λ n e in_range.
       let count = count_of k d lt (get_or r.entries.now n e) in
       (omega (arith, long k d lt, count), omega (arith, long k d lt, count, in_range))))
+
+-- a run sends nothing in layers beyond its end, so it may be dropped
+pub layer-kept : (n next : ℕ) (runs : List Run) → All InOrder runs → next ≤ n → flat_map (ranked n) (filter (λ (r : Run). ltb next (length r.entries.now)) runs) ≡ flat_map (ranked n) runs
+layer-kept n next [] rising le = refl
+layer-kept n next (r ∷ runs) rising le =
+    let rest = layer-kept n next runs (All-tail InOrder r runs rising) le in
+    elim (ltb next (length r.entries.now)) as (λ b. ltb next (length r.entries.now) ≡ b → flat_map (ranked n) (cond b (r ∷ filter (λ (s : Run). ltb next (length s.entries.now)) runs) (filter (λ (s : Run). ltb next (length s.entries.now)) runs)) ≡ ranked n r ++ flat_map (ranked n) runs) [
+      | true ↦ λ e. ap (λ is. ranked n r ++ is) rest
+      | false ↦ λ e. rest ∙ ap (λ es. map (item_with r.owner) es ++ flat_map (ranked n) runs) (sym (ranked-beyond r.entries.now (All-head InOrder r runs rising) n (omega (arith, le, ltb-false next (length r.entries.now) e))))
+    ] refl
+
+pub kept-runs : (p : Run → Bool) (runs : List Run) → AreRuns runs → AreRuns (filter p runs)
+kept-runs p runs are = record {
+  apart = AllPairs-filter (λ (r s : Run). r.owner ≢ s.owner) p runs are.apart;
+  rising = All-filter p InOrder runs are.rising;
+}

@@ -54,7 +54,7 @@ pub(crate) fn scuttle_delta(
     let sent = found.min(budget as usize);
     let cut = (found - sent) as u32;
     let items = match turns.mode {
-        Mode::ScuttleBreadth => by_rank(alloc, &runs, sent)?,
+        Mode::ScuttleBreadth => by_rank(alloc, &mut runs, sent)?,
         Mode::ScuttleDepth => by_length(alloc, &runs, sent)?,
         Mode::PreciseOldest | Mode::PreciseNewest => unreachable!(),
     };
@@ -134,11 +134,12 @@ fn longest(runs: &[Run]) -> usize
     most
 }
 
-// The items of the first so many entries, by how many of their run have a smaller version.
-fn by_rank(alloc: Global, runs: &[Run], count: usize) -> Result<Vec<Item>, Fault>
-    requires runs { AreRuns runs.now }
+// The items of the first so many entries, by how many of their run have a smaller version. Runs that
+// have no more of them are dropped.
+fn by_rank(alloc: Global, runs: &mut Vec<Run>, count: usize) -> Result<Vec<Item>, Fault>
+    requires runs { AreRuns runs.old.items }
     ensures layers { IfOk result
-        (λ v. AreLayered (rank_among (items_of_runs runs.now)) count (items_of_runs runs.now) v.items) }
+        (λ v. AreLayered (rank_among (items_of_runs runs.old.items)) count (items_of_runs runs.old.items) v.items) }
     ensures only { IsOkUnless result OutOfMemory }
 {
     let mut items = Vec::with_capacity(alloc, count)?;
@@ -147,6 +148,8 @@ fn by_rank(alloc: Global, runs: &[Run], count: usize) -> Result<Vec<Item>, Fault
             return Ok(items);
         }
         push_ranked(&mut items, runs, rank, count)?;
+        let next = rank + 1;
+        runs.retain(|run| next < run.entries.len());
     }
     Ok(items)
 }

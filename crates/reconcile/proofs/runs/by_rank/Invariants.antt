@@ -1,7 +1,12 @@
-use Rattle.std.proofs.Common.{◌≡◌, take}
+use Rattle.std.proofs.Common.{◌≡◌, ℕ, ◌≤◌, take}
+use Rattle.std.specs.List.{flat_map}
 use Rattle.reconcile.specs.Order.{rank_among}
-use Rattle.reconcile.specs.Runs.{items_of_runs, layered}
+use Rattle.reconcile.specs.Runs.{items_of_runs, AreRuns, ranked, layered}
 use Rattle.reconcile.proofs.runs.by_rank.Given as goal
 
 abbrev pub invariant-loop-rank : goal.invariant-loop-rank
-invariant-loop-rank l = l.items.items ≡ take l.count (layered (rank_among (items_of_runs l.runs)) (items_of_runs l.runs) 0 l.rank)
+invariant-loop-rank l = record {
+  items : l.items.items ≡ take l.count (layered (rank_among (items_of_runs l.initial.runs.items)) (items_of_runs l.initial.runs.items) 0 l.rank);
+  are : AreRuns l.runs.items;
+  kept : (n : ℕ) → l.rank ≤ n → flat_map (ranked n) l.runs.items ≡ flat_map (ranked n) l.initial.runs.items;
+}

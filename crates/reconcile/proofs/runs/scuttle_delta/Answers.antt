@@ -1,5 +1,6 @@
 use Rattle.std.proofs.Common.{◌≡◌, ◌<◌, ◌-◌, length, min, sym, ap, ◌∙◌, subst, arith}
-use Rattle.reconcile.specs.Runs.{items_of_runs, AreLayered}
+use Rattle.reconcile.specs.Order.{rank_among}
+use Rattle.reconcile.specs.Runs.{items_of_runs, AreRuns, AreLayered}
 use Rattle.reconcile.proofs.Answering.{few-turned, answer-turned}
 use Rattle.reconcile.proofs.Ordered.{first_key}
 use Rattle.reconcile.proofs.Turned.{seen-turned, turned-runs}
@@ -21,9 +22,8 @@ overflow_cast-cut c =
 pub by_rank-requires : goal.by_rank-requires
 by_rank-requires c =
     let in_nodes = subst (λ n. c.args.turns.rotation < n) c.requires.nodes c.requires.rotation in
-    let seen = c.deref-in-ScuttleBreadth in
-    let turned = seen-turned c.args.turns.rotation c.deref_mut.result.now c.in_ok-runs.runs.items c.turn_to.new.runs _ seen.result.now c.in_ok-runs.runs.len c.deref_mut.ensures.value c.in_ok-runs.runs.ok.0 c.turn_to.ensures seen.ensures.value in
-    record { runs = turned-runs c.args.table.now.table.nodes c.args.turns.rotation in_nodes c.in_ok-runs.runs.items seen.result.now turned c.in_ok-runs.ensures.runs }
+    let turned = seen-turned c.args.turns.rotation c.deref_mut.result.now c.in_ok-runs.runs.items c.turn_to.new.runs _ c.deref.result.now c.in_ok-runs.runs.len c.deref_mut.ensures.value c.in_ok-runs.runs.ok.0 c.turn_to.ensures c.deref.ensures.value in
+    record { runs = subst AreRuns c.deref.ensures.value (turned-runs c.args.table.now.table.nodes c.args.turns.rotation in_nodes c.in_ok-runs.runs.items c.deref.result.now turned c.in_ok-runs.ensures.runs) }
 
 pub by_length-requires-clause-runs : goal.by_length-requires-clause-runs
 by_length-requires-clause-runs c =
@@ -49,12 +49,13 @@ returns-clause-ok c =
     let in_nodes = subst (λ n. rotation < n) c.requires.nodes c.requires.rotation in
     elim c.match-turns.branch [
       | in-ScuttleBreadth+in_ok-items-in-ScuttleBreadth w ↦
-          let seen = w.deref-in-ScuttleBreadth in
+          let seen = c.deref in
+          let items = w.in_ok-items-in-ScuttleBreadth.items.items in
           let turned = seen-turned rotation c.deref_mut.result.now old c.turn_to.new.runs _ seen.result.now c.in_ok-runs.runs.len c.deref_mut.ensures.value c.in_ok-runs.runs.ok.0 c.turn_to.ensures seen.ensures.value in
-          let found : c.count_of-found.result ≡ length (items_of_runs seen.result.now) = c.count_of-found.ensures ∙ ap (λ rs. length (items_of_runs rs)) (c.deref.ensures.value ∙ sym seen.ensures.value) in
-          let layers = subst (λ mode. AreLayered (first_key mode (items_of_runs seen.result.now)) count (items_of_runs seen.result.now) w.in_ok-items-in-ScuttleBreadth.items.items) (sym w.in-ScuttleBreadth.is) w.in_ok-items-in-ScuttleBreadth.ensures.layers in
-          (λ i. record { items = ap (λ v. v.items) w.items-is i; cut = found i - count })
-          ∙ answer-turned c.args.turns.mode t told c.args.receiver rotation c.requires.proper in_nodes old seen.result.now c.in_ok-runs.ensures.all turned c.requires.scuttle c.args.budget count _ (c.min-sent.ensures ∙ ap (λ n. min n c.args.budget) found) layers
+          let ranks = subst (λ rs. AreLayered (rank_among (items_of_runs rs)) count (items_of_runs rs) items) (sym seen.ensures.value) w.in_ok-items-in-ScuttleBreadth.ensures.layers in
+          let layers = subst (λ mode. AreLayered (first_key mode (items_of_runs seen.result.now)) count (items_of_runs seen.result.now) items) (sym w.in-ScuttleBreadth.is) ranks in
+          (λ i. record { items = ap (λ v. v.items) w.items-is i; cut = c.count_of-found.ensures i - count })
+          ∙ answer-turned c.args.turns.mode t told c.args.receiver rotation c.requires.proper in_nodes old seen.result.now c.in_ok-runs.ensures.all turned c.requires.scuttle c.args.budget count items (c.min-sent.ensures ∙ ap (λ n. min n c.args.budget) c.count_of-found.ensures) layers
       | in-ScuttleDepth+in_ok-items-in-ScuttleDepth w ↦
           let seen = w.deref-in-ScuttleDepth in
           let turned = seen-turned rotation c.deref_mut.result.now old c.turn_to.new.runs _ seen.result.now c.in_ok-runs.runs.len c.deref_mut.ensures.value c.in_ok-runs.runs.ok.0 c.turn_to.ensures seen.ensures.value in

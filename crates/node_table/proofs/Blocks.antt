@@ -41,6 +41,14 @@ let_in xs rank len y le within =
     ∙ ap (λ ys. ys ++ y ∷ take m (drop rank xs)) (sym (take-take rank len xs le))
     ∙ ap (λ ys. take rank (take len xs) ++ y ∷ ys) (sym (drop-take rank m xs) ∙ ap (λ n. drop rank (take n xs)) len_is)
 
+-- and at its end
+pub let_in_last : {X : Type 0} (xs : List X) (len : ℕ) (y : X) → len < length xs → take (len + 1) (set xs len y) ≡ insert (take len xs) len y
+let_in_last xs len y within =
+    let len_is : len + 0 ≡ len = omega arith in
+    take_more_set xs len y within
+    ∙ ap (λ ys. ys ++ y ∷ []) (sym (take-take len len xs (omega arith)))
+    ∙ ap (λ ys. take len (take len xs) ++ y ∷ ys) (sym (drop-take len 0 xs) ∙ ap (λ n. drop len (take n xs)) len_is)
+
 -- the front of a block that was written
 pub take-block : {X : Type 0} (start keys n : ℕ) (xs ys : List X) → start ≤ length xs → n ≤ length ys → take n (drop start (put_mid start keys xs ys)) ≡ take n ys
 take-block start keys n xs ys within le =

@@ -19,3 +19,4 @@ mod Receiving
 mod Forgotten
 mod Empty
 mod Room
+mod Marks

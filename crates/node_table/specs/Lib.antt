@@ -5,4 +5,5 @@ pub mod Runs
 pub mod Applied
 pub mod Rows
 pub mod Layouts
+pub mod Marks
 pub use Rattle.bench_types.specs.Entry

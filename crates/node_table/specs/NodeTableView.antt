@@ -1,7 +1,8 @@
 -- What contracts see of a node's table in memory: the table, and for how many more owners it has room.
 -- Room is no part of the table: two tables are equal where node, nodes, keys and entries are. Source: this
 -- project.
-use Rattle.std.specs.Prelude.{◌≢◌, ℕ, ◌+◌, ◌≤◌, ◌==◌, ◌&&◌, Bool, false, not, List, [], ◌∷◌, Option, None, Some, All, if◌then◌else◌, refl}
+use Rattle.std.specs.Prelude.{◌≢◌, ℕ, zero, suc, ◌+◌, ◌≤◌, ◌==◌, ◌&&◌, Bool, List, All, if◌then◌else◌, refl}
+use Rattle.std.specs.List.{list_any}
 use Rattle.std.specs.Coded.{Coded, code_by, coded×, coded_ℕ}
 use Rattle.std.specs.FinMap as finite
 use Rattle.bench_types.specs.declared.entries.Item.{Item}
@@ -23,23 +24,22 @@ abbrev pub kept_code : Coded NodeTableView
 kept_code =
     code_by (Table × ℕ) (coded× table_code coded_ℕ) (λ k. (k.table, k.spare)) (λ p. record { table = p.0; spare = p.1 }) (λ _. refl)
 
--- whether the owner is the last one, if any
-abbrev pub is_last : Option ℕ → ℕ → Bool
-is_last None owner = false
-is_last (Some last) owner = last == owner
+-- whether an item of the owner comes in a list
+abbrev pub comes_in : List Item → ℕ → Bool
+comes_in added owner = list_any (λ i. i.owner == owner) added
 
--- whether an item needs a block, 1 or 0: nothing is held of its owner, and the item before isn't that owner's
-abbrev pub needs_block : Table → Option ℕ → Item → ℕ
-needs_block t last i = if (greatest_version t i.owner == 0) && not (is_last last i.owner) then 1 else 0
+-- whether an owner needs a block, 1 or 0: it comes in a list, and by its greatest version nothing is held of it
+abbrev pub needs_block : (ℕ → ℕ) → List Item → ℕ → ℕ
+needs_block greatest added owner = if (greatest owner == 0) && comes_in added owner then 1 else 0
 
--- how many blocks the items need, with the owner of the item before
-abbrev pub blocks_after : Table → Option ℕ → List Item → ℕ
-blocks_after t last [] = 0
-blocks_after t last (i ∷ is) = needs_block t last i + blocks_after t (Some i.owner) is
+-- how many of the owners below a bound do
+abbrev pub blocks_below : (ℕ → ℕ) → List Item → ℕ → ℕ
+blocks_below greatest added zero = 0
+blocks_below greatest added (suc owner) = blocks_below greatest added owner + needs_block greatest added owner
 
--- how many owners' items come of whom nothing is held, counted again where they don't follow each other
+-- how many owners come in a list of whom nothing is held
 abbrev pub blocks_for : Table → List Item → ℕ
-blocks_for t added = blocks_after t None added
+blocks_for t added = blocks_below (greatest_version t) added t.nodes
 
 -- there is room for a list of items
 abbrev pub HasRoom : NodeTableView → List Item → Type 0

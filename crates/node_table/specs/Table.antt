@@ -1,7 +1,7 @@
 -- A node's table: a finite map from owner and key to the entry that the node holds. Each node holds a copy
 -- of every node's state, and only the owner writes its own; each write gets a version above all its earlier
 -- ones. What is absent has version 0. Source: the LADIS 2008 paper; `born` is this project's.
-use Rattle.std.specs.Prelude.{◌≡◌, ℕ, zero, suc, ◌+◌, ◌<◌, ◌≤◌, max, ◌==◌, List, Option, Some, map, fold}
+use Rattle.std.specs.Prelude.{◌≡◌, ℕ, zero, suc, ◌<◌, ◌≤◌, max, ◌==◌, List, Option, Some, map, fold}
 use Rattle.std.specs.Ordering.{nat_cmp, ordering_then}
 use Rattle.std.specs.declared.cmp.Ordering.{Ordering}
 use Rattle.std.specs.FinMap.{FinMap, get, insert, retain_keys, entries, empty, len}

@@ -2,9 +2,11 @@
 //! each key, at the front of which its entries lie ascending by version and then by key. So one
 //! item changes one block alone.
 
-ghost use Rattle.std.specs.Prelude.{◌≡◌, ◌+◌, ◌<◌, ◌≤◌, [], ◌∷◌, IsOk, OnOk, OnErr, length, take, vec_len, vec_capacity};
+ghost use Rattle.std.specs.Prelude.{◌≡◌, ◌+◌, ◌<◌, ◌≤◌, [], ◌∷◌, IsOk, OnOk, OnErr, length, slice_index, take, vec_len, vec_capacity};
 ghost use Rattle.node_table.specs.Table.{IsInPlace, version_at, greatest_version, applied, without_others};
 ghost use Rattle.node_table.specs.View.{IsItemInPlace};
+ghost use Rattle.node_table.specs.NodeTableView.{blocks_below, blocks_for};
+ghost use Rattle.node_table.specs.Marks.{AreMarked, AreUnmarked};
 ghost use Rattle.node_table.specs.Layouts.{row_of, row_at, block_len, table_in, with_entry, AreLaid, IsLayout, IsIndexOf, IsEmptyRow, IsInSlots, IsPlaced, IsPut, KeepOutside, HasEntries, IsHeld, HasBlockLeft};
 
 use crate::rows::{index_of, put_in};
@@ -93,6 +95,22 @@ impl Layout {
         Ok(())
     }
 
+    // How many owners come in a list of whom nothing is held. Each is marked by a version where its
+    // first item stands, and the marks are taken away again.
+    pub(crate) fn blocks_for(&mut self, added: &[Item]) -> usize
+        requires { IsLayout self.old }
+        ensures layout { IsLayout self.new }
+        ensures table { table_in self.new ≡ table_in self.old }
+        ensures slots { self.new.slots ≡ self.old.slots }
+        ensures blocks { result ≡ blocks_for (table_in self.old) added.now }
+    {
+        let blocks = mark_new(&mut self.greatest, added);
+        if blocks > 0 {
+            unmark(&mut self.greatest, &self.rows, added);
+        }
+        blocks
+    }
+
     // Drops the rows of all owners but the node.
     pub(crate) fn forget_others(&mut self)
         requires { IsLayout self.old }
@@ -114,6 +132,36 @@ impl Layout {
         self.greatest.fill(0);
         self.greatest[own] = greatest;
         self.count = row.len;
+    }
+}
+
+// Marks the owners of a list whose greatest version is 0, and answers how many they are.
+fn mark_new(greatest: &mut [u32], added: &[Item]) -> usize
+    ensures blocks { result ≡ blocks_below (slice_index greatest.old) added.now (length greatest.old) }
+    ensures none { result ≡ 0 → greatest.new ≡ greatest.old }
+    ensures marked { AreMarked added.now greatest.old greatest.new }
+{
+    let mut blocks = 0;
+    for item in added {
+        let owner = item.owner as usize;
+        if owner < greatest.len() && greatest[owner] == 0 {
+            greatest[owner] = 1;
+            blocks += 1;
+        }
+    }
+    blocks
+}
+
+// Takes the marks of a list's owners away: those without an entry have greatest version 0.
+fn unmark(greatest: &mut [u32], rows: &[Row], added: &[Item])
+    requires { length rows.now ≡ length greatest.old }
+    ensures { AreUnmarked rows.now added.now greatest.old greatest.new }
+{
+    for item in added {
+        let owner = item.owner as usize;
+        if owner < rows.len() && rows[owner].len == 0 {
+            greatest[owner] = 0;
+        }
     }
 }
 

@@ -106,7 +106,9 @@ fn insert(block: &mut [Entry], len: usize, entry: Entry) -> usize
     ensures put { IsPut (length block.old) entry (take len block.old) (take result block.new) }
 {
     let rank = rank_of(&block[..len], entry);
-    block.copy_within(rank..len, rank + 1);
+    if rank < len {
+        block.copy_within(rank..len, rank + 1);
+    }
     block[rank] = entry;
     len + 1
 }

@@ -2,6 +2,7 @@
 
 ghost use Rattle.std.specs.Prelude.{◌≡◌, ◌≢◌, ◌↔◌, ◌+◌, ◌-◌, ◌^◌, ◌<◌, ◌≤◌, All, IfOk, IsOk, IsTrue, OnOk, OnErr, IsOkUnless};
 ghost use Rattle.bench_types.specs.declared.faults.Fault.TheVariants.{OutOfMemory};
+ghost use Rattle.node_table.specs.NodeTableView.{comes_in};
 
 use crate::layouts::{Layout, Row};
 use crate::rows::{find, index_of, rank_above};
@@ -166,10 +167,9 @@ impl NodeTable {
     }
 
     /// Makes room for a list of items, so that `apply` takes no memory: a block of slots, one for
-    /// each key, for each owner of whom nothing is held. An owner whose items don't follow each
-    /// other may count more than once. What is held is copied where it has to move for that. Where
-    /// there is room already nothing is done; after a refusal the room is no less. One walk over
-    /// the list.
+    /// each key, for each owner of whom nothing is held. What is held is copied where it has to move
+    /// for that. Where there is room already nothing is done; after a refusal the room is no less. A
+    /// walk over the list, and another where it has such owners.
     pub fn reserve_for(&mut self, added: &[Item]) -> Result<(), Fault>
         ensures same { self.new.table ≡ self.old.table }
         ensures room { OnOk result (HasRoom self.new added.now) }
@@ -177,7 +177,7 @@ impl NodeTable {
         ensures succeeds { HasRoom self.old added.now → IsOk result }
         ensures only { IsOkUnless result OutOfMemory }
     {
-        let blocks = self.blocks_for(added);
+        let blocks = self.layout.blocks_for(added);
         match blocks.checked_mul(self.layout.keys as usize) {
             Some(slots) => {
                 self.layout.slots.reserve(slots)?;
@@ -185,22 +185,6 @@ impl NodeTable {
             }
             None => Err(Fault::OutOfMemory),
         }
-    }
-
-    // How many owners' items come of whom nothing is held, counted again where they don't follow
-    // each other.
-    fn blocks_for(&self, added: &[Item]) -> usize
-        ensures { result ≡ blocks_for self.now.table added.now }
-    {
-        let mut blocks = 0;
-        let mut last = None;
-        for item in added {
-            if self.greatest(item.owner) == 0 && last != Some(item.owner) {
-                blocks += 1;
-            }
-            last = Some(item.owner);
-        }
-        blocks
     }
 
     /// Takes items in turn: each place keeps the entry with the greater version, and the held one
@@ -217,13 +201,27 @@ impl NodeTable {
         }
     }
 
-    /// Whether `apply` takes these items, for a caller that doesn't know it. One walk over the list.
+    /// Whether `apply` takes these items, for a caller that doesn't know it. One walk over the list,
+    /// and one for each owner of whom nothing is held.
     pub fn may_apply(&self, added: &[Item]) -> bool
         ensures { IsTrue result ↔ MayApply self.now added.now }
     {
         let spare = self.layout.slots.capacity() - self.layout.slots.len();
         self.blocks_for(added) <= spare / self.layout.keys as usize
             && added.iter().all(|item| self.may_receive(*item))
+    }
+
+    // How many owners come in a list of whom nothing is held.
+    fn blocks_for(&self, added: &[Item]) -> usize
+        ensures { result ≡ blocks_for self.now.table added.now }
+    {
+        let mut blocks = 0;
+        for owner in 0..self.layout.nodes {
+            if self.greatest(owner) == 0 && comes_in(added, owner) {
+                blocks += 1;
+            }
+        }
+        blocks
     }
 
     // Whether an item is another node's and in its place.
@@ -262,4 +260,11 @@ impl NodeTable {
         };
         Ok(NodeTable { layout })
     }
+}
+
+// Whether an item of an owner comes in a list.
+fn comes_in(added: &[Item], owner: u32) -> bool
+    ensures { result ≡ comes_in added.now owner }
+{
+    added.iter().any(|item| item.owner == owner)
 }

@@ -1,9 +1,11 @@
-use Rattle.std.proofs.Common.{◌+◌, take, length, set, sym, ap, ◌∙◌, subst, arith}
+use Rattle.std.proofs.Common.{◌≡◌, ◌+◌, take, length, set, sym, ap, ◌∙◌, subst, arith}
 use Rattle.std.proofs.lemmas.List.{length-take-le, length-set}
+use Rattle.std.specs.List.{insert}
 use Rattle.node_table.specs.Layouts.{IsPut}
 use Rattle.node_table.proofs.InRow.{room_for_key, put_at_rank}
-use Rattle.node_table.proofs.Blocks.{let_in}
+use Rattle.node_table.proofs.Blocks.{let_in, let_in_last}
 use Rattle.node_table.proofs.rows.insert.Goals as goal
+use Rattle.node_table.proofs.rows.insert.Goals.{then-rank-len, else-rank-len}
 
 pub copy_within-requires-clause-dest_in_bounds : goal.copy_within-requires-clause-dest_in_bounds
 copy_within-requires-clause-dest_in_bounds c =
@@ -13,18 +15,27 @@ copy_within-requires-clause-dest_in_bounds c =
 pub bounds-block-rank : goal.bounds-block-rank
 bounds-block-rank c =
     let room = room_for_key _ _ c.args.entry c.requires.row c.requires.absent c.requires.key in
-    omega (arith, room, c.rank_of-rank.ensures.within, c.copy_within.ensures.len, length-take-le c.args.len c.args.block.now c.requires.within)
+    omega (arith, room, c.rank_of-rank.ensures.within, c.if-rank-len.auto.block, length-take-le c.args.len c.args.block.now c.requires.within)
 
 pub returns-clause-within : goal.returns-clause-within
 returns-clause-within c =
     let room = room_for_key _ _ c.args.entry c.requires.row c.requires.absent c.requires.key in
-    omega (arith, room, c.copy_within.ensures.len, length-take-le c.args.len c.args.block.now c.requires.within, length-set c.copy_within.new.self c.rank_of-rank.result c.args.entry)
+    omega (arith, room, c.if-rank-len.auto.block, length-take-le c.args.len c.args.block.now c.requires.within, length-set c.if-rank-len.block c.rank_of-rank.result c.args.entry)
 
 pub returns-clause-put : goal.returns-clause-put
 returns-clause-put c =
     let room = room_for_key _ _ c.args.entry c.requires.row c.requires.absent c.requires.key in
     let front = length-take-le c.args.len c.args.block.now c.requires.within in
-    let done = ap (λ ys. take (c.args.len + 1) (set ys c.rank_of-rank.result c.args.entry)) c.copy_within.ensures.after
-    ∙ let_in c.args.block.now c.rank_of-rank.result c.args.len c.args.entry (omega (arith, c.rank_of-rank.ensures.within)) (omega arith) in
+    let rank = c.rank_of-rank.result in
+    let done : take (c.args.len + 1) (set c.if-rank-len.block rank c.args.entry) ≡ insert (take c.args.len c.args.block.now) rank c.args.entry = elim c.if-rank-len.branch [
+      | then-rank-len w ↦ ap (λ ys. take (c.args.len + 1) (set ys rank c.args.entry)) (w.block-is ∙ w.copy_within.ensures.after)
+          ∙ let_in c.args.block.now rank c.args.len c.args.entry (omega (arith, c.rank_of-rank.ensures.within)) (omega arith)
+      | else-rank-len w ↦
+          let at_end : rank ≡ c.args.len = omega (arith, w.if-rank-len.false, c.rank_of-rank.ensures.within) in
+          ap (λ ys. take (c.args.len + 1) (set ys rank c.args.entry)) w.block-is
+          ∙ ap (λ n. take (c.args.len + 1) (set c.args.block.now n c.args.entry)) at_end
+          ∙ let_in_last c.args.block.now c.args.len c.args.entry (omega arith)
+          ∙ ap (λ n. insert (take c.args.len c.args.block.now) n c.args.entry) (sym at_end)
+    ] in
     subst (IsPut (length c.args.block.now) c.args.entry (take c.args.len c.args.block.now)) (sym done)
     (put_at_rank _ _ _ _ c.requires.row c.requires.absent c.rank_of-rank.ensures c.requires.key c.requires.written)

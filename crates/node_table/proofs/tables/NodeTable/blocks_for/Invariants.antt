@@ -1,9 +1,10 @@
-use Rattle.std.proofs.Common.{◌≡◌, ◌+◌, ◌≤◌, drop}
-use Rattle.node_table.specs.NodeTableView.{blocks_after, blocks_for}
+use Rattle.std.proofs.Common.{◌≡◌, ◌≤◌}
+use Rattle.node_table.specs.Table.{greatest_version}
+use Rattle.node_table.specs.NodeTableView.{blocks_below}
 use Rattle.node_table.proofs.tables.NodeTable.blocks_for.Given as goal
 
-abbrev pub invariant-loop-item : goal.invariant-loop-item
-invariant-loop-item l = record {
-  counted : l.blocks + blocks_after l.self.table l.last (drop l.item-index l.added) ≡ blocks_for l.self.table l.added;
-  fits : l.blocks ≤ l.item-index;
+abbrev pub invariant-loop-owner : goal.invariant-loop-owner
+invariant-loop-owner l = record {
+  counted : l.blocks ≡ blocks_below (greatest_version l.self.table) l.added l.owner;
+  fits : l.blocks ≤ l.owner;
 }

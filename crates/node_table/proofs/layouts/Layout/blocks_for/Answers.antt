@@ -1,0 +1,49 @@
+use Rattle.std.proofs.Common.{◌≡◌, ℕ, List, length, sym, ap, ◌∙◌, subst, arith}
+use Rattle.std.specs.Vec.{with_items}
+use Rattle.std.proofs.lemmas.List.{with_items_is}
+use Rattle.bench_types.specs.declared.entries.Item.{Item}
+use Rattle.node_table.specs.Table.{greatest_version}
+use Rattle.node_table.specs.Rows.{AreGreatest}
+use Rattle.node_table.specs.NodeTableView.{blocks_below, blocks_for}
+use Rattle.node_table.specs.Marks.{AreMarked, AreUnmarked}
+use Rattle.node_table.specs.Layouts.{table_in, IsLayout}
+use Rattle.node_table.specs.declared.layouts.Layout.{Layout}
+use Rattle.node_table.proofs.Marks.{version_in, greatest_again}
+use Rattle.node_table.proofs.Room.{blocks-same}
+use Rattle.node_table.proofs.layouts.Layout.blocks_for.Goals as goal
+
+-- the blocks by the list of greatest versions
+blocks_are : (l : Layout) (sound : IsLayout l) (versions : List ℕ) (added : List Item) → versions ≡ l.greatest.items → blocks_below (version_in versions) added (length versions) ≡ blocks_for (table_in l) added
+blocks_are l sound versions added is =
+    ap (λ xs. blocks_below (version_in xs) added (length xs)) is
+    ∙ ap (blocks_below (version_in l.greatest.items) added) sound.greatest.count
+    ∙ blocks-same (version_in l.greatest.items) (greatest_version (table_in l)) added l.nodes (λ owner lt. sound.greatest.greatest owner lt)
+
+pub returns-then-blocks-gt0-clause-layout : goal.returns-then-blocks-gt0-clause-layout
+returns-then-blocks-gt0-clause-layout c =
+    let l = c.args.self.now in
+    let added = c.args.added.now in
+    let marked : List ℕ = c.mark_new-blocks.new.greatest in
+    let after : List ℕ = c.unmark.new.greatest in
+    let len : length marked ≡ length l.greatest.items = omega (arith, c.mark_new-blocks.auto.greatest, ap length c.deref_mut.ensures.value) in
+    let marked_is = with_items_is l.greatest marked (omega (arith, len, l.greatest.ok.0)) in
+    let lent = c.deref_mut-then-blocks-gt0.ensures.value ∙ marked_is in
+    let len' : length after ≡ length marked = omega (arith, c.unmark.auto.greatest, ap length lent) in
+    let after_is = with_items_is (with_items l.greatest marked) after (omega (arith, len, len', l.greatest.ok.0)) in
+    let are_marked = subst (λ xs. AreMarked added xs marked) c.deref_mut.ensures.value c.mark_new-blocks.ensures.marked in
+    let are_unmarked = subst (λ xs. AreUnmarked l.rows.items added xs after) lent (subst (λ rows. AreUnmarked rows added c.deref_mut-then-blocks-gt0.result.now after) c.deref.ensures.value c.unmark.ensures) in
+    record {
+      node_below = c.requires.node_below;
+      nodes_limit = c.requires.nodes_limit;
+      some_key = c.requires.some_key;
+      keys_limit = c.requires.keys_limit;
+      laid = c.requires.laid;
+      greatest = subst (AreGreatest (table_in l)) (sym after_is) (greatest_again l c.requires added marked after are_marked are_unmarked len len');
+      counted = c.requires.counted;
+    }
+
+pub returns-then-blocks-gt0-clause-blocks : goal.returns-then-blocks-gt0-clause-blocks
+returns-then-blocks-gt0-clause-blocks c = c.mark_new-blocks.ensures.blocks ∙ blocks_are c.args.self.now c.requires c.deref_mut.result.now c.args.added.now c.deref_mut.ensures.value
+
+pub returns-else-blocks-gt0-clause-blocks : goal.returns-else-blocks-gt0-clause-blocks
+returns-else-blocks-gt0-clause-blocks c = c.mark_new-blocks.ensures.blocks ∙ blocks_are c.args.self.now c.requires c.deref_mut.result.now c.args.added.now c.deref_mut.ensures.value

@@ -82,7 +82,7 @@ all-insert P xs n y within all new k d in_range =
       ]
     ]
 
-all-remove : {X : Type 0} (P : X → Type 0) (xs : List X) (n : ℕ) → n < length xs → All P xs → All P (remove xs n)
+pub all-remove : {X : Type 0} (P : X → Type 0) (xs : List X) (n : ℕ) → n < length xs → All P xs → All P (remove xs n)
 all-remove P xs n within all k d in_range =
     let len = length-remove xs n within in
     elim (cases_lt k n) [

@@ -20,3 +20,4 @@ mod Forgotten
 mod Empty
 mod Room
 mod Marks
+mod Newest

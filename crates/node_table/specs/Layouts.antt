@@ -1,6 +1,6 @@
 -- How a table lies in memory. Each owner of whom something is held has a block of slots, one for each key; the
 -- front of the block is the owner's row. Blocks don't overlap. Source: this project.
-use Rattle.std.specs.Prelude.{◌≡◌, ◌≢◌, ℕ, suc, ◌+◌, ◌-◌, ◌/◌, ◌<◌, ◌≤◌, ◌==◌, ◌⊎◌, false, List, [], ◌∷◌, ◌++◌, Option, None, Some, length, map, take, drop, All, AllPairs, sum_by, slice_index_or, vec_len, vec_capacity, if◌then◌else◌}
+use Rattle.std.specs.Prelude.{◌≡◌, ◌≢◌, ℕ, suc, ◌+◌, ◌-◌, ◌/◌, ◌<◌, ◌≤◌, ◌==◌, ◌⊎◌, Bool, not, false, List, [], ◌∷◌, ◌++◌, Option, None, Some, length, map, take, drop, All, AllPairs, sum_by, slice_index_or, vec_len, vec_capacity, if◌then◌else◌}
 use Rattle.std.specs.FinMap.{from_entries, insert}
 use Rattle.std.specs.Ordering.{is_lt}
 use Rattle.bench_types.specs.declared.entries.Entry.{Entry}
@@ -123,6 +123,10 @@ pub record IsIndexOf (row : List Entry) (key index : ℕ) : Type 0 where
   pub within : index ≤ length row
   pub here : (d : Entry) → index < length row → (slice_index_or row index d).key ≡ key
   pub before : (k : ℕ) (d : Entry) → k < index → (slice_index_or row k d).key ≢ key
+
+-- an entry of another key
+abbrev pub has_other_key : ℕ → Entry → Bool
+has_other_key key e = not (e.key == key)
 
 -- so many entries at the front stand before the entry or tie with it, the others behind it
 pub record IsRankOf (row : List Entry) (entry : Entry) (rank : ℕ) : Type 0 where

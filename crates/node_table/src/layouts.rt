@@ -2,14 +2,14 @@
 //! each key, at the front of which its entries lie ascending by version and then by key. So one
 //! item changes one block alone.
 
-ghost use Rattle.std.specs.Prelude.{◌≡◌, ◌+◌, ◌<◌, ◌≤◌, [], ◌∷◌, IsOk, OnOk, OnErr, length, slice_index, take, vec_len, vec_capacity};
+ghost use Rattle.std.specs.Prelude.{◌≡◌, ◌+◌, ◌<◌, ◌≤◌, [], ◌∷◌, IsOk, OnOk, OnErr, length, nat_lt, slice_index, take, vec_len, vec_capacity};
 ghost use Rattle.node_table.specs.Table.{IsInPlace, version_at, greatest_version, applied, without_others};
 ghost use Rattle.node_table.specs.View.{IsItemInPlace};
 ghost use Rattle.node_table.specs.NodeTableView.{blocks_below, blocks_for};
 ghost use Rattle.node_table.specs.Marks.{AreMarked, AreUnmarked};
-ghost use Rattle.node_table.specs.Layouts.{row_of, row_at, block_len, table_in, with_entry, AreLaid, IsLayout, IsIndexOf, IsEmptyRow, IsInSlots, IsPlaced, IsPut, KeepOutside, HasEntries, IsHeld, HasBlockLeft};
+ghost use Rattle.node_table.specs.Layouts.{row_of, row_at, block_len, table_in, with_entry, AreLaid, IsLayout, IsEmptyRow, IsInSlots, IsPlaced, IsPut, KeepOutside, HasEntries, IsHeld, HasBlockLeft};
 
-use crate::rows::{index_of, put_in};
+use crate::rows::{find, put_in};
 use bench_types::limits::{MOST_KEYS, MOST_NODES};
 use bench_types::{Entry, Item};
 use std::alloc::AllocError;
@@ -56,19 +56,32 @@ impl Layout {
         ensures same_slots { IsHeld self.old item.owner → vec_len self.new.slots ≡ vec_len self.old.slots }
         ensures slots { vec_len self.new.slots ≤ vec_len self.old.slots + self.old.keys }
     {
-        let row = self.row(item.owner);
-        let index = index_of(row, item.entry.key);
-        if index == row.len() || row[index].version < item.entry.version {
-            self.put(item.owner, index, item.entry).unwrap();
+        if self.is_newer(item) {
+            self.put(item.owner, item.entry).unwrap();
         }
     }
 
-    // Puts an entry at its rank in an owner's row, over that of its key, whose index is given. An
-    // error is lack of memory for a block, and then nothing changes.
-    pub(crate) fn put(&mut self, owner: u32, index: usize, entry: Entry) -> Result<(), AllocError>
+    // Whether an item is newer than what is held at its place. Where it is the newest of its owner no
+    // entry is looked at.
+    fn is_newer(&self, item: Item) -> bool
+        requires layout { IsLayout self.now }
+        requires in_place { IsItemInPlace self.now.nodes self.now.keys item }
+        ensures { result ≡ nat_lt (version_at (table_in self.now) item.owner item.entry.key) item.entry.version }
+    {
+        if self.greatest[item.owner as usize] < item.entry.version {
+            return true;
+        }
+        match find(self.row(item.owner), item.entry.key) {
+            Some(held) => held.version < item.entry.version,
+            None => true,
+        }
+    }
+
+    // Puts an entry at its rank in an owner's row, over that of its key. An error is lack of memory
+    // for a block, and then nothing changes.
+    pub(crate) fn put(&mut self, owner: u32, entry: Entry) -> Result<(), AllocError>
         requires layout { IsLayout self.old }
         requires in_place { IsInPlace self.old.nodes self.old.keys owner entry.key entry }
-        requires index { IsIndexOf (row_at self.old.slots.items self.old.rows.items owner) entry.key index }
         requires newer { version_at (table_in self.old) owner entry.key ≤ entry.version }
         ensures layout { IsLayout self.new }
         ensures ok { OnOk result (table_in self.new ≡ with_entry (table_in self.old) owner entry) }
@@ -82,14 +95,7 @@ impl Layout {
     {
         let at = owner as usize;
         let before = self.rows[at].len;
-        place(
-            &mut self.slots,
-            &mut self.rows,
-            self.keys,
-            owner,
-            index,
-            entry,
-        )?;
+        place(&mut self.slots, &mut self.rows, self.keys, owner, entry)?;
         self.count += self.rows[at].len - before;
         self.greatest[at] = self.greatest[at].max(entry.version);
         Ok(())
@@ -187,14 +193,12 @@ fn place(
     rows: &mut Vec<Row>,
     keys: u32,
     owner: u32,
-    index: usize,
     entry: Entry,
 ) -> Result<(), AllocError>
     requires laid { AreLaid (vec_len rows.old) keys slots.old.items rows.old.items }
     requires owner { owner < vec_len rows.old }
     requires nodes { vec_len rows.old ≤ MOST_NODES }
     requires keys { keys ≤ MOST_KEYS }
-    requires index { IsIndexOf (row_at slots.old.items rows.old.items owner) entry.key index }
     requires key { entry.key < keys }
     requires written { 1 ≤ entry.version }
     ensures laid { AreLaid (vec_len rows.old) keys slots.new.items rows.new.items }
@@ -211,17 +215,16 @@ fn place(
     if row.len == 0 {
         open(slots, rows, keys, owner, entry)
     } else {
-        rows[owner as usize] = put_among(slots, row, keys, index, entry);
+        rows[owner as usize] = put_among(slots, row, keys, entry);
         Ok(())
     }
 }
 
 // Puts an entry into a row that has some already.
-fn put_among(slots: &mut [Entry], row: Row, keys: u32, index: usize, entry: Entry) -> Row
+fn put_among(slots: &mut [Entry], row: Row, keys: u32, entry: Entry) -> Row
     requires row { IsInSlots keys slots.old row }
     requires held { 0 < row.len }
     requires keys { keys ≤ MOST_KEYS }
-    requires index { IsIndexOf (row_of slots.old row) entry.key index }
     requires key { entry.key < keys }
     requires written { 1 ≤ entry.version }
     ensures start { result.start ≡ row.start }
@@ -232,7 +235,7 @@ fn put_among(slots: &mut [Entry], row: Row, keys: u32, index: usize, entry: Entr
 {
     let start = row.start as usize;
     let block = &mut slots[start..start + keys as usize];
-    let len = put_in(block, row.len as usize, index, entry) as u32;
+    let len = put_in(block, row.len as usize, entry) as u32;
     Row {
         start: row.start,
         len,

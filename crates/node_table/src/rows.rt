@@ -1,15 +1,15 @@
 //! One owner's row: entries with a key each, ascending by version and then by key, at the front of
 //! a block of slots.
 
-ghost use Rattle.std.specs.Prelude.{◌≡◌, ◌≢◌, ◌+◌, ◌-◌, ◌<◌, ◌≤◌, All, length, take, remove};
+ghost use Rattle.std.specs.Prelude.{◌≡◌, ◌≢◌, ◌+◌, ◌-◌, ◌<◌, ◌≤◌, All, filter, length, take, remove};
 ghost use Rattle.std.specs.Ordering.{is_lt};
 ghost use Rattle.node_table.specs.Rows.{entry_cmp};
-ghost use Rattle.node_table.specs.Layouts.{entry_in, IsRow, IsIndexOf, IsRankOf, IsRankAbove, IsPut};
+ghost use Rattle.node_table.specs.Layouts.{entry_in, has_other_key, IsRow, IsIndexOf, IsRankOf, IsRankAbove, IsPut};
 
 use bench_types::Entry;
 
 // The index of the entry of a key, or the row's length.
-pub(crate) fn index_of(row: &[Entry], key: u32) -> usize
+fn index_of(row: &[Entry], key: u32) -> usize
     ensures { IsIndexOf row.now key result }
 {
     for (index, held) in row.iter().enumerate() {
@@ -63,18 +63,69 @@ fn stands_before(entry: Entry, other: Entry) -> bool
     (entry.version, entry.key) < (other.version, other.key)
 }
 
-// Puts an entry at its rank, over that of its key, whose index is given. The answer is how many
-// entries the row has then.
-pub(crate) fn put_in(block: &mut [Entry], len: usize, index: usize, entry: Entry) -> usize
+// Puts an entry at its rank, over that of its key. The answer is how many entries the row has then.
+pub(crate) fn put_in(block: &mut [Entry], len: usize, entry: Entry) -> usize
     requires within { len ≤ length block.old }
     requires row { IsRow (length block.old) (take len block.old) }
-    requires index { IsIndexOf (take len block.old) entry.key index }
     requires key { entry.key < length block.old }
     requires written { 1 ≤ entry.version }
     ensures len { length block.new ≡ length block.old }
     ensures within { result ≤ length block.new }
     ensures put { IsPut (length block.old) entry (take len block.old) (take result block.new) }
 {
+    if len > 0 && block[len - 1].version < entry.version {
+        put_last(block, len, entry)
+    } else {
+        put_at_rank(block, len, entry)
+    }
+}
+
+// Puts an entry behind all others, where it is newer than each of them.
+fn put_last(block: &mut [Entry], len: usize, entry: Entry) -> usize
+    requires within { len ≤ length block.old }
+    requires row { IsRow (length block.old) (take len block.old) }
+    requires newest { All (λ e. e.version < entry.version) (take len block.old) }
+    requires key { entry.key < length block.old }
+    requires written { 1 ≤ entry.version }
+    ensures len { length block.new ≡ length block.old }
+    ensures within { result ≤ length block.new }
+    ensures put { IsPut (length block.old) entry (take len block.old) (take result block.new) }
+{
+    let kept = keep_others(block, len, entry.key);
+    block[kept] = entry;
+    kept + 1
+}
+
+// Moves the entries of other keys to the front, and answers how many they are. It writes each, so that
+// nothing that it does next hangs on a guess.
+fn keep_others(block: &mut [Entry], len: usize, key: u32) -> usize
+    requires { len ≤ length block.old }
+    ensures len { length block.new ≡ length block.old }
+    ensures few { result ≤ len }
+    ensures kept { take result block.new ≡ filter (has_other_key key) (take len block.old) }
+{
+    let mut kept = 0;
+    for at in 0..len {
+        let held = block[at];
+        block[kept] = held;
+        if held.key != key {
+            kept += 1;
+        }
+    }
+    kept
+}
+
+// Puts an entry at its rank, over that of its key, by a search for both.
+fn put_at_rank(block: &mut [Entry], len: usize, entry: Entry) -> usize
+    requires within { len ≤ length block.old }
+    requires row { IsRow (length block.old) (take len block.old) }
+    requires key { entry.key < length block.old }
+    requires written { 1 ≤ entry.version }
+    ensures len { length block.new ≡ length block.old }
+    ensures within { result ≤ length block.new }
+    ensures put { IsPut (length block.old) entry (take len block.old) (take result block.new) }
+{
+    let index = index_of(&block[..len], entry.key);
     if index < len {
         close_up(block, len, index);
         insert(block, len - 1, entry)

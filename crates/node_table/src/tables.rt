@@ -5,7 +5,7 @@ ghost use Rattle.bench_types.specs.declared.faults.Fault.TheVariants.{OutOfMemor
 ghost use Rattle.node_table.specs.NodeTableView.{comes_in};
 
 use crate::layouts::{Layout, Row};
-use crate::rows::{find, index_of, rank_above};
+use crate::rows::{find, rank_above};
 use bench_types::limits::{LEAST_KEYS, MOST_KEYS, MOST_NODES};
 use bench_types::{Entry, Fault, Item};
 use std::alloc::Global;
@@ -139,10 +139,10 @@ impl NodeTable {
         }
     }
 
-    /// The node writes one of its own keys, and the answer is the version of that write: a walk
-    /// over the node's row, and a move of the entries behind the key's. An error is lack of memory
-    /// for the first write of all, and then nothing was written and the room is no less. With room
-    /// for one owner there is none.
+    /// The node writes one of its own keys, and the answer is the version of that write: one walk
+    /// over the node's row, which closes it up. An error is lack of memory for the first write of
+    /// all, and then nothing was written and the room is no less. With room for one owner there is
+    /// none.
     pub fn write_own(&mut self, key: u32, value: u32, born: u32) -> Result<u32, Fault>
         requires key { key < self.old.table.keys }
         requires fits { greatest_version self.old.table self.old.table.node + 1 < 2 ^ 32 }
@@ -161,8 +161,7 @@ impl NodeTable {
             value,
             born,
         };
-        let index = index_of(self.layout.row(owner), key);
-        self.layout.put(owner, index, entry)?;
+        self.layout.put(owner, entry)?;
         Ok(version)
     }
 
@@ -189,7 +188,8 @@ impl NodeTable {
 
     /// Takes items in turn: each place keeps the entry with the greater version, and the held one
     /// where the versions are equal. It takes no memory. For each item it walks over the owner's
-    /// row, and moves those of its entries that are newer than the item; no other row changes.
+    /// row: once where the item is the newest of its owner, and else for its key and for its rank.
+    /// No other row changes.
     pub fn apply(&mut self, added: &[Item])
         requires room { HasRoom self.old added.now }
         requires others { All (λ i. i.owner ≢ self.old.table.node) added.now }

@@ -1,7 +1,7 @@
 use Rattle.std.proofs.Common.{◌≡◌, ◌+◌, ◌-◌, take, drop, sym, ◌∙◌, subst, arith}
 use borrow.Rule.Slice.PartMut.{put_mid}
 use Rattle.std.proofs.lemmas.List.{take-take}
-use Rattle.node_table.specs.Layouts.{row_of, IsIndexOf, IsPut}
+use Rattle.node_table.specs.Layouts.{row_of, IsPut}
 use Rattle.node_table.proofs.Blocks.{take-block, take-outside, length-block}
 use Rattle.node_table.proofs.Laid.{len-le-keys}
 use Rattle.node_table.proofs.layouts.put_among.Goals as goal
@@ -16,12 +16,6 @@ put_in-len-requires-clause-row c =
     let fits = len-le-keys c.args.keys c.args.slots.now c.args.row c.requires.row in
     let front = take-take c.args.row.len (c.args.row.start + c.args.keys - c.args.row.start) (drop c.args.row.start c.args.slots.now) (omega arith) in
     rw (len, front) c.requires.row.row
-
-pub put_in-len-requires-clause-index : goal.put_in-len-requires-clause-index
-put_in-len-requires-clause-index c =
-    let fits = len-le-keys c.args.keys c.args.slots.now c.args.row c.requires.row in
-    let front = take-take c.args.row.len (c.args.row.start + c.args.keys - c.args.row.start) (drop c.args.row.start c.args.slots.now) (omega arith) in
-    subst (λ xs. IsIndexOf xs c.args.entry.key c.args.index) (sym front) c.requires.index
 
 pub returns-clause-put : goal.returns-clause-put
 returns-clause-put c =

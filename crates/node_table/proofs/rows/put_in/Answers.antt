@@ -1,22 +1,14 @@
-use Rattle.std.proofs.Common.{◌≢◌, All, sym, subst, refl, arith}
-use Rattle.std.proofs.lemmas.List.{length-take-le}
+use Rattle.std.proofs.Common.{◌≡◌, ◌-◌, length, get_or, take, ap, ◌∙◌, arith}
+use Rattle.std.proofs.lemmas.List.{length-take-le, get_or-take}
 use Rattle.bench_types.specs.declared.entries.Entry.{Entry}
-use Rattle.node_table.proofs.InRow.{row_remove, absent_remove, put_over}
+use Rattle.node_table.proofs.InRow.{no_entry}
+use Rattle.node_table.proofs.Newest.{lower_from_last}
 use Rattle.node_table.proofs.rows.put_in.Goals as goal
 
-pub insert-requires-clause-row : goal.insert-requires-clause-row
-insert-requires-clause-row c =
-    let front = length-take-le c.args.len c.args.block.now c.requires.within in
-    rw (c.close_up.ensures.len, c.close_up.ensures.row) (row_remove _ _ _ _ c.requires.row c.requires.index (omega (arith, c.if-index-len.true)))
-
-pub insert-requires-clause-absent : goal.insert-requires-clause-absent
-insert-requires-clause-absent c =
-    let front = length-take-le c.args.len c.args.block.now c.requires.within in
-    subst (All (λ (e : Entry). e.key ≢ c.args.entry.key)) (sym c.close_up.ensures.row) (absent_remove _ _ _ _ c.requires.row c.requires.index (omega (arith, c.if-index-len.true)))
-
-pub returns-then-index-len-clause-put : goal.returns-then-index-len-clause-put
-returns-then-index-len-clause-put c =
-    let front = length-take-le c.args.len c.args.block.now c.requires.within in
-    let after = length-take-le c.insert.result c.insert.new.block c.insert.ensures.within in
-    put_over _ _ _ _ c.requires.row c.requires.index (omega (arith, c.if-index-len.true)) c.args.entry _ refl (omega (arith, c.insert.ensures.one_more, c.if-index-len.true))
-    (rw (← c.close_up.ensures.row, ← c.close_up.ensures.len) c.insert.ensures.put)
+pub put_last-requires-clause-newest : goal.put_last-requires-clause-newest
+put_last-requires-clause-newest c =
+    let row = take c.args.len c.args.block.now in
+    let front : length row ≡ c.args.len = length-take-le c.args.len c.args.block.now c.requires.within in
+    let last : get_or row (length row - 1) no_entry ≡ get_or c.args.block.now (c.args.len - 1) no_entry =
+    ap (λ n. get_or row (n - 1) no_entry) front ∙ get_or-take c.args.len c.args.block.now (c.args.len - 1) no_entry (omega (arith, c.if-len-gt0.true)) in
+    lower_from_last (length c.args.block.now) row c.args.entry.version no_entry c.requires.row (omega (arith, ap (λ (e : Entry). e.version) last, c.if-block-len.true))

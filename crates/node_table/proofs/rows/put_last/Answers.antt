@@ -1,0 +1,26 @@
+use Rattle.std.proofs.Common.{◌++◌, [], ◌∷◌, length, take, sym, ap, ◌∙◌, subst, arith}
+use Rattle.std.proofs.lemmas.List.{length-take-le, length-set, take_more_set}
+use Rattle.node_table.specs.Layouts.{IsPut}
+use Rattle.node_table.proofs.Newest.{put_newest, newest_fits}
+use Rattle.node_table.proofs.rows.put_last.Goals as goal
+
+pub bounds-block-kept : goal.bounds-block-kept
+bounds-block-kept c =
+    let fits = newest_fits _ _ c.args.entry c.requires.row c.requires.newest c.requires.key c.requires.written in
+    let kept = length-take-le c.keep_others-kept.result c.keep_others-kept.new.block (omega (arith, c.keep_others-kept.ensures.few, c.keep_others-kept.ensures.len, c.requires.within)) in
+    omega (arith, fits, kept, ap length c.keep_others-kept.ensures.kept, c.keep_others-kept.ensures.len)
+
+pub returns-clause-within : goal.returns-clause-within
+returns-clause-within c =
+    let fits = newest_fits _ _ c.args.entry c.requires.row c.requires.newest c.requires.key c.requires.written in
+    let kept = length-take-le c.keep_others-kept.result c.keep_others-kept.new.block (omega (arith, c.keep_others-kept.ensures.few, c.keep_others-kept.ensures.len, c.requires.within)) in
+    omega (arith, fits, kept, ap length c.keep_others-kept.ensures.kept, c.keep_others-kept.ensures.len, length-set c.keep_others-kept.new.block c.keep_others-kept.result c.args.entry)
+
+pub returns-clause-put : goal.returns-clause-put
+returns-clause-put c =
+    let fits = newest_fits _ _ c.args.entry c.requires.row c.requires.newest c.requires.key c.requires.written in
+    let kept = length-take-le c.keep_others-kept.result c.keep_others-kept.new.block (omega (arith, c.keep_others-kept.ensures.few, c.keep_others-kept.ensures.len, c.requires.within)) in
+    let done = take_more_set c.keep_others-kept.new.block c.keep_others-kept.result c.args.entry (omega (arith, fits, kept, ap length c.keep_others-kept.ensures.kept, c.keep_others-kept.ensures.len))
+    ∙ ap (λ xs. xs ++ c.args.entry ∷ []) c.keep_others-kept.ensures.kept in
+    subst (IsPut (length c.args.block.now) c.args.entry (take c.args.len c.args.block.now)) (sym done)
+    (put_newest _ _ c.args.entry c.requires.row c.requires.newest c.requires.key c.requires.written)

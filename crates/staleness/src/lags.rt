@@ -261,6 +261,7 @@ fn figures_of_parts(
 {
     (0..tables.len() / size + 1)
         .into_par_iter()
+        .with_min_len(1)
         .map(
             |part: usize| -> Result<Figures, AllocError>
                 requires { AreCountable round (tables_in tables.now) lists.now × (1 ≤ size)

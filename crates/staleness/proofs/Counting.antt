@@ -1,6 +1,5 @@
 -- What was counted by owner, in whatever parts, comes to the figures of all.
-use Rattle.std.proofs.Common.{◌≡◌, ℕ, zero, suc, ◌+◌, ◌*◌, ◌/◌, ◌<◌, ◌≤◌, min, List, [], ◌∷◌, length, get_or, All, Result, Ok, Err, IsOk, IfOk, sym, ap, ◌∙◌, subst, arith}
-use Rattle.std.specs.declared.alloc.AllocError.{AllocError}
+use Rattle.std.proofs.Common.{◌≡◌, ℕ, zero, suc, ◌+◌, ◌*◌, ◌/◌, ◌<◌, ◌≤◌, min, List, [], ◌∷◌, length, get_or, All, sym, ap, ◌∙◌, subst, arith}
 use Rattle.std.specs.List.{AllZip, range_with_len}
 use Rattle.std.proofs.Math.Nat.{lt-div-mul-add}
 use Rattle.std.proofs.lemmas.List.FromFn.{length-range_with_len}
@@ -11,7 +10,7 @@ use Rattle.cluster.specs.Tables.{table_of_node, IsCluster}
 use Rattle.staleness.specs.declared.lists.Write.{Write}
 use Rattle.staleness.specs.Figures.{sum_below, most_below, staleness_at, stale_count, rounds_behind, figures_of}
 use Rattle.staleness.specs.Copies.{owner_figures, part_figures}
-use Rattle.staleness.specs.Cluster.{IsCounted, AreCounted, figures_found, found_at}
+use Rattle.staleness.specs.Cluster.{IsCounted, AreCounted, found_at}
 use Rattle.staleness.proofs.Places.{one_more}
 use Rattle.staleness.proofs.Sums.{sum_below-same, most_below-same, sum_below-swap, most_below-swap, sum_below-parts, most_below-parts}
 
@@ -41,7 +40,7 @@ module _ (round : ℕ) (tables : List Table) (lists : List (List Write)) (cluste
       (λ p lt. ap (λ n. most_below (length tables) (λ r. most_below n (rounds p r))) (sym (cluster.tables p lt).keys))
 
 -- what a list has for each number of a range stands at its place
-at_place : (R : ℕ → Result Figures AllocError → Type 0) (from n : ℕ) (parts : List (Result Figures AllocError)) → AllZip R (range_with_len from n) parts → (k : ℕ) (d : Result Figures AllocError) → k < n → R (from + k) (get_or parts k d)
+pub at_place : {X : Type 0} (R : ℕ → X → Type 0) (from n : ℕ) (parts : List X) → AllZip R (range_with_len from n) parts → (k : ℕ) (d : X) → k < n → R (from + k) (get_or parts k d)
 at_place R from zero parts each k d lt = absurd (omega arith)
 at_place R from (suc n) [] each k d lt = absurd each
 at_place R from (suc n) (f ∷ fs) each zero d lt = let same : from ≡ from + 0 = omega arith in subst (λ m. R m f) same each.0
@@ -49,47 +48,36 @@ at_place R from (suc n) (f ∷ fs) each (suc k) d lt =
     let same : from + 1 + k ≡ from + suc k = omega arith in
     subst (λ m. R m (get_or fs k d)) same (at_place R (from + 1) n fs each.1 k d (omega arith))
 
-module _ (round : ℕ) (tables : List Table) (lists : List (List Write)) (size count : ℕ) (parts : List (Result Figures AllocError)) (each : AreCounted round tables lists size count parts) where
-  counted : (k : ℕ) (d : Result Figures AllocError) → k < count → IfOk (get_or parts k d) (IsCounted round tables lists size k)
+module _ (round : ℕ) (tables : List Table) (lists : List (List Write)) (size count : ℕ) (parts : List Figures) (each : AreCounted round tables lists size count parts) where
+  counted : (k : ℕ) (d : Figures) → k < count → IsCounted round tables lists size k (get_or parts k d)
   counted k d lt = let same : 0 + k ≡ k = omega arith in
-      subst (λ n. IfOk (get_or parts k d) (IsCounted round tables lists size n)) same (at_place (λ part found. IfOk found (IsCounted round tables lists size part)) 0 count parts each k d lt)
+      subst (λ n. IsCounted round tables lists size n (get_or parts k d)) same (at_place (IsCounted round tables lists size) 0 count parts each k d lt)
 
   pub as_many : length parts ≡ count
-  as_many = AllZip-long (λ part found. IfOk found (IsCounted round tables lists size part)) (range_with_len 0 count) parts each ∙ length-range_with_len 0 count
+  as_many = AllZip-long (IsCounted round tables lists size) (range_with_len 0 count) parts each ∙ length-range_with_len 0 count
 
-  pub bounded : All (λ (r : Result Figures AllocError). IfOk r (λ f. f.stale ≤ 4096 * 4096 * 64)) parts
-  bounded k d lt = bound (get_or parts k d) (counted k d (omega (arith, as_many)))
-    where
-      bound : (r : Result Figures AllocError) → IfOk r (IsCounted round tables lists size k) → IfOk r (λ f. f.stale ≤ 4096 * 4096 * 64)
-      bound (Ok f) is = is.bound
-      bound (Err e) is = tt
+  pub bounded : All (λ (f : Figures). f.stale ≤ 4096 * 4096 * 64) parts
+  bounded k d lt = (counted k d (omega (arith, as_many))).bound
 
-  abbrev nothing : Result Figures AllocError
-  nothing = Ok (record { stale = 0; greatest = 0 })
-
-  found : All IsOk parts → (k : ℕ) → k < count → found_at parts k ≡ part_figures round tables lists size k
-  found ok k lt = at (get_or parts k nothing) (ok k nothing (omega (arith, as_many))) (counted k nothing lt)
-    where
-      at : (r : Result Figures AllocError) → IsOk r → IfOk r (IsCounted round tables lists size k) → figures_found r ≡ part_figures round tables lists size k
-      at (Ok f) ok is = is.figures
-      at (Err e) ok is = cc
+  found : (k : ℕ) → k < count → found_at parts k ≡ part_figures round tables lists size k
+  found k lt = (counted k (record { stale = 0; greatest = 0 }) lt).figures
 
   -- so do their sum and the greatest of them
-  pub figures_of_all : IsCluster (length tables) tables → length tables ≤ count * size → All IsOk parts → (total : Figures) → total.stale ≡ sum_below (length parts) (λ i. (found_at parts i).stale) → total.greatest ≡ most_below (length parts) (λ i. (found_at parts i).greatest) → total ≡ figures_of round tables lists
+  pub figures_of_all : IsCluster (length tables) tables → length tables ≤ count * size → (total : Figures) → total.stale ≡ sum_below (length parts) (λ i. (found_at parts i).stale) → total.greatest ≡ most_below (length parts) (λ i. (found_at parts i).greatest) → total ≡ figures_of round tables lists
   unfolding figures_of
-  figures_of_all cluster all ok total stale_is greatest_is =
+  figures_of_all cluster all total stale_is greatest_is =
       let whole : min (count * size) (length tables) ≡ length tables = omega arith in
       let stale_all : total.stale ≡ (figures_of round tables lists).stale =
       stale_is
       ∙ ap (λ n. sum_below n (λ i. (found_at parts i).stale)) as_many
-      ∙ sum_below-same (λ i. (found_at parts i).stale) (λ i. (part_figures round tables lists size i).stale) count (λ k lt. ap (λ (f : Figures). f.stale) (found ok k lt))
+      ∙ sum_below-same (λ i. (found_at parts i).stale) (λ i. (part_figures round tables lists size i).stale) count (λ k lt. ap (λ (f : Figures). f.stale) (found k lt))
       ∙ sum_below-parts (λ r. (owner_figures round tables lists r).stale) (length tables) size count
       ∙ ap (λ n. sum_below n (λ r. (owner_figures round tables lists r).stale)) whole
       ∙ stale_by_owner round tables lists cluster in
       let greatest_all : total.greatest ≡ (figures_of round tables lists).greatest =
       greatest_is
       ∙ ap (λ n. most_below n (λ i. (found_at parts i).greatest)) as_many
-      ∙ most_below-same (λ i. (found_at parts i).greatest) (λ i. (part_figures round tables lists size i).greatest) count (λ k lt. ap (λ (f : Figures). f.greatest) (found ok k lt))
+      ∙ most_below-same (λ i. (found_at parts i).greatest) (λ i. (part_figures round tables lists size i).greatest) count (λ k lt. ap (λ (f : Figures). f.greatest) (found k lt))
       ∙ most_below-parts (λ r. (owner_figures round tables lists r).greatest) (length tables) size count
       ∙ ap (λ n. most_below n (λ r. (owner_figures round tables lists r).greatest)) whole
       ∙ most_by_owner round tables lists cluster in

@@ -9,3 +9,4 @@ pub mod Seen
 pub mod Places
 pub mod OwnParts
 pub mod Counting
+pub mod Merging

@@ -1,7 +1,7 @@
 -- Where an owner's keys lie among those of all owners.
-use Rattle.std.proofs.Common.{◌≡◌, ◌≢◌, ℕ, zero, suc, ◌+◌, ◌-◌, ◌*◌, ◌<◌, ◌≤◌, ◌⊎◌, inl, inr, arith}
+use Rattle.std.proofs.Common.{◌≡◌, ◌≢◌, ℕ, zero, suc, ◌+◌, ◌-◌, ◌*◌, ◌/◌, ◌%◌, ◌<◌, ◌≤◌, ◌⊎◌, inl, inr, arith}
 use Rattle.std.proofs.lemmas.Bool.{cases_lt}
-use Rattle.std.proofs.Math.Nat.{mul_comm, add-mul}
+use Rattle.std.proofs.Math.Nat.{mul_comm, add-mul, mod-lt, div-add-mod', div-lt_iff_lt-mul}
 use Rattle.std.proofs.lemmas.Nat.{mul-add-lt}
 
 turned : (a b : ℕ) → a * b ≡ b * a
@@ -24,3 +24,21 @@ all_within a owners (suc n) lt = omega (arith, within a owners n (suc n) lt (ome
 
 pub one_more : (a keys : ℕ) → (a + 1) * keys ≡ a * keys + keys
 one_more a keys = omega (arith, add-mul a 1 keys)
+
+-- each place among them is one of an owner's keys
+pub record IsPlaceOf (owners keys i : ℕ) : Type 0 where
+  pub owner : ℕ
+  pub key : ℕ
+  pub among : owner < owners
+  pub below : key < keys
+  pub is : i ≡ owner * keys + key
+
+pub place_of : (owners keys i : ℕ) → i < owners * keys → IsPlaceOf owners keys i
+place_of owners zero i lt = absurd (omega arith)
+place_of owners (suc m) i lt = record {
+  owner = i / suc m;
+  key = i % suc m;
+  among = (div-lt_iff_lt-mul {k = suc m} {x = i} {y = owners} (omega arith)).1 lt;
+  below = mod-lt i {m = suc m} (omega arith);
+  is = omega (arith, div-add-mod' i (suc m));
+}

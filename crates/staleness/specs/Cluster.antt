@@ -1,15 +1,17 @@
 -- What the tables and the lists of all nodes keep between rounds. Only the owner writes its own state, so its own part
 -- of its table is, for each key, the last write with that key. Source: the LADIS 2008 paper and this project.
-use Rattle.std.specs.Prelude.{◌≡◌, ℕ, ◌*◌, ◌≤◌, List, length, option_map, All, slice_index_or, IfOk, Result, Ok, Err}
+use Rattle.std.specs.Prelude.{◌≡◌, ℕ, ◌*◌, ◌≤◌, List, length, option_map, All, slice_index_or, IfOk, Result, Vec}
 use Rattle.std.specs.declared.alloc.AllocError.{AllocError}
+use Rattle.std.specs.declared.alloc.Global.{Global}
 use Rattle.std.specs.List.{AllZip, range_with_len}
 use Rattle.bench_types.specs.declared.entries.Entry.{Entry}
 use Rattle.bench_types.specs.declared.rows.Figures.{Figures}
 use Rattle.node_table.specs.Table.{Table, entry_at}
-use Rattle.cluster.specs.Tables.{IsCluster}
+use Rattle.cluster.specs.Tables.{table_of_node, IsCluster}
 use Rattle.staleness.specs.declared.lists.Write.{Write}
 use Rattle.staleness.specs.Writes.{last_write, AreBornBy}
-use Rattle.staleness.specs.Copies.{part_figures}
+use Rattle.staleness.specs.declared.copies.Copies.{Copies}
+use Rattle.staleness.specs.Copies.{part_figures, no_copies, copies_of, part_copies, AreSeen, AreSeenOnce}
 
 -- an entry as a write, which leaves out the value
 abbrev pub write_of_entry : Entry → Write
@@ -32,14 +34,29 @@ pub record IsCounted (round : ℕ) (tables : List Table) (lists : List (List Wri
   pub figures : counted ≡ part_figures round tables lists size part
   pub bound : counted.stale ≤ 4096 * 4096 * 64
 
--- what was found of a part, nothing where there was no memory
-abbrev pub figures_found : Result Figures AllocError → Figures
-figures_found (Ok figures) = figures
-figures_found (Err e) = record { stale = 0; greatest = 0 }
+-- what was found of a part
+abbrev pub found_at : List Figures → ℕ → Figures
+found_at parts i = slice_index_or parts i (record { stale = 0; greatest = 0 })
 
-abbrev pub found_at : List (Result Figures AllocError) → ℕ → Figures
-found_at parts i = figures_found (slice_index_or parts i (Ok (record { stale = 0; greatest = 0 })))
+-- and so of each part, in order
+abbrev pub AreCounted : ℕ → List Table → List (List Write) → ℕ → ℕ → List Figures → Type 0
+AreCounted round tables lists size count parts = AllZip (IsCounted round tables lists size) (range_with_len 0 count) parts
+
+-- what all tables hold of each owner's keys
+abbrev pub AreAllSeen : List Table → List (List Write) → List Copies → Type 0
+AreAllSeen tables lists copies = AreSeen (length tables) (table_of_node tables 0).keys (λ owner key. copies_of tables lists owner key (length tables)) copies
+
+-- what a pass over some of the tables begins with
+pub record MayBegin (tables : List Table) (none : List Copies) : Type 0 where
+  pub cluster : IsCluster (length tables) tables
+  pub few : length tables ≤ 4096
+  pub size : length none ≡ length tables * (table_of_node tables 0).keys
+  pub blank : All (λ c. c ≡ no_copies c.current) none
+
+-- what the tables of a part of so many hold of each owner's keys
+abbrev pub IsSeenInPart : List Table → List Copies → ℕ → ℕ → List Copies → Type 0
+IsSeenInPart tables none size part copies = AreSeenOnce (length tables) (table_of_node tables 0).keys (part_copies tables size part) none copies
 
 -- and so of each part, in order, where there was memory
-abbrev pub AreCounted : ℕ → List Table → List (List Write) → ℕ → ℕ → List (Result Figures AllocError) → Type 0
-AreCounted round tables lists size count parts = AllZip (λ part found. IfOk found (IsCounted round tables lists size part)) (range_with_len 0 count) parts
+abbrev pub AreSeenInParts : List Table → List Copies → ℕ → ℕ → List (Result (Vec Copies Global) AllocError) → Type 0
+AreSeenInParts tables none size count parts = AllZip (λ part found. IfOk found (λ v. IsSeenInPart tables none size part v.items)) (range_with_len 0 count) parts

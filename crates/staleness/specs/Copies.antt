@@ -49,6 +49,24 @@ abbrev pub copies_of : List Table → List (List Write) → ℕ → ℕ → ℕ 
 copies_of tables lists owner key zero = no_copies (current_of lists owner key)
 copies_of tables lists owner key (suc p) = seen_in (table_of_node tables p) owner key (copies_of tables lists owner key p)
 
+-- so many tables from one on have been gone over, beginning with what was seen before
+abbrev pub copies_from : List Table → ℕ → ℕ → ℕ → ℕ → Copies → Copies
+copies_from tables owner key from zero c = c
+copies_from tables owner key from (suc p) c = seen_in (table_of_node tables (from + p)) owner key (copies_from tables owner key from p c)
+
+-- a part has so many tables, the last one fewer
+abbrev pub part_copies : List Table → ℕ → ℕ → ℕ → ℕ → Copies → Copies
+part_copies tables size part owner key c = copies_from tables owner key (part * size) (min size (length tables - part * size)) c
+
+-- what two parts of the tables hold together
+abbrev pub merged : Copies → Copies → Copies
+merged c d = record {
+  current = c.current;
+  least = min c.least d.least;
+  held = c.held + d.held;
+  fresh = c.fresh + d.fresh;
+}
+
 -- the least version among so many tables
 abbrev pub least_of : Copies → ℕ → ℕ
 least_of c others = if nat_lt c.held others then 0 else c.least
@@ -61,6 +79,11 @@ stale_of c others = if c.current == 0 then 0 else others - c.fresh
 pub record HasRoom (c : Copies) : Type 0 where
   pub fresh : c.fresh ≤ c.held
   pub held : c.held + 1 < 2 ^ 32
+
+-- there is room for both
+pub record HaveRoom (c d : Copies) : Type 0 where
+  pub held : c.held + d.held < 2 ^ 32
+  pub fresh : c.fresh + d.fresh < 2 ^ 32
 
 -- so many elements from a place on may change alone
 abbrev pub KeepOutside : List Copies → List Copies → ℕ → ℕ → Type 0

@@ -1,11 +1,12 @@
-//! What one pass over the tables sees of the copies of a range of owners, key by key.
+//! What a pass over the tables sees of the copies of all owners, key by key.
 
 ghost use Rattle.std.specs.Prelude.{◌≡◌, ℕ, ◌+◌, ◌*◌, ◌^◌, ◌<◌, ◌≤◌, All, IfOk, OnOk, length, slice_index_or, vec_len};
 ghost use Rattle.bench_types.specs.declared.limits.TheConstants.{MOST_NODES, MOST_KEYS};
 ghost use Rattle.node_table.specs.Table.{entry_at};
-ghost use Rattle.cluster.specs.Tables.{tables_in, table_of_node, IsCluster};
+ghost use Rattle.cluster.specs.Tables.{tables_in, table_of_node};
+ghost use Rattle.staleness.specs.Cluster.{MayBegin};
 ghost use Rattle.staleness.specs.declared.copies.Copies.{Copies};
-ghost use Rattle.staleness.specs.Copies.{with_version, with_entry, seen_in, copies_of, HasRoom, KeepOutside, AreSeen, AreSeenOnce, AreAdded};
+ghost use Rattle.staleness.specs.Copies.{with_version, with_entry, seen_in, no_copies, current_of, copies_from, merged, HasRoom, HaveRoom, KeepOutside, AreSeen, AreSeenOnce, AreAdded};
 
 use crate::lists::OwnerList;
 use node_table::NodeTable;
@@ -53,21 +54,19 @@ fn see_row(copies: &mut [Copies], start: usize, table: &NodeTable, owner: u32)
     }
 }
 
-// Goes over a table's rows of a range of owners but its own.
-fn see_table(copies: &mut [Copies], table: &NodeTable, from: usize, owners: usize)
-    requires owners { from + owners ≤ table.now.table.nodes }
-    requires size { length copies.old ≡ owners * table.now.table.keys }
-    requires room { (at key : ℕ) (d : Copies) → at < owners → key < table.now.table.keys
-        → HasRoom (slice_index_or copies.old (at * table.now.table.keys + key) d) }
-    ensures { AreSeenOnce owners table.now.table.keys
-        (λ at key c. seen_in table.now.table (from + at) key c) copies.old copies.new }
+// Goes over a table's rows of all owners but its own.
+fn see_table(copies: &mut [Copies], table: &NodeTable)
+    requires size { length copies.old ≡ table.now.table.nodes * table.now.table.keys }
+    requires room { (owner key : ℕ) (d : Copies) → owner < table.now.table.nodes → key < table.now.table.keys
+        → HasRoom (slice_index_or copies.old (owner * table.now.table.keys + key) d) }
+    ensures { AreSeenOnce table.now.table.nodes table.now.table.keys
+        (λ owner key c. seen_in table.now.table owner key c) copies.old copies.new }
 {
     let keys = table.keys() as usize;
-    let holder = table.node() as usize;
-    for at in 0..owners {
-        let owner = from + at;
+    let holder = table.node();
+    for owner in 0..table.nodes() {
         if owner != holder {
-            see_row(copies, at * keys, table, owner as u32);
+            see_row(copies, owner as usize * keys, table, owner);
         }
     }
 }
@@ -87,31 +86,68 @@ fn add_keys(copies: &mut Vec<Copies>, list: &OwnerList, keys: u32) -> Result<(),
     Ok(())
 }
 
-/// What all tables but the owner's hold of a range of owners, by owner and then by key: one pass over
-/// the tables.
-pub(crate) fn copies_of(
+/// What is seen of all owners, by owner and then by key, before any table is gone over.
+pub(crate) fn no_copies(
     alloc: Global,
-    tables: &[NodeTable],
     lists: &[OwnerList],
-    from: usize,
-    owners: usize,
     keys: u32,
 ) -> Result<Vec<Copies>, AllocError>
-    requires cluster { IsCluster (length tables.now) (tables_in tables.now) }
-    requires one_list_each { length lists.now ≡ length tables.now }
-    requires owners { from + owners ≤ length tables.now }
-    requires keys { keys ≡ (table_of_node (tables_in tables.now) 0).keys }
+    requires few { length lists.now ≤ MOST_NODES }
     requires limit { keys ≤ MOST_KEYS }
-    requires few { length tables.now ≤ MOST_NODES }
-    ensures { IfOk result (λ v. AreSeen owners keys
-        (λ at key. copies_of (tables_in tables.now) lists.now (from + at) key (length tables.now)) v.items) }
+    ensures { IfOk result
+        (λ v. AreSeen (length lists.now) keys (λ owner key. no_copies (current_of lists.now owner key)) v.items) }
 {
-    let mut copies = Vec::with_capacity(alloc, owners * keys as usize)?;
-    for at in 0..owners {
-        add_keys(&mut copies, &lists[from + at], keys)?;
-    }
-    for table in tables {
-        see_table(&mut copies, table, from, owners);
+    let mut copies = Vec::with_capacity(alloc, lists.len() * keys as usize)?;
+    for list in lists {
+        add_keys(&mut copies, list, keys)?;
     }
     Ok(copies)
+}
+
+/// What so many tables from one on hold of all owners but their own: one pass over these tables. It
+/// begins with what is seen before any table is gone over.
+pub(crate) fn copies_from(
+    alloc: Global,
+    tables: &[NodeTable],
+    none: &[Copies],
+    from: usize,
+    count: usize,
+) -> Result<Vec<Copies>, AllocError>
+    requires begins { MayBegin (tables_in tables.now) none.now }
+    requires within { from + count ≤ length tables.now }
+    ensures { IfOk result (λ v. AreSeenOnce (length (tables_in tables.now)) (table_of_node (tables_in tables.now) 0).keys
+        (λ owner key c. copies_from (tables_in tables.now) owner key from count c) none.now v.items) }
+{
+    let mut copies = Vec::from_slice(alloc, none)?;
+    for at in 0..count {
+        see_table(&mut copies, &tables[from + at]);
+    }
+    Ok(copies)
+}
+
+// What two parts of the tables hold together.
+fn merged(one: Copies, other: Copies) -> Copies
+    requires { HaveRoom one other }
+    ensures { result ≡ merged one other }
+{
+    Copies {
+        current: one.current,
+        least: one.least.min(other.least),
+        held: one.held + other.held,
+        fresh: one.fresh + other.fresh,
+    }
+}
+
+/// Takes what a part of the tables holds to what others hold.
+pub(crate) fn merge(copies: &mut [Copies], part: &[Copies])
+    requires size { length part.now ≡ length copies.old }
+    requires room { (i : ℕ) (d : Copies) → i < length copies.old
+        → HaveRoom (slice_index_or copies.old i d) (slice_index_or part.now i d) }
+    ensures size { length copies.new ≡ length copies.old }
+    ensures merged { (i : ℕ) (d : Copies) → i < length copies.old
+        → slice_index_or copies.new i d ≡ merged (slice_index_or copies.old i d) (slice_index_or part.now i d) }
+{
+    for at in 0..copies.len() {
+        copies[at] = merged(copies[at], part[at]);
+    }
 }

@@ -1,6 +1,6 @@
 //! How far the copies of all nodes lag behind their owners.
 
-ghost use Rattle.std.specs.Prelude.{◌≡◌, ℕ, ◌+◌, ◌*◌, ◌/◌, ◌^◌, ◌<◌, ◌≤◌, max, All, IfOk, IsOk, IsOkUnless, OnOk, length, slice_index_or};
+ghost use Rattle.std.specs.Prelude.{◌≡◌, ℕ, ◌+◌, ◌*◌, ◌/◌, ◌^◌, ◌<◌, ◌≤◌, max, All, IfOk, IsOkUnless, length, slice_index_or};
 ghost use Rattle.bench_types.specs.declared.faults.Fault.TheVariants.{OutOfMemory};
 ghost use Rattle.staleness.specs.declared.copies.Copies.{Copies};
 ghost use Rattle.staleness.specs.Writes.{AreBornBy};
@@ -8,9 +8,9 @@ ghost use Rattle.node_table.specs.Table.{version_at};
 ghost use Rattle.staleness.specs.Figures.{sum_below, most_below, staleness_of, staleness_at, rounds_behind, figures_of};
 ghost use Rattle.staleness.specs.Copies.{copies_of, key_figures, owner_figures, owners_figures, part_figures};
 ghost use Rattle.cluster.specs.Tables.{tables_in, table_of_node, IsCluster};
-ghost use Rattle.staleness.specs.Cluster.{AreCountable, IsCounted, AreCounted, found_at};
+ghost use Rattle.staleness.specs.Cluster.{AreCountable, IsCounted, AreCounted, AreAllSeen, MayBegin, IsSeenInPart, AreSeenInParts, found_at};
 
-use crate::copies::{Copies, copies_of};
+use crate::copies::{Copies, copies_from, merge, no_copies};
 use crate::lists::OwnerList;
 use bench_types::{Fault, Figures};
 use node_table::NodeTable;
@@ -148,39 +148,41 @@ fn lag_of_owner(
 
 // What the copies of a range of owners lag behind their lists.
 fn lag_of_owners(
-    alloc: Global,
     tables: &[NodeTable],
     lists: &[OwnerList],
+    copies: &[Copies],
     from: usize,
     owners: usize,
     round: u32,
-) -> Result<Figures, AllocError>
+) -> Figures
     requires countable { AreCountable round (tables_in tables.now) lists.now }
     requires owners { from + owners ≤ length tables.now }
-    ensures figures { IfOk result (λ f. f ≡ owners_figures round (tables_in tables.now) lists.now from owners) }
-    ensures bound { IfOk result (λ f. f.stale ≤ 4096 * 4096 * 64) }
+    requires copies { AreAllSeen (tables_in tables.now) lists.now copies.now }
+    ensures figures { result ≡ owners_figures round (tables_in tables.now) lists.now from owners }
+    ensures bound { result.stale ≤ 4096 * 4096 * 64 }
 {
     let keys = match tables.first() {
         Some(table) => table.keys(),
-        None => return Ok(NOTHING_STALE),
+        None => return NOTHING_STALE,
     };
-    let copies = copies_of(alloc, tables, lists, from, owners, keys)?;
     let mut total = NOTHING_STALE;
     for at in 0..owners {
-        let start = at * keys as usize;
+        let owner = from + at;
+        let start = owner * keys as usize;
         total = joined(
             total,
-            lag_of_owner(tables, lists, (from + at) as u32, &copies, start, round),
+            lag_of_owner(tables, lists, owner as u32, copies, start, round),
         );
     }
-    Ok(total)
+    total
 }
 
 // How many triples are worth a thread of their own.
 const TRIPLES_OF_A_THREAD: usize = 65_536;
 
-// How many owners a thread gets. It bears on time and memory alone.
-fn owners_of_a_thread(rt: &impl Threads, tables: &[NodeTable]) -> usize
+// How many nodes a thread gets: it goes over their tables, and then counts what their copies lag. It bears
+// on time and memory alone.
+fn nodes_of_a_thread(rt: &impl Threads, tables: &[NodeTable]) -> usize
     requires { IsCluster (length tables.now) (tables_in tables.now) }
     ensures some { 1 ≤ result }
     ensures few { length tables.now ≤ 4096 }
@@ -197,35 +199,29 @@ fn owners_of_a_thread(rt: &impl Threads, tables: &[NodeTable]) -> usize
 }
 
 // What several parts come to together.
-fn joined_all(parts: &[Result<Figures, AllocError>]) -> Result<Figures, Fault>
+fn joined_all(parts: &[Figures]) -> Figures
     requires few { length parts.now ≤ 4097 }
-    requires bound { All (λ r. IfOk r (λ f. f.stale ≤ 4096 * 4096 * 64)) parts.now }
-    ensures stale { IfOk result (λ f. f.stale ≡ sum_below (length parts.now) (λ i. (found_at parts.now i).stale)) }
-    ensures greatest { IfOk result
-        (λ f. f.greatest ≡ most_below (length parts.now) (λ i. (found_at parts.now i).greatest)) }
-    ensures each { OnOk result (All IsOk parts.now) }
-    ensures only { IsOkUnless result OutOfMemory }
+    requires bound { All (λ f. f.stale ≤ 4096 * 4096 * 64) parts.now }
+    ensures stale { result.stale ≡ sum_below (length parts.now) (λ i. (found_at parts.now i).stale) }
+    ensures greatest { result.greatest ≡ most_below (length parts.now) (λ i. (found_at parts.now i).greatest) }
 {
     let mut total = NOTHING_STALE;
     for part in parts {
-        match part {
-            Ok(part) => total = joined(total, *part),
-            Err(_) => return Err(Fault::OutOfMemory),
-        }
+        total = joined(total, *part);
     }
-    Ok(total)
+    total
 }
 
 /// The figures at the end of a round, down nodes included: how many keys of copies are below the
 /// last writes in their owners' lists, and the greatest number of rounds since the first write that
 /// one of them missed, that round included.
 ///
-/// It goes over the owners in threads, where there are enough of them, each with a range of them one
-/// after another, and what it answers does not depend on how. Each thread goes once over the rows of
-/// its owners, table by table. Then there are a search among an owner's keys and one look at its list
-/// for each of its keys; but where a list has a write of an earlier round than one before it, a look
-/// for each copy of each key. It takes memory, 16 bytes for each owner and key, and an error is want of
-/// that.
+/// It works in threads, where there are enough nodes, and what it answers does not depend on how. First
+/// each thread goes once over some of the tables, and what they saw is put together key by key. Then each
+/// has some of the owners: there are a search among an owner's keys and one look at its list for each of
+/// its keys; but where a list has a write of an earlier round than one before it, a look for each copy of
+/// each key. It takes memory, for each thread and once more 16 bytes for each owner and key, and an error
+/// is want of that.
 pub fn figures(
     rt: &(impl Threads + Sync),
     alloc: Global,
@@ -240,9 +236,83 @@ pub fn figures(
     ensures figures { IfOk result (λ f. f ≡ figures_of round (tables_in tables.now) lists.now) }
     ensures only { IsOkUnless result OutOfMemory }
 {
-    let size = owners_of_a_thread(rt, tables);
-    let parts = figures_of_parts(rt, alloc, tables, lists, size, round)?;
-    joined_all(&parts)
+    let size = nodes_of_a_thread(rt, tables);
+    let copies = all_copies(rt, alloc, tables, lists, size)?;
+    let parts = figures_of_parts(rt, alloc, tables, lists, &copies, size, round)?;
+    Ok(joined_all(&parts))
+}
+
+// What all tables but the owner's hold of each owner, by owner and then by key, where each part has so
+// many tables.
+fn all_copies(
+    rt: &(impl Threads + Sync),
+    alloc: Global,
+    tables: &[NodeTable],
+    lists: &[OwnerList],
+    size: usize,
+) -> Result<Vec<Copies>, Fault>
+    requires some { 1 ≤ size }
+    requires cluster { IsCluster (length tables.now) (tables_in tables.now) }
+    requires one_list_each { length lists.now ≡ length tables.now }
+    requires few { length tables.now ≤ 4096 }
+    ensures seen { IfOk result (λ v. AreAllSeen (tables_in tables.now) lists.now v.items) }
+    ensures only { IsOkUnless result OutOfMemory }
+{
+    let keys = match tables.first() {
+        Some(table) => table.keys(),
+        None => return Ok(Vec::new(alloc)),
+    };
+    let mut copies = no_copies(alloc, lists, keys)?;
+    let parts = copies_of_parts(rt, alloc, tables, &copies, size)?;
+    for part in &parts {
+        match part {
+            Ok(part) => merge(&mut copies, part),
+            Err(_) => return Err(Fault::OutOfMemory),
+        }
+    }
+    Ok(copies)
+}
+
+// What the tables of each part of so many hold, in order.
+fn copies_of_parts(
+    rt: &(impl Threads + Sync),
+    alloc: Global,
+    tables: &[NodeTable],
+    none: &[Copies],
+    size: usize,
+) -> Result<Vec<Result<Vec<Copies>, AllocError>>, AllocError>
+    requires some { 1 ≤ size }
+    requires begins { MayBegin (tables_in tables.now) none.now }
+    ensures { IfOk result (λ v. AreSeenInParts (tables_in tables.now) none.now size (length tables.now / size + 1) v.items) }
+{
+    (0..tables.len() / size + 1)
+        .into_par_iter()
+        .with_min_len(1)
+        .map(
+            |part: usize| -> Result<Vec<Copies>, AllocError>
+                requires { MayBegin (tables_in tables.now) none.now × (1 ≤ size) × (part ≤ length tables.now / size) }
+                ensures { IfOk result (λ v. IsSeenInPart (tables_in tables.entry.now) none.entry.now size part v.items) }
+            { copies_of_part(alloc, tables, none, size, part) },
+        )
+        .collect(rt, alloc)
+}
+
+// What the tables of a part of so many hold.
+fn copies_of_part(
+    alloc: Global,
+    tables: &[NodeTable],
+    none: &[Copies],
+    size: usize,
+    part: usize,
+) -> Result<Vec<Copies>, AllocError>
+    requires some { 1 ≤ size }
+    requires part { part ≤ length tables.now / size }
+    requires begins { MayBegin (tables_in tables.now) none.now }
+    ensures { IfOk result (λ v. IsSeenInPart (tables_in tables.now) none.now size part v.items) }
+{
+    let from = part * size;
+    let count = size.min(tables.len() - from);
+    copies_from(alloc, tables, none, from, count)
 }
 
 // What the copies of each part of so many owners lag, in order.
@@ -251,11 +321,13 @@ fn figures_of_parts(
     alloc: Global,
     tables: &[NodeTable],
     lists: &[OwnerList],
+    copies: &[Copies],
     size: usize,
     round: u32,
-) -> Result<Vec<Result<Figures, AllocError>>, AllocError>
+) -> Result<Vec<Figures>, AllocError>
     requires some { 1 ≤ size }
     requires countable { AreCountable round (tables_in tables.now) lists.now }
+    requires copies { AreAllSeen (tables_in tables.now) lists.now copies.now }
     ensures { IfOk result
         (λ v. AreCounted round (tables_in tables.now) lists.now size (length tables.now / size + 1) v.items) }
 {
@@ -263,31 +335,31 @@ fn figures_of_parts(
         .into_par_iter()
         .with_min_len(1)
         .map(
-            |part: usize| -> Result<Figures, AllocError>
+            |part: usize| -> Figures
                 requires { AreCountable round (tables_in tables.now) lists.now × (1 ≤ size)
-                    × (part ≤ length tables.now / size) }
-                ensures { IfOk result
-                    (IsCounted round (tables_in tables.entry.now) lists.entry.now size part) }
-            { lag_of_part(alloc, tables, lists, size, part, round) },
+                    × (part ≤ length tables.now / size) × AreAllSeen (tables_in tables.now) lists.now copies.now }
+                ensures { IsCounted round (tables_in tables.entry.now) lists.entry.now size part result }
+            { lag_of_part(tables, lists, copies, size, part, round) },
         )
         .collect(rt, alloc)
 }
 
 // What the copies of a part of so many owners lag.
 fn lag_of_part(
-    alloc: Global,
     tables: &[NodeTable],
     lists: &[OwnerList],
+    copies: &[Copies],
     size: usize,
     part: usize,
     round: u32,
-) -> Result<Figures, AllocError>
+) -> Figures
     requires some { 1 ≤ size }
     requires part { part ≤ length tables.now / size }
     requires countable { AreCountable round (tables_in tables.now) lists.now }
-    ensures { IfOk result (IsCounted round (tables_in tables.now) lists.now size part) }
+    requires copies { AreAllSeen (tables_in tables.now) lists.now copies.now }
+    ensures { IsCounted round (tables_in tables.now) lists.now size part result }
 {
     let from = part * size;
     let owners = size.min(tables.len() - from);
-    lag_of_owners(alloc, tables, lists, from, owners, round)
+    lag_of_owners(tables, lists, copies, from, owners, round)
 }

@@ -13,15 +13,16 @@ not_next a at other = elim (cases_lt a at) [
   | inr behind ↦ le-ltb a (at + 1) (omega arith) ∙ sym (le-ltb a at behind)
 ]
 
-pub loop-at-preserved : goal.loop-at-preserved
-loop-at-preserved c =
+pub loop-owner-preserved : goal.loop-owner-preserved
+loop-owner-preserved c =
     let t = c.args.table.now.table in
     let keys = t.keys in
-    let at = c.loop-at.at in
+    let at = c.loop-owner.owner in
     let old = c.args.copies.now in
-    let copies = c.loop-at.copies in
-    let so_far = c.loop-at.invariant in
-    let owner = c.args.from + at in
+    let copies = c.loop-owner.copies in
+    let so_far = c.loop-owner.invariant in
+    let owner = at in
+    let within : at < t.nodes = omega (arith, c.loop-owner-test.true, c.nodes-owner-end.ensures.value) in
     let now_below : ltb at (at + 1) ≡ true = lt-ltb at (at + 1) (omega arith) in
     let not_yet : ltb at at ≡ false = le-ltb at at (omega arith) in
     elim c.if-owner-holder.branch [
@@ -38,15 +39,15 @@ loop-at-preserved c =
                   ∙ ap (λ n. get_or new (n + key) d) (sym start)
                   ∙ w.see_row.ensures.seen key d below
                   ∙ ap (λ n. with_entry (get_or copies (n + key) d) (entry_at t owner key)) start
-                  ∙ ap (λ x. with_entry x (entry_at t owner key)) (so_far.at at key d c.loop-at-test.true below ∙ ap (λ b. if b then seen_in t owner key old_here else old_here) not_yet)
+                  ∙ ap (λ x. with_entry x (entry_at t owner key)) (so_far.at at key d within below ∙ ap (λ b. if b then seen_in t owner key old_here else old_here) not_yet)
                   ∙ sym (ap (λ b. if b then old_here else with_entry old_here (entry_at t owner key)) (ne_eqb t.node owner ne))
                   ∙ sym (ap (λ b. if b then seen_in t owner key old_here else old_here) now_below)
-                  ∙ sym (ap (λ n. if ltb n (at + 1) then seen_in t (c.args.from + n) key (get_or old (n * keys + key) d) else get_or old (n * keys + key) d) here)
+                  ∙ sym (ap (λ n. if ltb n (at + 1) then seen_in t n key (get_or old (n * keys + key) d) else get_or old (n * keys + key) d) here)
               | inr other ↦
                   let old_there = get_or old (a * keys + key) d in
                   w.see_row.ensures.others (a * keys + key) d (subst (λ n. (a * keys + key < n) ⊎ (n + keys ≤ a * keys + key)) (sym start) (apart a at key keys below other))
                   ∙ so_far.at a key d lt below
-                  ∙ sym (ap (λ b. if b then seen_in t (c.args.from + a) key old_there else old_there) (not_next a at other))
+                  ∙ sym (ap (λ b. if b then seen_in t a key old_there else old_there) (not_next a at other))
             ];
           }
       | else-owner-holder w ↦
@@ -56,14 +57,14 @@ loop-at-preserved c =
             at = λ a key d lt below. ap (λ xs. get_or xs (a * keys + key) d) w.copies-is ∙ so_far.at a key d lt below ∙ elim (cases_eq a at) [
               | inl here ↦
                   let old_here = get_or old (at * keys + key) d in
-                  ap (λ n. if ltb n at then seen_in t (c.args.from + n) key (get_or old (n * keys + key) d) else get_or old (n * keys + key) d) here
+                  ap (λ n. if ltb n at then seen_in t n key (get_or old (n * keys + key) d) else get_or old (n * keys + key) d) here
                   ∙ ap (λ b. if b then seen_in t owner key old_here else old_here) not_yet
                   ∙ sym (ap (λ b. if b then old_here else with_entry old_here (entry_at t owner key)) (eq-eqb t.node owner same))
                   ∙ sym (ap (λ b. if b then seen_in t owner key old_here else old_here) now_below)
-                  ∙ sym (ap (λ n. if ltb n (at + 1) then seen_in t (c.args.from + n) key (get_or old (n * keys + key) d) else get_or old (n * keys + key) d) here)
+                  ∙ sym (ap (λ n. if ltb n (at + 1) then seen_in t n key (get_or old (n * keys + key) d) else get_or old (n * keys + key) d) here)
               | inr other ↦
                   let old_there = get_or old (a * keys + key) d in
-                  sym (ap (λ b. if b then seen_in t (c.args.from + a) key old_there else old_there) (not_next a at other))
+                  sym (ap (λ b. if b then seen_in t a key old_there else old_there) (not_next a at other))
             ];
           }
     ]

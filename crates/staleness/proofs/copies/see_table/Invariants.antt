@@ -1,6 +1,6 @@
-use Rattle.std.proofs.Common.{ltb, if◌then◌else◌, ◌+◌}
+use Rattle.std.proofs.Common.{ltb, if◌then◌else◌}
 use Rattle.staleness.specs.Copies.{seen_in, AreSeenOnce}
 use Rattle.staleness.proofs.copies.see_table.Given as goal
 
-abbrev pub invariant-loop-at : goal.invariant-loop-at
-invariant-loop-at l = AreSeenOnce l.owners l.table.table.keys (λ at key c. if ltb at l.at then seen_in l.table.table (l.from + at) key c else c) l.fn.copies l.copies
+abbrev pub invariant-loop-owner : goal.invariant-loop-owner
+invariant-loop-owner l = AreSeenOnce l.table.table.nodes l.table.table.keys (λ at key c. if ltb at l.owner then seen_in l.table.table at key c else c) l.fn.copies l.copies

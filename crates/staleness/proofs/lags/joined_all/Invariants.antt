@@ -1,6 +1,4 @@
-use Rattle.std.proofs.Common.{◌≡◌, ℕ, ◌*◌, ◌<◌, ◌≤◌, Result, get_or, IsOk}
-use Rattle.std.specs.declared.alloc.AllocError.{AllocError}
-use Rattle.bench_types.specs.declared.rows.Figures.{Figures}
+use Rattle.std.proofs.Common.{◌≡◌, ◌*◌, ◌≤◌}
 use Rattle.staleness.specs.Figures.{sum_below, most_below}
 use Rattle.staleness.specs.Cluster.{found_at}
 use Rattle.staleness.proofs.lags.joined_all.Given as goal
@@ -10,5 +8,4 @@ invariant-loop-part l = record {
   few : l.total.stale ≤ l.part-index * 1073741824;
   stale_is : l.total.stale ≡ sum_below l.part-index (λ i. (found_at l.parts i).stale);
   greatest_is : l.total.greatest ≡ most_below l.part-index (λ i. (found_at l.parts i).greatest);
-  each : (i : ℕ) (d : Result Figures AllocError) → i < l.part-index → IsOk (get_or l.parts i d);
 }

@@ -1,8 +1,8 @@
 use Rattle.std.proofs.Common.{ap, arith}
 use Rattle.node_table.specs.Table.{Table}
 use Rattle.cluster.proofs.Tables.{table_indexed}
-use Rattle.staleness.proofs.lags.owners_of_a_thread.Goals as goal
-use Rattle.staleness.proofs.lags.owners_of_a_thread.Goals.{in-Some, in-None}
+use Rattle.staleness.proofs.lags.nodes_of_a_thread.Goals as goal
+use Rattle.staleness.proofs.lags.nodes_of_a_thread.Goals.{in-Some, in-None}
 
 pub returns-clause-few : goal.returns-clause-few
 returns-clause-few g c = elim c.match-first.branch [

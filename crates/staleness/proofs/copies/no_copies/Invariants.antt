@@ -1,0 +1,5 @@
+use Rattle.staleness.specs.Copies.{no_copies, current_of, AreSeen}
+use Rattle.staleness.proofs.copies.no_copies.Given as goal
+
+abbrev pub invariant-loop-list : goal.invariant-loop-list
+invariant-loop-list l = AreSeen l.list-index l.keys (λ owner key. no_copies (current_of l.lists owner key)) l.copies.items

@@ -10,3 +10,4 @@ pub mod Places
 pub mod OwnParts
 pub mod Counting
 pub mod Merging
+pub mod Fronts

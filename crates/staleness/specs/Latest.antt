@@ -40,3 +40,9 @@ pub record IsGapForKey (ws : List Write) (key i : ℕ) : Type 0 where
   pub in_range : i ≤ length ws
   pub below : (j : ℕ) (d : Write) → j < i → (slice_index_or ws j d).key < key
   pub above : (j : ℕ) (d : Write) → i ≤ j → j < length ws → key < (slice_index_or ws j d).key
+
+-- the writes before index i have lesser keys, and no other has
+pub record IsFrontForKey (ws : List Write) (key i : ℕ) : Type 0 where
+  pub in_range : i ≤ length ws
+  pub below : (j : ℕ) (d : Write) → j < i → (slice_index_or ws j d).key < key
+  pub from : (j : ℕ) (d : Write) → i ≤ j → j < length ws → key ≤ (slice_index_or ws j d).key

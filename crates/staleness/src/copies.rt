@@ -1,14 +1,16 @@
 //! What a pass over the tables sees of the copies of all owners, key by key.
 
-ghost use Rattle.std.specs.Prelude.{◌≡◌, ℕ, ◌+◌, ◌*◌, ◌^◌, ◌<◌, ◌≤◌, All, IfOk, OnOk, length, slice_index_or, vec_len};
+ghost use Rattle.std.specs.Prelude.{◌≡◌, ℕ, ◌+◌, ◌*◌, ◌^◌, ◌<◌, ◌≤◌, None, All, IfOk, IfSome, OnOk, length, slice_index_or, vec_len};
 ghost use Rattle.bench_types.specs.declared.limits.TheConstants.{MOST_NODES, MOST_KEYS};
 ghost use Rattle.node_table.specs.Table.{entry_at};
 ghost use Rattle.cluster.specs.Tables.{tables_in, table_of_node};
 ghost use Rattle.staleness.specs.Cluster.{MayBegin};
+ghost use Rattle.staleness.specs.Latest.{write_of, KeysRise, IsFrontForKey};
+ghost use Rattle.staleness.specs.declared.lists.Write.{Write};
 ghost use Rattle.staleness.specs.declared.copies.Copies.{Copies};
 ghost use Rattle.staleness.specs.Copies.{with_version, with_entry, seen_in, no_copies, current_of, copies_from, merged, HasRoom, HaveRoom, KeepOutside, AreSeen, AreSeenOnce, AreAdded};
 
-use crate::lists::OwnerList;
+use crate::lists::{OwnerList, Write};
 use node_table::NodeTable;
 use std::alloc::{AllocError, Global};
 
@@ -71,19 +73,43 @@ fn see_table(copies: &mut [Copies], table: &NodeTable)
     }
 }
 
-// An owner's keys, before any table is gone over.
+// An owner's keys, before any table is gone over: one walk over the last writes of its keys.
 fn add_keys(copies: &mut Vec<Copies>, list: &OwnerList, keys: u32) -> Result<(), AllocError>
     ensures { OnOk result (AreAdded list.now keys copies.old.items copies.new.items) }
 {
+    let latest = list.latest();
+    let mut next = 0;
     for key in 0..keys {
+        let current = match write_at_front(latest, next, key) {
+            Some(write) => {
+                next += 1;
+                write.version
+            }
+            None => 0,
+        };
         copies.push(Copies {
-            current: list.current(key),
+            current,
             least: u32::MAX,
             held: 0,
             fresh: 0,
         })?;
     }
     Ok(())
+}
+
+// The write of a key, if any, where those before an index are of lesser keys and no other is.
+fn write_at_front(writes: &[Write], front: usize, key: u32) -> Option<Write>
+    requires rising { KeysRise writes.now }
+    requires front { IsFrontForKey writes.now key front }
+    ensures value { result ≡ write_of writes.now key }
+    ensures some { IfSome result (λ w. IsFrontForKey writes.now (key + 1) (front + 1)) }
+    ensures none { result ≡ None → IsFrontForKey writes.now (key + 1) front }
+{
+    match writes.get(front) {
+        Some(write) if write.key == key => Some(*write),
+        Some(_) => None,
+        None => None,
+    }
 }
 
 /// What is seen of all owners, by owner and then by key, before any table is gone over.

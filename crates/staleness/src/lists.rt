@@ -57,7 +57,7 @@ impl Model for OwnerList {
 
 impl OwnerList {
     ghost use Rattle.staleness.specs.Writes.{next_write, last_write, first_missed, IsNumbered, born_in_order};
-    ghost use Rattle.staleness.specs.Linked.{version_or_zero};
+    ghost use Rattle.staleness.specs.Latest.{IsLatest};
 
     /// The list of an owner that has written nothing. It takes no memory yet.
     pub fn new(alloc: Global) -> OwnerList
@@ -115,14 +115,11 @@ impl OwnerList {
         self.in_order
     }
 
-    /// The version of the last write of a key, 0 where there is none: a binary search among the keys.
-    pub(crate) fn current(&self, key: u32) -> u32
-        ensures { result ≡ version_or_zero (last_write self.now key) }
+    /// The last write of each key that was written, by key. Nothing is copied or walked over.
+    pub(crate) fn latest(&self) -> &[Write]
+        ensures { IsLatest result.now self.now }
     {
-        match write_in(&self.latest, key) {
-            Some(write) => write.version,
-            None => 0,
-        }
+        &self.latest
     }
 
     /// The first write of a key above a version. Where the write of that version has the key, this

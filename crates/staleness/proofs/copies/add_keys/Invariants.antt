@@ -1,5 +1,9 @@
 use Rattle.staleness.specs.Copies.{AreAdded}
+use Rattle.staleness.specs.Latest.{IsFrontForKey}
 use Rattle.staleness.proofs.copies.add_keys.Given as goal
 
 abbrev pub invariant-loop-key : goal.invariant-loop-key
-invariant-loop-key l = AreAdded l.list l.key l.fn.copies.items l.copies.items
+invariant-loop-key l = record {
+  added : AreAdded l.list l.key l.fn.copies.items l.copies.items;
+  front : IsFrontForKey l.latest l.key l.next;
+}

@@ -218,10 +218,9 @@ fn joined_all(parts: &[Figures]) -> Figures
 ///
 /// It works in threads, where there are enough nodes, and what it answers does not depend on how. First
 /// each thread goes once over some of the tables, and what they saw is put together key by key. Then each
-/// has some of the owners: there are a search among an owner's keys and one look at its list for each of
-/// its keys; but where a list has a write of an earlier round than one before it, a look for each copy of
-/// each key. It takes memory, for each thread and once more 16 bytes for each owner and key, and an error
-/// is want of that.
+/// has some of the owners, with one look at its list for each of an owner's keys; but where a list has a
+/// write of an earlier round than one before it, a look for each copy of each key. It takes memory, for
+/// each thread and once more 16 bytes for each owner and key, and an error is want of that.
 pub fn figures(
     rt: &(impl Threads + Sync),
     alloc: Global,

@@ -1,18 +1,16 @@
 //! A board, the seats that use it, and what its calls answer.
-ghost use Rattle.std.specs.Prelude.{List, ◌≡◌, ◌+◌, ◌/◌, ◌<◌, ◌≤◌, ℕ, None, Some, [], ◌∷◌, length, map, reverse, slice_index_or, IfSome, IfErr, IfOk, IsErrOf, IsOkUnless, vec_capacity};
+ghost use Rattle.std.specs.Prelude.{List, ◌≡◌, ◌+◌, ◌/◌, ◌<◌, ◌≤◌, None, Some, [], length, map, reverse, IfSome, IfErr, IfOk, IsOkUnless, vec_capacity};
 ghost use Rattle.bench_types.specs.declared.faults.Fault.TheVariants.{OutOfMemory};
-ghost use Rattle.planner.specs.Neighbours.{pending_of};
 ghost use Rattle.round_plan.specs.Plan.{IsRoundPlan};
 ghost use Rattle.planner.specs.Places.{in_place};
-ghost use Rattle.std.specs.List.{range_with_len};
 ghost use Rattle.std.specs.Mem.Slots.{slots_items, slots_len, IsFull};
 ghost use Rattle.node_table.specs.NodeTableView.{NodeTableView};
 ghost use Rattle.bench_types.specs.declared.faults.Fault.TheVariants.{Unfinished};
 ghost use Rattle.cluster.specs.Tables.{tables_in, IsCluster};
-ghost use Rattle.board.specs.SeatView.{IsWhole, first_seat, split_left, split_right, joined, having_seen, having_stopped, with_held};
-ghost use Rattle.board.specs.Plan.{IsBoardPlan, table_at, initiator_of, responder_of};
+ghost use Rattle.board.specs.SeatView.{IsWhole, first_seat, split_left, split_right, joined, with_held};
+ghost use Rattle.board.specs.Plan.{IsBoardPlan};
 ghost use Rattle.board.specs.Keys.{key_plan};
-ghost use Rattle.board.specs.Plays.{resting, IsApart, LookTells, HasOut, OwesNext, IsReleased, HasFinished, first_words_of};
+ghost use Rattle.board.specs.Plays.{resting, IsApart, HasOut, OwesNext, IsReleased, HasFinished, first_words_of};
 
 use crate::plays::{
     Both, Empty, Finish, Halt, Key, Look, Order, Part, Release, Retake, Show, Take,

@@ -1,6 +1,6 @@
 //! Which exchanges of a list wait for which others.
 
-ghost use Rattle.std.specs.Prelude.{◌≡◌, ◌<◌, ◌≤◌, ◌++◌, All, List, length, IfOk, IsOkUnless};
+ghost use Rattle.std.specs.Prelude.{◌≡◌, ◌<◌, ◌≤◌, ◌++◌, All, length, IfOk, IsOkUnless};
 ghost use Rattle.bench_types.specs.declared.exchanges.Exchange.{Exchange};
 ghost use Rattle.bench_types.specs.declared.faults.Fault.TheVariants.{OutOfMemory};
 ghost use Rattle.bench_types.specs.Exchange.{IsPlanned};

@@ -1,9 +1,9 @@
 //! All nodes' tables and the lists of what their owners wrote, and how a round changes them.
 
-ghost use Rattle.std.specs.Prelude.{◌≡◌, ℕ, ◌+◌, ◌-◌, ◌^◌, ◌<◌, ◌≤◌, ◌++◌, ◌∷◌, [], All, List, length, map, IfOk, OnOk, IsOkUnless};
+ghost use Rattle.std.specs.Prelude.{◌≡◌, ℕ, ◌+◌, ◌-◌, ◌^◌, ◌<◌, ◌≤◌, ◌++◌, [], All, length, map, IfOk, OnOk, IsOkUnless};
 ghost use Rattle.bench_types.specs.declared.faults.Fault.TheVariants.{OutOfMemory};
 ghost use Rattle.bench_types.specs.Entry.{AreNextAfter};
-ghost use Rattle.node_table.specs.Table.{empty_table, greatest_version, with_own_writes};
+ghost use Rattle.node_table.specs.Table.{greatest_version, with_own_writes};
 ghost use Rattle.staleness.specs.Figures.{writes_at};
 ghost use Rattle.staleness.specs.Cluster.{write_of_entry, OwnPartIsLastWrites};
 ghost use Rattle.staleness.specs.Writes.{AreBornBy};

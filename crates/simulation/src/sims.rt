@@ -1,15 +1,12 @@
 //! A simulation, round by round.
 
-ghost use Rattle.std.specs.Prelude.{◌≡◌, ℕ, ◌+◌, ◌-◌, ◌<◌, ◌≤◌, ◌⊎◌, true, false, [], IfOk, IfErr, OnOk, IsOkUnless};
+ghost use Rattle.std.specs.Prelude.{◌≡◌, ◌+◌, ◌-◌, ◌<◌, ◌≤◌, true, false, [], IfOk, IfErr, OnOk, IsOkUnless};
 ghost use Rattle.bench_types.specs.declared.faults.Fault.TheVariants.{OutOfMemory};
 ghost use Rattle.bench_types.specs.declared.limits.TheConstants.{MOST_WORKERS};
 ghost use Rattle.scenario.specs.Settings.{IsLawfulScenario};
-ghost use Rattle.staleness.specs.Figures.{figures_of};
-ghost use Rattle.simulation.specs.RoundView.{RoundView};
 ghost use Rattle.cluster.specs.Tables.{tables_in};
 ghost use Rattle.pool.specs.Runs.{IsPoolFault};
 ghost use Rattle.simulation.specs.Rounds.{opening_tables, begun, round_of};
-ghost use Rattle.simulation.specs.Rows.{row_of};
 ghost use Rattle.simulation.specs.Standing.{StandAfterRound};
 ghost use Rattle.simulation.specs.Simulation.{tables_of, lists_of, HasPlayed, AreTablesAfter, PlaysNext, MayStep, IsRefusedBy, IsStepFault};
 

@@ -1,6 +1,6 @@
 //! Schedules of lists of four nodes, carried out.
 
-ghost use Rattle.std.specs.Prelude.{◌≡◌, IfOk};
+ghost use Rattle.std.specs.Prelude.{IfOk};
 ghost use Rattle.cluster.specs.Tables.{tables_in, IsCluster};
 
 use crate::comparing::{expect, expect_at};

@@ -2,6 +2,7 @@ pub mod Runs
 pub mod Turns
 pub mod Gathering
 pub mod Joined
+pub mod Starts
 pub mod Reports
 pub mod Deques
 pub mod Jobs

@@ -13,6 +13,7 @@ use bench_types::{Fault, Record, Rules};
 use node_table::NodeTable;
 use round_plan::RoundList;
 use std::alloc::Global;
+use std::marker::Brand;
 use std::sync::Wait;
 use std::thread::Threads;
 
@@ -49,6 +50,6 @@ pub fn run_list<R: Threads + Wait + Sync, G: Gate + Sync>(
         let records = exchange_all(alloc, &mut tables, list, gate, rules)?;
         Ok((tables, records))
     } else {
-        exchange_in_threads(rt, alloc, list, tables, workers, gate, rules)
+        exchange_in_threads::<Brand, R, G>(rt, alloc, list, tables, workers, gate, rules)
     }
 }

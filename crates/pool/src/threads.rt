@@ -1,13 +1,13 @@
 //! Several workers, each a thread of its own.
 
-ghost use Rattle.std.specs.Prelude.{◌≡◌, ◌+◌, ◌<◌, ◌≤◌, ◌⊎◌, [], All, length, IfOk, IfErr, IsOkUnless, OnOk, vec_len, vec_capacity};
+ghost use Rattle.std.specs.Prelude.{◌≡◌, ◌+◌, ◌<◌, ◌≤◌, [], All, length, IfOk, IfErr, IsOkUnless, OnOk, vec_len, vec_capacity};
 ghost use Rattle.bench_types.specs.declared.faults.Fault.TheVariants.{OutOfMemory, NoThread};
 ghost use Rattle.bench_types.specs.declared.limits.TheConstants.{MOST_WORKERS};
 ghost use Rattle.cluster.specs.Tables.{tables_in, IsCluster};
-ghost use Rattle.board.specs.SeatView.{first_seat};
-ghost use Rattle.board.specs.Boards.{plan_of, seat_view, IsSeatOf};
+ghost use Rattle.board.specs.Boards.{seat_view, IsSeatOf};
 ghost use Rattle.pool.specs.Runs.{AreExchanged, IsPoolFault};
 ghost use Rattle.pool.specs.Reports.{IsFreshSeat, IsReport};
+ghost use Rattle.pool.specs.Starts.{MayBegin};
 ghost use Rattle.pool.specs.Joined.{HasTakenIn, HasSeenAll, IsOfBoard, AreTogether};
 
 use crate::deques::{Limit, Tasks, deal};
@@ -22,7 +22,6 @@ use node_table::NodeTable;
 use planner::Deps;
 use round_plan::RoundList;
 use std::alloc::Global;
-use std::marker::Brand;
 use std::snapshot::Snapshot;
 use std::sync::Wait;
 use std::thread;
@@ -38,28 +37,8 @@ impl Promise<Report> for Back {
 
 type Handle = PromisedHandle<Report, Back>;
 
-/// Carries out the exchanges of a list by so many workers, each in a thread.
-pub(crate) fn exchange_in_threads<R: Threads + Wait + Sync, G: Gate + Sync>(
-    rt: &R,
-    alloc: Global,
-    list: &RoundList,
-    tables: Vec<NodeTable>,
-    workers: u32,
-    gate: &G,
-    rules: &Rules,
-) -> Result<(Vec<NodeTable>, Vec<Record>), Fault>
-    requires several { 2 ≤ workers }
-    requires many { workers ≤ MOST_WORKERS }
-    requires cluster { IsCluster list.now.nodes (tables_in tables.items) }
-    requires budget { 1 ≤ rules.now.budget }
-    ensures exchanged { IfOk result (λ p. AreExchanged rules.now list.now.exchanges tables.items p.0.items p.1.items) }
-    ensures fault { IfErr result (IsPoolFault workers) }
-{
-    by_workers::<Brand, R, G>(rt, alloc, list, tables, workers, gate, rules)
-}
-
-// The same, where a type knows how long the list is.
-fn by_workers<L: Limit + Send + Sync, R: Threads + Wait + Sync, G: Gate + Sync>(
+/// Carries out the exchanges of a list by so many workers, each in a thread. A type knows how long the list is.
+pub(crate) fn exchange_in_threads<L: Limit + Send + Sync, R: Threads + Wait + Sync, G: Gate + Sync>(
     rt: &R,
     alloc: Global,
     list: &RoundList,
@@ -102,10 +81,7 @@ fn run_workers<L: Limit + Send + Sync, R: Threads + Wait + Sync, G: Gate + Sync>
     tasks: Vec<Tasks<L>>,
 ) -> Result<(Seat, Vec<Stamped>), Fault>
     requires limit { L.limit ≡ length job.now.list.now.exchanges }
-    requires several { 2 ≤ vec_len tasks }
-    requires many { vec_len tasks ≤ MOST_WORKERS }
-    requires seat { IsSeatOf seat job.now.board.now }
-    requires first { seat_view seat ≡ first_seat }
+    requires begin { MayBegin job.now.board.now seat (vec_len tasks) }
     ensures made { IfOk result (λ p. HasSeenAll job.now.board.now p.0 p.1.items) }
     ensures fault { IfErr result (IsPoolFault (vec_len tasks)) }
 {
@@ -114,10 +90,7 @@ fn run_workers<L: Limit + Send + Sync, R: Threads + Wait + Sync, G: Gate + Sync>
         rt,
         |scope| -> Result<(Seat, Vec<Stamped>), Fault>
             requires limit { L.limit ≡ length job.now.list.now.exchanges }
-            requires several { 2 ≤ vec_len tasks }
-            requires many { vec_len tasks ≤ MOST_WORKERS }
-            requires seat { IsSeatOf seat job.now.board.now }
-            requires first { seat_view seat ≡ first_seat }
+            requires begin { MayBegin job.now.board.now seat (vec_len tasks) }
             ensures made { IfOk result (λ p. HasSeenAll job.entry.now.board.now p.0 p.1.items) }
             ensures fault { IfErr result (IsPoolFault (vec_len tasks)) }
         { run_in_scope(scope, rt, job, seat, tasks) },
@@ -133,10 +106,7 @@ fn run_in_scope<'s, 'e: 's, L: Limit + Send + Sync + 'e, R: Threads + Wait + Syn
     tasks: Vec<Tasks<L>>,
 ) -> Result<(Seat, Vec<Stamped>), Fault>
     requires limit { L.limit ≡ length job.now.list.now.exchanges }
-    requires several { 2 ≤ vec_len tasks }
-    requires many { vec_len tasks ≤ MOST_WORKERS }
-    requires seat { IsSeatOf seat job.now.board.now }
-    requires first { seat_view seat ≡ first_seat }
+    requires begin { MayBegin job.now.board.now seat (vec_len tasks) }
     ensures made { IfOk result (λ p. HasSeenAll job.now.board.now p.0 p.1.items) }
     ensures fault { IfErr result (IsPoolFault (vec_len tasks)) }
 {

@@ -5,7 +5,7 @@ use Rattle.board.specs.Boards.{plan_of, seat_view}
 use Rattle.pool.specs.Deques.{AllBelow}
 use Rattle.pool.specs.Gathering.{AreInListOrder}
 use Rattle.pool.proofs.Ordered.{ready_below, all_exchanged}
-use Rattle.pool.proofs.threads.by_workers.Goals as goal
+use Rattle.pool.proofs.threads.exchange_in_threads.Goals as goal
 
 pub deal-requires-clause-within : goal.deal-requires-clause-within
 deal-requires-clause-within g c =

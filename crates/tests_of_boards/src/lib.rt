@@ -5,6 +5,8 @@
 #[cfg(test)]
 mod gates;
 #[cfg(test)]
+mod jobs;
+#[cfg(test)]
 mod long_lists;
 #[cfg(test)]
 mod pools;

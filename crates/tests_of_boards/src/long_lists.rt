@@ -4,10 +4,10 @@ ghost use Rattle.std.specs.Prelude.{◌≡◌, ◌<◌, ◌≤◌};
 ghost use Rattle.bench_types.specs.declared.limits.TheConstants.{MOST_WORKERS};
 ghost use Rattle.tests_of_boards.specs.declared.long_lists.TheConstants.{NODES};
 
+use crate::jobs::{Job, checked_exchange};
 use crate::pools::run_fresh;
-use crate::small_boards::{board_of, tables_of};
+use crate::small_boards::tables_of;
 use crate::threads::{Order, Worked, work_in_four, work_in_three, work_in_two};
-use crate::turns::checked_exchange;
 use bench_types::limits::MOST_WORKERS;
 use bench_types::{Exchange, Fault, Mode, Record, Rules};
 use node_table::NodeTable;
@@ -151,7 +151,7 @@ fn expect_list_order<R: Abort + AllocGlobal + Threads + Wait + Sync>(
     };
     let wanted = in_list_order(rt, list, &rules)?;
     for threads in 2..=4 {
-        expect_shared(rt, list, &rules, threads, &wanted)?;
+        expect_shared(rt, &rules, threads, &wanted)?;
     }
     for workers in [1, 2, 3, 5, MOST_WORKERS] {
         expect_pooled(rt, list, &rules, workers, &wanted)?;
@@ -177,23 +177,23 @@ fn expect_pooled<R: Abort + AllocGlobal + Threads + Wait + Sync>(
 
 fn expect_shared<R: Abort + AllocGlobal + Threads + Sync>(
     rt: &R,
-    list: &RoundList,
     rules: &Rules,
     threads: u32,
     wanted: &Left,
 ) -> Result<(), Fault>
     requires budget { 1 ≤ rules.now.budget }
 {
-    let (board, mut first) = board_of(rt, list, KEYS, rules)?;
-    let second = board.split(&mut first);
-    let third = board.split(&mut first);
-    let fourth = board.split(&mut first);
+    let (job, mut first) = Job::new(rt, long_list(rt), KEYS, *rules)?;
+    let second = job.board.split(&mut first);
+    let third = job.board.split(&mut first);
+    let fourth = job.board.split(&mut first);
     let Worked { seat, made } = match threads {
-        2 => work_in_two(rt, &board, list, rules, (first, second), Order::Shuffled),
-        3 => work_in_three(rt, &board, list, rules, first, (second, third)),
-        _ => work_in_four(rt, &board, list, rules, (first, second), (third, fourth)),
+        2 => work_in_two(rt, &job, (first, second), Order::Shuffled),
+        3 => work_in_three(rt, &job, first, (second, third)),
+        _ => work_in_four(rt, &job, (first, second), (third, fourth)),
     };
     expect_each_once(rt, made);
+    let Job { board, .. } = job;
     expect_the_same(rt, &board.close(seat)?, &wanted.tables);
     Ok(())
 }

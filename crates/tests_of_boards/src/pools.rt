@@ -1,6 +1,6 @@
 //! Lists that workers carry out.
 
-ghost use Rattle.std.specs.Prelude.{◌≡◌, ◌≤◌};
+ghost use Rattle.std.specs.Prelude.{◌≤◌};
 ghost use Rattle.bench_types.specs.declared.limits.TheConstants.{MOST_WORKERS, MOST_KEYS};
 
 use crate::gates::{Counter, Meeting, Theft};

@@ -1,6 +1,6 @@
 //! Boards of nodes that have written each of their keys once.
 
-ghost use Rattle.std.specs.Prelude.{◌≡◌, ◌∷◌, [], ◌≤◌, ◌<◌, length, map, IfOk};
+ghost use Rattle.std.specs.Prelude.{◌≡◌, ◌≤◌, ◌<◌, length, IfOk};
 ghost use Rattle.bench_types.specs.declared.exchanges.Exchange.{Exchange};
 ghost use Rattle.bench_types.specs.declared.limits.TheConstants.{MOST_NODES, MOST_KEYS};
 ghost use Rattle.cluster.specs.Tables.{tables_in, IsCluster, IsTableOf};

@@ -1,13 +1,12 @@
 //! Threads that share a board.
 
-ghost use Rattle.std.specs.Prelude.{◌≡◌, ◌<◌, ◌≤◌, length};
-ghost use Rattle.board.specs.Boards.{plan_of, exchanges_of, IsSeatOf};
+ghost use Rattle.std.specs.Prelude.{◌<◌, length};
+ghost use Rattle.board.specs.Boards.{exchanges_of, IsSeatOf};
 
-use crate::small_boards::{CROSSING, ONE_ENTRY, board_of, list_of};
-use crate::turns::carry_out;
-use bench_types::{Fault, Rules};
+use crate::jobs::Job;
+use crate::small_boards::{CROSSING, ONE_ENTRY, list_of};
+use bench_types::Fault;
 use board::{Board, Claim, Seat};
-use round_plan::RoundList;
 use std::alloc::AllocGlobal;
 use std::process::Abort;
 use std::thread;
@@ -45,68 +44,40 @@ impl Order {
     }
 }
 
-fn try_one(
-    rt: &(impl Abort + AllocGlobal),
-    board: &Board,
-    list: &RoundList,
-    rules: &Rules,
-    worked: &mut Worked,
-    i: u32,
-)
-    requires within { i < length (exchanges_of board.now) }
-    requires seat { IsSeatOf worked.old.seat board.now }
-    requires list { (plan_of board.now).list ≡ list.now }
-    requires rules { (plan_of board.now).rules ≡ rules.now }
-    requires budget { 1 ≤ rules.now.budget }
-    ensures seat { IsSeatOf worked.new.seat board.now }
+fn try_one(rt: &(impl Abort + AllocGlobal), job: &Job, worked: &mut Worked, i: u32)
+    requires within { i < length (exchanges_of job.now.board) }
+    requires seat { IsSeatOf worked.old.seat job.now.board }
+    ensures seat { IsSeatOf worked.new.seat job.now.board }
 {
-    if let Claim::Held(hold) = board.claim(&mut worked.seat, i) {
-        carry_out(rt, board, list, rules, &mut worked.seat, hold).expect(rt, "memory");
+    if let Claim::Held(hold) = job.board.claim(&mut worked.seat, i) {
+        job.carry_out(rt, &mut worked.seat, hold)
+            .expect(rt, "memory");
         worked.made.push(i).expect(rt, "memory");
     }
 }
 
-fn try_each(
-    rt: &(impl Abort + AllocGlobal),
-    board: &Board,
-    list: &RoundList,
-    rules: &Rules,
-    worked: &mut Worked,
-    order: Order,
-)
-    requires seat { IsSeatOf worked.old.seat board.now }
-    requires list { (plan_of board.now).list ≡ list.now }
-    requires rules { (plan_of board.now).rules ≡ rules.now }
-    requires budget { 1 ≤ rules.now.budget }
-    ensures seat { IsSeatOf worked.new.seat board.now }
+fn try_each(rt: &(impl Abort + AllocGlobal), job: &Job, worked: &mut Worked, order: Order)
+    requires seat { IsSeatOf worked.old.seat job.now.board }
+    ensures seat { IsSeatOf worked.new.seat job.now.board }
 {
-    for place in 0..list.len() {
-        try_one(rt, board, list, rules, worked, order.at(place, list.len()));
+    let len = job.list.len();
+    for place in 0..len {
+        try_one(rt, job, worked, order.at(place, len));
     }
 }
 
 // Goes through the list until all exchanges are put back.
-fn work(
-    rt: &(impl Abort + AllocGlobal),
-    board: &Board,
-    list: &RoundList,
-    rules: &Rules,
-    seat: Seat,
-    order: Order,
-) -> Worked
-    requires seat { IsSeatOf seat board.now }
-    requires list { (plan_of board.now).list ≡ list.now }
-    requires rules { (plan_of board.now).rules ≡ rules.now }
-    requires budget { 1 ≤ rules.now.budget }
-    ensures seat { IsSeatOf result.seat board.now }
+fn work(rt: &(impl Abort + AllocGlobal), job: &Job, seat: Seat, order: Order) -> Worked
+    requires seat { IsSeatOf seat job.now.board }
+    ensures seat { IsSeatOf result.seat job.now.board }
 {
     let mut worked = Worked {
         seat,
         made: Vec::new(rt.alloc()),
     };
     for _ in 0..TURNS {
-        try_each(rt, board, list, rules, &mut worked, order);
-        if board.look(&mut worked.seat).finished == list.len() {
+        try_each(rt, job, &mut worked, order);
+        if job.board.look(&mut worked.seat).finished == job.list.len() {
             break;
         }
     }
@@ -129,117 +100,83 @@ fn together(rt: &impl Abort, board: &Board, mut first: Worked, second: Worked) -
 /// Two threads go through the list, one in this order, one from the end.
 pub(crate) fn work_in_two<R: Abort + AllocGlobal + Threads + Sync>(
     rt: &R,
-    board: &Board,
-    list: &RoundList,
-    rules: &Rules,
+    job: &Job,
     seats: (Seat, Seat),
     order: Order,
 ) -> Worked
-    requires seats { IsSeatOf seats.0 board.now × IsSeatOf seats.1 board.now }
-    requires list { (plan_of board.now).list ≡ list.now }
-    requires rules { (plan_of board.now).rules ≡ rules.now }
-    requires budget { 1 ≤ rules.now.budget }
-    ensures seat { IsSeatOf result.seat board.now }
+    requires seats { IsSeatOf seats.0 job.now.board × IsSeatOf seats.1 job.now.board }
+    ensures seat { IsSeatOf result.seat job.now.board }
 {
-    let (one, two) = seats;
+    let (first, second) = seats;
     let (one, two) = thread::join(
         rt,
         move || -> Worked
-            requires seat { IsSeatOf one board.now }
-            requires list { (plan_of board.now).list ≡ list.now }
-            requires rules { (plan_of board.now).rules ≡ rules.now }
-            requires budget { 1 ≤ rules.now.budget }
-            ensures seat { IsSeatOf result.seat board.entry.now }
-        { work(rt, board, list, rules, one, order) },
+            requires seat { IsSeatOf first job.now.board }
+            ensures seat { IsSeatOf result.seat job.entry.now.board }
+        { work(rt, job, first, order) },
         move || -> Worked
-            requires seat { IsSeatOf two board.now }
-            requires list { (plan_of board.now).list ≡ list.now }
-            requires rules { (plan_of board.now).rules ≡ rules.now }
-            requires budget { 1 ≤ rules.now.budget }
-            ensures seat { IsSeatOf result.seat board.entry.now }
-        { work(rt, board, list, rules, two, Order::Descending) },
+            requires seat { IsSeatOf second job.now.board }
+            ensures seat { IsSeatOf result.seat job.entry.now.board }
+        { work(rt, job, second, Order::Descending) },
     );
-    together(rt, board, one, two)
+    together(rt, &job.board, one, two)
 }
 
 /// Three threads go through the list: in a shuffled order, in ascending order, and from the end.
 pub(crate) fn work_in_three<R: Abort + AllocGlobal + Threads + Sync>(
     rt: &R,
-    board: &Board,
-    list: &RoundList,
-    rules: &Rules,
+    job: &Job,
     first: Seat,
     others: (Seat, Seat),
 ) -> Worked
-    requires first { IsSeatOf first board.now }
-    requires others { IsSeatOf others.0 board.now × IsSeatOf others.1 board.now }
-    requires list { (plan_of board.now).list ≡ list.now }
-    requires rules { (plan_of board.now).rules ≡ rules.now }
-    requires budget { 1 ≤ rules.now.budget }
-    ensures seat { IsSeatOf result.seat board.now }
+    requires first { IsSeatOf first job.now.board }
+    requires others { IsSeatOf others.0 job.now.board × IsSeatOf others.1 job.now.board }
+    ensures seat { IsSeatOf result.seat job.now.board }
 {
     let (one, two) = thread::join(
         rt,
         move || -> Worked
-            requires seat { IsSeatOf first board.now }
-            requires list { (plan_of board.now).list ≡ list.now }
-            requires rules { (plan_of board.now).rules ≡ rules.now }
-            requires budget { 1 ≤ rules.now.budget }
-            ensures seat { IsSeatOf result.seat board.entry.now }
-        { work(rt, board, list, rules, first, Order::Shuffled) },
+            requires seat { IsSeatOf first job.now.board }
+            ensures seat { IsSeatOf result.seat job.entry.now.board }
+        { work(rt, job, first, Order::Shuffled) },
         move || -> Worked
-            requires seats { IsSeatOf others.0 board.now × IsSeatOf others.1 board.now }
-            requires list { (plan_of board.now).list ≡ list.now }
-            requires rules { (plan_of board.now).rules ≡ rules.now }
-            requires budget { 1 ≤ rules.now.budget }
-            ensures seat { IsSeatOf result.seat board.entry.now }
-        { work_in_two(rt, board, list, rules, others, Order::Ascending) },
+            requires seats { IsSeatOf others.0 job.now.board × IsSeatOf others.1 job.now.board }
+            ensures seat { IsSeatOf result.seat job.entry.now.board }
+        { work_in_two(rt, job, others, Order::Ascending) },
     );
-    together(rt, board, one, two)
+    together(rt, &job.board, one, two)
 }
 
 /// Four threads go through the list: in ascending order, in a shuffled order, and two from the end.
 pub(crate) fn work_in_four<R: Abort + AllocGlobal + Threads + Sync>(
     rt: &R,
-    board: &Board,
-    list: &RoundList,
-    rules: &Rules,
+    job: &Job,
     firsts: (Seat, Seat),
     others: (Seat, Seat),
 ) -> Worked
-    requires firsts { IsSeatOf firsts.0 board.now × IsSeatOf firsts.1 board.now }
-    requires others { IsSeatOf others.0 board.now × IsSeatOf others.1 board.now }
-    requires list { (plan_of board.now).list ≡ list.now }
-    requires rules { (plan_of board.now).rules ≡ rules.now }
-    requires budget { 1 ≤ rules.now.budget }
-    ensures seat { IsSeatOf result.seat board.now }
+    requires firsts { IsSeatOf firsts.0 job.now.board × IsSeatOf firsts.1 job.now.board }
+    requires others { IsSeatOf others.0 job.now.board × IsSeatOf others.1 job.now.board }
+    ensures seat { IsSeatOf result.seat job.now.board }
 {
     let (one, two) = thread::join(
         rt,
         move || -> Worked
-            requires seats { IsSeatOf firsts.0 board.now × IsSeatOf firsts.1 board.now }
-            requires list { (plan_of board.now).list ≡ list.now }
-            requires rules { (plan_of board.now).rules ≡ rules.now }
-            requires budget { 1 ≤ rules.now.budget }
-            ensures seat { IsSeatOf result.seat board.entry.now }
-        { work_in_two(rt, board, list, rules, firsts, Order::Ascending) },
+            requires seats { IsSeatOf firsts.0 job.now.board × IsSeatOf firsts.1 job.now.board }
+            ensures seat { IsSeatOf result.seat job.entry.now.board }
+        { work_in_two(rt, job, firsts, Order::Ascending) },
         move || -> Worked
-            requires seats { IsSeatOf others.0 board.now × IsSeatOf others.1 board.now }
-            requires list { (plan_of board.now).list ≡ list.now }
-            requires rules { (plan_of board.now).rules ≡ rules.now }
-            requires budget { 1 ≤ rules.now.budget }
-            ensures seat { IsSeatOf result.seat board.entry.now }
-        { work_in_two(rt, board, list, rules, others, Order::Shuffled) },
+            requires seats { IsSeatOf others.0 job.now.board × IsSeatOf others.1 job.now.board }
+            ensures seat { IsSeatOf result.seat job.entry.now.board }
+        { work_in_two(rt, job, others, Order::Shuffled) },
     );
-    together(rt, board, one, two)
+    together(rt, &job.board, one, two)
 }
 
 fn share_a_board<R: Abort + AllocGlobal + Threads + Sync>(rt: &R) -> Result<(), Fault> {
-    let list = list_of(rt, 8, CROSSING);
-    let (board, mut first) = board_of(rt, &list, 1, &ONE_ENTRY)?;
-    let second = board.split(&mut first);
-    let seats = (first, second);
-    let worked = work_in_two(rt, &board, &list, &ONE_ENTRY, seats, Order::Ascending);
+    let (job, mut first) = Job::new(rt, list_of(rt, 8, CROSSING), 1, ONE_ENTRY)?;
+    let second = job.board.split(&mut first);
+    let worked = work_in_two(rt, &job, (first, second), Order::Ascending);
+    let Job { board, .. } = job;
     let tables = board.close(worked.seat)?;
     assert!(rt; tables.len() == 8 && tables.iter().all(|table| table.count() == 3));
     Ok(())

@@ -2,4 +2,4 @@ use Rattle.board.specs.Boards.{IsSeatOf}
 use Rattle.tests_of_boards.proofs.threads.try_each.Given as goal
 
 abbrev pub invariant-loop-place : goal.invariant-loop-place
-invariant-loop-place g l = IsSeatOf l.worked.seat l.fn.board
+invariant-loop-place g l = IsSeatOf l.worked.seat l.job.board

@@ -3,4 +3,4 @@ use Rattle.board.proofs.Claimed.{now_held}
 use Rattle.tests_of_boards.proofs.threads.try_one.Goals as goal
 
 pub carry_out-requires-clause-held : goal.carry_out-requires-clause-held
-carry_out-requires-clause-held g c = now_held (plan_of c.args.board.now) (seat_view c.args.worked.now.seat) c.args.i c.in-Held.hold (seat_view c.claim.new.seat) c.in-Held.ensures.claim
+carry_out-requires-clause-held g c = now_held (plan_of c.args.job.now.board) (seat_view c.args.worked.now.seat) c.args.i c.in-Held.hold (seat_view c.claim.new.seat) c.in-Held.ensures.claim

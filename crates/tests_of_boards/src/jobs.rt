@@ -1,0 +1,87 @@
+//! Exchanges of a board, carried out.
+
+ghost use Rattle.std.specs.Prelude.{◌≡◌, ◌≤◌, IfOk};
+ghost use Rattle.bench_types.specs.declared.limits.TheConstants.{MOST_KEYS};
+ghost use Rattle.exchange.specs.Exchanged.{IsExchanged};
+ghost use Rattle.board.specs.Weights.{Has};
+ghost use Rattle.board.specs.SeatView.{first_seat};
+ghost use Rattle.board.specs.Boards.{plan_of, IsSeatOf, IsHoldOf, seat_view};
+
+use crate::small_boards::board_of;
+use bench_types::{Exchange, Fault, Record, Rules};
+use board::{Board, Freed, Hold, Seat};
+use exchange::exchange;
+use node_table::NodeTable;
+use round_plan::RoundList;
+use std::alloc::AllocGlobal;
+use std::process::Abort;
+
+/// A board, and the list and the rules that it was made of.
+#[derive(Drop)]
+pub(crate) struct Job {
+    pub board: Board,
+    pub list: RoundList,
+    pub rules: Rules,
+    ghost same_list: { (plan_of board).list ≡ list },
+    ghost same_rules: { (plan_of board).rules ≡ rules },
+    ghost budget: { 1 ≤ rules.budget },
+}
+
+impl Job {
+    /// A board of a round's exchanges, and its first seat. Each node has written its keys once.
+    pub(crate) fn new(
+        rt: &(impl Abort + AllocGlobal),
+        list: RoundList,
+        keys: u32,
+        rules: Rules,
+    ) -> Result<(Job, Seat), Fault>
+        requires keys { (1 ≤ keys) × (keys ≤ MOST_KEYS) }
+        requires budget { 1 ≤ rules.budget }
+        ensures list { IfOk result (λ made. made.0.list ≡ list) }
+        ensures seat { IfOk result (λ made. IsSeatOf made.1 made.0.board × (seat_view made.1 ≡ first_seat)) }
+    {
+        let (board, seat) = board_of(rt, &list, keys, &rules)?;
+        Ok((Job { board, list, rules }, seat))
+    }
+
+    /// Does a held exchange and puts it back.
+    pub(crate) fn carry_out(
+        &self,
+        rt: &(impl Abort + AllocGlobal),
+        seat: &mut Seat,
+        mut hold: Hold,
+    ) -> Result<Freed, Fault>
+        requires seat { IsSeatOf seat.old self.now.board }
+        requires held { Has (seat_view seat.old).held hold.index }
+        requires hold { IsHoldOf (plan_of self.now.board) hold.index hold }
+        ensures seat { IsSeatOf seat.new self.now.board }
+    {
+        let (initiator, responder) = (&mut hold.initiator, &mut hold.responder);
+        let plan = self
+            .list
+            .get(hold.index)
+            .expect(rt, "an exchange of the list");
+        checked_exchange(rt, initiator, responder, &plan, &self.rules)?;
+        Ok(self.board.put_back(seat, hold))
+    }
+}
+
+/// An exchange of two tables that are seen to be its.
+pub(crate) fn checked_exchange(
+    rt: &(impl Abort + AllocGlobal),
+    initiator: &mut NodeTable,
+    responder: &mut NodeTable,
+    plan: &Exchange,
+    rules: &Rules,
+) -> Result<Record, Fault>
+    requires budget { 1 ≤ rules.now.budget }
+    ensures { IfOk result (IsExchanged rules.now plan.now initiator.old responder.old initiator.new responder.new) }
+{
+    assert!(rt; initiator.node() == plan.initiator && responder.node() == plan.responder);
+    assert!(rt;
+        initiator.nodes() == responder.nodes()
+            && initiator.keys() == responder.keys()
+            && plan.rotation < initiator.nodes()
+    );
+    exchange(rt.alloc(), initiator, responder, plan, rules)
+}

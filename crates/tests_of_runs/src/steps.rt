@@ -1,6 +1,6 @@
 //! Simulations, step by step.
 
-use crate::texts::TWO_NODES;
+use crate::texts::{TWO_NODES, changed};
 use bench::{FreeGate, Round, Sim};
 use bench_types::{Exchange, Fate, Fault, Figures, Record, Row};
 use node_table::NodeTable;
@@ -119,7 +119,7 @@ fn expect_missed(rt: &impl Abort, table: &NodeTable, missed: u32) {
 // At the end each node misses one owner.
 #[test]
 fn ring_of_four(rt: HostRuntime) -> Result<(), Fault> {
-    let text = TWO_NODES.replace(rt.alloc(), "nodes = 2", "nodes = 4")?;
+    let text = changed(rt.alloc(), &[("nodes = 2", "nodes = 4")], "")?;
     let mut sim = sim_of(rt.alloc(), text.as_str())?;
     sim.step(&rt, 1, &FreeGate)?;
     assert_eq!(rt; sim.step(&rt, 1, &FreeGate).err(), Some(Fault::Finished));

@@ -1,5 +1,7 @@
 //! Texts of scenarios.
 
+use std::alloc::{AllocError, Global};
+
 pub(crate) const TWO_NODES: &str = r#"format = 1
 nodes = 2
 keys = 1
@@ -41,53 +43,16 @@ round = 2
 down = 0
 "#;
 
-pub(crate) const A_NODE_DOWN_FOR_TWO_ROUNDS: &str = r#"format = 1
-nodes = 3
-keys = 1
-rounds = 2
-seed = 0
-mode = "scuttle-breadth"
-budget = 10
-peers = "ring"
-rotation = "none"
-choice = "cycle"
-loss_ppm = 0
-writes = 1
-[[restart]]
-node = 2
-round = 1
-down = 2
-[[load]]
-from = 2
-to = 2
-writes = 0
-"#;
-
-pub(crate) const TWO_NODES_CUT_BY_THE_BUDGET: &str = r#"format = 1
-nodes = 2
-keys = 2
-rounds = 1
-seed = 0
-mode = "scuttle-breadth"
-budget = 1
-peers = "ring"
-rotation = "none"
-choice = "cycle"
-loss_ppm = 0
-writes = 2
-"#;
-
-pub(crate) const ALL_NODES_DOWN: &str = r#"format = 1
-nodes = 2
-keys = 1
-rounds = 1
-seed = 0
-mode = "scuttle-breadth"
-budget = 1
-peers = "ring"
-rotation = "none"
-choice = "cycle"
-loss_ppm = 0
-writes = 1
-restart = [{ node = 0, round = 1, down = 1 }, { node = 1, round = 1, down = 1 }]
-"#;
+/// The scenario of two nodes, where these lines have become others and tables follow.
+pub(crate) fn changed(
+    alloc: Global,
+    lines: &[(&str, &str)],
+    tables: &str,
+) -> Result<String, AllocError> {
+    let mut text = String::from_str(alloc, TWO_NODES)?;
+    for (old, new) in lines {
+        text = text.replace(alloc, *old, *new)?;
+    }
+    text.push_str(tables)?;
+    Ok(text)
+}

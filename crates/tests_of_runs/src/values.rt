@@ -1,9 +1,8 @@
 //! What an accepted scenario says.
 
-use crate::texts::TWO_NODES;
+use crate::texts::changed;
 use bench_types::{Fault, Field, Mode};
 use scenario::{Choice, Load, Partition, Peers, Restart, Rotation, Scenario, read};
-use std::alloc::Global;
 use std::process::Abort;
 
 const TEXT: &str = "\
@@ -68,7 +67,7 @@ const MODES: [(&str, Mode); 4] = [
 fn values_of_the_words(rt: HostRuntime) -> Result<(), Fault> {
     let words = (Peers::Ring, Rotation::Off, Choice::Cycle);
     for (word, mode) in MODES {
-        let text = TWO_NODES.replace(rt.alloc(), "scuttle-breadth", word)?;
+        let text = changed(rt.alloc(), &[("scuttle-breadth", word)], "")?;
         let scenario = read(rt.alloc(), text.as_bytes())?;
         expect_words(&rt, &scenario, mode, words);
     }
@@ -105,13 +104,6 @@ restart = [{ node = 4, round = 7, down = 2 }, { node = 4, round = 7, down = 0 }]
 load = [{ from = 4, to = 100_000, writes = 0 }]
 ";
 
-// The scenario of two nodes, where one line has become another and tables follow.
-fn changed(alloc: Global, old: &str, new: &str, tables: &str) -> Result<Scenario, Fault> {
-    let mut text = TWO_NODES.replace(alloc, old, new)?;
-    text.push_str(tables)?;
-    read(alloc, text.as_bytes())
-}
-
 fn expect_partition(rt: &impl Abort, found: &Partition, from: u32, to: u32, apart: &[u32]) {
     assert_eq!(rt; (found.from, found.to), (from, to));
     assert_eq!(rt; found.apart.as_slice(), apart);
@@ -139,7 +131,8 @@ const LOADS: [Load; 1] = [Load {
 #[test]
 fn values_of_the_elements(rt: HostRuntime) -> Result<(), Fault> {
     for tables in [SECTIONS, INLINE] {
-        let scenario = changed(rt.alloc(), "nodes = 2", "nodes = 5", tables)?;
+        let text = changed(rt.alloc(), &[("nodes = 2", "nodes = 5")], tables)?;
+        let scenario = read(rt.alloc(), text.as_bytes())?;
         let [first, second] = scenario.partitions() else {
             return Err(Fault::OutOfRange(Field::Partition));
         };
@@ -154,8 +147,8 @@ fn values_of_the_elements(rt: HostRuntime) -> Result<(), Fault> {
 #[test]
 fn another_mode(rt: HostRuntime) -> Result<(), Fault> {
     let tables = "[[restart]]\nnode = 1\nround = 1\ndown = 0\n";
-    let scenario = changed(rt.alloc(), "seed = 0", "seed = 7", tables)?;
-    let scenario = scenario.with_mode(Mode::PreciseOldest);
+    let text = changed(rt.alloc(), &[("seed = 0", "seed = 7")], tables)?;
+    let scenario = read(rt.alloc(), text.as_bytes())?.with_mode(Mode::PreciseOldest);
     assert_eq!(rt; scenario.mode(), Mode::PreciseOldest);
     assert_eq!(rt; scenario.seed(), 7);
     assert_eq!(rt; scenario.restarts().len(), 1);

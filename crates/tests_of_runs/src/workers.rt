@@ -4,10 +4,7 @@ ghost use Rattle.std.specs.Prelude.{◌≤◌};
 ghost use Rattle.bench_types.specs.declared.limits.TheConstants.{MOST_WORKERS};
 
 use crate::steps::sim_of;
-use crate::texts::{
-    A_NODE_DOWN_FOR_TWO_ROUNDS, ALL_NODES_DOWN, RESTART_WITHOUT_DOWNTIME, TWO_NODES,
-    TWO_NODES_CUT_BY_THE_BUDGET,
-};
+use crate::texts::{RESTART_WITHOUT_DOWNTIME, TWO_NODES, changed};
 use bench::{FreeGate, Round, Sim};
 use bench_types::limits::MOST_WORKERS;
 use bench_types::{Fault, Row};
@@ -73,28 +70,53 @@ fn expect_same_with_any(
 
 #[test]
 fn steps_with_workers(rt: HostRuntime) -> Result<(), Fault> {
-    let texts = [
-        TWO_NODES,
-        A_NODE_DOWN_FOR_TWO_ROUNDS,
-        TWO_NODES_CUT_BY_THE_BUDGET,
-        RESTART_WITHOUT_DOWNTIME,
-    ];
-    for text in texts {
-        expect_same_with_any(&rt, text)?;
-    }
-    Ok(())
+    expect_same_with_any(&rt, TWO_NODES)?;
+    expect_same_with_any(&rt, RESTART_WITHOUT_DOWNTIME)
 }
 
 #[test]
 fn a_ring_of_four_with_workers(rt: HostRuntime) -> Result<(), Fault> {
-    let text = TWO_NODES.replace(rt.alloc(), "nodes = 2", "nodes = 4")?;
+    let text = changed(rt.alloc(), &[("nodes = 2", "nodes = 4")], "")?;
     expect_same_with_any(&rt, text.as_str())
 }
+
+#[test]
+fn cut_by_the_budget_with_workers(rt: HostRuntime) -> Result<(), Fault> {
+    let lines = [("keys = 1", "keys = 2"), ("writes = 1", "writes = 2")];
+    let text = changed(rt.alloc(), &lines, "")?;
+    expect_same_with_any(&rt, text.as_str())
+}
+
+const DOWN_FOR_TWO_ROUNDS: &str = "\
+[[restart]]
+node = 2
+round = 1
+down = 2
+[[load]]
+from = 2
+to = 2
+writes = 0
+";
+
+#[test]
+fn a_node_down_for_two_rounds_with_workers(rt: HostRuntime) -> Result<(), Fault> {
+    let lines = [
+        ("nodes = 2", "nodes = 3"),
+        ("rounds = 1", "rounds = 2"),
+        ("budget = 1", "budget = 10"),
+    ];
+    let text = changed(rt.alloc(), &lines, DOWN_FOR_TWO_ROUNDS)?;
+    expect_same_with_any(&rt, text.as_str())
+}
+
+const BOTH_DOWN: &str =
+    "restart = [{ node = 0, round = 1, down = 1 }, { node = 1, round = 1, down = 1 }]\n";
 
 // No node is up, so no exchange is made and nothing is written.
 #[test]
 fn all_nodes_down_with_workers(rt: HostRuntime) -> Result<(), Fault> {
-    let mut sim = sim_of(rt.alloc(), ALL_NODES_DOWN)?;
+    let text = changed(rt.alloc(), &[], BOTH_DOWN)?;
+    let mut sim = sim_of(rt.alloc(), text.as_str())?;
     let row = Row {
         round: 1,
         exchanges: 0,
@@ -106,5 +128,5 @@ fn all_nodes_down_with_workers(rt: HostRuntime) -> Result<(), Fault> {
         greatest: 0,
     };
     assert_eq!(rt; sim.step(&rt, MOST_WORKERS, &FreeGate)?.row(), row);
-    expect_same(&rt, ALL_NODES_DOWN, MOST_WORKERS)
+    expect_same(&rt, text.as_str(), MOST_WORKERS)
 }

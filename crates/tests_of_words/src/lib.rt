@@ -2,6 +2,8 @@
 #![tactic(auto)]
 
 #[cfg(test)]
+mod endings;
+#[cfg(test)]
 mod programs;
 #[cfg(test)]
 mod texts;

@@ -1,5 +1,6 @@
 //! What the program prints and ends with, by its words.
 
+use crate::endings::ending_of;
 use crate::texts::{FOUR_MODES, FOUR_MODES_COMPARED, TWO_NODES, TWO_NODES_REPORT};
 use bench_types::{Pull, Push};
 use command_line::main_with;
@@ -86,18 +87,15 @@ const CASES: [Case; 9] = [
 #[test]
 fn command_line_statuses(rt: HostRuntime) -> Result<(), Fail> {
     for case in CASES {
-        let mut reader = Pull::new(case.text.as_bytes());
-        let mut out = Push::new(Vec::new(rt.alloc()));
-        let mut err = Push::new(Vec::new(rt.alloc()));
-        let status = main_with(&rt, rt.alloc(), case.words, &mut reader, &mut out, &mut err);
-        assert!(rt; status == case.status, "{:?}", case.words);
+        let ended = ending_of(&rt, case.words, case.text);
+        assert!(rt; ended.status == case.status, "{:?}", case.words);
         assert!(rt;
-            out.into_inner().as_slice() == case.out.as_bytes(),
+            ended.out.as_slice() == case.out.as_bytes(),
             "{:?}",
             case.words
         );
         assert!(rt;
-            err.into_inner().as_slice() == case.err.as_bytes(),
+            ended.err.as_slice() == case.err.as_bytes(),
             "{:?}",
             case.words
         );
@@ -170,14 +168,11 @@ const REFUSED: [(&[&str], &str); 16] = [
 #[test]
 fn command_lines_of_the_program(rt: HostRuntime) -> Result<(), Fail> {
     for (words, begin) in REFUSED {
-        let mut reader = Pull::new(TWO_NODES.as_bytes());
-        let mut out = Push::new(Vec::new(rt.alloc()));
-        let mut err = Push::new(Vec::new(rt.alloc()));
-        let status = main_with(&rt, rt.alloc(), words, &mut reader, &mut out, &mut err);
-        assert!(rt; status == 2, "{words:?}");
-        assert!(rt; out.into_inner().is_empty() && reader.into_inner().len() == TWO_NODES.len());
+        let ended = ending_of(&rt, words, TWO_NODES);
+        assert!(rt; ended.status == 2, "{words:?}");
+        assert!(rt; ended.out.is_empty() && ended.left == TWO_NODES.len());
         assert!(rt;
-            err.into_inner().as_slice().starts_with(begin.as_bytes()),
+            ended.err.as_slice().starts_with(begin.as_bytes()),
             "{words:?}"
         );
     }
@@ -199,12 +194,9 @@ const HELP: [(&[&str], &str); 5] = [
 #[test]
 fn help_is_printed(rt: HostRuntime) -> Result<(), Fail> {
     for (words, part) in HELP {
-        let mut reader = Pull::new(TWO_NODES.as_bytes());
-        let mut out = Push::new(Vec::new(rt.alloc()));
-        let mut err = Push::new(Vec::new(rt.alloc()));
-        let status = main_with(&rt, rt.alloc(), words, &mut reader, &mut out, &mut err);
-        let help = String::from_utf8(out.into_inner()).ok().ok_or("a text")?;
-        assert!(rt; status == 0 && err.into_inner().is_empty(), "{words:?}");
+        let ended = ending_of(&rt, words, TWO_NODES);
+        assert!(rt; ended.status == 0 && ended.err.is_empty(), "{words:?}");
+        let help = String::from_utf8(ended.out).ok().ok_or("a text")?;
         assert!(rt; help.contains(part), "{words:?}");
     }
     Ok(())

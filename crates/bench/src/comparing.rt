@@ -6,13 +6,12 @@ ghost use Rattle.report.specs.Output.{IsWritten};
 ghost use Rattle.bench.specs.Runs.{TellsOfFailing, ComesOnceAccepted};
 ghost use Rattle.bench.specs.Comparisons.{lines_upto, lines_of_modes, IsFaultInRounds, IsFaultInModes, IsCompared, IsCompareFault};
 
-use crate::runs::check_input;
+use crate::runs::{begin, check_input};
 use bench_types::limits::MOST_WORKERS;
 use bench_types::{Fault, Mode, Sink, Source};
 use pool::FreeGate;
 use report::{compare_header, write_compare_row};
 use scenario::Scenario;
-use simulation::Sim;
 use std::alloc::Global;
 use std::sync::Wait;
 use std::thread::Threads;
@@ -80,10 +79,7 @@ fn write_all_rounds<H: Threads + Wait + Sync, W: Sink>(
 {
     let mode = scenario.mode();
     let rounds = scenario.rounds();
-    let mut sim = match Sim::new(alloc, scenario) {
-        Ok(sim) => sim,
-        Err((fault, _)) => return Err(fault),
-    };
+    let mut sim = begin(alloc, scenario)?;
     for _ in 0..rounds {
         let round = sim.step(rt, workers, &FreeGate)?;
         write_compare_row(alloc, writer, mode, &round.row())?;

@@ -6,7 +6,7 @@ ghost use Rattle.report.specs.Output.{IsWritten};
 ghost use Rattle.bench.specs.Runs.{TellsOfFailing, ComesOnceAccepted};
 ghost use Rattle.bench.specs.Comparisons.{lines_upto, lines_of_modes, IsFaultInRounds, IsFaultInModes, IsCompared, IsCompareFault};
 
-use crate::runs::check_input;
+use crate::runs::{begin, check_input};
 use bench_types::limits::MOST_WORKERS;
 use bench_types::{Fault, Mode, Sink, Source};
 use pool::FreeGate;
@@ -80,13 +80,37 @@ fn write_all_rounds<H: Threads + Wait + Sync, W: Sink>(
 {
     let mode = scenario.mode();
     let rounds = scenario.rounds();
-    let mut sim = match Sim::new(alloc, scenario) {
-        Ok(sim) => sim,
-        Err((fault, _)) => return Err(fault),
-    };
+    let mut sim = begin(alloc, scenario)?;
+    write_rows(rt, alloc, &mut sim, mode, rounds, writer, workers)?;
+    Ok(sim.into_scenario())
+}
+
+// The rows of all rounds of a simulation of this mode, which stands before the first of so many.
+fn write_rows<H: Threads + Wait + Sync, W: Sink>(
+    rt: &H,
+    alloc: Global,
+    sim: &mut Sim,
+    mode: Mode,
+    rounds: u32,
+    writer: &mut W,
+    workers: u32,
+) -> Result<(), Fault>
+    requires few { 1 ≤ workers }
+    requires many { workers ≤ MOST_WORKERS }
+    requires unbroken { sim.old.broken ≡ false }
+    requires first { sim.old.rounds_done ≡ 0 }
+    requires mode { mode ≡ sim.old.settings.mode }
+    requires rounds { rounds ≡ sim.old.settings.rounds }
+    requires sound { W.failed writer.old ≡ false }
+    requires flushed { W.flushed writer.old ≡ true }
+    ensures same { OnOk result (sim.new.settings ≡ sim.old.settings) }
+    ensures written { OnOk result
+        (IsWritten W.Sink writer.old writer.new (lines_upto sim.old.settings rounds)) }
+    ensures fault { IfErr result (IsFaultInRounds W.Sink writer.old writer.new [] sim.old.settings workers) }
+{
     for _ in 0..rounds {
         let round = sim.step(rt, workers, &FreeGate)?;
         write_compare_row(alloc, writer, mode, &round.row())?;
     }
-    Ok(sim.into_scenario())
+    Ok(())
 }

@@ -1,6 +1,6 @@
 //! A whole run, from bytes to bytes.
 
-ghost use Rattle.std.specs.Prelude.{◌≡◌, ◌≤◌, false, Ok, IfOk, OnOk, IfErr};
+ghost use Rattle.std.specs.Prelude.{◌≡◌, ◌≤◌, false, Ok, IfOk, OnOk, IfErr, IsOkUnless};
 ghost use Rattle.bench_types.specs.declared.limits.TheConstants.{MOST_WORKERS};
 ghost use Rattle.bench.specs.Inputs.{IsRead, IsInputFault};
 ghost use Rattle.bench.specs.Runs.{AreWritten, IsWritingFault, IsReported, IsRunFault, TellsOfFailing, ComesOnceAccepted};
@@ -42,10 +42,7 @@ pub fn run<H: Threads + Wait + Sync, R: Source, W: Sink, X: Sink>(
         TellsOfFailing W.Sink writer.old writer.new fault × TellsOfFailing X.Sink trace.old trace.new fault) }
 {
     let scenario = check_input(alloc, reader)?;
-    let mut sim = match Sim::new(alloc, scenario) {
-        Ok(sim) => sim,
-        Err((fault, _)) => return Err(fault),
-    };
+    let mut sim = begin(alloc, scenario)?;
     write_texts(rt, alloc, &mut sim, writer, trace, workers)
 }
 
@@ -56,6 +53,18 @@ pub fn check_input<R: Source>(alloc: Global, reader: &mut R) -> Result<Scenario,
 {
     let bytes = read_all(alloc, reader)?;
     read(alloc, &bytes)
+}
+
+/// A simulation of the scenario, before its first round.
+pub(crate) fn begin(alloc: Global, scenario: Scenario) -> Result<Sim, Fault>
+    ensures opens { IfOk result
+        (λ sim. (sim.settings ≡ scenario) × (sim.rounds_done ≡ 0) × (sim.broken ≡ false)) }
+    ensures only { IsOkUnless result Fault.OutOfMemory }
+{
+    match Sim::new(alloc, scenario) {
+        Ok(sim) => Ok(sim),
+        Err((fault, _)) => Err(fault),
+    }
 }
 
 // Both headers, and all rounds of a simulation that stands before its first: after each its exchanges,

@@ -6,52 +6,69 @@ ghost use Rattle.bench_types.specs.declared.faults.Fault.TheVariants.{OutOfMemor
 use crate::fields::{Field, TableName};
 use crate::limits::{MOST_BYTES, MOST_ENTRIES};
 use std::alloc::{AllocError, AllocFailed};
-use thiserror::Error;
+use std::error::Error;
+use std::fmt;
 
 /// A fault. Its display is the line that the program prints, without the line's end.
-#[derive(Debug, Drop, PartialEq, Eq, Error)]
+#[derive(Debug, Drop, PartialEq, Eq)]
 pub enum Fault {
-    #[error("fault 1: out of memory")]
     OutOfMemory,
-    #[error("fault 2: input is not TOML")]
     NotToml,
-    #[error("fault 3: input is longer than {MOST_BYTES} bytes")]
     TooLong,
-    #[error("fault 4: missing field {0}")]
     Missing(Field),
-    #[error("fault 5: wrong type of field {0}")]
     WrongType(Field),
-    #[error("fault 6: field {0} is out of range")]
     OutOfRange(Field),
-    #[error("fault 7: unknown field in table {0}")]
     UnknownField(TableName),
-    #[error("fault 8: nodes * nodes * keys is above {MOST_ENTRIES}")]
     TooLarge,
-    #[error("fault 9: a thread could not be started")]
     NoThread,
-    #[error("fault 10: broken by an earlier fault")]
     Broken,
-    #[error("fault 11: no round is left")]
     Finished,
-    #[error("fault 12: reading failed")]
     ReadFailed,
-    #[error("fault 13: writing failed")]
     WriteFailed,
-    #[error("fault 14: no exchange has this stamp")]
     Stranger,
-    #[error("fault 15: this stamp has a record")]
     Double,
-    #[error("fault 16: no record of exchange {0}")]
     NoRecord(u32),
-    #[error("fault 17: exchanges are unfinished")]
     Unfinished,
-    #[error("fault 18: this exchange may not start")]
     NotAllowed,
-    #[error("fault 19: this exchange is not running")]
     NotRunning,
-    #[error("fault 20: budget_bytes is below 1023")]
     BudgetTooSmall,
 }
+
+impl fmt::Display for Fault {
+    fn fmt<W: fmt::Write>(&self, f: &mut fmt::Formatter<W>) -> fmt::Result {
+        let line = match self {
+            Fault::OutOfMemory => "fault 1: out of memory",
+            Fault::NotToml => "fault 2: input is not TOML",
+            Fault::TooLong => return write!(f, "fault 3: input is longer than {MOST_BYTES} bytes"),
+            Fault::Missing(field) => return write!(f, "fault 4: missing field {field}"),
+            Fault::WrongType(field) => return write!(f, "fault 5: wrong type of field {field}"),
+            Fault::OutOfRange(field) => return write!(f, "fault 6: field {field} is out of range"),
+            Fault::UnknownField(table) => {
+                return write!(f, "fault 7: unknown field in table {table}");
+            }
+            Fault::TooLarge => {
+                return write!(f, "fault 8: nodes * nodes * keys is above {MOST_ENTRIES}");
+            }
+            Fault::NoThread => "fault 9: a thread could not be started",
+            Fault::Broken => "fault 10: broken by an earlier fault",
+            Fault::Finished => "fault 11: no round is left",
+            Fault::ReadFailed => "fault 12: reading failed",
+            Fault::WriteFailed => "fault 13: writing failed",
+            Fault::Stranger => "fault 14: no exchange has this stamp",
+            Fault::Double => "fault 15: this stamp has a record",
+            Fault::NoRecord(exchange) => {
+                return write!(f, "fault 16: no record of exchange {exchange}");
+            }
+            Fault::Unfinished => "fault 17: exchanges are unfinished",
+            Fault::NotAllowed => "fault 18: this exchange may not start",
+            Fault::NotRunning => "fault 19: this exchange is not running",
+            Fault::BudgetTooSmall => "fault 20: budget_bytes is below 1023",
+        };
+        f.write_str(line)
+    }
+}
+
+impl Error for Fault {}
 
 impl From<AllocError> for Fault {
     ghost from_gives = { λ _ fault. fault ≡ OutOfMemory };

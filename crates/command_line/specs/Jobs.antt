@@ -1,9 +1,8 @@
 -- What a job comes to. `source` and `sink` have the words of the two ends of the program, `discard` those of the sink
 -- where no trace is wanted, and `file` those of the sink over the file of a trace. Source: this project.
-use Rattle.std.specs.Prelude.{◌≡◌, ℕ, ◌≤◌, ◌⊎◌, List, Ok, Some, None, Option, codes}
+use Rattle.std.specs.Prelude.{◌≡◌, ℕ, ◌⊎◌, List, Ok, Some, None, Option, codes}
 use Rattle.bench_types.specs.declared.faults.Fault.{Fault}
 use Rattle.bench_types.specs.declared.faults.Fault.TheVariants.{WriteFailed}
-use Rattle.bench_types.specs.declared.limits.TheConstants.{MOST_WORKERS}
 use Rattle.bench_types.specs.declared.sinks.Sink.{Ghosts as Sink}
 use Rattle.bench_types.specs.declared.sources.Source.{Ghosts as Source}
 use Rattle.bench.specs.Inputs.{IsRead, IsInputFault}
@@ -11,18 +10,9 @@ use Rattle.bench.specs.Runs.{IsReported, IsRunFault}
 use Rattle.bench.specs.Comparisons.{IsCompared, IsCompareFault}
 use Rattle.report.specs.Output.{IsWritten, IsWriteFault}
 use Rattle.scenario.specs.Settings.{Settings}
+use Rattle.command_words.specs.declared.jobs.Job.{Job}
+use Rattle.command_words.specs.declared.jobs.Job.TheVariants.{Check, Run, Compare}
 use Rattle.command_line.specs.Statuses.{HelpIsWritten, HelpIsFaulty}
-use Rattle.command_line.specs.declared.jobs.Job.{Job}
-use Rattle.command_line.specs.declared.jobs.Job.TheVariants.{Check, Run, Compare}
-
--- there may be so many workers
-abbrev pub AreLawfulWorkers : ℕ → Type 0
-AreLawfulWorkers workers = (1 ≤ workers) × (workers ≤ MOST_WORKERS)
-
-abbrev pub HasLawfulWorkers : Job → Type 0
-HasLawfulWorkers Check = Unit {0}
-HasLawfulWorkers (Run trace workers) = AreLawfulWorkers workers
-HasLawfulWorkers (Compare workers) = AreLawfulWorkers workers
 
 -- what is printed of a scenario that is lawful
 abbrev pub ok_line : List ℕ

@@ -1,33 +1,18 @@
 //! What the program does for its words.
 
 ghost use Rattle.std.specs.Prelude.{OnOk, IfErr};
-ghost use Rattle.command_line.specs.Jobs.{AreLawfulWorkers, HasLawfulWorkers, IsChecked, IsCheckFault, IsReportedWith, IsRunFaultWith, IsPerformed, IsJobFault};
+ghost use Rattle.command_words.specs.Workers.{AreLawfulWorkers, HasLawfulWorkers};
+ghost use Rattle.command_line.specs.Jobs.{IsChecked, IsCheckFault, IsReportedWith, IsRunFaultWith, IsPerformed, IsJobFault};
 
 use bench::{check_input, compare, run};
 use bench_types::{Discard, Fault, Push, Sink, Source};
+use command_words::Job;
 use report::write_text;
 use std::alloc::Global;
 use std::fs;
 use std::rt::Files;
 use std::sync::Wait;
 use std::thread::Threads;
-
-/// What the words of a command line ask for. Workers are how many threads do the exchanges of a round, from 1
-/// to `MOST_WORKERS`.
-#[derive(Clone, Copy, Debug, PartialEq, Eq)]
-pub enum Job<'a> {
-    /// To check a scenario.
-    Check,
-    /// To run it and write its report, and its trace to a file where one is named.
-    Run {
-        trace: Option<&'a str>,
-        workers: u32,
-    },
-    /// To compare the modes.
-    Compare {
-        workers: u32,
-    },
-}
 
 /// Reads a scenario and does the job: `out` gets what is asked for. The file of a trace is made anew
 /// before anything is read; where it can't be made, the fault is `WriteFailed`.

@@ -1,11 +1,11 @@
-//! The command line of the program: which words ask for what, and what comes of it.
+//! The command line of the program: what comes of its words.
 #![tactic(auto)]
 
 mod jobs;
 mod processes;
 mod programs;
-mod words;
 
-pub use jobs::{Job, perform};
+pub use command_words::Job;
+pub use jobs::perform;
 pub use processes::run_process;
 pub use programs::main_with;

@@ -6,10 +6,8 @@ ghost use Rattle.command_line.specs.Statuses.{status_of, HelpIsWritten, HelpIsFa
 ghost use Rattle.command_line.specs.Jobs.{IsDone, IsStoppedByFault};
 
 use crate::jobs::perform;
-use crate::words::job_of;
 use bench_types::{Discard, Fault, Push, Sink, Source};
-use clap::Error;
-use clap::error::ErrorKind;
+use command_words::{NoJob, job_of};
 use report::write_text;
 use std::alloc::Global;
 use std::convert::AsStr;
@@ -47,7 +45,7 @@ pub fn main_with<H: Threads + Wait + Sync + Files, S: AsStr, R: Source, W: Sink,
             let done = perform(rt, alloc, job, reader, out);
             status_of(alloc, done, err)
         }
-        Err(error) => answer_words(alloc, &error, out, err),
+        Err(reason) => answer_words(alloc, reason, out, err),
     }
 }
 
@@ -65,37 +63,31 @@ pub(crate) fn status_of<E: Sink>(alloc: Global, done: Result<(), Fault>, err: &m
 }
 
 // The status where the words ask for help or are refused, or memory ran out.
-fn answer_words<W: Sink, E: Sink>(alloc: Global, error: &Error, out: &mut W, err: &mut E) -> u8
+fn answer_words<W: Sink, E: Sink>(alloc: Global, reason: NoJob, out: &mut W, err: &mut E) -> u8
     ensures status { result ≤ 2 }
     ensures done { result ≡ 0 → HelpIsWritten W.Sink out.old out.new }
     ensures fault { result ≡ 1 → (fault : Fault) × HelpIsFaulty W.Sink out.old out.new fault }
     ensures refused { result ≡ 2 → out.new ≡ out.old }
 {
-    if error.kind() == ErrorKind::OutOfMemory {
-        status_of(alloc, Err(Fault::OutOfMemory), err)
-    } else if error.use_stderr() {
-        refuse(alloc, error, err);
-        REFUSED
-    } else {
-        let done = print(alloc, error, out);
-        status_of(alloc, done, err)
+    match reason {
+        NoJob::Help(text) => {
+            let done = print(&text, out);
+            status_of(alloc, done, err)
+        }
+        NoJob::Refused(text) => {
+            let _ = write_text(err, text.as_bytes());
+            REFUSED
+        }
+        NoJob::OutOfMemory => status_of(alloc, Err(Fault::OutOfMemory), err),
     }
 }
 
 // Prints help.
-fn print<W: Sink>(alloc: Global, help: &Error, out: &mut W) -> Result<(), Fault>
+fn print<W: Sink>(help: &str, out: &mut W) -> Result<(), Fault>
     ensures written { OnOk result (HelpIsWritten W.Sink out.old out.new) }
     ensures fault { IfErr result (HelpIsFaulty W.Sink out.old out.new) }
 {
-    let text = format!(in alloc; "{help}")?;
-    write_text(out, text.as_bytes())
-}
-
-// Says why the words are refused, if that can be said.
-fn refuse<E: Sink>(alloc: Global, error: &Error, err: &mut E) {
-    if let Ok(text) = format!(in alloc; "{error}") {
-        let _ = write_text(err, text.as_bytes());
-    }
+    write_text(out, help.as_bytes())
 }
 
 // Says what the fault is, if that can be said.

@@ -5,5 +5,5 @@ use Rattle.bench.proofs.runs.run.Goals as goal
 pub returns-clause-failing_end : goal.returns-clause-failing_end
 returns-clause-failing_end g c =
     IfErr-weaker c.write_texts.result _ _
-    (λ fault stop. run_tells g.W.Sink _ _ g.X.Sink _ _ c.in-Ok.sim.settings _ fault stop)
+    (λ fault stop. run_tells g.W.Sink _ _ g.X.Sink _ _ c.in_ok-sim.sim.settings _ fault stop)
     c.write_texts.ensures.fault

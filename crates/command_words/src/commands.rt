@@ -1,0 +1,61 @@
+//! The program's commands, as clap has them.
+
+use bench_types::limits::MOST_WORKERS;
+use clap::{Arg, Command, value_parser};
+use std::alloc::{AllocError, Global};
+
+// The program, with its commands.
+pub(crate) fn commands<'a>(alloc: Global) -> Result<Command<'a>, AllocError> {
+    program(alloc)?
+        .subcommand(check(alloc))?
+        .subcommand(run(alloc)?)?
+        .subcommand(compare(alloc)?)
+}
+
+// The program alone.
+fn program<'a>(alloc: Global) -> Result<Command<'a>, AllocError> {
+    Ok(
+        Command::new(alloc, "gossip_bench")
+            .about("Simulates anti-entropy gossip. Reads a scenario (TOML) on standard input.")
+            .after_help("Example: gossip_bench run < examples/two_nodes.toml")
+            .bin_name("gossip_bench")?
+            .no_binary_name(true)
+            .disable_help_subcommand(true)
+            .subcommand_required(true),
+    )
+}
+
+fn check<'a>(alloc: Global) -> Command<'a> {
+    Command::new(alloc, "check").about("Check the scenario and print ok")
+}
+
+fn run<'a>(alloc: Global) -> Result<Command<'a>, AllocError> {
+    Command::new(alloc, "run")
+        .about("Run the scenario and print its report, a row for each round")
+        .arg(workers(alloc))?
+        .arg(trace(alloc))
+}
+
+fn compare<'a>(alloc: Global) -> Result<Command<'a>, AllocError> {
+    Command::new(alloc, "compare")
+        .about("Run the scenario under each mode and print all rows")
+        .arg(workers(alloc))
+}
+
+// The option for the number of workers.
+fn workers<'a>(alloc: Global) -> Arg<'a> {
+    Arg::new(alloc, "workers")
+        .long("workers")
+        .value_name("N")
+        .value_parser(value_parser!(u32).range(1..=i64::from(MOST_WORKERS)))
+        .default_value("1")
+        .help("Do the exchanges of a round in N threads, from 1 to 64; the output is the same")
+}
+
+// The option for the file of a trace.
+fn trace<'a>(alloc: Global) -> Arg<'a> {
+    Arg::new(alloc, "trace")
+        .long("trace")
+        .value_name("FILE")
+        .help("Write a line for each exchange to FILE, which is made anew")
+}

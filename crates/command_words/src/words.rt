@@ -1,0 +1,83 @@
+//! Reading the words of a command line.
+
+ghost use Rattle.std.specs.Prelude.{IfOk, IfSome};
+ghost use Rattle.command_words.specs.Workers.{AreLawfulWorkers, HasLawfulWorkers};
+
+use crate::commands::commands;
+use crate::jobs::Job;
+use bench_types::limits::MOST_WORKERS;
+use clap::error::ErrorKind;
+use clap::{ArgMatches, Error};
+use std::alloc::Global;
+use std::convert::AsStr;
+
+/// Why words ask for no job.
+#[derive(Debug, Drop)]
+pub enum NoJob {
+    /// They ask for help, which is this text.
+    Help(String),
+    /// They are refused, and this text says why.
+    Refused(String),
+    /// Memory ran out.
+    OutOfMemory,
+}
+
+/// What the words ask for, without the program's name.
+pub fn job_of<'a, S: AsStr>(alloc: Global, words: &'a [S]) -> Result<Job<'a>, NoJob>
+    ensures { IfOk result HasLawfulWorkers }
+{
+    match parse(alloc, words) {
+        Ok(job) => Ok(job),
+        Err(error) => Err(reason_of(alloc, &error)),
+    }
+}
+
+// What an error of clap says.
+fn reason_of(alloc: Global, error: &Error) -> NoJob {
+    match format!(in alloc; "{error}") {
+        _ if error.kind() == ErrorKind::OutOfMemory => NoJob::OutOfMemory,
+        Err(_) => NoJob::OutOfMemory,
+        Ok(text) if error.use_stderr() => NoJob::Refused(text),
+        Ok(text) => NoJob::Help(text),
+    }
+}
+
+fn parse<'a, S: AsStr>(alloc: Global, words: &'a [S]) -> Result<Job<'a>, Error>
+    ensures { IfOk result HasLawfulWorkers }
+{
+    let mut commands = commands(alloc)?;
+    let matches = commands.try_get_matches_from_mut(words)?;
+    match asked_for(&matches) {
+        Some(job) => Ok(job),
+        None => Err(commands.error(ErrorKind::InvalidSubcommand, "no such command")?),
+    }
+}
+
+// The job of words that were parsed. There is none where a command or a number of workers is unknown,
+// which the parser refuses before.
+fn asked_for<'a>(matches: &ArgMatches<'a>) -> Option<Job<'a>>
+    ensures { IfSome result HasLawfulWorkers }
+{
+    match matches.subcommand()? {
+        ("check", _) => Some(Job::Check),
+        ("run", options) => Some(Job::Run {
+            trace: options.get_str("trace"),
+            workers: workers_of(options)?,
+        }),
+        ("compare", options) => Some(Job::Compare {
+            workers: workers_of(options)?,
+        }),
+        _ => None,
+    }
+}
+
+fn workers_of(options: &ArgMatches) -> Option<u32>
+    ensures { IfSome result AreLawfulWorkers }
+{
+    let workers = options.get_one("workers")?;
+    if 1 <= workers && workers <= MOST_WORKERS {
+        Some(workers)
+    } else {
+        None
+    }
+}

@@ -4,7 +4,7 @@ use Rattle.std.proofs.lemmas.Bool.{cases_eq, eq-eqb, ne_eqb}
 use Rattle.std.specs.Prelude.{IfSome}
 use Rattle.atomic_table.specs.Table.{step, rest, turned, Step}
 use mathlib.Core.Option.{none}
-use Rattle.planner.specs.Neighbours.{predecessors, as_list, successors}
+use Rattle.dependencies.specs.Neighbours.{predecessors, as_list, successors}
 use Rattle.board.specs.Weights.{only, times, Has}
 use Rattle.board.specs.SeatView.{SeatView, IsWhole, with_held, with_told, without_held, with_made, with_freed, freed_by, joined}
 use Rattle.board.specs.Plan.{BoardPlan, table_at, initiator_of, responder_of}

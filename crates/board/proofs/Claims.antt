@@ -9,8 +9,8 @@ use lib.Seq.{set-get_or}
 use prog.Atomic.{either}
 use Rattle.atomic_table.specs.Table.{State, Me, step, Act, keeps, takes, gives, chain, Valid, carried_after, homes_after, stepped, Allows}
 use Rattle.atomic_table.proofs.Lists.{set_here, set_else, exchanged}
-use Rattle.planner.specs.Sharing.{takes_part}
-use Rattle.planner.proofs.Sharers.{initiator_part, responder_part, not_initiator, not_responder, part_cases}
+use Rattle.dependencies.specs.Sharing.{takes_part}
+use Rattle.dependencies.proofs.Sharers.{initiator_part, responder_part, not_initiator, not_responder, part_cases}
 use Rattle.board.specs.Weights.{total, only, times}
 use Rattle.board.specs.SeatView.{SeatView, with_told}
 use Rattle.board.specs.Plan.{BoardPlan, initiator_of, responder_of}

@@ -7,8 +7,8 @@ use lib.ListN.{get_elem?}
 use Rattle.atomic_table.specs.Table.{State, Splits, Joins, opening, Final, Seen}
 use Rattle.atomic_table.proofs.Lists.{at_set, at_snoc, at_map, set_else}
 use Rattle.node_table.specs.NodeTableView.{NodeTableView}
-use Rattle.planner.specs.Sharing.{takes_part}
-use Rattle.planner.specs.Neighbours.{predecessors, pending_of}
+use Rattle.dependencies.specs.Sharing.{takes_part}
+use Rattle.dependencies.specs.Neighbours.{predecessors, pending_of}
 use Rattle.cluster.specs.Tables.{table_of_node}
 use Rattle.board.specs.Weights.{total, only, times, flag}
 use Rattle.board.specs.SeatView.{SeatView, IsWhole, spent_seat, split_left, split_right, joined}

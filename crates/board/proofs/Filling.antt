@@ -7,15 +7,15 @@ use mathlib.Core.Option.{some, some-injective, some-ne-none}
 use lib.ListN.{get_elem?}
 use Rattle.node_table.specs.NodeTableView.{NodeTableView}
 use Rattle.round_plan.specs.Plan.{RoundListView, IsRoundPlan}
-use Rattle.planner.specs.Neighbours.{pending_of}
-use Rattle.planner.specs.Places.{in_place}
+use Rattle.dependencies.specs.Neighbours.{pending_of}
+use Rattle.dependencies.specs.States.{in_place}
 use Rattle.cluster.specs.Tables.{tables_in, table_of_node, IsCluster}
 use Rattle.cluster.specs.Folds.{fold_of}
 use Rattle.cluster.proofs.Tables.{same_tables, length-tables_in}
 use Rattle.cluster.proofs.FoldLaws.{fold_counts_tables}
 use Rattle.board.specs.Plan.{BoardPlan, IsBoardPlan, table_at}
 use Rattle.board.specs.Rule.{Slot}
-use Rattle.planner.proofs.Moves.{tables_at_end}
+use Rattle.dependencies.proofs.Moves.{tables_at_end}
 use Rattle.board.proofs.Ends.{IsOpening}
 
 -- the table in the next slot

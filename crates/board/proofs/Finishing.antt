@@ -10,9 +10,9 @@ use lib.Bits.{bit_or, or_shifted, or_add_and, and_mask}
 use Rattle.atomic_table.specs.Table.{step, keeps, gives, chain, Allows}
 use Rattle.atomic_table.proofs.Lists.{at_set}
 use Rattle.node_table.specs.NodeTableView.{NodeTableView}
-use Rattle.planner.specs.Sharing.{takes_part}
-use Rattle.planner.specs.Neighbours.{predecessors, pending_of}
-use Rattle.planner.proofs.Moves.{initiator_left, responder_left}
+use Rattle.dependencies.specs.Sharing.{takes_part}
+use Rattle.dependencies.specs.Neighbours.{predecessors, pending_of}
+use Rattle.dependencies.proofs.Moves.{initiator_left, responder_left}
 use Rattle.board.specs.Weights.{total, only, times, flag}
 use Rattle.board.specs.SeatView.{SeatView, IsWhole, with_made, with_freed, having_seen, having_stopped}
 use Rattle.board.specs.Plan.{BoardPlan, table_at, initiator_of, responder_of, exchanged_at, successor_list}

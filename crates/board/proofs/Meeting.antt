@@ -3,7 +3,7 @@ use Rattle.std.proofs.Common.{◌<◌, ◌∙◌, sym, subst}
 use Rattle.bench_types.specs.Exchange.{IsPlanned}
 use Rattle.cluster.specs.Tables.{table_of_node, IsTableOf}
 use Rattle.cluster.proofs.FoldLaws.{before_tables}
-use Rattle.planner.specs.Sharing.{exchange_at, no_exchange}
+use Rattle.dependencies.specs.Sharing.{exchange_at, no_exchange}
 use Rattle.board.specs.Laws.{EachHoldMayBeExchanged}
 
 pub may_be_exchanged : EachHoldMayBeExchanged

@@ -6,7 +6,7 @@ use lib.ListN.{get_elem?}
 use lib.Seq.{set-get_or}
 use Rattle.atomic_table.specs.Table.{step, takes, gives, chain, Allows}
 use Rattle.atomic_table.proofs.Lists.{set_else}
-use Rattle.planner.proofs.Sharers.{initiator_part, responder_part}
+use Rattle.dependencies.proofs.Sharers.{initiator_part, responder_part}
 use Rattle.board.specs.Weights.{total, only, times, flag, Has}
 use Rattle.board.specs.SeatView.{SeatView, with_held, without_held}
 use Rattle.board.specs.Plan.{BoardPlan, initiator_of, responder_of}

@@ -5,10 +5,10 @@ use Rattle.std.proofs.lemmas.Bool.{cases_Bool, cases_eq, cases_lt, false≢true}
 use mathlib.Core.Option.{some}
 use lib.ListN.{get_elem?}
 use Rattle.bench_types.specs.declared.exchanges.Exchange.{Exchange}
-use Rattle.planner.specs.Sharing.{takes_part, share_node}
-use Rattle.planner.specs.Neighbours.{predecessors, pending_of}
-use Rattle.planner.proofs.Predecessors.{share_from}
-use Rattle.planner.proofs.Moves.{table_still}
+use Rattle.dependencies.specs.Sharing.{takes_part, share_node}
+use Rattle.dependencies.specs.Neighbours.{predecessors, pending_of}
+use Rattle.dependencies.proofs.Predecessors.{share_from}
+use Rattle.dependencies.proofs.Moves.{table_still}
 use Rattle.board.specs.Weights.{only, times}
 use Rattle.board.specs.Plan.{BoardPlan, table_at, successor_list}
 use Rattle.board.specs.Rule.{IsInOrder, TAKEN, word_of, CountsPredecessors, NamesFreed, Home, HasTable, AreFinishedBelow, NoneIsClaimedFrom, HasTables}

@@ -4,10 +4,10 @@ use Rattle.std.specs.List.{range_with_len}
 use Rattle.std.proofs.lemmas.Bool.{cases_Bool, cases_eq, cases_lt, eq-eqb, ne_eqb, or_left, or_right, false≢true}
 use Rattle.std.proofs.lemmas.Option.{none-some, same_Some}
 use Rattle.bench_types.specs.declared.exchanges.Exchange.{Exchange}
-use Rattle.planner.specs.Sharing.{exchange_at, takes_part, share_node}
-use Rattle.planner.specs.Neighbours.{last_before, first_from, unless_same, as_list, predecessors}
-use Rattle.planner.proofs.Predecessors.{last_before-is, last_before-reaches}
-use Rattle.planner.proofs.Sharers.{part_cases, initiator_part, responder_part}
+use Rattle.dependencies.specs.Sharing.{exchange_at, takes_part, share_node}
+use Rattle.dependencies.specs.Neighbours.{last_before, first_from, unless_same, as_list, predecessors}
+use Rattle.dependencies.proofs.Predecessors.{last_before-is, last_before-reaches}
+use Rattle.dependencies.proofs.Sharers.{part_cases, initiator_part, responder_part}
 use Rattle.board.specs.Weights.{only, times}
 use Rattle.board.specs.Plan.{successor_list}
 use Rattle.board.proofs.Sums.{only-same, only-other, only_at}

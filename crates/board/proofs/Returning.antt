@@ -1,7 +1,7 @@
 -- What an exchange leaves of a hold's tables may be put back.
 use Rattle.std.proofs.Common.{◌≡◌, ◌∙◌, sym, ap, subst}
 use Rattle.exchange.specs.Exchanged.{Exchanged, exchanged}
-use Rattle.planner.specs.Sharing.{exchange_at}
+use Rattle.dependencies.specs.Sharing.{exchange_at}
 use Rattle.board.specs.Weights.{Has}
 use Rattle.board.specs.Plan.{table_at, responder_of, exchanged_at}
 use Rattle.board.specs.Laws.{EachMayBePutBack}

@@ -3,14 +3,14 @@ use Rattle.std.proofs.Common.{◌≡◌, ℕ, zero, suc, ◌+◌, ◌<◌, ◌�
 use Rattle.std.proofs.lemmas.Bool.{cases_Bool, cases_eq, cases_lt, false≢true, and_parts, and_from, lt-ltb, le-ltb}
 use Rattle.bench_types.specs.declared.exchanges.Exchange.{Exchange}
 use Rattle.bench_types.specs.Exchange.{IsPlanned}
-use Rattle.planner.specs.declared.events.Event.{Event}
-use Rattle.planner.specs.Sharing.{takes_part}
-use Rattle.planner.specs.Schedules.{is_started, is_finished, is_running}
-use Rattle.planner.specs.Neighbours.{predecessors}
-use Rattle.planner.specs.ListOrder.{finished_upto, schedule_of, AreClosed}
-use Rattle.planner.proofs.Predecessors.{predecessors_earlier, share_from}
-use Rattle.planner.proofs.Sets.{below, schedule_from}
-use Rattle.planner.proofs.Lawful.{in_list_order}
+use Rattle.dependencies.specs.declared.events.Event.{Event}
+use Rattle.dependencies.specs.Sharing.{takes_part}
+use Rattle.dependencies.specs.Schedules.{is_started, is_finished, is_running}
+use Rattle.dependencies.specs.Neighbours.{predecessors}
+use Rattle.dependencies.specs.ListOrder.{finished_upto, schedule_of, AreClosed}
+use Rattle.dependencies.proofs.Predecessors.{predecessors_earlier, share_from}
+use Rattle.dependencies.proofs.Sets.{below, schedule_from}
+use Rattle.dependencies.proofs.Lawful.{in_list_order}
 use Rattle.atomic_table.specs.Table.{State}
 use Rattle.board.specs.Plan.{BoardPlan}
 use Rattle.board.specs.Rule.{Slot, made_in, running_in, AreFinishedBelow, NoneIsClaimedFrom, Orderly}

@@ -8,10 +8,10 @@ use lib.ListN.{get_elem?}
 use Rattle.atomic_table.specs.Table.{State}
 use Rattle.bench_types.specs.declared.exchanges.Exchange.{Exchange}
 use Rattle.bench_types.specs.Exchange.{IsPlanned}
-use Rattle.planner.specs.Sharing.{no_exchange, exchange_at, takes_part, share_node}
-use Rattle.planner.specs.Neighbours.{predecessors, pending_of, as_list, predecessors_of}
-use Rattle.planner.proofs.Predecessors.{earlier_from_predecessors, share_from}
-use Rattle.planner.proofs.Sharers.{share_common}
+use Rattle.dependencies.specs.Sharing.{no_exchange, exchange_at, takes_part, share_node}
+use Rattle.dependencies.specs.Neighbours.{predecessors, pending_of, as_list, predecessors_of}
+use Rattle.dependencies.proofs.Predecessors.{earlier_from_predecessors, share_from}
+use Rattle.dependencies.proofs.Sharers.{share_common}
 use Rattle.board.specs.Weights.{total, only, times, flag}
 use Rattle.board.specs.SeatView.{IsWhole}
 use Rattle.board.specs.Plan.{BoardPlan, IsBoardPlan, table_at}

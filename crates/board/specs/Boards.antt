@@ -7,7 +7,7 @@ use Rattle.bench_types.specs.declared.faults.Fault.TheVariants.{Unfinished}
 use Rattle.atomic_table.specs.Seated.{TableId}
 use Rattle.bench_types.specs.declared.exchanges.Exchange.{Exchange}
 use Rattle.node_table.specs.NodeTableView.{NodeTableView}
-use Rattle.planner.specs.Neighbours.{predecessors, pending_of, successors}
+use Rattle.dependencies.specs.Neighbours.{predecessors, pending_of, successors}
 use Rattle.board.specs.Weights.{times, Has}
 use Rattle.board.specs.SeatView.{SeatView, IsWhole, with_held, with_told, without_held, with_made, freed_by, having_seen, having_stopped}
 use Rattle.board.specs.Plan.{BoardPlan, table_at, initiator_of, responder_of, exchanged_at}

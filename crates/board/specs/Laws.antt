@@ -10,10 +10,10 @@ use Rattle.node_table.specs.NodeTableView.{NodeTableView}
 use Rattle.round_plan.specs.Plan.{IsRoundPlan}
 use Rattle.exchange.specs.Exchanged.{IsExchanged}
 use Rattle.cluster.specs.Tables.{IsCluster}
-use Rattle.planner.specs.declared.events.Event.{Event}
-use Rattle.planner.specs.Sharing.{exchange_at, takes_part}
-use Rattle.planner.specs.Schedules.{is_finished, is_running, IsLawful}
-use Rattle.planner.specs.States.{state_of}
+use Rattle.dependencies.specs.declared.events.Event.{Event}
+use Rattle.dependencies.specs.Sharing.{exchange_at, takes_part}
+use Rattle.dependencies.specs.Schedules.{is_finished, is_running, IsLawful}
+use Rattle.dependencies.specs.States.{state_of}
 use Rattle.atomic_table.specs.Table.{State}
 use Rattle.board.specs.Weights.{Has}
 use Rattle.board.specs.SeatView.{SeatView}

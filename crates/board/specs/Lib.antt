@@ -9,4 +9,4 @@ pub mod Boards
 pub use Rattle.exchange.specs.Exchanged
 pub use Rattle.cluster.specs.Tables
 pub use Rattle.cluster.specs.Folds
-pub use Rattle.planner.specs.Neighbours
+pub use Rattle.dependencies.specs.Neighbours

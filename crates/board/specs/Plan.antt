@@ -11,8 +11,8 @@ use Rattle.round_plan.specs.Plan.{RoundListView, IsRoundPlan}
 use Rattle.cluster.specs.Tables.{table_of_node}
 use Rattle.cluster.specs.Folds.{tables_before}
 use Rattle.exchange.specs.Exchanged.{Exchanged, exchanged}
-use Rattle.planner.specs.Sharing.{exchange_at}
-use Rattle.planner.specs.Neighbours.{as_list, successors}
+use Rattle.dependencies.specs.Sharing.{exchange_at}
+use Rattle.dependencies.specs.Neighbours.{as_list, successors}
 
 -- the rules of the exchanges, the round's list, and the tables of all nodes before it
 pub record BoardPlan : Type 0 where

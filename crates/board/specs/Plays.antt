@@ -4,8 +4,8 @@ use Rattle.std.specs.List.{range_with_len}
 use Rattle.std.specs.Prelude.{IfSome, ◌≡◌, ◌≢◌, ℕ, ◌+◌, ◌/◌, ◌%◌, ◌<◌, ◌≤◌, ◌↔◌, Bool, true, false, ◌==◌, if◌then◌else◌, List, [], ◌∷◌, length, map, drop, ◌⊎◌, Option, All, None, Some}
 use Rattle.bench_types.specs.declared.exchanges.Exchange.{Exchange}
 use Rattle.node_table.specs.NodeTableView.{NodeTableView}
-use Rattle.planner.specs.Sharing.{share_node}
-use Rattle.planner.specs.Neighbours.{predecessors, pending_of}
+use Rattle.dependencies.specs.Sharing.{share_node}
+use Rattle.dependencies.specs.Neighbours.{predecessors, pending_of}
 use Rattle.atomic_table.specs.Table.{Me, Step}
 use Rattle.board.specs.Weights.{times, Has}
 use Rattle.board.specs.SeatView.{SeatView, IsWhole, first_seat, spent_seat, split_left, split_right, joined, with_held, with_told, without_held, with_made, with_freed, freed_by, having_seen, having_stopped}

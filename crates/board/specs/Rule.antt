@@ -7,8 +7,8 @@ use lib.ListN.{get_elem?}
 use Rattle.bench_types.specs.declared.exchanges.Exchange.{Exchange}
 use Rattle.node_table.specs.Table.{Table}
 use Rattle.node_table.specs.NodeTableView.{NodeTableView}
-use Rattle.planner.specs.Sharing.{takes_part, share_node}
-use Rattle.planner.specs.Neighbours.{predecessors, pending_of}
+use Rattle.dependencies.specs.Sharing.{takes_part, share_node}
+use Rattle.dependencies.specs.Neighbours.{predecessors, pending_of}
 use Rattle.atomic_table.specs.Table.{State}
 use Rattle.board.specs.Weights.{total, only, times, flag}
 use Rattle.board.specs.SeatView.{ALL_PARTS}

@@ -1,7 +1,7 @@
 -- What contracts see of a seat, with which one thread uses a board. Source: this project.
 use Rattle.std.specs.Prelude.{◌≡◌, refl, ℕ, ◌+◌, ◌-◌, Bool, true, false, ◌==◌, ◌||◌, if◌then◌else◌, nat_le, Option, List, [], ◌∷◌, ◌++◌}
 use Rattle.std.specs.Coded.{Coded, code_by, coded×, coded_ℕ, coded_bool, coded_list}
-use Rattle.planner.specs.Neighbours.{as_list}
+use Rattle.dependencies.specs.Neighbours.{as_list}
 
 pub record SeatView : Type 0 where
   -- the exchanges that it has put back, in order

@@ -2,7 +2,7 @@
 ghost use Rattle.std.specs.Prelude.{List, ◌≡◌, ◌+◌, ◌/◌, ◌<◌, ◌≤◌, None, Some, [], length, map, reverse, IfSome, IfErr, IfOk, IsOkUnless, vec_capacity};
 ghost use Rattle.bench_types.specs.declared.faults.Fault.TheVariants.{OutOfMemory};
 ghost use Rattle.round_plan.specs.Plan.{IsRoundPlan};
-ghost use Rattle.planner.specs.Places.{in_place};
+ghost use Rattle.dependencies.specs.States.{in_place};
 ghost use Rattle.std.specs.Mem.Slots.{slots_items, slots_len, IsFull};
 ghost use Rattle.node_table.specs.NodeTableView.{NodeTableView};
 ghost use Rattle.bench_types.specs.declared.faults.Fault.TheVariants.{Unfinished};
@@ -18,8 +18,8 @@ use crate::plays::{
 use crate::views::View;
 use atomic_table::{Closed, Refused, Table};
 use bench_types::{Fault, Rules};
+use dependencies::Deps;
 use node_table::NodeTable;
-use planner::Deps;
 use std::alloc::Global;
 use std::snapshot::Snapshot;
 

@@ -6,8 +6,8 @@ ghost use Rattle.board.specs.Keys.{key_plan};
 use crate::views::View;
 use atomic_table::{Join, Play, Split, TableRule};
 use bench_types::Rules;
+use dependencies::Deps;
 use node_table::NodeTable;
-use planner::Deps;
 use std::snapshot::Snapshot;
 
 // What a board was made of, which its rule reads.

@@ -6,13 +6,13 @@ use Rattle.std.proofs.lemmas.List.{get_or-set_same, get_or-set_other, length-set
 use Rattle.std.proofs.lemmas.List.Sums.{sum_by-cons, count_by-le-length}
 use Rattle.bench_types.specs.declared.exchanges.Exchange.{Exchange}
 use Rattle.round_plan.specs.Plan.{RoundListView}
-use Rattle.planner.specs.declared.events.Event.{Event}
-use Rattle.planner.specs.declared.events.Event.TheVariants.{Start, Finish}
+use Rattle.dependencies.specs.declared.events.Event.{Event}
+use Rattle.dependencies.specs.declared.events.Event.TheVariants.{Start, Finish}
 use Rattle.planner.specs.declared.schedules.Stage.{Stage}
 use Rattle.planner.specs.declared.schedules.Stage.TheVariants.{Waiting, Running, Done}
-use Rattle.planner.specs.Schedules.{is_started, is_finished, is_running, MayStart, IsLawful, AreFinished}
+use Rattle.dependencies.specs.Schedules.{is_started, is_finished, is_running, MayStart, IsLawful, AreFinished}
 use Rattle.planner.specs.Stages.{ScheduleView, standing_of, stage_in, stage_after, CanStart, with_stage, waiting_at_first, not_started, is_over}
-use Rattle.planner.proofs.Histories.{or_none, lawful_none, lawful_push, started-start, started-finish, finished-start, finished-finish, history_of}
+use Rattle.dependencies.proofs.Histories.{or_none, lawful_none, lawful_push, started-start, started-finish, finished-start, finished-finish, history_of}
 
 -- the stage, from whether an exchange is finished and whether it is started
 abbrev stage_by : Bool → Bool → Stage

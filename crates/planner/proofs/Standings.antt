@@ -6,16 +6,16 @@ use Rattle.std.proofs.lemmas.List.{get_or_past, get_or-set_other, length-set}
 use Rattle.std.proofs.lemmas.List.Elements.{All-nil, All-cons, All-head, All-tail}
 use Rattle.std.proofs.lemmas.Option.{get_or_from_slice_get, slice_get-get_or}
 use Rattle.planner.specs.contracts.schedules.StagePartialEq.TheImpl.{eq-value}
-use Rattle.planner.specs.declared.deps.Before.{Before}
+use Rattle.dependencies.specs.declared.deps.Before.{Before}
 use Rattle.planner.specs.declared.schedules.Stage.{Stage}
 use Rattle.planner.specs.declared.schedules.Stage.TheVariants.{Waiting, Running, Done}
-use Rattle.planner.specs.Sharing.{share_node}
-use Rattle.planner.specs.Schedules.{is_started, is_finished}
-use Rattle.planner.specs.Neighbours.{as_list, predecessors_of, predecessors}
-use Rattle.planner.specs.ListOrder.{AreClosed, schedule_of}
+use Rattle.dependencies.specs.Sharing.{share_node}
+use Rattle.dependencies.specs.Schedules.{is_started, is_finished}
+use Rattle.dependencies.specs.Neighbours.{as_list, predecessors_of, predecessors}
+use Rattle.dependencies.specs.ListOrder.{AreClosed, schedule_of}
 use Rattle.planner.specs.Stages.{ScheduleView, IsSchedule, HasSchedule, CanStart, stage_in, with_stage, runs, is_over, none_or_over}
-use Rattle.planner.proofs.Predecessors.{predecessors_earlier, earlier_from_predecessors}
-use Rattle.planner.proofs.Sets.{schedule_from}
+use Rattle.dependencies.proofs.Predecessors.{predecessors_earlier, earlier_from_predecessors}
+use Rattle.dependencies.proofs.Sets.{schedule_from}
 
 -- the exchanges that are done, and those that run
 abbrev pub over_in : List Stage → ℕ → Bool

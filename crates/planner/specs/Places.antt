@@ -1,17 +1,18 @@
 -- The tables and records that are kept while a schedule is carried out, and the state that they show.
 -- Source: this project.
-use Rattle.std.specs.Prelude.{◌≡◌, ℕ, List, length, slice_index_or, Option, None, Some}
+use Rattle.std.specs.Prelude.{◌≡◌, ℕ, List, length, filter_map, slice_index_or, Option, None, Some}
 use Rattle.bench_types.specs.declared.exchanges.Exchange.{Exchange}
+use Rattle.bench_types.specs.declared.exchanges.Record.{Record}
 use Rattle.bench_types.specs.declared.exchanges.Rules.{Rules}
 use Rattle.node_table.specs.Table.{Table}
 use Rattle.node_table.specs.NodeTableView.{NodeTableView}
 use Rattle.round_plan.specs.Plan.{RoundListView}
 use Rattle.cluster.specs.Tables.{IsTableOf}
-use Rattle.planner.specs.declared.events.Event.{Event}
+use Rattle.dependencies.specs.declared.events.Event.{Event}
 use Rattle.planner.specs.declared.plays.Pair.{Pair}
 use Rattle.planner.specs.declared.plays.Places.{Places}
-use Rattle.planner.specs.Sharing.{exchange_at}
-use Rattle.planner.specs.States.{Taken, State, after_event}
+use Rattle.dependencies.specs.Sharing.{exchange_at}
+use Rattle.dependencies.specs.States.{Taken, State, after_event}
 
 -- tables without their room
 abbrev pub without_room : Option NodeTableView → Option Table
@@ -53,10 +54,6 @@ pub record AreInPlace (nodes keys : ℕ) (es : List Exchange) (s : State) : Type
   pub home : (n : ℕ) (t : Table) → s.home n ≡ Some t → IsTableOf nodes keys n t
   pub out : (i : ℕ) (taken : Taken) → s.out i ≡ Some taken → IsPairOf nodes keys (exchange_at es i) taken
 
--- a table in its place
-abbrev pub in_place : NodeTableView → Option NodeTableView
-in_place kept = Some kept
-
 abbrev pub both_or_none : Option NodeTableView → Option NodeTableView → Option Pair
 both_or_none (Some p) (Some q) = Some (record { initiator = p; responder = q })
 both_or_none (Some p) None = None
@@ -64,3 +61,7 @@ both_or_none None q = None
 
 abbrev pub itself : {A : Type 0} → Option A → Option A
 itself x = x
+
+-- these are the tables and the records that stand in the places, in order
+abbrev pub StandIn : Places → List NodeTableView → List Record → Type 0
+StandIn places tables records = (tables ≡ filter_map itself places.homes.items) × (records ≡ filter_map itself places.records.items)

@@ -2,11 +2,11 @@
 use Rattle.std.specs.Prelude.{◌≡◌, ◌≢◌, ℕ, ◌<◌, Bool, true, false, if◌then◌else◌, List, Option, None, Some, length, map, slice_index_or, slice_set}
 use Rattle.bench_types.specs.declared.exchanges.Exchange.{Exchange}
 use Rattle.round_plan.specs.Plan.{RoundListView, IsRoundPlan}
-use Rattle.planner.specs.declared.events.Event.{Event}
+use Rattle.dependencies.specs.declared.events.Event.{Event}
 use Rattle.planner.specs.declared.schedules.Stage.{Stage}
 use Rattle.planner.specs.declared.schedules.Stage.TheVariants.{Waiting, Running, Done}
-use Rattle.planner.specs.Sharing.{share_node}
-use Rattle.planner.specs.Schedules.{is_started, is_finished, IsLawful}
+use Rattle.dependencies.specs.Sharing.{share_node}
+use Rattle.dependencies.specs.Schedules.{is_started, is_finished, IsLawful}
 
 -- a plan, and the stage of each of its exchanges
 pub record ScheduleView : Type 0 where

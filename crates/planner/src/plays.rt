@@ -3,16 +3,16 @@
 ghost use Rattle.std.specs.Prelude.{◌≡◌, ◌<◌, ◌≤◌, ℕ, length, map, filter_map, IfOk, IfErr, OnOk, IsOkUnless};
 ghost use Rattle.bench_types.specs.declared.exchanges.Rules.{Rules};
 ghost use Rattle.bench_types.specs.declared.faults.Fault.TheVariants.{OutOfMemory};
-ghost use Rattle.planner.specs.declared.events.Event.TheVariants.{Start, Finish};
+ghost use Rattle.dependencies.specs.declared.events.Event.TheVariants.{Start, Finish};
 ghost use Rattle.planner.specs.Stages.{not_started};
-ghost use Rattle.planner.specs.Places.{state_in, AreEmpty, HasPlaces, ShowsEvent, AreInPlace, itself, in_place, both_or_none};
+ghost use Rattle.dependencies.specs.States.{in_place};
+ghost use Rattle.planner.specs.Places.{state_in, AreEmpty, HasPlaces, ShowsEvent, AreInPlace, StandIn, itself, both_or_none};
 ghost use Rattle.cluster.specs.Tables.{tables_in, IsCluster};
-ghost use Rattle.planner.specs.Plays.{ArePlayed, IsRefusal};
+ghost use Rattle.planner.specs.Plays.{ArePlayed, IsRefusal, Follows, IsRefused};
 
-use crate::deps::Deps;
-use crate::events::Event;
 use crate::schedules::Schedule;
 use bench_types::{Fault, Record, Rules};
+use dependencies::{Deps, Event};
 use exchange::exchange;
 use node_table::NodeTable;
 use round_plan::RoundList;
@@ -54,26 +54,12 @@ pub fn play(
     let mut schedule = unstarted(alloc, list)?;
     let mut places = all_at_home(alloc, list, tables)?;
     for event in events {
-        match *event {
-            Event::Start(i) => {
-                schedule.start(i)?;
-                take_out(&mut places, list, i);
-            }
-            Event::Finish(i) => {
-                schedule.finish(i)?;
-                put_back(alloc, &mut places, list, i, rules)?;
-            }
-        }
+        follow(alloc, &mut schedule, &mut places, list, *event, rules)?;
     }
     if schedule.done_count() < list.len() {
         return Err(Fault::Unfinished);
     }
-    let Places {
-        homes,
-        out: _,
-        records,
-    } = places;
-    Ok((all_of(alloc, homes)?, all_of(alloc, records)?))
+    given_by(alloc, places)
 }
 
 // A schedule of the list of which nothing is started.
@@ -95,21 +81,67 @@ fn all_at_home(alloc: Global, list: &RoundList, tables: Vec<NodeTable>) -> Resul
     ensures records { IfOk result (λ p. AreEmpty (length list.now.exchanges) p.records.items) }
     ensures only { IsOkUnless result OutOfMemory }
 {
+    Ok(Places {
+        homes: each_at_home(alloc, tables)?,
+        out: empty_places(alloc, list.len())?,
+        records: empty_places(alloc, list.len())?,
+    })
+}
+
+// Each table in its place.
+fn each_at_home(alloc: Global, tables: Vec<NodeTable>) -> Result<Vec<Option<NodeTable>>, Fault>
+    ensures value { IfOk result (λ v. v.items ≡ map in_place tables.items) }
+    ensures only { IsOkUnless result OutOfMemory }
+{
     let mut homes = Vec::with_capacity(alloc, tables.len())?;
     for table in tables {
         homes.push(Some(table))?;
     }
-    let mut out = Vec::with_capacity(alloc, list.len() as usize)?;
-    let mut records = Vec::with_capacity(alloc, list.len() as usize)?;
-    for _ in 0..list.len() {
-        out.push(None)?;
-        records.push(None)?;
+    Ok(homes)
+}
+
+// So many places with nothing in them.
+fn empty_places<T: Drop>(alloc: Global, count: u32) -> Result<Vec<Option<T>>, Fault>
+    ensures value { IfOk result (λ v. AreEmpty count v.items) }
+    ensures only { IsOkUnless result OutOfMemory }
+{
+    let mut places = Vec::with_capacity(alloc, count as usize)?;
+    for _ in 0..count {
+        places.push(None)?;
     }
-    Ok(Places {
-        homes,
-        out,
-        records,
-    })
+    Ok(places)
+}
+
+// Carries out one event, if it is allowed.
+fn follow(
+    alloc: Global,
+    schedule: &mut Schedule,
+    places: &mut Places,
+    list: &RoundList,
+    event: Event,
+    rules: &Rules,
+) -> Result<(), Fault>
+    requires plan { schedule.old.plan ≡ list.now }
+    requires size { length schedule.old.stages ≡ length list.now.exchanges }
+    requires budget { 1 ≤ rules.now.budget }
+    requires places { HasPlaces list.now places.old }
+    requires tables { (keys : ℕ) × AreInPlace list.now.nodes keys list.now.exchanges (state_in places.old) }
+    ensures schedule { OnOk result (Follows event schedule.old schedule.new) }
+    ensures places { OnOk result (HasPlaces list.now places.new) }
+    ensures state { OnOk result (ShowsEvent rules.now list.now.exchanges event places.old places.new) }
+    ensures refused { IfErr result (IsRefused event schedule.old) }
+{
+    match event {
+        Event::Start(i) => {
+            schedule.start(i)?;
+            take_out(places, list, i);
+        }
+        Event::Finish(i) => {
+            schedule.finish(i)?;
+            put_back(alloc, places, list, i, rules)?;
+        }
+    }
+    Ok(())
 }
 
 // The tables of an exchange's nodes leave their places.
@@ -168,6 +200,19 @@ fn put_back(
         places.records[i as usize] = Some(record);
     }
     Ok(())
+}
+
+// The tables in their places, and the records.
+fn given_by(alloc: Global, places: Places) -> Result<(Vec<NodeTable>, Vec<Record>), Fault>
+    ensures value { IfOk result (λ p. StandIn places p.0.items p.1.items) }
+    ensures only { IsOkUnless result OutOfMemory }
+{
+    let Places {
+        homes,
+        out: _,
+        records,
+    } = places;
+    Ok((all_of(alloc, homes)?, all_of(alloc, records)?))
 }
 
 // What stands in the places, in order, without the empty ones.

@@ -5,8 +5,8 @@ ghost use Rattle.bench_types.specs.declared.faults.Fault.TheVariants.{OutOfMemor
 ghost use Rattle.planner.specs.Stages.{not_started, runs, is_over, none_or_over};
 ghost use Rattle.planner.specs.Stages.{IsSchedule, CanStart, IsFree, IsNextReady, IsRunning, IsDone, Starts, Finishes, HasSchedule};
 
-use crate::deps::Deps;
 use bench_types::Fault;
+use dependencies::Deps;
 use std::alloc::Global;
 use std::marker::Model;
 

@@ -7,8 +7,8 @@ use Rattle.node_table.specs.NodeTableView.{NodeTableView}
 use Rattle.round_plan.specs.Plan.{RoundListView, IsRoundPlan}
 use Rattle.exchange.specs.Exchanged.{Exchanged, exchanged, IsExchanged}
 use Rattle.cluster.specs.Tables.{IsCluster}
-use Rattle.planner.specs.Sharing.{exchange_at}
-use Rattle.planner.specs.Neighbours.{as_list, successors}
+use Rattle.dependencies.specs.Sharing.{exchange_at}
+use Rattle.dependencies.specs.Neighbours.{as_list, successors}
 use Rattle.board.specs.Weights.{Has, times, only}
 use Rattle.board.specs.SeatView.{SeatView}
 use Rattle.board.specs.Plan.{BoardPlan, table_at, responder_of, exchanged_at}

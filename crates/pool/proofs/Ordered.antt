@@ -15,8 +15,8 @@ use Rattle.round_plan.specs.Plan.{RoundListView}
 use Rattle.cluster.specs.Tables.{tables_in}
 use Rattle.cluster.specs.Folds.{fold_of}
 use Rattle.cluster.proofs.FoldLaws.{fold_counts_records}
-use Rattle.planner.specs.Neighbours.{is_first_ready, first_ready_of}
-use Rattle.planner.proofs.Moves.{record_kept}
+use Rattle.dependencies.specs.Neighbours.{is_first_ready, first_ready_of}
+use Rattle.dependencies.proofs.Moves.{record_kept}
 use Rattle.board.specs.SeatView.{SeatView}
 use Rattle.board.specs.Weights.{times}
 use Rattle.board.specs.Plan.{BoardPlan, exchanged_at}

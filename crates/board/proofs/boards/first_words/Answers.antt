@@ -1,6 +1,6 @@
 use Rattle.std.proofs.Common.{arith, ap, sym, ◌∙◌, ◌∷◌, ◌++◌, []}
 use Rattle.std.proofs.lemmas.List.FromFn.{map-range_with_len_more}
-use Rattle.planner.specs.Neighbours.{pending_of}
+use Rattle.dependencies.specs.Neighbours.{pending_of}
 use Rattle.board.proofs.boards.first_words.Goals as goal
 
 pub loop-i-preserved : goal.loop-i-preserved

@@ -1,6 +1,6 @@
 use Rattle.std.proofs.Common.{◌≡◌, ◌∷◌, map}
 use Rattle.std.specs.List.{range_with_len}
-use Rattle.planner.specs.Neighbours.{pending_of}
+use Rattle.dependencies.specs.Neighbours.{pending_of}
 use Rattle.board.proofs.boards.first_words.Given as goal
 
 abbrev pub invariant-loop-i : goal.invariant-loop-i

@@ -1,6 +1,6 @@
 use Rattle.std.proofs.Common.{◌<◌, ◌∙◌, subst, sym, arith}
 use Rattle.bench_types.specs.Exchange.{IsPlanned}
-use Rattle.planner.specs.Sharing.{exchange_at, no_exchange}
+use Rattle.dependencies.specs.Sharing.{exchange_at, no_exchange}
 use Rattle.planner.proofs.Places.{come_back, taken_there, met}
 use Rattle.planner.proofs.plays.put_back.Goals as goal
 

@@ -2,7 +2,7 @@ use Rattle.std.proofs.Common.{◌≡◌, ◌+◌, ◌<◌, ◌++◌, ◌∷◌, 
 use Rattle.cluster.specs.Folds.{exchange_in}
 use Rattle.cluster.specs.Tables.{tables_in, table_of_node, IsCluster}
 use Rattle.cluster.proofs.Tables.{length-tables_in, cluster_of}
-use Rattle.planner.specs.Sharing.{no_exchange}
+use Rattle.dependencies.specs.Sharing.{no_exchange}
 use Rattle.pool.proofs.Turns.{IsTurned, turned_more, still_tables}
 use Rattle.pool.proofs.in_order.exchange_all.Goals as goal
 

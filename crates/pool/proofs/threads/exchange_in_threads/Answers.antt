@@ -1,5 +1,5 @@
 use Rattle.std.proofs.Common.{length, sym, ap, subst, ◌∙◌}
-use Rattle.planner.specs.Neighbours.{first_ready_of}
+use Rattle.dependencies.specs.Neighbours.{first_ready_of}
 use Rattle.cluster.specs.Tables.{tables_in}
 use Rattle.board.specs.Boards.{plan_of, seat_view}
 use Rattle.pool.specs.Deques.{AllBelow}

@@ -3,7 +3,7 @@ use Rattle.std.specs.List.{range_with_len}
 use Rattle.round_plan.specs.Plan.{RoundListView}
 use Rattle.cluster.specs.Tables.{tables_in}
 use Rattle.cluster.proofs.Tables.{length-tables_in}
-use Rattle.planner.specs.Neighbours.{pending_of}
+use Rattle.dependencies.specs.Neighbours.{pending_of}
 use Rattle.board.specs.Plan.{IsBoardPlan}
 use Rattle.board.specs.Keys.{key_plan}
 use Rattle.board.specs.declared.plays.Key.{Key}

@@ -5,7 +5,7 @@ use Rattle.board.specs.Boards.{plan_of}
 use Rattle.board.specs.Plan.{BoardPlan, initiator_of, responder_of}
 use Rattle.board.specs.SeatView.{without_held}
 use Rattle.board.specs.Plays.{view, Sat}
-use Rattle.planner.specs.Sharing.{exchange_at}
+use Rattle.dependencies.specs.Sharing.{exchange_at}
 use Rattle.board.proofs.Moving.{retakes}
 use Rattle.board.proofs.Finishing.{finishes}
 use Rattle.board.proofs.Calls.{word_zero, word_within, both_out, finished_of}

@@ -2,7 +2,7 @@ use Rattle.std.proofs.Common.{rules, ap, ◌∙◌, refl, ◌∷◌, [], None, S
 use Rattle.board.specs.Boards.{plan_of}
 use Rattle.board.specs.Plan.{initiator_of, responder_of}
 use Rattle.board.specs.Plays.{view}
-use Rattle.planner.specs.Sharing.{exchange_at}
+use Rattle.dependencies.specs.Sharing.{exchange_at}
 use Rattle.board.proofs.Moving.{empties}
 use Rattle.board.proofs.Calls.{word_zero, first_out, second_out, both_out}
 use Rattle.board.proofs.boards.Board.take_out.Goals as goal

@@ -1,6 +1,6 @@
 use Rattle.std.proofs.Common.{sym, ap, ◌∙◌, subst}
 use Rattle.std.proofs.lemmas.Bool.{false≢true}
-use Rattle.planner.specs.Neighbours.{predecessors_of}
+use Rattle.dependencies.specs.Neighbours.{predecessors_of}
 use Rattle.planner.specs.Stages.{ScheduleView, IsSchedule}
 use Rattle.planner.proofs.Standings.{free_from_both, both_from_free}
 use Rattle.planner.proofs.schedules.Schedule.is_free.Goals as goal

@@ -4,7 +4,7 @@ use Rattle.bench_types.specs.declared.exchanges.Exchange.{Exchange}
 use Rattle.bench_types.specs.declared.exchanges.Rules.{Rules}
 use Rattle.round_plan.specs.Plan.{RoundListView}
 use Rattle.exchange.specs.Exchanged.{IsExchanged}
-use Rattle.planner.specs.Sharing.{exchange_at, no_exchange}
+use Rattle.dependencies.specs.Sharing.{exchange_at, no_exchange}
 use Rattle.board.specs.Boards.{plan_of, seat_view}
 use Rattle.board.proofs.Returning.{may_be_put_back}
 use Rattle.tests_of_boards.proofs.jobs.Job.carry_out.Goals as goal

@@ -1,0 +1,10 @@
+use Rattle.std.proofs.Common.{length, ap, arith}
+use Rattle.dependencies.specs.Neighbours.{predecessors_of}
+use Rattle.dependencies.proofs.Passes.{length_each}
+use Rattle.dependencies.proofs.deps.Deps.new.Goals as goal
+
+pub free_places-requires : goal.free_places-requires
+free_places-requires c =
+    let es = c.deref.result.now in
+    let each = length_each (predecessors_of es) c.in_ok-before.before.items (length es) c.in_ok-before.ensures.value in
+    record { few = omega (arith, each, ap length c.deref-3.ensures.value, ap length c.deref.ensures.value, ap length c.in_ok-exchanges.ensures.items, ap length c.exchanges.ensures.value, c.exchanges.ensures.kept.size) }

@@ -1,0 +1,26 @@
+use Rattle.std.proofs.Common.{◌≡◌, ◌+◌, ◌-◌, ◌<◌, None, length, subst, ap, ◌∙◌, arith}
+use Rattle.std.proofs.lemmas.List.{get_or_read}
+use Rattle.dependencies.specs.Sharing.{exchange_at, no_exchange}
+use Rattle.dependencies.specs.Neighbours.{unless_same}
+use Rattle.dependencies.proofs.Passes.{IsBackward, backward_more, backward_all}
+use Rattle.dependencies.proofs.deps.all_after.Goals as goal
+
+pub loop-i-preserved : goal.loop-i-preserved
+loop-i-preserved c =
+    let i = c.loop-i.i - 1 in
+    let es = c.args.exchanges.now in
+    let next = c.loop-i.next.items in
+    let within : i < length es = omega arith in
+    let one_less : c.loop-i.i ≡ i + 1 = omega arith in
+    let planned = c.requires.planned i no_exchange within in
+    let one = get_or_read next (exchange_at es i).initiator c.index-first.result.now (omega (arith, c.loop-i.invariant.size, planned.initiator)) c.index-first.ensures None in
+    let two = get_or_read next (exchange_at es i).responder c.index.result.now (omega (arith, c.loop-i.invariant.size, planned.responder)) c.index.ensures None in
+    backward_more es c.args.nodes i next c.loop-i.after.items c.index-first.result.now c.unless_same-second.result within
+    (subst (λ n. IsBackward es c.args.nodes n next c.loop-i.after.items) one_less c.loop-i.invariant) planned one
+    (c.unless_same-second.ensures ∙ ap (unless_same c.index-first.result.now) two)
+
+pub returns-clause-value : goal.returns-clause-value
+returns-clause-value c =
+    let start : c.loop-i.i ≡ 0 = omega arith in
+    let es = c.args.exchanges.now in
+    backward_all es c.args.nodes c.loop-i.next.items c.loop-i.after.items (subst (λ n. IsBackward es c.args.nodes n c.loop-i.next.items c.loop-i.after.items) start c.loop-i.invariant)

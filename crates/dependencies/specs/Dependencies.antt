@@ -1,0 +1,20 @@
+-- What is kept of a list's dependencies. Source: this project.
+use Rattle.std.specs.Prelude.{◌≡◌, ℕ, List}
+use Rattle.bench_types.specs.declared.exchanges.Exchange.{Exchange}
+use Rattle.round_plan.specs.Plan.{RoundListView, IsRoundPlan}
+use Rattle.dependencies.specs.declared.deps.After.{After}
+use Rattle.dependencies.specs.declared.deps.Before.{Before}
+use Rattle.dependencies.specs.Neighbours.{all_predecessors, all_successors, first_ready_of}
+
+pub record AreDependencies (es : List Exchange) (earlier : List Before) (later : List After) (first : List ℕ) : Type 0 where
+  pub before : earlier ≡ all_predecessors es
+  pub after : later ≡ all_successors es
+  pub ready : first ≡ first_ready_of es
+
+-- a plan, and its dependencies beside it
+abbrev pub AreKept : RoundListView → List Before → List After → List ℕ → Type 0
+AreKept plan earlier later first = IsRoundPlan plan × AreDependencies plan.exchanges earlier later first
+
+-- those without a predecessor, of whichever list these are the predecessors
+abbrev pub AreFirstReady : List Before → List ℕ → Type 0
+AreFirstReady earlier first = (es : List Exchange) → earlier ≡ all_predecessors es → first ≡ first_ready_of es

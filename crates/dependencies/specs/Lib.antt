@@ -1,0 +1,12 @@
+pub mod Sharing
+pub mod Schedules
+pub mod Neighbours
+pub mod Dependencies
+pub mod States
+pub mod ListOrder
+pub mod Laws
+pub use Rattle.exchange.specs.Exchanged
+pub use Rattle.cluster.specs.Tables
+pub use Rattle.cluster.specs.Folds
+pub use Rattle.round_plan.specs.Plan
+pub use Rattle.bench_types.specs.Exchange

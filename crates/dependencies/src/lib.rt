@@ -1,0 +1,10 @@
+//! Which exchanges of a round have to wait for which others, and what every order that respects this
+//! gives: the tables and records of list order.
+#![tactic(auto)]
+
+mod deps;
+mod events;
+pub mod laws;
+
+pub use deps::{After, Before, Deps};
+pub use events::Event;

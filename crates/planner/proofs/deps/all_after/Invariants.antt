@@ -1,5 +1,0 @@
-use Rattle.planner.proofs.Passes.{IsBackward}
-use Rattle.planner.proofs.deps.all_after.Given as goal
-
-abbrev pub invariant-loop-i : goal.invariant-loop-i
-invariant-loop-i l = IsBackward l.exchanges l.nodes l.i l.next.items l.after.items

@@ -1,8 +1,0 @@
-use Rattle.std.proofs.Common.{◌≡◌, List, length, map}
-use Rattle.std.specs.List.{range_with_len, filter}
-use Rattle.bench_types.specs.declared.exchanges.Exchange.{Exchange}
-use Rattle.planner.specs.Neighbours.{predecessors_of, is_first_ready}
-use Rattle.planner.proofs.deps.free_places.Given as goal
-
-abbrev pub invariant-loop-i : goal.invariant-loop-i
-invariant-loop-i l = (es : List Exchange) → l.before ≡ map (predecessors_of es) (range_with_len 0 (length es)) → l.free.items ≡ filter (is_first_ready es) (range_with_len 0 l.i)

@@ -1,0 +1,7 @@
+use Rattle.std.proofs.Common.{◌≡◌, ◌++◌, map}
+use Rattle.std.specs.Vec.Iter.{into_iter_items}
+use Rattle.dependencies.specs.States.{in_place}
+use Rattle.planner.proofs.plays.each_at_home.Given as goal
+
+abbrev pub invariant-loop-table : goal.invariant-loop-table
+invariant-loop-table l = (l.yielded ++ into_iter_items l.table-iterator ≡ l.fn.tables.items) × (l.homes.items ≡ map in_place l.yielded)

@@ -4,8 +4,8 @@ ghost use Rattle.std.specs.Prelude.{◌≡◌, ◌+◌, ◌<◌, ◌≤◌, [], 
 ghost use Rattle.bench_types.specs.declared.faults.Fault.TheVariants.{OutOfMemory, NoThread};
 ghost use Rattle.bench_types.specs.declared.limits.TheConstants.{MOST_WORKERS};
 ghost use Rattle.cluster.specs.Tables.{tables_in, IsCluster};
-ghost use Rattle.board.specs.Boards.{seat_view, IsSeatOf};
-ghost use Rattle.pool.specs.Runs.{AreExchanged, IsPoolFault};
+ghost use Rattle.board.specs.Boards.{plan_of, exchanges_of, seat_view, IsSeatOf};
+ghost use Rattle.pool.specs.Runs.{AreExchanged, AreExchangedBy, IsPoolFault};
 ghost use Rattle.pool.specs.Reports.{IsFreshSeat, IsReport};
 ghost use Rattle.pool.specs.Starts.{MayBegin};
 ghost use Rattle.pool.specs.Joined.{HasTakenIn, HasSeenAll, IsOfBoard, AreTogether};
@@ -66,10 +66,26 @@ pub(crate) fn exchange_in_threads<L: Limit + Send + Sync, R: Threads + Wait + Sy
         gate,
     };
     let (seat, stamps) = run_workers(rt, &job, seat, tasks)?;
+    close_in_order(alloc, board, seat, list.len(), &stamps)
+}
+
+// Closes a board whose n exchanges are all finished. Answers its tables, and the records in list order.
+fn close_in_order(
+    alloc: Global,
+    board: Board,
+    seat: Seat,
+    n: u32,
+    stamps: &[Stamped],
+) -> Result<(Vec<NodeTable>, Vec<Record>), Fault>
+    requires size { n ≡ length (exchanges_of board) }
+    requires seen { HasSeenAll board seat stamps.now }
+    ensures exchanged { IfOk result (λ p. AreExchangedBy (plan_of board) p.0.items p.1.items) }
+    ensures only { IsOkUnless result OutOfMemory }
+{
     let Ok(tables) = board.close(seat) else {
         unreachable!()
     };
-    let records = in_list_order(alloc, list.len(), &stamps)?;
+    let records = in_list_order(alloc, n, stamps)?;
     Ok((tables, records))
 }
 
@@ -144,22 +160,42 @@ fn start_all<'s, 'e: 's, L: Limit + Send + Sync + 'e, R: Threads + Wait + Sync, 
     ensures only { IsOkUnless result NoThread }
 {
     for own in tasks {
-        let part = job.board.split(seat);
-        let back = Back(Snapshot::of(job.board));
-        let started = scope.spawn_with(
-            back,
-            move || -> Report
-                requires limit { L.limit ≡ length job.now.list.now.exchanges }
-                requires seat { IsFreshSeat job.now.board.now part }
-                ensures { IsReport job.entry.now.board.now (seat_view part).parts result }
-            { job.work(rt, part, own) },
-        );
-        match started {
-            Ok(handle) => handles.push_reserved(handle),
-            Err(_) => return Err(Fault::NoThread),
-        }
+        let handle = start_one(scope, rt, job, seat, own)?;
+        handles.push_reserved(handle);
     }
     Ok(())
+}
+
+// Starts the thread of a worker, with a part of the seat.
+fn start_one<'s, 'e: 's, L: Limit + Send + Sync + 'e, R: Threads + Wait + Sync, G: Gate + Sync>(
+    scope: &Scope<'s, &'e ()>,
+    rt: &'e R,
+    job: &'e Job<'e, G>,
+    seat: &mut Seat,
+    own: Tasks<L>,
+) -> Result<Handle, Fault>
+    requires limit { L.limit ≡ length job.now.list.now.exchanges }
+    requires seat { IsFreshSeat job.now.board.now seat.old }
+    requires parts { 2 ≤ (seat_view seat.old).parts }
+    ensures seat { IsFreshSeat job.now.board.now seat.new }
+    ensures parts { (seat_view seat.new).parts + 1 ≡ (seat_view seat.old).parts }
+    ensures promised { IfOk result (IsOfBoard job.now.board.now) }
+    ensures only { IsOkUnless result NoThread }
+{
+    let part = job.board.split(seat);
+    let back = Back(Snapshot::of(job.board));
+    let started = scope.spawn_with(
+        back,
+        move || -> Report
+            requires limit { L.limit ≡ length job.now.list.now.exchanges }
+            requires seat { IsFreshSeat job.now.board.now part }
+            ensures { IsReport job.entry.now.board.now (seat_view part).parts result }
+        { job.work(rt, part, own) },
+    );
+    let Ok(handle) = started else {
+        return Err(Fault::NoThread);
+    };
+    Ok(handle)
 }
 
 // Joins the threads, and their seats to another. Answers the records of all, in the order of joining.

@@ -4,7 +4,8 @@ ghost use Rattle.std.specs.Prelude.{◌≡◌, ◌+◌, ◌<◌, ◌≤◌, [], 
 ghost use Rattle.bench_types.specs.declared.faults.Fault.TheVariants.{OutOfMemory, NoThread};
 ghost use Rattle.bench_types.specs.declared.limits.TheConstants.{MOST_WORKERS};
 ghost use Rattle.cluster.specs.Tables.{tables_in, IsCluster};
-ghost use Rattle.board.specs.Boards.{plan_of, exchanges_of, seat_view, IsSeatOf};
+ghost use Rattle.board.specs.SeatView.{first_seat};
+ghost use Rattle.board.specs.Boards.{plan_of, exchanges_of, seat_view, IsSeatOf, IsMadeOf};
 ghost use Rattle.pool.specs.Runs.{AreExchanged, AreExchangedBy, IsPoolFault};
 ghost use Rattle.pool.specs.Reports.{IsFreshSeat, IsReport};
 ghost use Rattle.pool.specs.Starts.{MayBegin};
@@ -55,9 +56,7 @@ pub(crate) fn exchange_in_threads<L: Limit + Send + Sync, R: Threads + Wait + Sy
     ensures exchanged { IfOk result (λ p. AreExchanged rules.now list.now.exchanges tables.items p.0.items p.1.items) }
     ensures fault { IfErr result (IsPoolFault workers) }
 {
-    let deps = Deps::new(alloc, list)?;
-    let tasks = deal::<L>(alloc, workers, deps.first_ready())?;
-    let (board, seat) = Board::new(alloc, deps, *rules, tables)?;
+    let (board, seat, tasks) = open_board::<L>(alloc, list, tables, workers, rules)?;
     let job = Job {
         alloc,
         board: &board,
@@ -67,6 +66,28 @@ pub(crate) fn exchange_in_threads<L: Limit + Send + Sync, R: Threads + Wait + Sy
     };
     let (seat, stamps) = run_workers(rt, &job, seat, tasks)?;
     close_in_order(alloc, board, seat, list.len(), &stamps)
+}
+
+// Opens a board for a list. Answers its first seat, and the deques of so many workers.
+fn open_board<L: Limit>(
+    alloc: Global,
+    list: &RoundList,
+    tables: Vec<NodeTable>,
+    workers: u32,
+    rules: &Rules,
+) -> Result<(Board, Seat, Vec<Tasks<L>>), Fault>
+    requires limit { L.limit ≡ length list.now.exchanges }
+    requires some { 1 ≤ workers }
+    requires cluster { IsCluster list.now.nodes (tables_in tables.items) }
+    ensures plan { IfOk result (λ p. IsMadeOf rules.now list.now tables.items p.0) }
+    ensures seat { IfOk result (λ p. IsSeatOf p.1 p.0 × (seat_view p.1 ≡ first_seat)) }
+    ensures tasks { IfOk result (λ p. vec_len p.2 ≡ workers) }
+    ensures only { IsOkUnless result OutOfMemory }
+{
+    let deps = Deps::new(alloc, list)?;
+    let tasks = deal(alloc, workers, deps.first_ready())?;
+    let (board, seat) = Board::new(alloc, deps, *rules, tables)?;
+    Ok((board, seat, tasks))
 }
 
 // Closes a board whose n exchanges are all finished. Answers its tables, and the records in list order.

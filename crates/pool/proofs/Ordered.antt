@@ -9,7 +9,10 @@ use Rattle.std.proofs.lemmas.Option.{get_or_from_slice_get}
 use Rattle.std.proofs.lemmas.Bool.{cases_Bool}
 use Rattle.bench_types.specs.declared.exchanges.Exchange.{Exchange}
 use Rattle.bench_types.specs.declared.exchanges.Record.{Record}
+use Rattle.bench_types.specs.declared.exchanges.Rules.{Rules}
 use Rattle.node_table.specs.NodeTableView.{NodeTableView}
+use Rattle.round_plan.specs.Plan.{RoundListView}
+use Rattle.cluster.specs.Tables.{tables_in}
 use Rattle.cluster.specs.Folds.{fold_of}
 use Rattle.cluster.proofs.FoldLaws.{fold_counts_records}
 use Rattle.planner.specs.Neighbours.{is_first_ready, first_ready_of}
@@ -19,7 +22,7 @@ use Rattle.board.specs.Weights.{times}
 use Rattle.board.specs.Plan.{BoardPlan, exchanged_at}
 use Rattle.board.specs.Boards.{AreLeft, HasMadeAll}
 use Rattle.collector.specs.declared.collectors.Stamped.{Stamped}
-use Rattle.pool.specs.Runs.{AreExchangedBy}
+use Rattle.pool.specs.Runs.{AreExchanged}
 use Rattle.pool.specs.Deques.{AllBelow}
 use Rattle.pool.specs.Reports.{AreRecordsOf}
 use Rattle.pool.specs.Gathering.{AreInListOrder}
@@ -40,30 +43,39 @@ ready_below es =
     all_filter (λ i. i < length es) (is_first_ready es) (range_with_len 0 (length es))
     (λ k d lt. omega (arith, lt, length-range_with_len 0 (length es), get_or-range_with_len 0 (length es) k d (omega (arith, lt, length-range_with_len 0 (length es)))))
 
-module _ (plan : BoardPlan) (v : SeatView) (stamps : List Stamped) (records : List Record) where
+module _ (rules : Rules) (list : RoundListView) (old : List NodeTableView) (v : SeatView) (stamps : List Stamped) (records : List Record) where
+  abbrev made_of : BoardPlan
+  made_of = record { rules = rules; list = list; tables = tables_in old }
+
   abbrev es : List Exchange
-  es = plan.list.exchanges
+  es = list.exchanges
 
   -- a record's place in the answer, and what it is
   abbrev Stands : Stamped → Type 0
-  Stands s = (s.outcome ≡ (exchanged_at plan s.index).sent) × (slice_get records s.index ≡ Some s.outcome)
+  Stands s = (s.outcome ≡ (exchanged_at made_of s.index).sent) × (slice_get records s.index ≡ Some s.outcome)
 
-  record_at : AreRecordsOf plan v stamps → HasMadeAll plan v → AreInListOrder (length es) stamps records → (i : ℕ) → i < length es → slice_get records i ≡ Some (exchanged_at plan i).sent
+  record_at : AreRecordsOf made_of v stamps → HasMadeAll made_of v → AreInListOrder (length es) stamps records → (i : ℕ) → i < length es → slice_get records i ≡ Some (exchanged_at made_of i).sent
   record_at of_seat all ordered i lt =
       let some : 0 < times i (map (λ (s : Stamped). s.index) stamps) = subst (λ made. 0 < times i made) (sym of_seat.made) (omega (arith, all.1 i lt)) in
       let found = stamp_of Stands stamps i (λ k d below. (of_seat.sent k d below, ordered.each k d below)) some in
-      ap (slice_get records) (sym found.1) ∙ found.2.1 ∙ ap Some found.2.0 ∙ ap (λ k. Some (exchanged_at plan k).sent) found.1
+      ap (slice_get records) (sym found.1) ∙ found.2.1 ∙ ap Some found.2.0 ∙ ap (λ k. Some (exchanged_at made_of k).sent) found.1
 
-  records_same : AreRecordsOf plan v stamps → HasMadeAll plan v → AreInListOrder (length es) stamps records → (fold_of plan.rules plan.tables es).records ≡ records
+  records_same : AreRecordsOf made_of v stamps → HasMadeAll made_of v → AreInListOrder (length es) stamps records → (fold_of rules (tables_in old) es).records ≡ records
   records_same of_seat all ordered =
-      let count = fold_counts_records plan.rules es (record { tables = plan.tables; records = [] }) in
-      same_lists (fold_of plan.rules plan.tables es).records records (omega (arith, count, ordered.size)) (λ k d lt.
+      let count = fold_counts_records rules es (record { tables = tables_in old; records = [] }) in
+      same_lists (fold_of rules (tables_in old) es).records records (omega (arith, count, ordered.size)) (λ k d lt.
       let below : k < length es = omega (arith, lt, count) in
-      get_or_from_slice_get (fold_of plan.rules plan.tables es).records k (exchanged_at plan k).sent d (record_kept plan.rules plan.tables es k below)
-      ∙ sym (get_or_from_slice_get records k (exchanged_at plan k).sent d (record_at of_seat all ordered k below)))
+      get_or_from_slice_get (fold_of rules (tables_in old) es).records k (exchanged_at made_of k).sent d (record_kept rules (tables_in old) es k below)
+      ∙ sym (get_or_from_slice_get records k (exchanged_at made_of k).sent d (record_at of_seat all ordered k below)))
 
-  -- tables and records of list order
-  pub all_exchanged : (new : List NodeTableView) (n : ℕ) → n ≡ length es → AreRecordsOf plan v stamps → HasMadeAll plan v → AreInListOrder n stamps records → AreLeft plan new → AreExchangedBy plan new records
-  all_exchanged new n size of_seat all ordered left =
-      let same = records_same of_seat all (subst (λ m. AreInListOrder m stamps records) size ordered) in
-      λ i. record { tables = sym left i; records = same i }
+-- tables and records of list order
+pub all_exchanged : (rules : Rules) (list : RoundListView) (old new : List NodeTableView) (plan : BoardPlan) (v : SeatView) (stamps : List Stamped) (records : List Record) (n : ℕ)
+    → plan ≡ record { rules = rules; list = list; tables = tables_in old } → n ≡ length list.exchanges
+    → AreRecordsOf plan v stamps → HasMadeAll plan v → AreInListOrder n stamps records → AreLeft plan new → AreExchanged rules list.exchanges old new records
+all_exchanged rules list old new plan v stamps records n is size of_seat all ordered left =
+    let of_seat' = subst (λ p. AreRecordsOf p v stamps) is of_seat in
+    let all' = subst (λ p. HasMadeAll p v) is all in
+    let ordered' = subst (λ m. AreInListOrder m stamps records) size ordered in
+    let left' = subst (λ p. AreLeft p new) is left in
+    let same = records_same rules list old v stamps records of_seat' all' ordered' in
+    λ i. record { tables = sym left' i; records = same i }

@@ -6,17 +6,12 @@ use Rattle.bench_types.specs.declared.exchanges.Rules.{Rules}
 use Rattle.bench_types.specs.declared.faults.Fault.{Fault}
 use Rattle.bench_types.specs.declared.faults.Fault.TheVariants.{OutOfMemory, NoThread}
 use Rattle.node_table.specs.NodeTableView.{NodeTableView}
-use Rattle.board.specs.Plan.{BoardPlan}
 use Rattle.cluster.specs.Tables.{tables_in}
 use Rattle.cluster.specs.Folds.{fold_of}
 
 -- these are the tables and the records of list order
 abbrev pub AreExchanged : Rules → List Exchange → List NodeTableView → List NodeTableView → List Record → Type 0
 AreExchanged rules es old new records = fold_of rules (tables_in old) es ≡ record { tables = tables_in new; records = records }
-
--- and these those of a board's plan
-abbrev pub AreExchangedBy : BoardPlan → List NodeTableView → List Record → Type 0
-AreExchangedBy plan new records = fold_of plan.rules plan.tables plan.list.exchanges ≡ record { tables = tables_in new; records = records }
 
 -- memory was refused, or one of several threads couldn't be started
 abbrev pub IsPoolFault : ℕ → Fault → Type 0

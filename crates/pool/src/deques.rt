@@ -1,6 +1,6 @@
 //! The deques of a round's workers. Each worker has one, and the others may steal from it.
 
-ghost use Rattle.std.specs.Prelude.{◌≡◌, ℕ, ◌^◌, ◌<◌, ◌≤◌, length, IfOk, IfSome, IsOkUnless, vec_len};
+ghost use Rattle.std.specs.Prelude.{◌≡◌, ℕ, ◌<◌, ◌≤◌, IfOk, IfSome, IsOkUnless, vec_len};
 ghost use Rattle.bench_types.specs.declared.faults.Fault.TheVariants.{OutOfMemory};
 ghost use Rattle.crossbeam_deque.specs.Handles.{IsPassOf, stealer_deque, worker_flavor};
 ghost use Rattle.pool.specs.Deques.{AllBelow};
@@ -82,14 +82,6 @@ impl<L: Limit> Tasks<L> {
         Ok(Way { from, pass })
     }
 
-    // Steals from this one too, after those that it has.
-    fn add_way(&mut self, way: Way<L>) -> Result<(), Fault>
-        ensures only { IsOkUnless result OutOfMemory }
-    {
-        self.others.push(way)?;
-        Ok(())
-    }
-
     /// Puts an exchange of the list on its own deque. An error is lack of memory.
     pub(crate) fn push(&mut self, i: u32) -> Result<(), Fault>
         requires within { i < L.limit }
@@ -131,48 +123,18 @@ pub(crate) fn deal<L: Limit>(
     ensures only { IsOkUnless result OutOfMemory }
 {
     let count = workers as usize;
-    let mut tasks = empty_tasks(alloc, count, ready.len() / count + 1)?;
-    add_ways(&mut tasks)?;
-    spread(&mut tasks, ready)?;
-    Ok(tasks)
-}
-
-// So many empty deques, each with room for so many indices, before it grows, and no way to any other.
-fn empty_tasks<L: Limit>(alloc: Global, count: usize, room: usize) -> Result<Vec<Tasks<L>>, Fault>
-    ensures one_each { IfOk result (λ tasks. vec_len tasks ≡ count) }
-    ensures only { IsOkUnless result OutOfMemory }
-{
     let mut tasks = Vec::with_capacity(alloc, count)?;
     for _ in 0..count {
-        tasks.push(Tasks::new(alloc, room)?)?;
+        tasks.push(Tasks::new(alloc, ready.len() / count + 1)?)?;
     }
-    Ok(tasks)
-}
-
-// Adds to each the ways to all others, in the order in which it steals from them.
-fn add_ways<L: Limit>(tasks: &mut [Tasks<L>]) -> Result<(), Fault>
-    requires { length tasks.old < 2 ^ 32 }
-    ensures only { IsOkUnless result OutOfMemory }
-{
-    let count = tasks.len();
     for worker in 0..count {
         for step in 1..count {
             let way = tasks[(worker + step) % count].way()?;
-            tasks[worker].add_way(way)?;
+            tasks[worker].others.push(way)?;
         }
     }
-    Ok(())
-}
-
-// Puts the index at place j on deque j modulo their number.
-fn spread<L: Limit>(tasks: &mut [Tasks<L>], indices: &[u32]) -> Result<(), Fault>
-    requires some { 1 ≤ length tasks.old }
-    requires within { AllBelow L.limit indices.now }
-    ensures only { IsOkUnless result OutOfMemory }
-{
-    let count = tasks.len();
-    for (place, i) in indices.iter().enumerate() {
+    for (place, i) in ready.iter().enumerate() {
         tasks[place % count].push(*i)?;
     }
-    Ok(())
+    Ok(tasks)
 }

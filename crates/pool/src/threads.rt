@@ -4,9 +4,8 @@ ghost use Rattle.std.specs.Prelude.{◌≡◌, ◌+◌, ◌<◌, ◌≤◌, [], 
 ghost use Rattle.bench_types.specs.declared.faults.Fault.TheVariants.{OutOfMemory, NoThread};
 ghost use Rattle.bench_types.specs.declared.limits.TheConstants.{MOST_WORKERS};
 ghost use Rattle.cluster.specs.Tables.{tables_in, IsCluster};
-ghost use Rattle.board.specs.SeatView.{first_seat};
-ghost use Rattle.board.specs.Boards.{plan_of, exchanges_of, seat_view, IsSeatOf, IsMadeOf};
-ghost use Rattle.pool.specs.Runs.{AreExchanged, AreExchangedBy, IsPoolFault};
+ghost use Rattle.board.specs.Boards.{seat_view, IsSeatOf};
+ghost use Rattle.pool.specs.Runs.{AreExchanged, IsPoolFault};
 ghost use Rattle.pool.specs.Reports.{IsFreshSeat, IsReport};
 ghost use Rattle.pool.specs.Starts.{MayBegin};
 ghost use Rattle.pool.specs.Joined.{HasTakenIn, HasSeenAll, IsOfBoard, AreTogether};
@@ -56,7 +55,9 @@ pub(crate) fn exchange_in_threads<L: Limit + Send + Sync, R: Threads + Wait + Sy
     ensures exchanged { IfOk result (λ p. AreExchanged rules.now list.now.exchanges tables.items p.0.items p.1.items) }
     ensures fault { IfErr result (IsPoolFault workers) }
 {
-    let (board, seat, tasks) = open_board::<L>(alloc, list, tables, workers, rules)?;
+    let deps = Deps::new(alloc, list)?;
+    let tasks = deal::<L>(alloc, workers, deps.first_ready())?;
+    let (board, seat) = Board::new(alloc, deps, *rules, tables)?;
     let job = Job {
         alloc,
         board: &board,
@@ -65,48 +66,10 @@ pub(crate) fn exchange_in_threads<L: Limit + Send + Sync, R: Threads + Wait + Sy
         gate,
     };
     let (seat, stamps) = run_workers(rt, &job, seat, tasks)?;
-    close_in_order(alloc, board, seat, list.len(), &stamps)
-}
-
-// Opens a board for a list. Answers its first seat, and the deques of so many workers.
-fn open_board<L: Limit>(
-    alloc: Global,
-    list: &RoundList,
-    tables: Vec<NodeTable>,
-    workers: u32,
-    rules: &Rules,
-) -> Result<(Board, Seat, Vec<Tasks<L>>), Fault>
-    requires limit { L.limit ≡ length list.now.exchanges }
-    requires some { 1 ≤ workers }
-    requires cluster { IsCluster list.now.nodes (tables_in tables.items) }
-    ensures plan { IfOk result (λ p. IsMadeOf rules.now list.now tables.items p.0) }
-    ensures seat { IfOk result (λ p. IsSeatOf p.1 p.0 × (seat_view p.1 ≡ first_seat)) }
-    ensures tasks { IfOk result (λ p. vec_len p.2 ≡ workers) }
-    ensures only { IsOkUnless result OutOfMemory }
-{
-    let deps = Deps::new(alloc, list)?;
-    let tasks = deal(alloc, workers, deps.first_ready())?;
-    let (board, seat) = Board::new(alloc, deps, *rules, tables)?;
-    Ok((board, seat, tasks))
-}
-
-// Closes a board whose n exchanges are all finished. Answers its tables, and the records in list order.
-fn close_in_order(
-    alloc: Global,
-    board: Board,
-    seat: Seat,
-    n: u32,
-    stamps: &[Stamped],
-) -> Result<(Vec<NodeTable>, Vec<Record>), Fault>
-    requires size { n ≡ length (exchanges_of board) }
-    requires seen { HasSeenAll board seat stamps.now }
-    ensures exchanged { IfOk result (λ p. AreExchangedBy (plan_of board) p.0.items p.1.items) }
-    ensures only { IsOkUnless result OutOfMemory }
-{
     let Ok(tables) = board.close(seat) else {
         unreachable!()
     };
-    let records = in_list_order(alloc, n, stamps)?;
+    let records = in_list_order(alloc, list.len(), &stamps)?;
     Ok((tables, records))
 }
 
@@ -181,42 +144,22 @@ fn start_all<'s, 'e: 's, L: Limit + Send + Sync + 'e, R: Threads + Wait + Sync, 
     ensures only { IsOkUnless result NoThread }
 {
     for own in tasks {
-        let handle = start_one(scope, rt, job, seat, own)?;
-        handles.push_reserved(handle);
+        let part = job.board.split(seat);
+        let back = Back(Snapshot::of(job.board));
+        let started = scope.spawn_with(
+            back,
+            move || -> Report
+                requires limit { L.limit ≡ length job.now.list.now.exchanges }
+                requires seat { IsFreshSeat job.now.board.now part }
+                ensures { IsReport job.entry.now.board.now (seat_view part).parts result }
+            { job.work(rt, part, own) },
+        );
+        match started {
+            Ok(handle) => handles.push_reserved(handle),
+            Err(_) => return Err(Fault::NoThread),
+        }
     }
     Ok(())
-}
-
-// Starts the thread of a worker, with a part of the seat.
-fn start_one<'s, 'e: 's, L: Limit + Send + Sync + 'e, R: Threads + Wait + Sync, G: Gate + Sync>(
-    scope: &Scope<'s, &'e ()>,
-    rt: &'e R,
-    job: &'e Job<'e, G>,
-    seat: &mut Seat,
-    own: Tasks<L>,
-) -> Result<Handle, Fault>
-    requires limit { L.limit ≡ length job.now.list.now.exchanges }
-    requires seat { IsFreshSeat job.now.board.now seat.old }
-    requires parts { 2 ≤ (seat_view seat.old).parts }
-    ensures seat { IsFreshSeat job.now.board.now seat.new }
-    ensures parts { (seat_view seat.new).parts + 1 ≡ (seat_view seat.old).parts }
-    ensures promised { IfOk result (IsOfBoard job.now.board.now) }
-    ensures only { IsOkUnless result NoThread }
-{
-    let part = job.board.split(seat);
-    let back = Back(Snapshot::of(job.board));
-    let started = scope.spawn_with(
-        back,
-        move || -> Report
-            requires limit { L.limit ≡ length job.now.list.now.exchanges }
-            requires seat { IsFreshSeat job.now.board.now part }
-            ensures { IsReport job.entry.now.board.now (seat_view part).parts result }
-        { job.work(rt, part, own) },
-    );
-    let Ok(handle) = started else {
-        return Err(Fault::NoThread);
-    };
-    Ok(handle)
 }
 
 // Joins the threads, and their seats to another. Answers the records of all, in the order of joining.

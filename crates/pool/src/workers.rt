@@ -1,6 +1,6 @@
 //! What the workers of a list share, and the body of one of them.
 
-ghost use Rattle.std.specs.Prelude.{◌≡◌, ◌<◌, ◌↔◌, length, IfOk, IfSome, OnOk, OnErr, IsOkUnless, IsTrue};
+ghost use Rattle.std.specs.Prelude.{◌≡◌, ◌<◌, ◌↔◌, length, IfOk, OnOk, OnErr, IsOkUnless, IsTrue};
 ghost use Rattle.bench_types.specs.declared.faults.Fault.TheVariants.{OutOfMemory};
 ghost use Rattle.board.specs.Weights.{Has};
 ghost use Rattle.board.specs.Boards.{plan_of, seat_view, IsSeatOf, IsHoldOf};
@@ -124,7 +124,12 @@ impl<'a, G: Gate> Job<'a, G> {
             return Ok(());
         };
         let (stamped, freed) = self.carry_out(seat, hold)?;
-        push_freed(tasks, freed)?;
+        if let Some(next) = freed.first {
+            tasks.push(next)?;
+        }
+        if let Some(next) = freed.second {
+            tasks.push(next)?;
+        }
         stamps.push(stamped)?;
         Ok(())
     }
@@ -155,19 +160,4 @@ impl<'a, G: Gate> Job<'a, G> {
         self.gate.leave(index);
         Ok((Stamped { index, outcome }, freed))
     }
-}
-
-// Puts what was made ready on a worker's own deque.
-fn push_freed<L: Limit>(tasks: &mut Tasks<L>, freed: Freed) -> Result<(), Fault>
-    requires first { IfSome freed.first (λ i. i < L.limit) }
-    requires second { IfSome freed.second (λ i. i < L.limit) }
-    ensures only { IsOkUnless result OutOfMemory }
-{
-    if let Some(next) = freed.first {
-        tasks.push(next)?;
-    }
-    if let Some(next) = freed.second {
-        tasks.push(next)?;
-    }
-    Ok(())
 }

@@ -1,17 +1,27 @@
-use Rattle.std.proofs.Common.{length, IfOk, sym, ap, subst, ◌∙◌}
-use Rattle.board.specs.Plan.{BoardPlan}
-use Rattle.pool.specs.Joined.{HasSeenAll}
-use Rattle.pool.specs.Runs.{AreExchangedBy}
+use Rattle.std.proofs.Common.{length, sym, ap, subst, ◌∙◌}
+use Rattle.planner.specs.Neighbours.{first_ready_of}
+use Rattle.cluster.specs.Tables.{tables_in}
+use Rattle.board.specs.Boards.{plan_of, seat_view}
+use Rattle.pool.specs.Deques.{AllBelow}
+use Rattle.pool.specs.Gathering.{AreInListOrder}
+use Rattle.pool.proofs.Ordered.{ready_below, all_exchanged}
 use Rattle.pool.proofs.threads.exchange_in_threads.Goals as goal
 
-pub close_in_order-requires-clause-size : goal.close_in_order-requires-clause-size
-close_in_order-requires-clause-size g c =
-    c.len.ensures.value ∙ sym (ap (λ (plan : BoardPlan). length plan.list.exchanges) c.in_ok-board.ensures.plan)
-
-pub close_in_order-requires-clause-seen : goal.close_in_order-requires-clause-seen
-close_in_order-requires-clause-seen g c =
-    subst (HasSeenAll c.in_ok-board.board c.in_ok-seat.seat) (sym c.deref.ensures.value) c.in_ok-seat.ensures.made
+pub deal-requires-clause-within : goal.deal-requires-clause-within
+deal-requires-clause-within g c =
+    let es = c.args.list.now.exchanges in
+    let ready = c.first_ready.ensures ∙ ap (λ l. first_ready_of l.exchanges) c.in_ok-deps.ensures.value in
+    subst (λ limit. AllBelow limit c.first_ready.result.now) (sym c.requires.limit) (subst (AllBelow (length es)) (sym ready) (ready_below es))
 
 pub returns-clause-exchanged : goal.returns-clause-exchanged
 returns-clause-exchanged g c =
-    subst (λ plan. IfOk c.close_in_order.result (λ p. AreExchangedBy plan p.0.items p.1.items)) c.in_ok-board.ensures.plan c.close_in_order.ensures.exchanged
+    let rules = c.args.rules.now in
+    let list = c.args.list.now in
+    let old = c.args.tables.items in
+    let board = c.in_ok-board.board in
+    let seen = c.in_ok-seat.ensures.made in
+    all_exchanged rules list old c.in-Ok.tables.items (plan_of board) (seat_view c.in_ok-seat.seat) c.in_ok-seat.stamps.items c.in_ok-records.records.items c.len.result
+    (c.in_ok-board.ensures.plan ∙ ap (λ l. record { rules = rules; list = l; tables = tables_in old }) c.in_ok-deps.ensures.value)
+    c.len.ensures.value seen.records (c.in-Ok.ensures.whole seen.whole)
+    (subst (λ stamps. AreInListOrder c.len.result stamps c.in_ok-records.records.items) c.deref.ensures.value c.in_ok-records.ensures.records)
+    c.in-Ok.ensures.tables

@@ -6,11 +6,11 @@ ghost use Rattle.bench_types.specs.declared.faults.Fault.TheVariants.{OutOfMemor
 use crate::fields::{Field, TableName};
 use crate::limits::{MOST_BYTES, MOST_ENTRIES};
 use std::alloc::{AllocError, AllocFailed};
-use std::error::Error;
 use std::fmt;
+use thiserror::Error;
 
 /// A fault. Its display is the line that the program prints, without the line's end.
-#[derive(Debug, Drop, PartialEq, Eq)]
+#[derive(Debug, Drop, PartialEq, Eq, Error)]
 pub enum Fault {
     OutOfMemory,
     NotToml,
@@ -67,8 +67,6 @@ impl fmt::Display for Fault {
         f.write_str(line)
     }
 }
-
-impl Error for Fault {}
 
 impl From<AllocError> for Fault {
     ghost from_gives = { λ _ fault. fault ≡ OutOfMemory };

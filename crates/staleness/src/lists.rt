@@ -81,9 +81,7 @@ impl OwnerList {
     {
         let version = self.len() + 1;
         let write = Write { key, version, born };
-        self.links.reserve(1)?;
-        self.firsts.reserve(1)?;
-        self.latest.reserve(1)?;
+        make_room(&mut self.links, &mut self.firsts, &mut self.latest)?;
         let before = put(&mut self.latest, write);
         put_first(&mut self.firsts, before, write);
         self.in_order = self.in_order && comes_in_order(&self.links, born);
@@ -133,6 +131,25 @@ impl OwnerList {
             None => write_in(&self.firsts, key),
         }
     }
+}
+
+// Makes room for one more of each.
+fn make_room(
+    links: &mut Vec<Link>,
+    firsts: &mut Vec<Write>,
+    latest: &mut Vec<Write>,
+) -> Result<(), Fault>
+    ensures links { links.new.items ≡ links.old.items }
+    ensures firsts { firsts.new.items ≡ firsts.old.items }
+    ensures latest { latest.new.items ≡ latest.old.items }
+    ensures room { OnOk result ((vec_len links.new < vec_capacity links.new)
+        × (vec_len firsts.new < vec_capacity firsts.new) × (vec_len latest.new < vec_capacity latest.new)) }
+    ensures only { IsOkUnless result OutOfMemory }
+{
+    links.reserve(1)?;
+    firsts.reserve(1)?;
+    latest.reserve(1)?;
+    Ok(())
 }
 
 // The write of a key, if any.

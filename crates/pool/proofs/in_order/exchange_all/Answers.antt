@@ -1,9 +1,10 @@
-use Rattle.std.proofs.Common.{◌≡◌, ◌+◌, ◌<◌, ◌++◌, ◌∷◌, [], length, get_or, sym, subst, ◌∙◌}
-use Rattle.cluster.specs.Folds.{exchange_in}
+use Rattle.std.proofs.Common.{◌≡◌, ◌+◌, ◌<◌, ◌++◌, ◌∷◌, [], length, take, get_or, sym, ap, subst, ◌∙◌, arith}
+use Rattle.std.proofs.lemmas.List.{take_all}
+use Rattle.cluster.specs.Folds.{exchange_in, fold_of}
 use Rattle.cluster.specs.Tables.{tables_in, table_of_node, IsCluster}
 use Rattle.cluster.proofs.Tables.{length-tables_in, cluster_of}
 use Rattle.dependencies.specs.Sharing.{no_exchange}
-use Rattle.pool.proofs.Turns.{IsTurned, turned_more, still_tables}
+use Rattle.pool.proofs.Turns.{IsTurned, turned_none, turned_more, still_tables}
 use Rattle.pool.proofs.in_order.exchange_all.Goals as goal
 
 pub loop-i-preserved : goal.loop-i-preserved
@@ -28,3 +29,17 @@ exchange_pair-requires-clause-tables g c =
     let new = c.loop-i.tables in
     let still = still_tables c.args.rules.now nodes keys c.args.list.now.exchanges old (tables_in new) c.loop-i.records.items c.exchanges-plan-items.ensures.kept.planned c.requires.tables c.loop-i.i c.loop-i.invariant in
     subst (λ n. IsCluster n (tables_in new)) (sym still.size ∙ length-tables_in new) (cluster_of nodes keys (tables_in new) still)
+
+pub loop-i-init : goal.loop-i-init
+loop-i-init g c =
+    let rules = c.args.rules.now in
+    let es = c.args.list.now.exchanges in
+    let old = tables_in c.args.tables.now in
+    subst (λ records. IsTurned rules es old old records 0) (sym c.in_ok-records.ensures.items) (turned_none rules es old)
+
+pub returns-clause-exchanged : goal.returns-clause-exchanged
+returns-clause-exchanged g c =
+    let es = c.args.list.now.exchanges in
+    let i = c.loop-i.i in
+    let all : take i es ≡ es = take_all i es (omega (arith, c.loop-i-test.false, ap length c.exchanges-plan-items.ensures.value)) in
+    sym (ap (fold_of c.args.rules.now (tables_in c.args.tables.now)) all) ∙ c.loop-i.invariant.folded

@@ -1,4 +1,4 @@
-use Rattle.std.proofs.Common.{◌≡◌, ℕ, ◌+◌, ◌*◌, ◌/◌, ◌<◌, min, List, length, get_or, Result, Ok, take, drop, ◌++◌, sym, ap, ◌∙◌, subst, arith}
+use Rattle.std.proofs.Common.{◌≡◌, ℕ, ◌+◌, ◌*◌, ◌/◌, ◌<◌, min, List, length, get_or, Result, Ok, take, drop, ◌++◌, refl, sym, ap, ◌∙◌, subst, arith}
 use Rattle.std.specs.Prelude.{Vec}
 use Rattle.std.specs.declared.alloc.AllocError.{AllocError}
 use Rattle.std.specs.declared.alloc.Global.{Global}
@@ -37,6 +37,15 @@ copies_of_parts-requires-clause-begins g c κs within =
       size = begins.size;
       blank = seen_none tables c.args.lists.now c.args.size c.deref.result.now begins;
     }
+
+pub loop-part-init : goal.loop-part-init
+loop-part-init g c =
+    let tables = tables_in c.args.tables.now in
+    let copies = c.in_ok-copies.copies.items in
+    let found = c.in-Some.ensures.item in
+    let begins = begun c.args.tables.now c.args.lists.now c.in-Some.table.now c.keys-keys.result copies copies (omega (arith, found.3.0)) found.1 c.requires.one_list_each c.keys-keys.ensures.value refl c.in_ok-copies.ensures in
+    let none : 0 ≡ min (0 * c.args.size) (length tables) = omega arith in
+    subst (λ m. AreSeen (length tables) (table_of_node tables 0).keys (λ owner key. copies_of tables c.args.lists.now owner key m) copies) none begins
 
 -- what was found of a part, and that it is one of so many
 found_there : (tables : List Table) (none : List Copies) (size count : ℕ) (parts items : List (Result (Vec Copies Global) AllocError)) (p : ℕ) (r : Result (Vec Copies Global) AllocError) (v : Vec Copies Global) (part : List Copies) → items ≡ parts → AreSeenInParts tables none size count parts → p < length items → r ≡ get_or items p r → r ≡ Ok v → part ≡ v.items → IsSeenInPart tables none size p part × (p < count)

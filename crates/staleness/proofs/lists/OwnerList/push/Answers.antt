@@ -17,20 +17,20 @@ invariant_of-self-2 c =
     let kept = c.self.invariant in
     let write : Write = record { key = c.args.key; version = c.len-version.result + 1; born = c.args.born } in
     let before : c.put-before.result ≡ version_or_zero (last_write (shown links) c.args.key) =
-    c.put-before.ensures.before ∙ ap (λ vs. version_or_zero (write_of vs c.args.key)) c.in_ok-reserve-3.ensures.items ∙ ap version_or_zero (kept.ends.last c.args.key) in
+    c.put-before.ensures.before ∙ ap (λ vs. version_or_zero (write_of vs c.args.key)) c.make_room.ensures.latest ∙ ap version_or_zero (kept.ends.last c.args.key) in
     kept_pushed links c.append.new.links.items c.put_first.new.firsts.items c.put-before.new.writes.items _ write
     (subst (λ (ws : List Write). length ws + 1 < 2 ^ 32) (sym c.self.view_is) c.requires)
-    (c.append.ensures.shown ∙ ap (λ (ls : List Link). shown ls ++ write ∷ []) c.in_ok-reserve.ensures.items)
+    (c.append.ensures.shown ∙ ap (λ (ls : List Link). shown ls ++ write ∷ []) c.make_room.ensures.links)
     c.append.ensures.linked
     (firsts_after (shown links) c.self.inside.firsts.items c.put_first.new.firsts.items write c.put-before.result (numbered-shown links) (omega arith) before kept.begins
-    (λ none. ap (λ vs. put nat_cmp c.args.key write (keyed vs)) (sym c.in_ok-reserve-2.ensures.items) ∙ c.put_first.ensures.put none)
-    (λ some. c.put_first.ensures.same some ∙ c.in_ok-reserve-2.ensures.items))
+    (λ none. ap (λ vs. put nat_cmp c.args.key write (keyed vs)) (sym c.make_room.ensures.firsts) ∙ c.put_first.ensures.put none)
+    (λ some. c.put_first.ensures.same some ∙ c.make_room.ensures.firsts))
     (latest_pushed (shown links) c.self.inside.latest.items c.put-before.new.writes.items write kept.ends
-    (ap (λ vs. put nat_cmp c.args.key write (keyed vs)) (sym c.in_ok-reserve-3.ensures.items) ∙ c.put-before.ensures.put))
+    (ap (λ vs. put nat_cmp c.args.key write (keyed vs)) (sym c.make_room.ensures.latest) ∙ c.put-before.ensures.put))
     (elim c.if-self.branch [
       | then-self w ↦
           w.self-is ∙ w.comes_in_order-self-inside.ensures
-          ∙ ap (λ (ls : List Link). leb (last_born 0 (shown ls)) c.args.born) (w.deref.ensures.value ∙ c.in_ok-reserve.ensures.items)
+          ∙ ap (λ (ls : List Link). leb (last_born 0 (shown ls)) c.args.born) (w.deref.ensures.value ∙ c.make_room.ensures.links)
           ∙ sym (ap (λ b. b && leb (last_born 0 (shown links)) c.args.born) (sym kept.in_order_is ∙ w.if-self.true))
           ∙ sym (in_order-push 0 (shown links) write)
       | else-self w ↦

@@ -8,8 +8,6 @@ mod byte_ends;
 #[cfg(test)]
 mod comparing;
 #[cfg(test)]
-mod dependencies;
-#[cfg(test)]
 mod exchange_lists;
 #[cfg(test)]
 mod failing_sinks;
@@ -17,6 +15,8 @@ mod failing_sinks;
 mod planned_rounds;
 #[cfg(test)]
 mod played_lists;
+#[cfg(test)]
+mod predecessors;
 #[cfg(test)]
 mod printed_names;
 #[cfg(test)]

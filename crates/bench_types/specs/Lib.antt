@@ -1,3 +1,4 @@
+pub mod Budget
 pub mod Entry
 pub mod Exchange
 pub mod Mode

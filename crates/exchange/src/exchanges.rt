@@ -1,8 +1,9 @@
 //! The exchange of an initiator and a responder.
 
-ghost use Rattle.std.specs.Prelude.{◌≡◌, ℕ, ◌^◌, ◌<◌, ◌≤◌, All, IfOk, OnOk, OnErr, IsOkUnless, false, length};
+ghost use Rattle.std.specs.Prelude.{◌≡◌, ℕ, ◌^◌, ◌<◌, All, IfOk, OnOk, OnErr, IsOkUnless, false, length};
 ghost use Rattle.bench_types.specs.declared.faults.Fault.TheVariants.{OutOfMemory};
 ghost use Rattle.bench_types.specs.declared.exchanges.Fate.TheVariants as fate;
+ghost use Rattle.bench_types.specs.Budget.{IsLawfulBudget};
 ghost use Rattle.bench_types.specs.Mode.{told_by};
 ghost use Rattle.node_table.specs.NodeTableView.{MayReceive};
 ghost use Rattle.node_table.specs.Table.{applied};
@@ -32,7 +33,7 @@ pub fn exchange(
     plan: &Exchange,
     rules: &Rules,
 ) -> Result<Record, Fault>
-    requires budget { 1 ≤ rules.now.budget }
+    requires budget { IsLawfulBudget rules.now.budget }
     requires initiator { initiator.old.table.node ≡ plan.now.initiator }
     requires responder { responder.old.table.node ≡ plan.now.responder }
     requires nodes { initiator.old.table.nodes ≡ responder.old.table.nodes }
@@ -63,7 +64,7 @@ fn exchange_deltas(
     requires digest1 { IsDigestOf (told_by rules.now.mode) initiator.old.table digest1.now }
     requires digest2 { IsDigestOf (told_by rules.now.mode) responder.old.table digest2.now }
     requires came { plan.now.lost1 ≡ false }
-    requires budget { 1 ≤ rules.now.budget }
+    requires budget { IsLawfulBudget rules.now.budget }
     requires nodes { initiator.old.table.nodes ≡ responder.old.table.nodes }
     requires keys { initiator.old.table.keys ≡ responder.old.table.keys }
     requires rotation { plan.now.rotation < initiator.old.table.nodes }
@@ -115,7 +116,7 @@ fn answer(
     rules: &Rules,
 ) -> Result<Delta, Fault>
     requires kind { IsOfKind (told_by rules.now.mode) digest.now }
-    requires budget { 1 ≤ rules.now.budget }
+    requires budget { IsLawfulBudget rules.now.budget }
     requires nodes { digest.now.nodes ≡ sender.now.table.nodes }
     requires keys { digest.now.keys ≡ sender.now.table.keys }
     requires receiver { receiver < sender.now.table.nodes }

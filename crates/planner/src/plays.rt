@@ -1,8 +1,9 @@
 //! Carrying out a schedule on one thread.
 
-ghost use Rattle.std.specs.Prelude.{◌≡◌, ◌<◌, ◌≤◌, ℕ, length, map, filter_map, IfOk, IfErr, OnOk, IsOkUnless};
+ghost use Rattle.std.specs.Prelude.{◌≡◌, ◌<◌, ℕ, length, map, filter_map, IfOk, IfErr, OnOk, IsOkUnless};
 ghost use Rattle.bench_types.specs.declared.exchanges.Rules.{Rules};
 ghost use Rattle.bench_types.specs.declared.faults.Fault.TheVariants.{OutOfMemory};
+ghost use Rattle.bench_types.specs.Budget.{IsLawfulBudget};
 ghost use Rattle.dependencies.specs.declared.events.Event.TheVariants.{Start, Finish};
 ghost use Rattle.planner.specs.Stages.{not_started};
 ghost use Rattle.dependencies.specs.States.{in_place};
@@ -47,7 +48,7 @@ pub fn play(
     rules: &Rules,
 ) -> Result<(Vec<NodeTable>, Vec<Record>), Fault>
     requires cluster { IsCluster list.now.nodes (tables_in tables.items) }
-    requires budget { 1 ≤ rules.now.budget }
+    requires budget { IsLawfulBudget rules.now.budget }
     ensures played { IfOk result (λ p. ArePlayed rules.now list.now events.now tables.items p.0.items p.1.items) }
     ensures refused { IfErr result (IsRefusal list.now.exchanges events.now) }
 {
@@ -123,7 +124,7 @@ fn follow(
 ) -> Result<(), Fault>
     requires plan { schedule.old.plan ≡ list.now }
     requires size { length schedule.old.stages ≡ length list.now.exchanges }
-    requires budget { 1 ≤ rules.now.budget }
+    requires budget { IsLawfulBudget rules.now.budget }
     requires places { HasPlaces list.now places.old }
     requires tables { (keys : ℕ) × AreInPlace list.now.nodes keys list.now.exchanges (state_in places.old) }
     ensures schedule { OnOk result (Follows event schedule.old schedule.new) }
@@ -179,7 +180,7 @@ fn put_back(
     rules: &Rules,
 ) -> Result<(), Fault>
     requires within { i < length list.now.exchanges }
-    requires budget { 1 ≤ rules.now.budget }
+    requires budget { IsLawfulBudget rules.now.budget }
     requires places { HasPlaces list.now places.old }
     requires tables { (keys : ℕ) × AreInPlace list.now.nodes keys list.now.exchanges (state_in places.old) }
     ensures places { OnOk result (HasPlaces list.now places.new) }

@@ -1,7 +1,8 @@
 //! One worker: the exchanges of a list in their order, with no thread.
 
-ghost use Rattle.std.specs.Prelude.{◌≤◌, length, IfOk, IsOkUnless};
+ghost use Rattle.std.specs.Prelude.{length, IfOk, IsOkUnless};
 ghost use Rattle.bench_types.specs.declared.faults.Fault.TheVariants.{OutOfMemory};
+ghost use Rattle.bench_types.specs.Budget.{IsLawfulBudget};
 ghost use Rattle.bench_types.specs.Exchange.{IsPlanned};
 ghost use Rattle.cluster.specs.Tables.{tables_in, IsCluster};
 ghost use Rattle.pool.specs.Turns.{IsExchanged};
@@ -22,7 +23,7 @@ pub(crate) fn exchange_all<G: Gate>(
     gate: &G,
     rules: &Rules,
 ) -> Result<Vec<Record>, Fault>
-    requires budget { 1 ≤ rules.now.budget }
+    requires budget { IsLawfulBudget rules.now.budget }
     requires tables { IsCluster list.now.nodes (tables_in tables.old) }
     ensures exchanged { IfOk result (λ v. AreExchanged rules.now list.now.exchanges tables.old tables.new v.items) }
     ensures only { IsOkUnless result OutOfMemory }
@@ -44,7 +45,7 @@ fn exchange_pair(
     plan: &Exchange,
     rules: &Rules,
 ) -> Result<Record, Fault>
-    requires budget { 1 ≤ rules.now.budget }
+    requires budget { IsLawfulBudget rules.now.budget }
     requires tables { IsCluster (length tables.old) (tables_in tables.old) }
     requires planned { IsPlanned (length tables.old) plan.now }
     ensures exchanged { IfOk result (IsExchanged rules.now plan.now tables.old tables.new) }

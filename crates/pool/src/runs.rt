@@ -1,6 +1,7 @@
 //! Carrying out the exchanges of a list.
 
 ghost use Rattle.std.specs.Prelude.{◌≤◌, IfOk, IfErr};
+ghost use Rattle.bench_types.specs.Budget.{IsLawfulBudget};
 ghost use Rattle.cluster.specs.Tables.{tables_in, IsCluster};
 ghost use Rattle.pool.specs.Runs.{AreExchanged, IsPoolFault};
 ghost use Rattle.bench_types.specs.declared.limits.TheConstants.{MOST_WORKERS};
@@ -42,7 +43,7 @@ pub fn run_list<R: Threads + Wait + Sync, G: Gate + Sync>(
     requires few { 1 ≤ workers }
     requires many { workers ≤ MOST_WORKERS }
     requires cluster { IsCluster list.now.nodes (tables_in tables.items) }
-    requires budget { 1 ≤ rules.now.budget }
+    requires budget { IsLawfulBudget rules.now.budget }
     ensures exchanged { IfOk result (λ p. AreExchanged rules.now list.now.exchanges tables.items p.0.items p.1.items) }
     ensures fault { IfErr result (IsPoolFault workers) }
 {

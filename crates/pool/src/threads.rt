@@ -3,6 +3,7 @@
 ghost use Rattle.std.specs.Prelude.{◌≡◌, ◌+◌, ◌<◌, ◌≤◌, [], All, length, IfOk, IfErr, IsOkUnless, OnOk, vec_len, vec_capacity};
 ghost use Rattle.bench_types.specs.declared.faults.Fault.TheVariants.{OutOfMemory, NoThread};
 ghost use Rattle.bench_types.specs.declared.limits.TheConstants.{MOST_WORKERS};
+ghost use Rattle.bench_types.specs.Budget.{IsLawfulBudget};
 ghost use Rattle.cluster.specs.Tables.{tables_in, IsCluster};
 ghost use Rattle.board.specs.Boards.{seat_view, IsSeatOf};
 ghost use Rattle.pool.specs.Runs.{AreExchanged, IsPoolFault};
@@ -51,7 +52,7 @@ pub(crate) fn exchange_in_threads<L: Limit + Send + Sync, R: Threads + Wait + Sy
     requires several { 2 ≤ workers }
     requires many { workers ≤ MOST_WORKERS }
     requires cluster { IsCluster list.now.nodes (tables_in tables.items) }
-    requires budget { 1 ≤ rules.now.budget }
+    requires budget { IsLawfulBudget rules.now.budget }
     ensures exchanged { IfOk result (λ p. AreExchanged rules.now list.now.exchanges tables.items p.0.items p.1.items) }
     ensures fault { IfErr result (IsPoolFault workers) }
 {

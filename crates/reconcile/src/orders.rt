@@ -2,6 +2,7 @@
 
 ghost use Rattle.std.specs.Prelude.{◌≡◌, ◌<◌, ◌≤◌, length, IfOk, IsOkUnless};
 ghost use Rattle.bench_types.specs.declared.faults.Fault.TheVariants.{OutOfMemory};
+ghost use Rattle.bench_types.specs.Budget.{IsLawfulBudget};
 ghost use Rattle.bench_types.specs.Mode.{told_by};
 ghost use Rattle.reconcile.specs.Deltas.{answer_of, IsDeltaToReceiver, MayTake};
 ghost use Rattle.reconcile.specs.Digests.{IsOfKind};
@@ -37,7 +38,7 @@ pub fn delta(
     requires keys { digest.now.keys ≡ table.now.table.keys }
     requires receiver { receiver < table.now.table.nodes }
     requires rotation { rotation < table.now.table.nodes }
-    requires budget { 1 ≤ budget }
+    requires budget { IsLawfulBudget budget }
     ensures ok { IfOk result (λ d. d ≡ answer_of mode rotation budget table.now.table receiver digest.now) }
     ensures of_tables { IfOk result (IsDeltaToReceiver mode rotation budget table.now.table receiver digest.now) }
     ensures within { IfOk result (λ d. length d.items ≤ budget) }

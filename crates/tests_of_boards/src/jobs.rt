@@ -2,6 +2,7 @@
 
 ghost use Rattle.std.specs.Prelude.{◌≡◌, ◌≤◌, IfOk};
 ghost use Rattle.bench_types.specs.declared.limits.TheConstants.{MOST_KEYS};
+ghost use Rattle.bench_types.specs.Budget.{IsLawfulBudget};
 ghost use Rattle.exchange.specs.Exchanged.{IsExchanged};
 ghost use Rattle.board.specs.Weights.{Has};
 ghost use Rattle.board.specs.SeatView.{first_seat};
@@ -24,7 +25,7 @@ pub(crate) struct Job {
     pub rules: Rules,
     ghost same_list: { (plan_of board).list ≡ list },
     ghost same_rules: { (plan_of board).rules ≡ rules },
-    ghost budget: { 1 ≤ rules.budget },
+    ghost budget: { IsLawfulBudget rules.budget },
 }
 
 impl Job {
@@ -36,7 +37,7 @@ impl Job {
         rules: Rules,
     ) -> Result<(Job, Seat), Fault>
         requires keys { (1 ≤ keys) × (keys ≤ MOST_KEYS) }
-        requires budget { 1 ≤ rules.budget }
+        requires budget { IsLawfulBudget rules.budget }
         ensures list { IfOk result (λ made. made.0.list ≡ list) }
         ensures seat { IfOk result (λ made. IsSeatOf made.1 made.0.board × (seat_view made.1 ≡ first_seat)) }
     {
@@ -74,7 +75,7 @@ pub(crate) fn checked_exchange(
     plan: &Exchange,
     rules: &Rules,
 ) -> Result<Record, Fault>
-    requires budget { 1 ≤ rules.now.budget }
+    requires budget { IsLawfulBudget rules.now.budget }
     ensures { IfOk result (IsExchanged rules.now plan.now initiator.old responder.old initiator.new responder.new) }
 {
     assert!(rt; initiator.node() == plan.initiator && responder.node() == plan.responder);

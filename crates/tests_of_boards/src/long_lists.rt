@@ -2,6 +2,7 @@
 
 ghost use Rattle.std.specs.Prelude.{◌≡◌, ◌<◌, ◌≤◌};
 ghost use Rattle.bench_types.specs.declared.limits.TheConstants.{MOST_WORKERS};
+ghost use Rattle.bench_types.specs.Budget.{IsLawfulBudget};
 ghost use Rattle.tests_of_boards.specs.declared.long_lists.TheConstants.{NODES};
 
 use crate::jobs::{Job, checked_exchange};
@@ -86,7 +87,7 @@ fn in_list_order(
     list: &RoundList,
     rules: &Rules,
 ) -> Result<Left, Fault>
-    requires budget { 1 ≤ rules.now.budget }
+    requires budget { IsLawfulBudget rules.now.budget }
 {
     let mut tables = tables_of(rt, rt.alloc(), NODES, KEYS)?;
     let mut records = Vec::new(rt.alloc());
@@ -102,7 +103,7 @@ fn exchange_two(
     plan: &Exchange,
     rules: &Rules,
 ) -> Result<Record, Fault>
-    requires budget { 1 ≤ rules.now.budget }
+    requires budget { IsLawfulBudget rules.now.budget }
 {
     let initiator = plan.initiator as usize;
     let responder = plan.responder as usize;
@@ -167,7 +168,7 @@ fn expect_pooled<R: Abort + AllocGlobal + Threads + Wait + Sync>(
     wanted: &Left,
 ) -> Result<(), Fault>
     requires workers { (1 ≤ workers) × (workers ≤ MOST_WORKERS) }
-    requires budget { 1 ≤ rules.now.budget }
+    requires budget { IsLawfulBudget rules.now.budget }
 {
     let (tables, records) = run_fresh(rt, list, KEYS, rules, workers, &FreeGate)?;
     expect_the_same(rt, &tables, &wanted.tables);
@@ -181,7 +182,7 @@ fn expect_shared<R: Abort + AllocGlobal + Threads + Sync>(
     threads: u32,
     wanted: &Left,
 ) -> Result<(), Fault>
-    requires budget { 1 ≤ rules.now.budget }
+    requires budget { IsLawfulBudget rules.now.budget }
 {
     let (job, mut first) = Job::new(rt, long_list(rt), KEYS, *rules)?;
     let second = job.board.split(&mut first);

@@ -2,6 +2,7 @@
 
 ghost use Rattle.std.specs.Prelude.{◌≤◌};
 ghost use Rattle.bench_types.specs.declared.limits.TheConstants.{MOST_WORKERS, MOST_KEYS};
+ghost use Rattle.bench_types.specs.Budget.{IsLawfulBudget};
 
 use crate::gates::{Counter, Meeting, Theft};
 use crate::small_boards::{CROSSING, ONE_ENTRY, list_of, tables_of};
@@ -32,7 +33,7 @@ pub(crate) fn run_fresh<R: Abort + AllocGlobal + Threads + Wait + Sync, G: Gate 
 ) -> Result<(Vec<NodeTable>, Vec<Record>), Fault>
     requires keys { (1 ≤ keys) × (keys ≤ MOST_KEYS) }
     requires workers { (1 ≤ workers) × (workers ≤ MOST_WORKERS) }
-    requires budget { 1 ≤ rules.now.budget }
+    requires budget { IsLawfulBudget rules.now.budget }
 {
     let tables = tables_of(rt, rt.alloc(), list.nodes(), keys)?;
     run_list(rt, rt.alloc(), list, tables, workers, gate, rules)

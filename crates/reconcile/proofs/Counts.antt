@@ -1,5 +1,5 @@
 -- How many elements of a list pass a test that holds on one stretch of it.
-use Rattle.std.proofs.Common.{◌≡◌, ℕ, zero, suc, ◌+◌, ◌-◌, ◌<◌, ◌≤◌, Bool, true, false, cond, List, [], ◌∷◌, length, get_or, ◌⊎◌, inl, inr, refl, sym, ap, ◌∙◌, arith}
+use Rattle.std.proofs.Common.{◌≡◌, ℕ, zero, suc, ◌+◌, ◌-◌, ◌<◌, ◌≤◌, Bool, true, false, cond, not, List, [], ◌∷◌, length, get_or, ◌⊎◌, inl, inr, refl, sym, ap, ◌∙◌, arith}
 use Rattle.std.specs.Prelude.{count_by, Contains}
 use Rattle.std.proofs.lemmas.List.Sums.{sum_by-cons}
 
@@ -34,6 +34,16 @@ module _ {X : Type 0} (p : X → Bool) where
       moved : (i a b : ℕ) → (i < a) ⊎ (b ≤ i) → (suc i < suc a) ⊎ (suc b ≤ suc i)
       moved i a b (inl lt) = inl (omega arith)
       moved i a b (inr le) = inr (omega arith)
+
+-- those that pass and those that don't are all
+pub count_by-not : {X : Type 0} (q : X → Bool) (xs : List X) → count_by q xs + count_by (λ x. not (q x)) xs ≡ length xs
+count_by-not q [] = omega arith
+count_by-not q (x ∷ xs) =
+    let rest = count_by-not q xs in
+    elim (q x) as (λ b. q x ≡ b → count_by q (x ∷ xs) + count_by (λ y. not (q y)) (x ∷ xs) ≡ suc (length xs)) [
+      | true ↦ λ e. omega (arith, rest, count_by-cons_true q x xs e, count_by-cons_false (λ y. not (q y)) x xs (ap not e))
+      | false ↦ λ e. omega (arith, rest, count_by-cons_false q x xs e, count_by-cons_true (λ y. not (q y)) x xs (ap not e))
+    ] refl
 
 -- where none is counted each fails
 pub count_by-none : {X : Type 0} (q : X → Bool) (xs : List X) → count_by q xs ≡ 0 → (x : X) → Contains xs x → q x ≡ false

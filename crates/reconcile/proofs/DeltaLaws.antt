@@ -1,10 +1,10 @@
 -- Laws of the sending orders, and of what a budget lets through in them.
-use Rattle.std.proofs.Common.{◌≡◌, ℕ, ◌<◌, ◌≤◌, Bool, not, ◌&&◌, eqb, leb, ltb, List, length, get_or, inl, inr, sym, ap, ◌∙◌, arith}
+use Rattle.std.proofs.Common.{◌≡◌, ℕ, ◌<◌, ◌≤◌, Bool, not, ◌&&◌, eqb, ltb, List, length, get_or, inl, inr, refl, sym, ap, ◌∙◌, arith}
 use Rattle.std.specs.Prelude.{count_by, Contains}
 use Rattle.std.specs.declared.cmp.Ordering.TheVariants.{Less, Equal}
 use Rattle.std.specs.Ordering.{nat_cmp, ordering_then}
 use Rattle.std.specs.Cmp.{IsTotalOrder}
-use Rattle.std.proofs.lemmas.Bool.{cases_lt, eq-eqb, eqb-true, lt-ltb, ltb-true, le-ltb, leb-false, and_parts, and_from, and_right}
+use Rattle.std.proofs.lemmas.Bool.{cases_lt, eq-eqb, eqb-true, lt-ltb, ltb-true, le-ltb, and_parts, and_from, and_right}
 use Rattle.std.proofs.lemmas.List.{get_or_default}
 use Rattle.std.proofs.lemmas.List.Elements.{All-filter}
 use Rattle.std.proofs.lemmas.List.Sorted.{IsPermutation-refl}
@@ -16,13 +16,13 @@ use Rattle.node_table.specs.Table.{Table, items_of, IsProper}
 use Rattle.node_table.proofs.Proper.{items_sound}
 use Rattle.reconcile.specs.Candidates.{IsScuttleMode, known_version, candidates}
 use Rattle.reconcile.specs.Order.{rotated, rank_among, owner_count, sending_order}
-use Rattle.reconcile.specs.Deltas.{delta_of}
-use Rattle.reconcile.specs.Picks.{before_count}
+use Rattle.reconcile.specs.Deltas.{item_size, delta_of}
+use Rattle.reconcile.specs.Picks.{fits}
 use Rattle.node_table.specs.View.{no_item}
 use Rattle.reconcile.proofs.Apart.{sending_total, sending_apart}
 use Rattle.node_table.proofs.Comparing.{nat_cmp-less, nat_cmp-equal}
-use Rattle.reconcile.proofs.Places.{count_by-lt, Contains-sent, before_count-lt, before_count-sent, cut_count-none, sent-Contains, sent-before}
-use Rattle.reconcile.proofs.Counts.{count_by-none}
+use Rattle.reconcile.proofs.Fitting.{sum_by-ones}
+use Rattle.reconcile.proofs.Places.{count_by-lt, Contains-first_places, before_count-lt, before_count-places, cut_count-none, uncut-Contains, first_places-before}
 use Rattle.reconcile.proofs.Sending.{owners_below}
 
 -- each mode's order is total
@@ -60,9 +60,13 @@ module _ (mode : Mode) (from to : Table) (rotation budget : ℕ) where
   abbrev pub sent_items : List Item
   sent_items = (delta_of mode from.nodes rotation budget (candidates mode from to)).items
 
+  -- how many places there are in what is sent
+  abbrev sent_places : ℕ
+  sent_places = count_by (fits (sending_order mode from.nodes rotation (candidates mode from to)) (candidates mode from to) item_size budget) (candidates mode from to)
+
   -- what is sent is a candidate
   pub sent-candidate : (c : Item) → Contains sent_items c → Contains (candidates mode from to) c
-  sent-candidate c there = (Contains-sent (sending_order mode from.nodes rotation (candidates mode from to)) (sending_total from.nodes rotation (candidates mode from to) mode) (candidates mode from to) budget c there).0
+  sent-candidate c there = (Contains-first_places (sending_order mode from.nodes rotation (candidates mode from to)) (sending_total from.nodes rotation (candidates mode from to) mode) (candidates mode from to) sent_places c there).0
 
   -- in a scuttle mode what is sent of one owner ascends in version
   pub sent-ascending : IsScuttleMode mode → (j k : ℕ) (d : Item) → j < k → k < length sent_items → (get_or sent_items j d).owner ≡ (get_or sent_items k d).owner → (get_or sent_items j d).entry.version ≤ (get_or sent_items k d).entry.version
@@ -75,7 +79,7 @@ module _ (mode : Mode) (from to : Table) (rotation budget : ℕ) where
       elim (cases_lt y.entry.version x.entry.version) [
         | inl falls ↦
             let stands = sent-candidate y (k, in_range, get_or_default sent_items k y d in_range) in
-            absurd (omega (arith, before_count-sent order total cs budget j k d lt in_range, before_count-lt order total cs y x stands (sending_order-ascending mode is from.nodes rotation cs y x stands (sym owners) falls)))
+            absurd (omega (arith, before_count-places order total cs sent_places j k d lt in_range, before_count-lt order total cs y x stands (sending_order-ascending mode is from.nodes rotation cs y x stands (sym owners) falls)))
         | inr rises ↦ rises
       ]
 
@@ -83,7 +87,7 @@ module _ (mode : Mode) (from to : Table) (rotation budget : ℕ) where
   pub sent-no_gap : IsScuttleMode mode → IsProper from → rotation < from.nodes → (c d : Item) → Contains (candidates mode from to) c → Contains sent_items d → c.owner ≡ d.owner → c.entry.version < d.entry.version → Contains sent_items c
   sent-no_gap is proper in_nodes c d stands there owners older =
       let cs = candidates mode from to in
-      sent-before (sending_order mode from.nodes rotation cs) (sending_total from.nodes rotation cs mode) cs (sending_order-strict mode from to rotation proper in_nodes) budget c d stands there
+      first_places-before (sending_order mode from.nodes rotation cs) (sending_total from.nodes rotation cs mode) cs (sending_order-strict mode from to rotation proper in_nodes) sent_places c d stands there
       (sending_order-ascending mode is from.nodes rotation cs c d stands owners older)
 
   -- in every mode a delta that cuts nothing sends each candidate
@@ -91,9 +95,10 @@ module _ (mode : Mode) (from to : Table) (rotation budget : ℕ) where
   sent-uncut proper in_nodes none c stands =
       let cs = candidates mode from to in
       let order = sending_order mode from.nodes rotation cs in
-      sent-Contains order (sending_total from.nodes rotation cs mode) cs (sending_order-strict mode from to rotation proper in_nodes) budget c stands
-      (leb-false budget (before_count order cs c) (count_by-none (λ d. leb budget (before_count order cs d)) cs none c stands))
+      uncut-Contains order (sending_total from.nodes rotation cs mode) cs (sending_order-strict mode from to rotation proper in_nodes) item_size budget none c stands
 
   -- and a budget for all candidates cuts none
   pub cut-none : length (candidates mode from to) ≤ budget → (delta_of mode from.nodes rotation budget (candidates mode from to)).cut ≡ 0
-  cut-none enough = cut_count-none (sending_order mode from.nodes rotation (candidates mode from to)) (sending_total from.nodes rotation (candidates mode from to) mode) (candidates mode from to) budget enough
+  cut-none enough =
+      cut_count-none (sending_order mode from.nodes rotation (candidates mode from to)) (sending_total from.nodes rotation (candidates mode from to) mode) (candidates mode from to) item_size budget
+      (omega (arith, enough, sum_by-ones item_size (λ i. refl) (candidates mode from to)))

@@ -10,8 +10,12 @@ use Rattle.std.proofs.lemmas.List.{get_or_default, get_or_append_left, get_or-ap
 use Rattle.std.proofs.lemmas.List.Elements.{All-cons, All-weaker}
 use Rattle.std.proofs.lemmas.List.Kept.{AllPairs-cons}
 use Rattle.std.proofs.lemmas.List.Sorted.{sorted_far, ranks_by, All-permutation, Contains-permutation, IsPermutation-refl, IsPermutation-sym, IsPermutation-trans, IsPermutation-cons, IsPermutation-swap, IsPermutation-append_left, IsPermutation-append_right}
-use Rattle.reconcile.specs.Keys.{IsFront}
 use Rattle.reconcile.proofs.Members.{AllPairs-append}
+
+-- the first so many of a list stand in order, and none of the others is less than one of them
+pub record IsFront {X : Type 0} (order : X → X → Ordering) (count : ℕ) (xs : List X) : Type 0 where
+  pub sorted : IsSorted order (take count xs)
+  pub first : (j k : ℕ) (d : X) → j < count → count ≤ k → k < length xs → is_lt (order (get_or xs k d) (get_or xs j d)) ≡ false
 
 module _ {X : Type 0} (order : X → X → Ordering) (total : IsTotalOrder order) where
   weak : IsStrictWeakOrder (λ x y. is_lt (order x y))
@@ -21,7 +25,7 @@ module _ {X : Type 0} (order : X → X → Ordering) (total : IsTotalOrder order
   abbrev pub IsNoLess : X → X → Type 0
   IsNoLess x y = is_lt (order y x) ≡ false
 
-  up-sorted : (xs : List X) → AllPairs IsNoLess xs → IsSorted order xs
+  pub up-sorted : (xs : List X) → AllPairs IsNoLess xs → IsSorted order xs
   up-sorted xs up k d from in_range = up k (k + 1) d (omega arith) in_range
 
   sorted-up : (xs : List X) → IsSorted order xs → AllPairs IsNoLess xs
@@ -100,21 +104,6 @@ module _ {X : Type 0} (order : X → X → Ordering) (total : IsTotalOrder order
     pub whole-front : take count whole ≡ take count xs
     unfolding whole
     whole-front = take_at (take count xs) (in_order (drop count xs)) count (length-take-le count xs fits)
-
-  -- a list in order has each of its fronts
-  pub front-sorted : (count : ℕ) (xs : List X) → length xs ≤ count → IsSorted order xs → IsFront order count xs
-  front-sorted count xs all sorted = record {
-    sorted = subst (IsSorted order) (sym (take_all count xs all)) sorted;
-    first = λ j k d before behind lt. absurd (omega arith);
-  }
-
-  pub front-up : (count : ℕ) (xs : List X) → AllPairs IsNoLess xs → IsFront order count xs
-  front-up count xs up = record {
-    sorted = λ k d from in_range.
-        let short = length-take count xs in
-        rw (get_or-take count xs (k + 1) d (omega arith), get_or-take count xs k d (omega arith)) (up k (k + 1) d (omega arith) (omega arith));
-    first = λ j k d before behind lt. up j k d (omega arith) lt;
-  }
 
   -- what was split, with the front in order
   pub front-split : (front sorted : List X) (x : X) (back : List X) → IsSplitAround order front x back → IsPermutation front sorted → IsSorted order sorted → IsFront order (length front) (sorted ++ x ∷ back)

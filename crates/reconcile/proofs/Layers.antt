@@ -1,26 +1,28 @@
 -- Items that stand by turn, then by version and then by key, and are taken layer by layer, are in the order of their
 -- scuttle mode.
-use Rattle.std.proofs.Common.{◌≡◌, ℕ, zero, suc, ◌+◌, ◌-◌, ◌<◌, ◌≤◌, ◌^◌, Bool, true, false, cond, not, ◌&&◌, eqb, ltb, List, [], ◌∷◌, ◌++◌, length, take, get_or, All, ◌⊎◌, inl, inr, refl, sym, ap, ◌∙◌, subst, arith}
+use Rattle.std.proofs.Common.{◌≡◌, ℕ, zero, suc, ◌+◌, ◌-◌, ◌<◌, ◌≤◌, ◌^◌, Bool, true, false, cond, not, ◌&&◌, eqb, ltb, List, [], ◌∷◌, ◌++◌, length, get_or, All, ◌⊎◌, inl, inr, refl, sym, ap, ◌∙◌, subst, arith}
 use Rattle.std.specs.Prelude.{filter, Contains, IsPermutation}
 use Rattle.std.specs.List.{AllPairs}
+use Rattle.std.specs.List.Sorted.{IsSorted}
 use Rattle.std.specs.declared.cmp.Ordering.TheVariants.{Less, Greater}
 use Rattle.std.specs.Ordering.{nat_cmp, ordering_then, ordering_reverse, is_lt}
 use Rattle.std.proofs.lemmas.Bool.{cases_lt, cases_order, eq-eqb, eqb-true, ne_eqb, lt-ltb, le-ltb}
-use Rattle.std.proofs.lemmas.List.{take-append-le, take_all, length-take, length_push}
+use Rattle.std.proofs.lemmas.List.{append-nil, append_assoc, length-append}
 use Rattle.std.proofs.lemmas.List.Elements.{All-nil, All-head, All-tail, All-append, All-weaker, All-contains, Contains-get_or, filter_passes}
 use Rattle.std.proofs.lemmas.List.Kept.{AllPairs-filter}
-use Rattle.std.proofs.lemmas.List.Sorted.{Contains-permutation, IsPermutation-refl, IsPermutation-sym, IsPermutation-trans, IsPermutation-append_left, IsPermutation-filter_both}
+use Rattle.std.proofs.lemmas.List.Sorted.{length_permutation, Contains-permutation, IsPermutation-refl, IsPermutation-sym, IsPermutation-trans, IsPermutation-append_left, IsPermutation-filter_both}
 use Rattle.bench_types.specs.declared.entries.Item.{Item}
 use Rattle.bench_types.specs.declared.exchanges.Mode.{Mode}
 use Rattle.bench_types.specs.declared.exchanges.Mode.TheVariants.{ScuttleBreadth, ScuttleDepth, PreciseOldest, PreciseNewest}
 use Rattle.node_table.proofs.Comparing.{nat_cmp-less, nat_cmp-equal, nat_cmp-greater}
 use Rattle.reconcile.specs.Candidates.{IsScuttleMode}
-use Rattle.reconcile.specs.Keys.{AreFirst}
 use Rattle.reconcile.specs.Order.{rotated, sending_order}
-use Rattle.reconcile.specs.Runs.{layer_of, layered, AreLayered}
+use Rattle.reconcile.specs.Picks.{fitting, left_after}
+use Rattle.reconcile.specs.Runs.{layer_of, layered}
 use Rattle.reconcile.proofs.Apart.{sending_total}
 use Rattle.reconcile.proofs.DeltaLaws.{sending_order-ascending}
-use Rattle.reconcile.proofs.Front.{front-up}
+use Rattle.reconcile.proofs.Fitting.{length-fitting-le, fitting-zero, fitting-append, left_after-append}
+use Rattle.reconcile.proofs.Front.{up-sorted}
 use Rattle.reconcile.proofs.Members.{AllPairs-append}
 use Rattle.reconcile.proofs.Ordered.{first_key, second_key, scuttle-sending}
 
@@ -69,7 +71,7 @@ module _ (number : Item → ℕ) (least : ℕ) (cs : List Item) where
         ]
       ]) cs
 
-  layered-permutation : (n : ℕ) → All (λ (c : Item). (least ≤ number c) × (number c < least + n)) cs → IsPermutation cs (layered number cs least n)
+  pub layered-permutation : (n : ℕ) → All (λ (c : Item). (least ≤ number c) × (number c < least + n)) cs → IsPermutation cs (layered number cs least n)
   layered-permutation n all =
       subst (λ ds. IsPermutation ds (layered number cs least n)) (filter-each (is_below (least + n)) cs (λ k d lt. lt-ltb (number (get_or cs k d)) (least + n) (all k d lt).1))
       (layered-below n (λ k d lt. (all k d lt).0))
@@ -89,37 +91,56 @@ module _ (number : Item → ℕ) (least : ℕ) (cs : List Item) where
       (λ i j d lt in_range. inr (eqb-true _ (least + n) (passes i d (omega arith)) ∙ sym (eqb-true _ (least + n) (passes j d in_range)), AllPairs-filter P (λ c. eqb (number c) (least + n)) cs pairs i j d lt in_range))
       (λ c d before behind. inl (omega (arith, All-contains (λ (e : Item). number e < least + n) (layered number cs least n) c (layered-lt n) before, eqb-true (number d) (least + n) (All-contains (λ (e : Item). eqb (number e) (least + n) ≡ true) (layer_of number cs (least + n)) d passes behind))))
 
--- the next item comes in where there is room
-pub take-room : (count : ℕ) (all items : List Item) (x : Item) → items ≡ take count all → length items < count → items ++ x ∷ [] ≡ take count (all ++ x ∷ [])
-take-room count all items x is room =
-    let short : length all < count = omega (arith, ap length is, length-take count all) in
-    ap (λ ys. ys ++ x ∷ []) (is ∙ take_all count all (omega arith)) ∙ sym (take_all count (all ++ x ∷ []) (omega (arith, short, length_push all x)))
+length-none : (items : List Item) → length items ≡ 0 → items ≡ []
+length-none [] none = refl
+length-none (x ∷ items) none = absurd (omega arith)
 
--- to take from the front of what was taken is to take from the whole
-pub take-part : (count : ℕ) (all more : List Item) → take count (take count all ++ more) ≡ take count (all ++ more)
-take-part zero all more = refl
-take-part (suc count) [] more = refl
-take-part (suc count) (x ∷ all) more = ap (λ ys. x ∷ ys) (take-part count all more)
-
--- and where it is full nothing comes in
-pub take-full : (count : ℕ) (all items more : List Item) → items ≡ take count all → count ≤ length items → items ≡ take count (all ++ more)
-take-full count all items more is full = is ∙ sym (take-append-le count all more (omega (arith, ap length is, length-take count all)))
-
-module _ (number : Item → ℕ) (all : List Item) (least count : ℕ) where
-  -- the next layer comes in
-  pub layered-next : (n : ℕ) (items more layer : List Item) → items ≡ take count (layered number all least n) → layer ≡ layer_of number all (least + n) → more ≡ take count (items ++ layer) → more ≡ take count (layered number all least (n + 1))
-  layered-next n items more layer so_far is next =
+module _ (size : Item → ℕ) (some : (i : Item) → 1 ≤ size i) (number : Item → ℕ) (all : List Item) (least budget : ℕ) where
+  -- the next layer comes in as far as it fits
+  pub layered-next : (n : ℕ) (items more layer : List Item) (left : ℕ) → items ≡ fitting size budget (layered number all least n) → left ≡ left_after size budget (layered number all least n) → layer ≡ layer_of number all (least + n) → more ≡ items ++ fitting size left layer → more ≡ fitting size budget (layered number all least (n + 1))
+  layered-next n items more layer left so_far rest is next =
       next
-      ∙ (λ i. take count (so_far i ++ is i))
-      ∙ take-part count (layered number all least n) (layer_of number all (least + n))
-      ∙ ap (λ m. take count (layered number all least m)) {x = suc n} {y = n + 1} (omega arith)
+      ∙ (λ i. so_far i ++ fitting size (rest i) (is i))
+      ∙ sym (fitting-append size some budget (layered number all least n) (layer_of number all (least + n)))
+      ∙ ap (λ m. fitting size budget (layered number all least m)) {x = suc n} {y = n + 1} (omega arith)
 
-  -- where there is no more room the other layers add nothing
-  pub layered-full : (n m : ℕ) (items : List Item) → items ≡ take count (layered number all least n) → count ≤ length items → items ≡ take count (layered number all least (n + m))
-  layered-full n zero items is full = is ∙ ap (λ k. take count (layered number all least k)) {x = n} {y = n + zero} (omega arith)
-  layered-full n (suc m) items is full =
-      take-full count (layered number all least (n + m)) items (layer_of number all (least + (n + m))) (layered-full n m items is full) full
-      ∙ ap (λ k. take count (layered number all least k)) {x = suc (n + m)} {y = n + suc m} (omega arith)
+  pub layered-left : (n : ℕ) (layer : List Item) (left less : ℕ) → left ≡ left_after size budget (layered number all least n) → layer ≡ layer_of number all (least + n) → less ≡ left_after size left layer → less ≡ left_after size budget (layered number all least (n + 1))
+  layered-left n layer left less rest is next =
+      next
+      ∙ (λ i. left_after size (rest i) (is i))
+      ∙ sym (left_after-append size some budget (layered number all least n) (layer_of number all (least + n)))
+      ∙ ap (λ m. left_after size budget (layered number all least m)) {x = suc n} {y = n + 1} (omega arith)
+
+  -- the layers from some on
+  layered-more : (n m : ℕ) → (more : List Item) × (layered number all least (n + m) ≡ layered number all least n ++ more)
+  layered-more n zero = ([], ap (layered number all least) {x = n + zero} {y = n} (omega arith) ∙ sym (append-nil (layered number all least n)))
+  layered-more n (suc m) =
+      let rest = layered-more n m in (
+        rest.0 ++ layer_of number all (least + (n + m)),
+        ap (layered number all least) {x = n + suc m} {y = suc (n + m)} (omega arith)
+            ∙ ap (λ is. is ++ layer_of number all (least + (n + m))) rest.1
+            ∙ append_assoc (layered number all least n) rest.0 (layer_of number all (least + (n + m))),
+      )
+
+  -- where nothing is left the other layers add nothing
+  pub layered-full : (n m : ℕ) (items : List Item) (left : ℕ) → items ≡ fitting size budget (layered number all least n) → left ≡ left_after size budget (layered number all least n) → left ≡ 0 → items ≡ fitting size budget (layered number all least (n + m))
+  layered-full n m items left so_far rest none =
+      let more = layered-more n m in
+      so_far
+      ∙ sym (append-nil (fitting size budget (layered number all least n)))
+      ∙ ap (λ is. fitting size budget (layered number all least n) ++ is) (sym (fitting-zero size some more.0))
+      ∙ ap (λ l. fitting size budget (layered number all least n) ++ fitting size l more.0) (sym none ∙ rest)
+      ∙ sym (fitting-append size some budget (layered number all least n) more.0)
+      ∙ ap (fitting size budget) (sym more.1)
+
+  -- nor do they where all items are in
+  pub layered-whole : (n m : ℕ) (items : List Item) → items ≡ fitting size budget (layered number all least n) → All (λ (i : Item). (least ≤ number i) × (number i < least + (n + m))) all → length items ≡ length all → items ≡ fitting size budget (layered number all least (n + m))
+  layered-whole n m items so_far within long =
+      let more = layered-more n m in
+      let behind = fitting size (left_after size budget (layered number all least n)) more.0 in
+      let joined : fitting size budget (layered number all least (n + m)) ≡ items ++ behind = ap (fitting size budget) more.1 ∙ fitting-append size some budget (layered number all least n) more.0 ∙ ap (λ is. is ++ behind) (sym so_far) in
+      let none : length behind ≡ 0 = omega (arith, long, ap length joined, length-append items behind, length-fitting-le size budget (layered number all least (n + m)), length_permutation all (layered number all least (n + m)) (layered-permutation number least all (n + m) within)) in
+      sym (append-nil items) ∙ ap (λ is. items ++ is) (sym (length-none behind none)) ∙ sym joined
 
 -- by turn, then by version and then by key
 abbrev pub InTurn : ℕ → ℕ → Item → Item → Type 0
@@ -155,19 +176,14 @@ module _ (mode : Mode) (scuttle : IsScuttleMode mode) (ns s : ℕ) (cs : List It
   ]
 
   -- items that stand in turn, taken layer by layer, are in the order of the mode
-  pub order_layers : (count : ℕ) (first : List Item) → AllPairs (InTurn ns s) cs → AreLayered (first_key mode cs) count cs first → AreFirst (sending_order mode ns s cs) count cs first
-  order_layers count first in_turn layers = record {
-    moved = whole;
-    same = moves;
-    front = front-up (sending_order mode ns s cs) (sending_total ns s cs mode) count whole up;
-    is = layers.is;
-  }
+  pub order_layers : (least layers : ℕ) → AllPairs (InTurn ns s) cs → All (λ (i : Item). (least ≤ first_key mode cs i) × (first_key mode cs i < least + layers)) cs → IsSorted (sending_order mode ns s cs) (layered (first_key mode cs) cs least layers)
+  order_layers least layers in_turn within = up-sorted (sending_order mode ns s cs) (sending_total ns s cs mode) whole up
     where
       whole : List Item
-      whole = layered (first_key mode cs) cs layers.least layers.layers
+      whole = layered (first_key mode cs) cs least layers
 
       moves : IsPermutation cs whole
-      moves = layered-permutation (first_key mode cs) layers.least cs layers.layers layers.within
+      moves = layered-permutation (first_key mode cs) least cs layers within
 
       up : AllPairs (λ (c d : Item). is_lt (sending_order mode ns s cs d c) ≡ false) whole
       up i j d lt in_range =
@@ -175,4 +191,4 @@ module _ (mode : Mode) (scuttle : IsScuttleMode mode) (ns s : ℕ) (cs : List It
           let y = get_or whole j d in
           ap is_lt ((sending_total ns s cs mode).antisymm y x
           ∙ ap ordering_reverse (pair_sent x y (Contains-permutation whole cs x (IsPermutation-sym cs whole moves) (Contains-get_or whole i d (omega arith)))
-          (layered-pairs (first_key mode cs) layers.least cs (InTurn ns s) in_turn layers.layers i j d lt in_range)))
+          (layered-pairs (first_key mode cs) least cs (InTurn ns s) in_turn layers i j d lt in_range)))

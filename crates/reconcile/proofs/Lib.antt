@@ -3,6 +3,8 @@ pub mod DeltaLaws
 pub mod Told
 pub mod Members
 -- What the proofs of this crate's functions rest on.
+pub mod Fitting
+pub mod Adding
 pub mod Counts
 pub mod Picked
 pub mod Places

@@ -1,15 +1,15 @@
 -- Candidates sorted by their three numbers and by key are in the order of their mode.
-use Rattle.std.proofs.Common.{◌≡◌, ℕ, ◌+◌, ◌<◌, ◌^◌, Bool, eqb, List, length, get_or, take, inl, inr, refl, sym, ap, ◌∙◌, subst, arith}
+use Rattle.std.proofs.Common.{◌≡◌, ℕ, ◌+◌, ◌<◌, ◌^◌, Bool, eqb, ◌≤◌, List, ◌∷◌, ◌++◌, length, get_or, inl, inr, refl, sym, ap, ◌∙◌, subst, arith}
 use Rattle.std.specs.Prelude.{IsPermutation}
-use Rattle.std.specs.List.Sorted.{IsSorted, IsSortedBy}
+use Rattle.std.specs.List.Sorted.{IsSorted, IsSortedBy, IsSplitAround}
 use Rattle.std.specs.declared.cmp.Ordering.{Ordering}
 use Rattle.std.specs.declared.cmp.Ordering.TheVariants.{Less, Equal, Greater}
 use Rattle.std.specs.Ordering.{nat_cmp, ordering_then, is_lt}
 use Rattle.std.specs.Cmp.{IsTotalOrder, nat_cmp_total, on_total, then_total}
 use Rattle.std.proofs.lemmas.Bool.{cases_order}
-use Rattle.std.proofs.lemmas.List.{get_or-map, get_or-take, length-map, length-take, take-map}
+use Rattle.std.proofs.lemmas.List.{get_or-map, length-map, length-append, take-map, take_at, take_all}
 use Rattle.std.proofs.lemmas.List.Sums.{count_by-le-length}
-use Rattle.std.proofs.lemmas.List.Sorted.{All-permutation, IsPermutation-map}
+use Rattle.std.proofs.lemmas.List.Sorted.{All-permutation, length_permutation, IsPermutation-trans}
 use Rattle.bench_types.specs.declared.entries.Item.{Item}
 use Rattle.bench_types.specs.declared.exchanges.Mode.{Mode}
 use Rattle.bench_types.specs.declared.exchanges.Mode.TheVariants.{ScuttleBreadth, ScuttleDepth, PreciseOldest, PreciseNewest}
@@ -18,7 +18,12 @@ use Rattle.bench_types.specs.Mode.{told_by}
 use Rattle.bench_types.specs.declared.exchanges.Telling.TheVariants.{Each}
 use Rattle.reconcile.specs.Order.{rotated, rank_among, owner_count, sending_order}
 use Rattle.reconcile.specs.Candidates.{IsScuttleMode}
-use Rattle.reconcile.specs.Keys.{item_in, items_in, reversed, IsSet, AllSet, IsFront, AreFirst, AreFirstItems, number_order}
+use Rattle.reconcile.specs.Deltas.{item_size}
+use Rattle.reconcile.specs.Keys.{item_in, items_in, reversed, IsSet, AllSet, AreFirstItems, number_order}
+use Rattle.reconcile.specs.Parcels.{AreEnough}
+use Rattle.reconcile.specs.Picks.{fitting}
+use Rattle.reconcile.proofs.Fitting.{fitting-take}
+use Rattle.reconcile.proofs.Front.{IsFront, whole, whole-permutation, whole-sorted, whole-front, front-split, split-permutation}
 use Rattle.node_table.proofs.Comparing.{nat_cmp-less, nat_cmp-equal, nat_cmp-greater}
 
 unfoldable pub no_candidate : Candidate
@@ -93,37 +98,46 @@ numbers-sending PreciseNewest is ns s items c d a b =
     ∙ (λ i. ordering_then (nat_cmp (a.first i) (b.first i)) (ordering_then (nat_cmp (a.turn i) (b.turn i)) (ordering_then (nat_cmp (a.second i) (b.second i)) (nat_cmp c.item.entry.key d.item.entry.key))))
     ∙ λ n. ordering_then (nat_cmp-reversed c.item.entry.born d.item.entry.born a.born_fits b.born_fits n) (ordering_then (nat_cmp (rotated ns s c.item.owner) (rotated ns s d.item.owner)) (ordering_then (nat_cmp-reversed c.item.entry.version d.item.entry.version a.version_fits b.version_fits n) (nat_cmp c.item.entry.key d.item.entry.key)))
 
-module _ (mode : Mode) (precise : told_by mode ≡ Each) (ns s : ℕ) (old : List Candidate) (count : ℕ) (set : AllSet mode ns s old) where
-  -- a front by the numbers is one in the order of the mode
-  order_front : (moved : List Candidate) → IsPermutation old moved → IsFront number_order count moved → IsFront (sending_order mode ns s (items_in old)) count (items_in moved)
-  order_front moved moves front = record {
-    sorted = subst (IsSorted (sending_order mode ns s (items_in old))) (sym (take-map item_in count moved)) (sorted_items (λ c d. is_lt (sending_order mode ns s (items_in old) c d)) (take count moved) (λ k d from in_range.
-        let short = length-take count moved in
-        let next = get_or-take count moved (k + 1) d (omega arith) in
-        let here = get_or-take count moved k d (omega arith) in
-        (λ i. is_lt (sending_order mode ns s (items_in old) (next i).item (here i).item))
-        ∙ ap is_lt (compare (k + 1) k d (omega arith) (omega arith))
-        ∙ (λ i. is_lt (number_order (sym next i) (sym here i)))
-        ∙ front.sorted k d from in_range));
-    first = λ j k d before behind in_range.
-        let long = length-map moved item_in in
-        let x = get_or-map item_in moved k no_candidate d (omega arith) in
-        let y = get_or-map item_in moved j no_candidate d (omega arith) in
-        (λ i. is_lt (sending_order mode ns s (items_in old) (x i) (y i)))
-        ∙ ap is_lt (compare k j no_candidate (omega arith) (omega arith))
-        ∙ front.first j k no_candidate before behind (omega arith);
-  }
+module _ (mode : Mode) (precise : told_by mode ≡ Each) (ns s : ℕ) (old : List Candidate) (set : AllSet mode ns s old) where
+  -- candidates that are sorted by their numbers are in the order of the mode
+  pub order_numbers : (moved : List Candidate) → IsPermutation old moved → IsSorted number_order moved → IsSorted (sending_order mode ns s (items_in old)) (items_in moved)
+  order_numbers moved moves rises = sorted_items (λ i j. is_lt (sending_order mode ns s (items_in old) i j)) moved (λ k d from in_range.
+      ap is_lt (compare (k + 1) k d in_range (omega arith))
+      ∙ rises k d from in_range)
     where
       compare : (j k : ℕ) (d : Candidate) → j < length moved → k < length moved → sending_order mode ns s (items_in old) (get_or moved j d).item (get_or moved k d).item ≡ number_order (get_or moved j d) (get_or moved k d)
       compare j k d in_j in_k =
           let all = All-permutation (IsSet mode ns s) old moved moves set in
           sym (numbers-sending mode precise ns s (items_in old) (get_or moved j d) (get_or moved k d) (all j d in_j) (all k d in_k))
 
-  -- and the items of the first by the numbers are the first in the order of the mode
-  pub order_first : (items : List Item) → AreFirstItems count old items → AreFirst (sending_order mode ns s (items_in old)) count (items_in old) items
-  order_first items (front, are, items_are) = record {
-    moved = items_in are.moved;
-    same = IsPermutation-map item_in old are.moved are.same;
-    front = order_front are.moved are.same are.front;
-    is = items_are ∙ ap items_in are.is ∙ sym (take-map item_in count are.moved);
-  }
+-- where a selection parted the front, and no more fit than are in it, the others need not be sorted
+pub front_first : (budget most : ℕ) (old front sorted : List Candidate) (x : Candidate) (back : List Candidate) (items : List Item) → IsSplitAround number_order front x back → IsPermutation old (front ++ x ∷ back) → IsPermutation front sorted → IsSorted number_order sorted → length front ≡ most → AreEnough budget (length old) most → items ≡ fitting item_size budget (items_in sorted) → AreFirstItems budget old items
+front_first budget most old front sorted x back items parted split same rises long enough is = record {
+  sorted = all;
+  same = moves;
+  rises = whole-sorted number_order number_total most moved fits is_front;
+  is =
+      is
+      ∙ ap (λ cs. fitting item_size budget (items_in cs)) (sym (take_at sorted (x ∷ back) most count) ∙ sym (whole-front number_order number_total most moved fits is_front))
+      ∙ ap (fitting item_size budget) (sym (take-map item_in most all))
+      ∙ fitting-take item_size most budget (items_in all)
+      ∙ take_all most (fitting item_size budget (items_in all)) (enough (items_in all) (omega (arith, length-map all item_in, length_permutation old all moves)));
+}
+  where
+    moved : List Candidate
+    moved = sorted ++ x ∷ back
+
+    count : length sorted ≡ most
+    count = length_permutation front sorted same ∙ long
+
+    fits : most ≤ length moved
+    fits = omega (arith, count, length-append sorted (x ∷ back))
+
+    is_front : IsFront number_order most moved
+    is_front = subst (λ n. IsFront number_order n moved) long (front-split number_order number_total front sorted x back parted same rises)
+
+    all : List Candidate
+    all = whole number_order number_total most moved fits is_front
+
+    moves : IsPermutation old all
+    moves = IsPermutation-trans old moved all (split-permutation number_order number_total old front sorted x back split same) (whole-permutation number_order number_total most moved fits is_front)

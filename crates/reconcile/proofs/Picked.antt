@@ -1,7 +1,7 @@
 -- What the definition picks of candidates, where they stand sorted: the first of them.
 use Rattle.std.proofs.Common.{◌≡◌, ℕ, zero, suc, ◌+◌, ◌-◌, ◌<◌, ◌≤◌, Bool, true, false, cond, eqb, leb, List, [], ◌∷◌, length, get_or, take, drop, Option, Some, None, ◌⊎◌, inl, inr, refl, sym, ap, ◌∙◌, subst, arith}
-use Rattle.std.specs.Prelude.{find, IsPermutation, Contains}
-use Rattle.std.specs.List.{filter_map, range_with_len, cons_option}
+use Rattle.std.specs.Prelude.{count_by, find, IsPermutation, Contains}
+use Rattle.std.specs.List.{filter_map, range_with_len, cons_option, sum_by}
 use Rattle.std.specs.List.Sorted.{IsSorted}
 use Rattle.std.specs.declared.cmp.Ordering.{Ordering}
 use Rattle.std.specs.declared.cmp.Ordering.TheVariants.{Less, Equal, Greater}
@@ -9,9 +9,11 @@ use Rattle.std.specs.Ordering.{is_lt, ordering_reverse}
 use Rattle.std.specs.Cmp.{IsTotalOrder, tied_itself}
 use Rattle.std.proofs.lemmas.Bool.{cases_lt, eq-eqb, eqb-true, le-leb, lt-leb}
 use Rattle.std.proofs.lemmas.List.{get_or_default}
-use Rattle.std.proofs.lemmas.List.Sorted.{sorted_far, ranks_by, sum_by-IsPermutation, Contains-permutation, IsPermutation-sym}
-use Rattle.reconcile.specs.Picks.{before_count, at_place, sent, cut_count}
-use Rattle.reconcile.proofs.Counts.{count_by-stretch}
+use Rattle.std.proofs.lemmas.List.Sums.{sum_by-cons}
+use Rattle.std.proofs.lemmas.List.Sorted.{sorted_far, ranks_by, sum_by-IsPermutation, length_permutation, Contains-permutation, IsPermutation-sym}
+use Rattle.reconcile.specs.Picks.{before_count, at_place, first_places, size_through, fits, sent, cut_count, fitting}
+use Rattle.reconcile.proofs.Counts.{count_by-stretch, count_by-not}
+use Rattle.reconcile.proofs.Fitting.{length-fitting-le, fitting-is_front, sum-within, sum-beyond}
 
 -- what a search finds passes the test and stands in the list
 pub find_passes : {X : Type 0} (p : X → Bool) (xs : List X) (x : X) → find p xs ≡ Some x → p x ≡ true
@@ -71,6 +73,21 @@ take_by_places [] at a (suc n) places = nothing_more at a (suc n) places
 take_by_places (x ∷ xs) at a (suc n) places =
     ap (λ o. cons_option o (filter_map at (range_with_len (a + 1) n))) (ap at {x = a} {y = a + 0} (omega arith) ∙ places 0)
     ∙ ap (λ ys. x ∷ ys) (take_by_places xs at (a + 1) n (λ m. ap at {x = a + 1 + m} {y = a + suc m} (omega arith) ∙ places (suc m)))
+
+-- a sum to which nothing behind a front adds
+sum_by-front : {X : Type 0} (p : X → Bool) (size : X → ℕ) (xs : List X) (n : ℕ) → n ≤ length xs → ((i : ℕ) (d : X) → i < n → p (get_or xs i d) ≡ false) → ((i : ℕ) (d : X) → n ≤ i → i < length xs → p (get_or xs i d) ≡ true) → sum_by (λ x. cond (p x) 0 (size x)) xs ≡ sum_by size (take n xs)
+sum_by-front p size [] zero le through beyond = refl
+sum_by-front p size [] (suc n) le through beyond = absurd (omega arith)
+sum_by-front p size (x ∷ xs) zero le through beyond =
+    sum_by-cons (λ y. cond (p y) 0 (size y)) x xs
+    ∙ ap (λ b. cond b 0 (size x) + sum_by (λ y. cond (p y) 0 (size y)) xs) (beyond 0 x (omega arith) (omega arith))
+    ∙ ap (λ n. 0 + n) (sum_by-front p size xs zero (omega arith) (λ i d lt. absurd (omega arith)) (λ i d from lt. beyond (suc i) d (omega arith) (omega arith)))
+    ∙ omega arith
+sum_by-front p size (x ∷ xs) (suc n) le through beyond =
+    sum_by-cons (λ y. cond (p y) 0 (size y)) x xs
+    ∙ ap (λ b. cond b 0 (size x) + sum_by (λ y. cond (p y) 0 (size y)) xs) (through 0 x (omega arith))
+    ∙ ap (λ m. size x + m) (sum_by-front p size xs n (omega arith) (λ i d lt. through (suc i) d (omega arith)) (λ i d from lt. beyond (suc i) d (omega arith) (omega arith)))
+    ∙ sym (sum_by-cons size x (take n xs))
 
 module _ {X : Type 0} (order : X → X → Ordering) (total : IsTotalOrder order) (candidates sorted : List X) (none : X) (same : IsPermutation candidates sorted) (rises : IsSorted order sorted) (apart : (j k : ℕ) → j < length sorted → k < length sorted → order (get_or sorted j none) (get_or sorted k none) ≡ Equal → j ≡ k) where
   -- of two the earlier comes before
@@ -133,23 +150,51 @@ module _ {X : Type 0} (order : X → X → Ordering) (total : IsTotalOrder order
           let passes : eqb (before_count order candidates (get_or candidates stands.0 x)) m ≡ true = eq-eqb (before_count order candidates (get_or candidates stands.0 x)) m (ap (before_count order candidates) stands.2 ∙ count_at m lt) in
           Rattle.std.proofs.lemmas.Bool.both_ways _ fails passes
 
-  pub sent-is : (budget : ℕ) → sent order candidates budget ≡ take budget sorted
-  sent-is budget = take_by_places sorted (at_place order candidates) 0 budget (λ m. ap (at_place order candidates) {x = 0 + m} {y = m} (omega arith) ∙ at_place-is m)
+  pub first_places-is : (n : ℕ) → first_places order candidates n ≡ take n sorted
+  first_places-is n = take_by_places sorted (at_place order candidates) 0 n (λ m. ap (at_place order candidates) {x = 0 + m} {y = m} (omega arith) ∙ at_place-is m)
 
-  pub cut_count-is : (budget : ℕ) → cut_count order candidates budget ≡ length sorted - budget
-  cut_count-is budget =
-      sym (sum_by-IsPermutation (λ c. cond (leb budget (before_count order candidates c)) 1 0) candidates sorted same)
-      ∙ elim (cases_lt budget (length sorted)) [
-        | inl lt ↦ count_by-stretch (λ c. leb budget (before_count order candidates c)) sorted budget (length sorted) (omega arith) (omega arith) holds (fails_before (length sorted))
-        | inr past ↦ count_by-stretch (λ c. leb budget (before_count order candidates c)) sorted (length sorted) (length sorted) (omega arith) (omega arith) (λ i d from to. absurd (omega arith)) (λ i d lt outside. small i d lt (omega arith)) ∙ omega arith
-      ]
-    where
-      holds : (i : ℕ) (d : X) → budget ≤ i → i < length sorted → leb budget (before_count order candidates (get_or sorted i d)) ≡ true
-      holds i d from to = ap (λ x. leb budget (before_count order candidates x)) (get_or_default sorted i d none to) ∙ ap (leb budget) (count_at i to) ∙ le-leb budget i from
+  module _ (size : X → ℕ) where
+    -- the sizes up to the one at index j are those of the first j + 1
+    size_through-at : (j : ℕ) → j < length sorted → size_through order candidates size (get_or sorted j none) ≡ sum_by size (take (suc j) sorted)
+    size_through-at j lt =
+        sym (sum_by-IsPermutation (λ d. cond (is_lt (order (get_or sorted j none) d)) 0 (size d)) candidates sorted same)
+        ∙ sum_by-front (λ d. is_lt (order (get_or sorted j none) d)) size sorted (suc j) (omega arith) through beyond
+      where
+        through : (i : ℕ) (d : X) → i < suc j → is_lt (order (get_or sorted j none) (get_or sorted i d)) ≡ false
+        through i d to =
+            ap (λ x. is_lt (order (get_or sorted j none) x)) (get_or_default sorted i d none (omega arith))
+            ∙ elim (cases_lt i j) [
+              | inl before ↦ ap is_lt (total.antisymm (get_or sorted j none) (get_or sorted i none) ∙ ap ordering_reverse (earlier i j before lt))
+              | inr not_before ↦ let here : i ≡ j = omega arith in ap is_lt (ap (λ k. order (get_or sorted j none) (get_or sorted k none)) here ∙ tied_itself total (get_or sorted j none))
+            ]
 
-      small : (i : ℕ) (d : X) → i < length sorted → i < budget → leb budget (before_count order candidates (get_or sorted i d)) ≡ false
-      small i d lt below = ap (λ x. leb budget (before_count order candidates x)) (get_or_default sorted i d none lt) ∙ ap (leb budget) (count_at i lt) ∙ lt-leb budget i below
+        beyond : (i : ℕ) (d : X) → suc j ≤ i → i < length sorted → is_lt (order (get_or sorted j none) (get_or sorted i d)) ≡ true
+        beyond i d from in_range =
+            ap (λ x. is_lt (order (get_or sorted j none) x)) (get_or_default sorted i d none in_range)
+            ∙ ap is_lt (earlier j i (omega arith) in_range)
 
-      fails_before : (n : ℕ) (i : ℕ) (d : X) → i < length sorted → (i < budget) ⊎ (length sorted ≤ i) → leb budget (before_count order candidates (get_or sorted i d)) ≡ false
-      fails_before n i d lt (inl below) = small i d lt below
-      fails_before n i d lt (inr past) = absurd (omega arith)
+    -- as many fit as the longest beginning that fits has
+    pub fits-count : (budget : ℕ) → count_by (fits order candidates size budget) candidates ≡ length (fitting size budget sorted)
+    fits-count budget =
+        sym (sum_by-IsPermutation (λ c. cond (fits order candidates size budget c) 1 0) candidates sorted same)
+        ∙ count_by-stretch (fits order candidates size budget) sorted 0 (length (fitting size budget sorted)) (omega arith) (length-fitting-le size budget sorted) holds fails
+        ∙ omega arith
+      where
+        at : (i : ℕ) (d : X) → i < length sorted → fits order candidates size budget (get_or sorted i d) ≡ leb (sum_by size (take (suc i) sorted)) budget
+        at i d lt = ap (fits order candidates size budget) (get_or_default sorted i d none lt) ∙ ap (λ n. leb n budget) (size_through-at i lt)
+
+        holds : (i : ℕ) (d : X) → 0 ≤ i → i < length (fitting size budget sorted) → fits order candidates size budget (get_or sorted i d) ≡ true
+        holds i d from to = at i d (omega (arith, length-fitting-le size budget sorted)) ∙ le-leb (sum_by size (take (suc i) sorted)) budget (sum-within size budget sorted i to)
+
+        fails : (i : ℕ) (d : X) → i < length sorted → (i < 0) ⊎ (length (fitting size budget sorted) ≤ i) → fits order candidates size budget (get_or sorted i d) ≡ false
+        fails i d lt (inl early) = absurd (omega arith)
+        fails i d lt (inr late) = at i d lt ∙ lt-leb (sum_by size (take (suc i) sorted)) budget (sum-beyond size budget sorted i late lt)
+
+    pub sent-is : (budget : ℕ) → sent order candidates size budget ≡ fitting size budget sorted
+    sent-is budget =
+        ap (first_places order candidates) (fits-count budget)
+        ∙ first_places-is (length (fitting size budget sorted))
+        ∙ sym (fitting-is_front size budget sorted)
+
+    pub cut_count-is : (budget : ℕ) → cut_count order candidates size budget ≡ length sorted - length (fitting size budget sorted)
+    cut_count-is budget = omega (arith, fits-count budget, count_by-not (fits order candidates size budget) candidates, length_permutation candidates sorted same)

@@ -1,15 +1,16 @@
 -- What a budget lets through of candidates in a strict total order: those with few enough before them.
-use Rattle.std.proofs.Common.{◌≡◌, ℕ, zero, suc, ◌+◌, ◌<◌, ◌≤◌, Bool, true, false, eqb, leb, List, [], ◌∷◌, length, get_or, Option, Some, None, inl, inr, refl, sym, ap, ◌∙◌, subst, arith}
+use Rattle.std.proofs.Common.{◌≡◌, ℕ, zero, suc, ◌+◌, ◌<◌, ◌≤◌, Bool, true, false, cond, not, eqb, List, [], ◌∷◌, length, get_or, Option, Some, None, inl, inr, refl, sym, ap, ◌∙◌, subst, arith}
 use Rattle.std.specs.Prelude.{count_by, find, Contains}
-use Rattle.std.specs.List.{filter_map, range_with_len, cons_option}
+use Rattle.std.specs.List.{filter_map, range_with_len, cons_option, sum_by}
 use Rattle.std.specs.declared.cmp.Ordering.{Ordering}
 use Rattle.std.specs.declared.cmp.Ordering.TheVariants.{Less, Equal, Greater}
 use Rattle.std.specs.Ordering.{is_lt, ordering_reverse}
 use Rattle.std.specs.Cmp.{IsTotalOrder, tied_itself}
-use Rattle.std.proofs.lemmas.Bool.{both_ways, eq-eqb, eqb-true, lt-leb}
+use Rattle.std.proofs.lemmas.Bool.{both_ways, eq-eqb, eqb-true, le-leb}
 use Rattle.std.proofs.lemmas.List.{get_or_default}
-use Rattle.reconcile.specs.Picks.{before_count, at_place, sent, cut_count}
-use Rattle.reconcile.proofs.Counts.{count_by-cons_true, count_by-cons_false, count_by-stretch}
+use Rattle.std.proofs.lemmas.List.Sums.{sum_by-cons}
+use Rattle.reconcile.specs.Picks.{before_count, at_place, first_places, size_through, fits, sent, cut_count}
+use Rattle.reconcile.proofs.Counts.{count_by-cons_true, count_by-cons_false, count_by-stretch, count_by-not}
 use Rattle.reconcile.proofs.Picked.{find_passes, find_stands, find_none}
 
 -- a weaker test passes no fewer, and more where it alone passes one
@@ -49,6 +50,18 @@ count_by-lt-length p (x ∷ xs) y (suc k, lt, is) fails =
       | true ↦ λ yes'. omega (arith, rest, count_by-cons_true p x xs yes')
       | false ↦ λ no'. omega (arith, rest, count_by-cons_false p x xs no')
     ] refl
+
+-- what is left out of a sum makes it no greater
+sum_by-part : {X : Type 0} (p : X → Bool) (size : X → ℕ) (xs : List X) → sum_by (λ x. cond (p x) 0 (size x)) xs ≤ sum_by size xs
+sum_by-part p size [] = omega arith
+sum_by-part p size (x ∷ xs) =
+    let rest = sum_by-part p size xs in
+    let whole = sum_by-cons size x xs in
+    let part = sum_by-cons (λ y. cond (p y) 0 (size y)) x xs in
+    elim (p x) as (λ b. sum_by (λ y. cond (p y) 0 (size y)) (x ∷ xs) ≡ cond b 0 (size x) + sum_by (λ y. cond (p y) 0 (size y)) xs → sum_by (λ y. cond (p y) 0 (size y)) (x ∷ xs) ≤ sum_by size (x ∷ xs)) [
+      | true ↦ λ e. omega (arith, rest, whole, e)
+      | false ↦ λ e. omega (arith, rest, whole, e)
+    ] part
 
 -- what a search finds where something passes
 found : {X : Type 0} (p : X → Bool) (xs : List X) (x : X) → Contains xs x → p x ≡ true → (y : X) × (find p xs ≡ Some y)
@@ -130,19 +143,19 @@ module _ {X : Type 0} (order : X → X → Ordering) (total : IsTotalOrder order
       count_by-lt (λ x. is_lt (order x c)) (λ x. is_lt (order x d)) cs
       (λ x before. ap is_lt (total.trans x c d (less x (order x c) before) e)) c stands (ap is_lt (tied_itself total c)) (ap is_lt e)
 
-  -- what is sent is a candidate with few enough before it
-  pub Contains-sent : (budget : ℕ) (x : X) → Contains (sent order cs budget) x → Contains cs x × (before_count order cs x < budget)
-  Contains-sent budget x stands =
-      let place = looked_up (at_place order cs) 0 budget x stands in
+  -- what stands at one of the first places is a candidate with few enough before it
+  pub Contains-first_places : (n : ℕ) (x : X) → Contains (first_places order cs n) x → Contains cs x × (before_count order cs x < n)
+  Contains-first_places n x stands =
+      let place = looked_up (at_place order cs) 0 n x stands in
       let is = eqb-true (before_count order cs x) place.0 (find_passes (λ c. eqb (before_count order cs c) place.0) cs x place.3) in
       (find_stands (λ c. eqb (before_count order cs c) place.0) cs x place.3, omega (arith, place.2, is))
 
-  -- what is sent earlier has fewer before it
-  pub before_count-sent : (budget j k : ℕ) (d : X) → j < k → k < length (sent order cs budget) → before_count order cs (get_or (sent order cs budget) j d) < before_count order cs (get_or (sent order cs budget) k d)
-  before_count-sent budget j k d lt in_range =
-      let places = places_rise (at_place order cs) 0 budget j k d lt in_range in
-      let x = get_or (sent order cs budget) j d in
-      let y = get_or (sent order cs budget) k d in
+  -- what stands earlier has fewer before it
+  pub before_count-places : (n j k : ℕ) (d : X) → j < k → k < length (first_places order cs n) → before_count order cs (get_or (first_places order cs n) j d) < before_count order cs (get_or (first_places order cs n) k d)
+  before_count-places n j k d lt in_range =
+      let places = places_rise (at_place order cs) 0 n j k d lt in_range in
+      let x = get_or (first_places order cs n) j d in
+      let y = get_or (first_places order cs n) k d in
       let first = eqb-true (before_count order cs x) places.0 (find_passes (λ c. eqb (before_count order cs c) places.0) cs x places.4) in
       let second = eqb-true (before_count order cs y) places.1 (find_passes (λ c. eqb (before_count order cs c) places.1) cs y places.5) in
       omega (arith, first, second, places.3)
@@ -151,11 +164,11 @@ module _ {X : Type 0} (order : X → X → Ordering) (total : IsTotalOrder order
   before_count-lt-length : (x : X) → Contains cs x → before_count order cs x < length cs
   before_count-lt-length x stands = count_by-lt-length (λ y. is_lt (order y x)) cs x stands (ap is_lt (tied_itself total x))
 
-  -- so a budget for all of them cuts none
-  pub cut_count-none : (budget : ℕ) → length cs ≤ budget → cut_count order cs budget ≡ 0
-  cut_count-none budget le =
-      count_by-stretch (λ c. leb budget (before_count order cs c)) cs 0 0 (omega arith) (omega arith) (λ i d from to. absurd (omega arith))
-      (λ i d lt outside. lt-leb budget (before_count order cs (get_or cs i d)) (omega (arith, le, before_count-lt-length (get_or cs i d) (i, lt, get_or_default cs i _ d lt))))
+  -- a budget for all of them cuts none
+  pub cut_count-none : (size : X → ℕ) (budget : ℕ) → sum_by size cs ≤ budget → cut_count order cs size budget ≡ 0
+  cut_count-none size budget le =
+      count_by-stretch (λ c. not (fits order cs size budget c)) cs 0 0 (omega arith) (omega arith) (λ i d from to. absurd (omega arith))
+      (λ i d lt outside. ap not (le-leb (size_through order cs size (get_or cs i d)) budget (omega (arith, le, sum_by-part (λ x. is_lt (order (get_or cs i d) x)) size cs))))
 
   module _ (strict : (c d : X) → Contains cs c → Contains cs d → order c d ≡ Equal → c ≡ d) where
     -- two candidates with as many before them are one
@@ -166,17 +179,23 @@ module _ {X : Type 0} (order : X → X → Ordering) (total : IsTotalOrder order
       | Greater ↦ λ is. absurd (omega (arith, before_count-lt d c in_d (total.antisymm d c ∙ ap ordering_reverse is), e))
     ] refl
 
-    -- a candidate with few enough before it is sent
-    pub sent-Contains : (budget : ℕ) (x : X) → Contains cs x → before_count order cs x < budget → Contains (sent order cs budget) x
-    sent-Contains budget x stands few =
+    -- a candidate with few enough before it stands at one of the first places
+    first_places-Contains : (n : ℕ) (x : X) → Contains cs x → before_count order cs x < n → Contains (first_places order cs n) x
+    first_places-Contains n x stands few =
         let m = before_count order cs x in
         let there = found (λ c. eqb (before_count order cs c) m) cs x stands (eq-eqb m m refl) in
         let counted = eqb-true (before_count order cs there.0) m (find_passes (λ c. eqb (before_count order cs c) m) cs there.0 there.1) in
         let same = before_count-same there.0 x (find_stands (λ c. eqb (before_count order cs c) m) cs there.0 there.1) stands counted in
-        looks_up (at_place order cs) 0 budget m x (omega arith) (omega arith) (there.1 ∙ ap Some same)
+        looks_up (at_place order cs) 0 n m x (omega arith) (omega arith) (there.1 ∙ ap Some same)
 
-    -- what comes before something that is sent is sent
-    pub sent-before : (budget : ℕ) (c d : X) → Contains cs c → Contains (sent order cs budget) d → order c d ≡ Less → Contains (sent order cs budget) c
-    sent-before budget c d stands there e =
-        let sent_d = Contains-sent budget d there in
-        sent-Contains budget c stands (omega (arith, sent_d.1, before_count-lt c d stands e))
+    -- and so does what comes before one that does
+    pub first_places-before : (n : ℕ) (c d : X) → Contains cs c → Contains (first_places order cs n) d → order c d ≡ Less → Contains (first_places order cs n) c
+    first_places-before n c d stands there e =
+        let last = Contains-first_places n d there in
+        first_places-Contains n c stands (omega (arith, last.1, before_count-lt c d stands e))
+
+    -- where none is cut each is sent
+    pub uncut-Contains : (size : X → ℕ) (budget : ℕ) → cut_count order cs size budget ≡ 0 → (x : X) → Contains cs x → Contains (sent order cs size budget) x
+    uncut-Contains size budget none x stands =
+        first_places-Contains (count_by (fits order cs size budget) cs) x stands
+        (omega (arith, none, count_by-not (fits order cs size budget) cs, before_count-lt-length x stands))

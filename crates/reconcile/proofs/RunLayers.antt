@@ -4,7 +4,7 @@ use Rattle.std.specs.Prelude.{filter, count_by}
 use Rattle.std.specs.List.{AllPairs, flat_map}
 use Rattle.std.proofs.lemmas.Bool.{ltb-false, cases_order, eq-eqb, ne_eqb}
 use Rattle.std.proofs.lemmas.Grind.{flat_map-append}
-use Rattle.std.proofs.lemmas.List.{append_assoc, map-append, take_more, length-append, length-map}
+use Rattle.std.proofs.lemmas.List.{append-nil, map-append, take_more, length-append, length-map}
 use Rattle.std.proofs.lemmas.List.Folds.{length-flat_map-take}
 use Rattle.std.proofs.lemmas.List.Elements.{All-filter, filter-append, All-nil, All-cons, All-weaker, All-head, All-tail, All-append, All-map}
 use Rattle.std.proofs.lemmas.List.Kept.{AllPairs-filter}
@@ -49,11 +49,15 @@ longest_more runs n most more d lt is so_far =
       within = omega (arith, is, so_far.within, ap (λ rs. length (items_of_runs rs)) next, ap length (flat_map-append run_items (take n runs) (r ∷ [])), length-append (items_of_runs (take n runs)) (items_of_runs (r ∷ [])), length-append (run_items r) [], length-map r.entries.now (item_with r.owner));
     }
 
--- one more entry comes behind
-pub entries_more : (owner : ℕ) (entries : List Entry) (old : List Item) (n : ℕ) (d : Entry) → n < length entries → (old ++ map (item_with owner) (take n entries)) ++ item_with owner (get_or entries n d) ∷ [] ≡ old ++ map (item_with owner) (take (n + 1) entries)
-entries_more owner entries old n d lt =
-    append_assoc old (map (item_with owner) (take n entries)) (item_with owner (get_or entries n d) ∷ [])
-    ∙ ap (λ is. old ++ is) (sym (map-append (item_with owner) (take n entries) (get_or entries n d ∷ [])) ∙ ap (map (item_with owner)) (sym (take_more entries n d lt)))
+-- one more comes behind
+pub map-more : {X Y : Type 0} (f : X → Y) (xs : List X) (n : ℕ) (d : X) → n < length xs → map f (take n xs) ++ f (get_or xs n d) ∷ [] ≡ map f (take (n + 1) xs)
+map-more f xs n d lt = sym (map-append f (take n xs) (get_or xs n d ∷ [])) ∙ ap (map f) (sym (take_more xs n d lt))
+
+pub runs-more : (part : Run → List Item) (runs : List Run) (n : ℕ) (d : Run) → n < length runs → flat_map part (take n runs) ++ part (get_or runs n d) ≡ flat_map part (take (n + 1) runs)
+runs-more part runs n d lt =
+    ap (λ is. flat_map part (take n runs) ++ is) (sym (append-nil (part (get_or runs n d))))
+    ∙ sym (flat_map-append part (take n runs) (get_or runs n d ∷ []))
+    ∙ ap (flat_map part) (sym (take_more runs n d lt))
 
 -- what passes no test counts for nothing, and what passes each is all kept
 filter-none : {X : Type 0} (p : X → Bool) (xs : List X) → All (λ x. p x ≡ false) xs → filter p xs ≡ []

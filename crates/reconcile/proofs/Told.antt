@@ -1,6 +1,6 @@
 -- What a digest tells is what the table holds, and what is sent stood among the candidates.
 use Rattle.std.proofs.Common.{◌≡◌, ◌≢◌, ℕ, zero, suc, ◌+◌, ◌<◌, Bool, true, false, cond, not, ◌&&◌, eqb, ltb, List, [], ◌∷◌, get_or, All, Some, None, refl, sym, ap, ◌∙◌, subst}
-use Rattle.std.specs.Prelude.{filter}
+use Rattle.std.specs.Prelude.{count_by, filter}
 use Rattle.std.specs.List.{filter_map, range_with_len, cons_option}
 use Rattle.std.specs.declared.cmp.Ordering.{Ordering}
 use Rattle.std.proofs.lemmas.Bool.{eq-eqb}
@@ -15,9 +15,9 @@ use Rattle.node_table.specs.View.{IsItemInPlace}
 use Rattle.node_table.proofs.Proper.{items_sound}
 use Rattle.reconcile.specs.Candidates.{items_above, candidates, known_version}
 use Rattle.reconcile.specs.Digests.{DigestView, Knowledge, Greatest, Each, telling_of, IsDigestOf, greatest_in, each_in, known_in, told_version}
-use Rattle.reconcile.specs.Deltas.{DeltaView, delta_of, answer_of, IsDeltaToReceiver, MayTake}
+use Rattle.reconcile.specs.Deltas.{DeltaView, item_size, delta_of, answer_of, IsDeltaToReceiver, MayTake}
 use Rattle.reconcile.specs.Order.{sending_order}
-use Rattle.reconcile.specs.Picks.{at_place, sent}
+use Rattle.reconcile.specs.Picks.{at_place, first_places, fits}
 use Rattle.reconcile.proofs.Picked.{find_stands}
 
 -- two tests that agree on a list keep the same of it
@@ -67,9 +67,9 @@ All-items_above P known receiver (x ∷ xs) all =
 pub candidates-in_place : (t : Table) (known : Item → ℕ) (receiver : ℕ) → IsProper t → All (λ (i : Item). (i.owner ≢ receiver) × IsItemInPlace t.nodes t.keys i) (items_above known receiver (items_of t))
 candidates-in_place t known receiver proper = All-items_above (IsItemInPlace t.nodes t.keys) known receiver (items_of t) (items_sound t proper).in_place
 
--- what is sent has what all candidates have
-pub All-sent : {X : Type 0} (P : X → Type 0) (order : X → X → Ordering) (cs : List X) (budget : ℕ) → All P cs → All P (sent order cs budget)
-All-sent P order cs budget all = places 0 budget
+-- what stands at the first places has what all candidates have
+pub All-first_places : {X : Type 0} (P : X → Type 0) (order : X → X → Ordering) (cs : List X) (n : ℕ) → All P cs → All P (first_places order cs n)
+All-first_places P order cs n all = places 0 n
   where
     places : (a n : ℕ) → All P (filter_map (at_place order cs) (range_with_len a n))
     places a zero = All-nil P
@@ -85,7 +85,8 @@ All-sent P order cs budget all = places 0 budget
 pub answer-in_place : (mode : Mode) (rotation budget : ℕ) (from : Table) (receiver : ℕ) (told : DigestView) → IsProper from → MayTake receiver from.nodes from.keys (answer_of mode rotation budget from receiver told).items
 answer-in_place mode rotation budget from receiver told proper =
     let cs = items_above (told_version told) receiver (items_of from) in
-    All-sent (λ (i : Item). (i.owner ≢ receiver) × IsItemInPlace from.nodes from.keys i) (sending_order mode from.nodes rotation cs) cs budget (candidates-in_place from (told_version told) receiver proper)
+    let order = sending_order mode from.nodes rotation cs in
+    All-first_places (λ (i : Item). (i.owner ≢ receiver) × IsItemInPlace from.nodes from.keys i) order cs (count_by (fits order cs item_size budget) cs) (candidates-in_place from (told_version told) receiver proper)
 
 -- and it is the delta to every table that the digest is of
 pub answer-of_tables : (mode : Mode) (rotation budget : ℕ) (from : Table) (receiver : ℕ) (told : DigestView) (delta : DeltaView) → IsProper from → told.nodes ≡ from.nodes → told.keys ≡ from.keys → delta ≡ answer_of mode rotation budget from receiver told → IsDeltaToReceiver mode rotation budget from receiver told delta

@@ -3,6 +3,7 @@
 use Rattle.std.specs.Prelude.{◌≡◌, ◌≢◌, ℕ, List, All}
 use Rattle.bench_types.specs.declared.entries.Item.{Item}
 use Rattle.bench_types.specs.declared.exchanges.Mode.{Mode}
+use Rattle.bench_types.specs.Budget.{entry_size}
 use Rattle.bench_types.specs.Mode.{told_by}
 use Rattle.node_table.specs.Table.{Table, items_of}
 use Rattle.node_table.specs.View.{IsItemInPlace}
@@ -15,10 +16,14 @@ pub record DeltaView : Type 0 where
   pub items : List Item
   pub cut : ℕ
 
+-- what an item takes of a budget
+abbrev pub item_size : Item → ℕ
+item_size i = entry_size i.entry
+
 abbrev pub delta_of : Mode → ℕ → ℕ → ℕ → List Item → DeltaView
 delta_of mode ns s budget cs =
     let order = sending_order mode ns s cs in
-    record { items = sent order cs budget; cut = cut_count order cs budget }
+    record { items = sent order cs item_size budget; cut = cut_count order cs item_size budget }
 
 -- what a table sends to a receiver whose digest this is
 abbrev pub answer_of : Mode → ℕ → ℕ → Table → ℕ → DigestView → DeltaView

@@ -1,14 +1,16 @@
 -- Candidates of a precise mode on the way into their order: each beside three numbers, by which and by the key they are
 -- sorted. What comes later where it is greater stands as it is, and what comes earlier where it is greater is taken
 -- from the greatest number of 32 bits. Source: this project.
-use Rattle.std.specs.Prelude.{◌≡◌, ℕ, ◌-◌, ◌<◌, ◌≤◌, ◌^◌, false, List, All, map, take, length, slice_index_or, IsPermutation, IsSorted}
-use Rattle.std.specs.Ordering.{nat_cmp, ordering_then, is_lt}
+use Rattle.std.specs.Prelude.{◌≡◌, ℕ, ◌-◌, ◌<◌, ◌^◌, List, All, map, IsPermutation, IsSorted}
+use Rattle.std.specs.Ordering.{nat_cmp, ordering_then}
 use Rattle.std.specs.declared.cmp.Ordering.{Ordering}
 use Rattle.bench_types.specs.declared.entries.Item.{Item}
 use Rattle.bench_types.specs.declared.exchanges.Mode.{Mode}
 use Rattle.bench_types.specs.declared.exchanges.Mode.TheVariants.{ScuttleBreadth, ScuttleDepth, PreciseOldest, PreciseNewest}
 use Rattle.reconcile.specs.declared.candidates.Candidate.{Candidate}
+use Rattle.reconcile.specs.Deltas.{item_size}
 use Rattle.reconcile.specs.Order.{rotated}
+use Rattle.reconcile.specs.Picks.{fitting}
 
 abbrev pub item_in : Candidate → Item
 item_in c = c.item
@@ -42,21 +44,12 @@ abbrev pub number_order : Candidate → Candidate → Ordering
 number_order c d =
     ordering_then (ordering_then (ordering_then (nat_cmp c.first d.first) (nat_cmp c.turn d.turn)) (nat_cmp c.second d.second)) (nat_cmp c.item.entry.key d.item.entry.key)
 
--- the first so many of a list stand in order, and none of the others is less than one of them
-pub record IsFront {X : Type 0} (order : X → X → Ordering) (count : ℕ) (xs : List X) : Type 0 where
-  pub sorted : IsSorted order (take count xs)
-  pub first : (j k : ℕ) (d : X) → j < count → count ≤ k → k < length xs → is_lt (order (slice_index_or xs k d) (slice_index_or xs j d)) ≡ false
-
--- they are the first so many of a list in an order, and stand in it
-pub record AreFirst {X : Type 0} (order : X → X → Ordering) (count : ℕ) (xs first : List X) : Type 0 where
-  pub moved : List X
-  pub same : IsPermutation xs moved
-  pub front : IsFront order count moved
-  pub is : first ≡ take count moved
-
--- they are the items of the first so many candidates by their numbers
-abbrev pub AreFirstItems : ℕ → List Candidate → List Item → Type 0
-AreFirstItems count cs items = (first : List Candidate) × AreFirst number_order count cs first × (items ≡ items_in first)
+-- they are what a budget lets through of the items of candidates that stand by their numbers
+pub record AreFirstItems (budget : ℕ) (cs : List Candidate) (items : List Item) : Type 0 where
+  pub sorted : List Candidate
+  pub same : IsPermutation cs sorted
+  pub rises : IsSorted number_order sorted
+  pub is : items ≡ fitting item_size budget (items_in sorted)
 
 -- where the old ones were set, so are the new ones
 abbrev pub SetsStay : Mode → ℕ → ℕ → List Candidate → List Candidate → Type 0

@@ -7,6 +7,7 @@ pub mod Newer
 pub mod Deltas
 pub mod Laws
 pub mod Keys
+pub mod Parcels
 pub mod Runs
 pub use Rattle.node_table.specs.Table
 pub use Rattle.node_table.specs.NodeTableView

@@ -6,9 +6,13 @@ use Rattle.std.specs.List.{AllPairs, flat_map}
 use Rattle.bench_types.specs.declared.entries.Entry.{Entry}
 use Rattle.bench_types.specs.declared.entries.Item.{Item}
 use Rattle.node_table.specs.Rows.{StandsBefore}
+use Rattle.reconcile.specs.Deltas.{item_size}
 use Rattle.reconcile.specs.Keys.{reversed}
 use Rattle.reconcile.specs.Newer.{item_with}
 use Rattle.reconcile.specs.Order.{owner_count}
+use Rattle.reconcile.specs.Parcels.{AddsFitting}
+use Rattle.reconcile.specs.Picks.{fitting}
+use Rattle.reconcile.specs.declared.parcels.Parcel.{Parcel}
 use Rattle.reconcile.specs.declared.runs.Run.{Run}
 
 abbrev pub run_items : Run → List Item
@@ -47,9 +51,9 @@ ranked rank r = map (item_with r.owner) (entries_ranked rank r.entries.now)
 abbrev pub of_length : ℕ → Run → List Item
 of_length len r = if length r.entries.now == len then run_items r else []
 
--- what each run sends comes behind, as long as there are fewer items than so many
-abbrev pub AddsLayer : (Run → List Item) → ℕ → List Run → List Item → List Item → Type 0
-AddsLayer part count runs old new = new ≡ take count (old ++ flat_map part runs)
+-- what each run sends comes behind, as long as it fits
+abbrev pub AddsLayer : (Run → List Item) → List Run → Parcel → Parcel → Type 0
+AddsLayer part runs old new = AddsFitting (flat_map part runs) old new
 
 -- a number that is smaller the more items the owner has
 abbrev pub lengths_first : List Item → Item → ℕ
@@ -64,9 +68,9 @@ abbrev pub layered : (Item → ℕ) → List Item → ℕ → ℕ → List Item
 layered number items least zero = []
 layered number items least (suc n) = layered number items least n ++ layer_of number items (least + n)
 
--- the first so many of all items, layer by layer
-pub record AreLayered (number : Item → ℕ) (count : ℕ) (all first : List Item) : Type 0 where
+-- what a budget lets through of all items, layer by layer
+pub record AreLayered (number : Item → ℕ) (budget : ℕ) (all sent : List Item) : Type 0 where
   pub least : ℕ
   pub layers : ℕ
   pub within : All (λ i. (least ≤ number i) × (number i < least + layers)) all
-  pub is : first ≡ take count (layered number all least layers)
+  pub is : sent ≡ fitting item_size budget (layered number all least layers)

@@ -5,15 +5,17 @@ ghost use Rattle.std.specs.Prelude.{◌≡◌, ◌^◌, ◌<◌, ◌≤◌, All,
 ghost use Rattle.bench_types.specs.declared.faults.Fault.TheVariants.{OutOfMemory};
 ghost use Rattle.bench_types.specs.Mode.{told_by};
 ghost use Rattle.node_table.specs.Table.{IsProper};
-ghost use Rattle.reconcile.specs.Deltas.{answer_of};
+ghost use Rattle.reconcile.specs.Deltas.{answer_of, item_size};
 ghost use Rattle.reconcile.specs.Digests.{IsOfKind};
 ghost use Rattle.reconcile.specs.Newer.{AddsNewer, AreCandidates};
 ghost use Rattle.reconcile.specs.Order.{rotated};
+ghost use Rattle.reconcile.specs.Picks.{fitting};
 ghost use Rattle.reconcile.specs.Keys.{items_in, age_first, AllSet, AreFirstItems, IsSet, SetsStay, number_order};
 
 use crate::deltas::Delta;
 use crate::digests::Digest;
 use crate::orders::Turns;
+use crate::parcels::{Parcel, most_sent};
 use bench_types::{Entry, Fault, Item, Mode, Telling};
 use node_table::NodeTable;
 use std::alloc::Global;
@@ -54,9 +56,9 @@ pub(crate) fn precise_delta(
     ensures only { IsOkUnless result OutOfMemory }
 {
     let mut found = candidates(alloc, table, digest, receiver, turns)?;
-    let sent = found.len().min(budget as usize);
-    let cut = (found.len() - sent) as u32;
-    let items = front_items(alloc, &mut found, sent)?;
+    let count = found.len();
+    let items = front_items(alloc, &mut found, budget)?;
+    let cut = (count - items.len()) as u32;
     Ok(Delta { items, cut })
 }
 
@@ -159,31 +161,44 @@ fn age_first(mode: Mode, age: u32) -> u32
     }
 }
 
-// The items of the first so many candidates by their three numbers and then by key, in that order.
-// The others aren't sorted.
-fn front_items(alloc: Global, order: &mut [Candidate], count: usize) -> Result<Vec<Item>, Fault>
-    requires { count ≤ length order.old }
-    ensures first { IfOk result (λ v. AreFirstItems count order.old v.items) }
+// What the budget lets through of the candidates by their three numbers and then by key, in that
+// order. No more are sorted than it may let through.
+fn front_items(alloc: Global, order: &mut [Candidate], budget: u32) -> Result<Vec<Item>, Fault>
+    ensures first { IfOk result (λ v. AreFirstItems budget order.old v.items) }
     ensures only { IsOkUnless result OutOfMemory }
 {
-    if count < order.len() {
+    let most = most_sent(order.len(), budget);
+    if most < order.len() {
         let (front, _, _) = order.select_nth_unstable_by_key(
-            count,
+            most,
             |c| (c.first, c.turn, c.second, c.item.entry.key),
         );
-        sorted_items(alloc, front)
+        sorted_items(alloc, front, budget)
     } else {
-        sorted_items(alloc, order)
+        sorted_items(alloc, order, budget)
     }
 }
 
-// The items of the candidates by their three numbers and then by key, in that order.
-fn sorted_items(alloc: Global, order: &mut [Candidate]) -> Result<Vec<Item>, Fault>
+// Sorts the candidates by their three numbers and then by key. What the budget lets through of them
+// in that order.
+fn sorted_items(alloc: Global, order: &mut [Candidate], budget: u32) -> Result<Vec<Item>, Fault>
     ensures same { IsPermutation order.old order.new }
     ensures sorted { IsSorted number_order order.new }
-    ensures items { IfOk result (λ v. v.items ≡ items_in order.new) }
+    ensures items { IfOk result (λ v. v.items ≡ fitting item_size budget (items_in order.new)) }
     ensures only { IsOkUnless result OutOfMemory }
 {
     order.sort_unstable_by_key(|c| (c.first, c.turn, c.second, c.item.entry.key));
-    Ok(order.iter().map(|c| c.item).collect(alloc)?)
+    first_items(alloc, order, budget)
+}
+
+// What the budget lets through of the candidates as they stand.
+fn first_items(alloc: Global, order: &[Candidate], budget: u32) -> Result<Vec<Item>, Fault>
+    ensures items { IfOk result (λ v. v.items ≡ fitting item_size budget (items_in order.now)) }
+    ensures only { IsOkUnless result OutOfMemory }
+{
+    let mut parcel = Parcel::new(alloc, order.len(), budget)?;
+    for candidate in order {
+        parcel.add(candidate.item)?;
+    }
+    Ok(parcel.items)
 }

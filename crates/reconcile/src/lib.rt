@@ -7,6 +7,7 @@ mod deltas;
 mod digests;
 pub mod laws;
 mod orders;
+mod parcels;
 mod runs;
 
 pub use deltas::Delta;

@@ -1,7 +1,7 @@
 //! What answers a digest that gives the greatest version of each owner: the entries above it, owner
 //! by owner, and how they share out a budget.
 
-ghost use Rattle.std.specs.Prelude.{◌≡◌, ◌+◌, ◌^◌, ◌<◌, ◌≤◌, ◌++◌, All, length, map, take, IfOk, OnOk, IsOkUnless};
+ghost use Rattle.std.specs.Prelude.{◌≡◌, ◌+◌, ◌^◌, ◌<◌, ◌≤◌, All, length, IfOk, OnOk, IsOkUnless};
 ghost use Rattle.std.specs.List.{AllPairs};
 ghost use Rattle.bench_types.specs.declared.faults.Fault.TheVariants.{OutOfMemory};
 ghost use Rattle.bench_types.specs.Mode.{told_by};
@@ -9,13 +9,14 @@ ghost use Rattle.node_table.specs.Rows.{StandsBefore, AreAbove};
 ghost use Rattle.node_table.specs.Table.{IsProper};
 ghost use Rattle.reconcile.specs.Deltas.{answer_of};
 ghost use Rattle.reconcile.specs.Digests.{IsOfKind};
-ghost use Rattle.reconcile.specs.Newer.{AreCandidates, item_with};
+ghost use Rattle.reconcile.specs.Newer.{AreCandidates};
 ghost use Rattle.reconcile.specs.Order.{rank_among, owner_count};
 ghost use Rattle.reconcile.specs.Runs.{items_of_runs, entries_ranked, ranked, of_length, AddsLayer, AreLayered, AreRuns, IsTurned, OwnersRise, lengths_first};
 
 use crate::deltas::Delta;
 use crate::digests::Digest;
 use crate::orders::Turns;
+use crate::parcels::Parcel;
 use bench_types::{Entry, Fault, Item, Mode, Telling};
 use node_table::NodeTable;
 use std::alloc::Global;
@@ -51,13 +52,12 @@ pub(crate) fn scuttle_delta(
     let mut runs = runs_above(alloc, table, digest, receiver)?;
     turn_to(&mut runs, turns.rotation);
     let found = count_of(&runs);
-    let sent = found.min(budget as usize);
-    let cut = (found - sent) as u32;
     let items = match turns.mode {
-        Mode::ScuttleBreadth => by_rank(alloc, &mut runs, sent)?,
-        Mode::ScuttleDepth => by_length(alloc, &runs, sent)?,
+        Mode::ScuttleBreadth => by_rank(alloc, &mut runs, found, budget)?,
+        Mode::ScuttleDepth => by_length(alloc, &runs, found, budget)?,
         Mode::PreciseOldest | Mode::PreciseNewest => unreachable!(),
     };
+    let cut = (found - items.len()) as u32;
     Ok(Delta { items, cut })
 }
 
@@ -134,35 +134,39 @@ fn longest(runs: &[Run]) -> usize
     most
 }
 
-// The items of the first so many entries, by how many of their run have a smaller version. Runs that
-// have no more of them are dropped.
-fn by_rank(alloc: Global, runs: &mut Vec<Run>, count: usize) -> Result<Vec<Item>, Fault>
+// What the budget lets through of the runs, which have so many entries, by how many of their run have
+// a smaller version. Runs that have no more of them are dropped.
+fn by_rank(
+    alloc: Global,
+    runs: &mut Vec<Run>,
+    found: usize,
+    budget: u32,
+) -> Result<Vec<Item>, Fault>
     requires runs { AreRuns runs.old.items }
     ensures layers { IfOk result
-        (λ v. AreLayered (rank_among (items_of_runs runs.old.items)) count (items_of_runs runs.old.items) v.items) }
+        (λ v. AreLayered (rank_among (items_of_runs runs.old.items)) budget (items_of_runs runs.old.items) v.items) }
     ensures only { IsOkUnless result OutOfMemory }
 {
-    let mut items = Vec::with_capacity(alloc, count)?;
+    let mut parcel = Parcel::new(alloc, found, budget)?;
     for rank in 0..longest(runs) {
-        if items.len() == count {
-            return Ok(items);
+        if parcel.left == 0 {
+            return Ok(parcel.items);
         }
-        push_ranked(&mut items, runs, rank, count)?;
+        add_ranked(&mut parcel, runs, rank)?;
         let next = rank + 1;
         runs.retain(|run| next < run.entries.len());
     }
-    Ok(items)
+    Ok(parcel.items)
 }
 
-// Adds what each run has of a rank, as long as there are fewer items than so many.
-fn push_ranked(items: &mut Vec<Item>, runs: &[Run], rank: usize, count: usize) -> Result<(), Fault>
-    requires few { length items.old.items ≤ count }
+// Adds what each run has of a rank, as long as it fits.
+fn add_ranked(parcel: &mut Parcel, runs: &[Run], rank: usize) -> Result<(), Fault>
     requires runs { AreRuns runs.now }
-    ensures items { OnOk result (AddsLayer (ranked rank) count runs.now items.old.items items.new.items) }
+    ensures added { OnOk result (AddsLayer (ranked rank) runs.now parcel.old parcel.new) }
     ensures only { IsOkUnless result OutOfMemory }
 {
     for run in runs {
-        push_entries(items, run.owner, entries_ranked(run.entries, rank), count)?;
+        parcel.add_entries(run.owner, entries_ranked(run.entries, rank))?;
     }
     Ok(())
 }
@@ -186,55 +190,34 @@ fn entries_ranked(entries: &[Entry], rank: usize) -> &[Entry]
     &entries[rank..]
 }
 
-// The items of the first so many entries, those of the longest runs first.
-fn by_length(alloc: Global, runs: &[Run], count: usize) -> Result<Vec<Item>, Fault>
+// What the budget lets through of the runs, which have so many entries, those of the longest first.
+fn by_length(alloc: Global, runs: &[Run], found: usize, budget: u32) -> Result<Vec<Item>, Fault>
     requires runs { AreRuns runs.now }
     requires few { length (items_of_runs runs.now) < 2 ^ 32 }
+    requires found { found ≡ length (items_of_runs runs.now) }
     ensures layers { IfOk result
-        (λ v. AreLayered (lengths_first (items_of_runs runs.now)) count (items_of_runs runs.now) v.items) }
+        (λ v. AreLayered (lengths_first (items_of_runs runs.now)) budget (items_of_runs runs.now) v.items) }
     ensures only { IsOkUnless result OutOfMemory }
 {
-    let mut items = Vec::with_capacity(alloc, count)?;
+    let mut parcel = Parcel::new(alloc, found, budget)?;
     let most = longest(runs);
     for shorter in 0..most {
-        if items.len() == count {
-            return Ok(items);
+        if parcel.left == 0 || parcel.items.len() == found {
+            return Ok(parcel.items);
         }
-        push_long(&mut items, runs, most - shorter, count)?;
+        add_long(&mut parcel, runs, most - shorter)?;
     }
-    Ok(items)
+    Ok(parcel.items)
 }
 
-// Adds the runs of a length, as long as there are fewer items than so many.
-fn push_long(items: &mut Vec<Item>, runs: &[Run], len: usize, count: usize) -> Result<(), Fault>
-    requires { length items.old.items ≤ count }
-    ensures items { OnOk result (AddsLayer (of_length len) count runs.now items.old.items items.new.items) }
+// Adds the runs of a length, as long as they fit.
+fn add_long(parcel: &mut Parcel, runs: &[Run], len: usize) -> Result<(), Fault>
+    ensures added { OnOk result (AddsLayer (of_length len) runs.now parcel.old parcel.new) }
     ensures only { IsOkUnless result OutOfMemory }
 {
     for run in runs {
         if run.entries.len() == len {
-            push_entries(items, run.owner, run.entries, count)?;
-        }
-    }
-    Ok(())
-}
-
-// Adds an owner's entries, as long as there are fewer items than so many.
-fn push_entries(
-    items: &mut Vec<Item>,
-    owner: u32,
-    entries: &[Entry],
-    count: usize,
-) -> Result<(), Fault>
-    requires { length items.old.items ≤ count }
-    ensures items { OnOk result
-        (items.new.items ≡ take count (items.old.items ++ map (item_with owner) entries.now)) }
-    ensures only { IsOkUnless result OutOfMemory }
-{
-    for entry in entries {
-        if items.len() < count {
-            let entry = *entry;
-            items.push(Item { owner, entry })?;
+            parcel.add_entries(run.owner, run.entries)?;
         }
     }
     Ok(())

@@ -5,6 +5,3 @@ use Rattle.reconcile.proofs.candidates.sorted_items.Goals as goal
 
 pub returns-clause-sorted : goal.returns-clause-sorted
 returns-clause-sorted c = c.sort_unstable_by_key.ensures.sorted (λ (x : Candidate). (x.first, x.turn, x.second, x.item.entry.key)) (answers_always _ _ _ (λ f a r g called. search rules))
-
-pub returns-in_err-collect-clause-sorted : goal.returns-in_err-collect-clause-sorted
-returns-in_err-collect-clause-sorted c = c.sort_unstable_by_key.ensures.sorted (λ (x : Candidate). (x.first, x.turn, x.second, x.item.entry.key)) (answers_always _ _ _ (λ f a r g called. search rules))

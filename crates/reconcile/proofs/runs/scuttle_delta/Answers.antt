@@ -1,7 +1,7 @@
-use Rattle.std.proofs.Common.{◌≡◌, ◌<◌, ◌-◌, length, min, sym, ap, ◌∙◌, subst, arith}
+use Rattle.std.proofs.Common.{◌≡◌, ◌<◌, ◌-◌, length, sym, ap, ◌∙◌, subst, arith}
 use Rattle.reconcile.specs.Order.{rank_among}
-use Rattle.reconcile.specs.Runs.{items_of_runs, AreRuns, AreLayered}
-use Rattle.reconcile.proofs.Answering.{few-turned, answer-turned}
+use Rattle.reconcile.specs.Runs.{items_of_runs, AreRuns, AreLayered, lengths_first}
+use Rattle.reconcile.proofs.Answering.{few-turned, length-layered-le, length-layered-le-budget, answer-turned}
 use Rattle.reconcile.proofs.Ordered.{first_key}
 use Rattle.reconcile.proofs.Turned.{seen-turned, turned-runs}
 use Rattle.reconcile.proofs.runs.scuttle_delta.Goals as goal
@@ -12,12 +12,6 @@ count_of-found-requires c =
     let in_nodes = subst (λ n. c.args.turns.rotation < n) c.requires.nodes c.requires.rotation in
     let turned = seen-turned c.args.turns.rotation c.deref_mut.result.now c.in_ok-runs.runs.items c.turn_to.new.runs _ c.deref.result.now c.in_ok-runs.runs.len c.deref_mut.ensures.value c.in_ok-runs.runs.ok.0 c.turn_to.ensures c.deref.ensures.value in
     few-turned c.args.turns.mode c.args.table.now.table c.args.digest.now c.args.receiver c.args.turns.rotation c.requires.proper in_nodes c.in_ok-runs.runs.items c.deref.result.now c.in_ok-runs.ensures.all turned
-
-pub overflow_cast-cut : goal.overflow_cast-cut
-overflow_cast-cut c =
-    let in_nodes = subst (λ n. c.args.turns.rotation < n) c.requires.nodes c.requires.rotation in
-    let turned = seen-turned c.args.turns.rotation c.deref_mut.result.now c.in_ok-runs.runs.items c.turn_to.new.runs _ c.deref.result.now c.in_ok-runs.runs.len c.deref_mut.ensures.value c.in_ok-runs.runs.ok.0 c.turn_to.ensures c.deref.ensures.value in
-    omega (arith, c.count_of-found.ensures, few-turned c.args.turns.mode c.args.table.now.table c.args.digest.now c.args.receiver c.args.turns.rotation c.requires.proper in_nodes c.in_ok-runs.runs.items c.deref.result.now c.in_ok-runs.ensures.all turned)
 
 pub by_rank-requires : goal.by_rank-requires
 by_rank-requires c =
@@ -39,28 +33,61 @@ by_length-requires-clause-few c =
     let turned = seen-turned c.args.turns.rotation c.deref_mut.result.now c.in_ok-runs.runs.items c.turn_to.new.runs _ seen.result.now c.in_ok-runs.runs.len c.deref_mut.ensures.value c.in_ok-runs.runs.ok.0 c.turn_to.ensures seen.ensures.value in
     few-turned c.args.turns.mode c.args.table.now.table c.args.digest.now c.args.receiver c.args.turns.rotation c.requires.proper in_nodes c.in_ok-runs.runs.items seen.result.now c.in_ok-runs.ensures.all turned
 
+pub overflow_sub-cut : goal.overflow_sub-cut
+overflow_sub-cut c =
+    let found = c.count_of-found.ensures in
+    elim c.match-turns.branch [
+      | in-ScuttleBreadth+in_ok-items-in-ScuttleBreadth w ↦
+          let all = items_of_runs c.deref.result.now in
+          let items = w.in_ok-items-in-ScuttleBreadth.items in
+          let layers = subst (λ rs. AreLayered (rank_among (items_of_runs rs)) c.args.budget (items_of_runs rs) items.items) (sym c.deref.ensures.value) w.in_ok-items-in-ScuttleBreadth.ensures.layers in
+          omega (arith, found, c.len.ensures, ap (λ v. v.len) w.items-is, items.ok.0, length-layered-le (rank_among all) c.args.budget all items.items layers)
+      | in-ScuttleDepth+in_ok-items-in-ScuttleDepth w ↦
+          let seen = w.deref-in-ScuttleDepth in
+          let all = items_of_runs seen.result.now in
+          let items = w.in_ok-items-in-ScuttleDepth.items in
+          let same = ap (λ rs. length (items_of_runs rs)) (c.deref.ensures.value ∙ sym seen.ensures.value) in
+          omega (arith, found, same, c.len.ensures, ap (λ v. v.len) w.items-is, items.ok.0, length-layered-le (lengths_first all) c.args.budget all items.items w.in_ok-items-in-ScuttleDepth.ensures.layers)
+    ]
+
+pub overflow_cast-cut : goal.overflow_cast-cut
+overflow_cast-cut c =
+    let in_nodes = subst (λ n. c.args.turns.rotation < n) c.requires.nodes c.requires.rotation in
+    let turned = seen-turned c.args.turns.rotation c.deref_mut.result.now c.in_ok-runs.runs.items c.turn_to.new.runs _ c.deref.result.now c.in_ok-runs.runs.len c.deref_mut.ensures.value c.in_ok-runs.runs.ok.0 c.turn_to.ensures c.deref.ensures.value in
+    omega (arith, c.count_of-found.ensures, few-turned c.args.turns.mode c.args.table.now.table c.args.digest.now c.args.receiver c.args.turns.rotation c.requires.proper in_nodes c.in_ok-runs.runs.items c.deref.result.now c.in_ok-runs.ensures.all turned)
+
 pub returns-clause-ok : goal.returns-clause-ok
 returns-clause-ok c =
     let t = c.args.table.now.table in
     let told = c.args.digest.now in
     let rotation = c.args.turns.rotation in
+    let budget = c.args.budget in
     let old = c.in_ok-runs.runs.items in
-    let count = c.min-sent.result in
     let in_nodes = subst (λ n. rotation < n) c.requires.nodes c.requires.rotation in
     elim c.match-turns.branch [
       | in-ScuttleBreadth+in_ok-items-in-ScuttleBreadth w ↦
           let seen = c.deref in
-          let items = w.in_ok-items-in-ScuttleBreadth.items.items in
+          let items = w.in_ok-items-in-ScuttleBreadth.items in
           let turned = seen-turned rotation c.deref_mut.result.now old c.turn_to.new.runs _ seen.result.now c.in_ok-runs.runs.len c.deref_mut.ensures.value c.in_ok-runs.runs.ok.0 c.turn_to.ensures seen.ensures.value in
-          let ranks = subst (λ rs. AreLayered (rank_among (items_of_runs rs)) count (items_of_runs rs) items) (sym seen.ensures.value) w.in_ok-items-in-ScuttleBreadth.ensures.layers in
-          let layers = subst (λ mode. AreLayered (first_key mode (items_of_runs seen.result.now)) count (items_of_runs seen.result.now) items) (sym w.in-ScuttleBreadth.is) ranks in
-          (λ i. record { items = ap (λ v. v.items) w.items-is i; cut = c.count_of-found.ensures i - count })
-          ∙ answer-turned c.args.turns.mode t told c.args.receiver rotation c.requires.proper in_nodes old seen.result.now c.in_ok-runs.ensures.all turned c.requires.scuttle c.args.budget count items (c.min-sent.ensures ∙ ap (λ n. min n c.args.budget) c.count_of-found.ensures) layers
+          let ranks = subst (λ rs. AreLayered (rank_among (items_of_runs rs)) budget (items_of_runs rs) items.items) (sym seen.ensures.value) w.in_ok-items-in-ScuttleBreadth.ensures.layers in
+          let layers = subst (λ mode. AreLayered (first_key mode (items_of_runs seen.result.now)) budget (items_of_runs seen.result.now) items.items) (sym w.in-ScuttleBreadth.is) ranks in
+          (λ i. record { items = ap (λ v. v.items) w.items-is i; cut = c.count_of-found.ensures i - (c.len.ensures ∙ ap (λ v. v.len) w.items-is ∙ items.ok.0) i })
+          ∙ answer-turned c.args.turns.mode t told c.args.receiver rotation c.requires.proper in_nodes old seen.result.now c.in_ok-runs.ensures.all turned c.requires.scuttle budget items.items layers
       | in-ScuttleDepth+in_ok-items-in-ScuttleDepth w ↦
           let seen = w.deref-in-ScuttleDepth in
+          let items = w.in_ok-items-in-ScuttleDepth.items in
           let turned = seen-turned rotation c.deref_mut.result.now old c.turn_to.new.runs _ seen.result.now c.in_ok-runs.runs.len c.deref_mut.ensures.value c.in_ok-runs.runs.ok.0 c.turn_to.ensures seen.ensures.value in
           let found : c.count_of-found.result ≡ length (items_of_runs seen.result.now) = c.count_of-found.ensures ∙ ap (λ rs. length (items_of_runs rs)) (c.deref.ensures.value ∙ sym seen.ensures.value) in
-          let layers = subst (λ mode. AreLayered (first_key mode (items_of_runs seen.result.now)) count (items_of_runs seen.result.now) w.in_ok-items-in-ScuttleDepth.items.items) (sym w.in-ScuttleDepth.is) w.in_ok-items-in-ScuttleDepth.ensures.layers in
-          (λ i. record { items = ap (λ v. v.items) w.items-is i; cut = found i - count })
-          ∙ answer-turned c.args.turns.mode t told c.args.receiver rotation c.requires.proper in_nodes old seen.result.now c.in_ok-runs.ensures.all turned c.requires.scuttle c.args.budget count _ (c.min-sent.ensures ∙ ap (λ n. min n c.args.budget) found) layers
+          let layers = subst (λ mode. AreLayered (first_key mode (items_of_runs seen.result.now)) budget (items_of_runs seen.result.now) items.items) (sym w.in-ScuttleDepth.is) w.in_ok-items-in-ScuttleDepth.ensures.layers in
+          (λ i. record { items = ap (λ v. v.items) w.items-is i; cut = found i - (c.len.ensures ∙ ap (λ v. v.len) w.items-is ∙ items.ok.0) i })
+          ∙ answer-turned c.args.turns.mode t told c.args.receiver rotation c.requires.proper in_nodes old seen.result.now c.in_ok-runs.ensures.all turned c.requires.scuttle budget items.items layers
+    ]
+
+pub returns-clause-within : goal.returns-clause-within
+returns-clause-within c =
+    elim c.match-turns.branch [
+      | in-ScuttleBreadth+in_ok-items-in-ScuttleBreadth w ↦
+          omega (arith, ap (λ v. length v.items) w.items-is, length-layered-le-budget _ c.args.budget _ _ w.in_ok-items-in-ScuttleBreadth.ensures.layers)
+      | in-ScuttleDepth+in_ok-items-in-ScuttleDepth w ↦
+          omega (arith, ap (λ v. length v.items) w.items-is, length-layered-le-budget _ c.args.budget _ _ w.in_ok-items-in-ScuttleDepth.ensures.layers)
     ]

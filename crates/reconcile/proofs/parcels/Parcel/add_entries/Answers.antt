@@ -1,0 +1,23 @@
+use Rattle.std.proofs.Common.{[], ◌∷◌, map, take, get_or, subst, arith}
+use Rattle.reconcile.specs.Newer.{item_with}
+use Rattle.reconcile.specs.Parcels.{AddsFitting}
+use Rattle.reconcile.proofs.Adding.{adds-all, adds-append, sum_by-items}
+use Rattle.reconcile.proofs.Ranked.{no_entry}
+use Rattle.reconcile.proofs.RunLayers.{map-more}
+use Rattle.reconcile.proofs.parcels.Parcel.add_entries.Goals as goal
+
+pub returns-then-together-self-clause-added : goal.returns-then-together-self-clause-added
+returns-then-together-self-clause-added c =
+    let sum = sum_by-items c.args.owner c.args.entries.now in
+    adds-all (map (item_with c.args.owner) c.args.entries.now) c.args.self.now _
+    (omega (arith, sum, c.size_of_all-together.ensures, c.if-together-self.true))
+    c.in_ok-push_entries.ensures.items
+    (omega (arith, sum, c.size_of_all-together.ensures))
+
+pub loop-entry-preserved : goal.loop-entry-preserved
+loop-entry-preserved c =
+    let es = c.args.entries.now in
+    let at = c.loop-entry.entry-index in
+    let item = item_with c.args.owner (get_or es at no_entry) in
+    subst (λ is. AddsFitting is c.args.self.now c.add.new.self) (map-more (item_with c.args.owner) es at no_entry c.loop-entry-test.true)
+    (adds-append (map (item_with c.args.owner) (take at es)) (item ∷ []) c.args.self.now c.loop-entry.self c.add.new.self c.loop-entry.invariant c.in_ok-add.ensures.added)

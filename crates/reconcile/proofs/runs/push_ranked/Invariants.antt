@@ -1,7 +1,0 @@
-use Rattle.std.proofs.Common.{◌≡◌, ◌++◌, take}
-use Rattle.std.specs.List.{flat_map}
-use Rattle.reconcile.specs.Runs.{ranked}
-use Rattle.reconcile.proofs.runs.push_ranked.Given as goal
-
-abbrev pub invariant-loop-run : goal.invariant-loop-run
-invariant-loop-run l = l.items.items ≡ take l.count (l.initial.items.items ++ flat_map (ranked l.rank) (take l.run-index l.runs))

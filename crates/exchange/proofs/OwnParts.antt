@@ -9,8 +9,7 @@ use Rattle.node_table.proofs.Laws.{entry_at-applied_other}
 use Rattle.node_table.proofs.Versions.{greatest_version-applied_other}
 use Rattle.reconcile.specs.Candidates.{candidates, known_version}
 use Rattle.reconcile.specs.Deltas.{delta_between}
-use Rattle.reconcile.specs.Order.{sending_order}
-use Rattle.reconcile.proofs.Told.{All-sent, All-items_above}
+use Rattle.reconcile.proofs.Told.{All-delta_between, All-items_above}
 use Rattle.exchange.specs.Exchanged.{exchanged, fate_of}
 use Rattle.exchange.specs.Owns.{KeepsOwn}
 use Rattle.exchange.proofs.Cases.{initiator_after-either, responder_after-either}
@@ -19,7 +18,7 @@ use Rattle.std.proofs.lemmas.List.Elements.{All-weaker}
 -- nothing that is sent is the receiver's own
 pub delta-others : (rules : Rules) (s : ℕ) (from to : Table) → All (λ (i : Item). i.owner ≢ to.node) (delta_between rules.mode s rules.budget from to).items
 delta-others rules s from to =
-    All-sent (λ (i : Item). i.owner ≢ to.node) (sending_order rules.mode from.nodes s (candidates rules.mode from to)) (candidates rules.mode from to) rules.budget
+    All-delta_between (λ (i : Item). i.owner ≢ to.node) rules.mode s rules.budget from to
     (All-weaker (λ (i : Item). (i.owner ≢ to.node) × Unit {0}) (λ (i : Item). i.owner ≢ to.node) (λ i h. h.0) (candidates rules.mode from to)
     (All-items_above (λ i. Unit {0}) (known_version (told_by rules.mode) to) to.node (items_of from) (λ k d lt. tt)))
 

@@ -18,10 +18,9 @@ use Rattle.node_table.proofs.Laws.{entry_at-applied_from, proper-applied}
 use Rattle.node_table.proofs.Versions.{version_at-applied, version_at-le-applied, version_at-le-greatest_version, greatest_version-applied, greatest_among-own, greatest_among-other}
 use Rattle.reconcile.specs.Candidates.{IsScuttleMode, known_version, candidates}
 use Rattle.reconcile.specs.Deltas.{delta_between}
-use Rattle.reconcile.specs.Order.{sending_order}
 use Rattle.reconcile.proofs.DeltaLaws.{sent-candidate, sent-no_gap, sent-uncut}
 use Rattle.reconcile.proofs.Members.{Contains-filter, Contains-kept}
-use Rattle.reconcile.proofs.Told.{All-sent, candidates-in_place}
+use Rattle.reconcile.proofs.Told.{All-delta_between, candidates-in_place}
 use Rattle.exchange.specs.Laws.{NoVersionFalls, StoodInEither, IsPreciseMode}
 use Rattle.exchange.specs.Copies.{OwnParts, WritesBy, IsCurrentOrOlder, IsLastOf, AreLastOf, HoldsWrites, HasNoGap}
 
@@ -95,7 +94,7 @@ module _ (rules : Rules) (rotation : ℕ) (from to : Table) (proper : IsProper f
 
   sent-in_place : All (λ (i : Item). (i.owner ≢ to.node) × IsItemInPlace from.nodes from.keys i) items
   sent-in_place =
-      All-sent (λ (i : Item). (i.owner ≢ to.node) × IsItemInPlace from.nodes from.keys i) (sending_order rules.mode from.nodes rotation (candidates rules.mode from to)) (candidates rules.mode from to) rules.budget
+      All-delta_between (λ (i : Item). (i.owner ≢ to.node) × IsItemInPlace from.nodes from.keys i) rules.mode rotation rules.budget from to
       (candidates-in_place from (known_version (told_by rules.mode) to) to.node proper)
 
   -- no version goes down

@@ -15,9 +15,9 @@ use Rattle.node_table.specs.View.{IsItemInPlace}
 use Rattle.node_table.proofs.Proper.{items_sound}
 use Rattle.reconcile.specs.Candidates.{items_above, candidates, known_version}
 use Rattle.reconcile.specs.Digests.{DigestView, Knowledge, Greatest, Each, telling_of, IsDigestOf, greatest_in, each_in, known_in, told_version}
-use Rattle.reconcile.specs.Deltas.{DeltaView, item_size, delta_of, answer_of, IsDeltaToReceiver, MayTake}
+use Rattle.reconcile.specs.Deltas.{DeltaView, item_size, delta_of, delta_between, answer_of, IsDeltaToReceiver, MayTake}
 use Rattle.reconcile.specs.Order.{sending_order}
-use Rattle.reconcile.specs.Picks.{at_place, first_places, fits}
+use Rattle.reconcile.specs.Picks.{at_place, fits, sent}
 use Rattle.reconcile.proofs.Picked.{find_stands}
 
 -- two tests that agree on a list keep the same of it
@@ -67,9 +67,9 @@ All-items_above P known receiver (x ∷ xs) all =
 pub candidates-in_place : (t : Table) (known : Item → ℕ) (receiver : ℕ) → IsProper t → All (λ (i : Item). (i.owner ≢ receiver) × IsItemInPlace t.nodes t.keys i) (items_above known receiver (items_of t))
 candidates-in_place t known receiver proper = All-items_above (IsItemInPlace t.nodes t.keys) known receiver (items_of t) (items_sound t proper).in_place
 
--- what stands at the first places has what all candidates have
-pub All-first_places : {X : Type 0} (P : X → Type 0) (order : X → X → Ordering) (cs : List X) (n : ℕ) → All P cs → All P (first_places order cs n)
-All-first_places P order cs n all = places 0 n
+-- what is sent has what all candidates have
+pub All-sent : {X : Type 0} (P : X → Type 0) (order : X → X → Ordering) (cs : List X) (size : X → ℕ) (budget : ℕ) → All P cs → All P (sent order cs size budget)
+All-sent P order cs size budget all = places 0 (count_by (fits order cs size budget) cs)
   where
     places : (a n : ℕ) → All P (filter_map (at_place order cs) (range_with_len a n))
     places a zero = All-nil P
@@ -81,12 +81,14 @@ All-first_places P order cs n all = places 0 n
               All-cons P x (filter_map (at_place order cs) (range_with_len (a + 1) n)) (subst P there.2 (all there.0 x there.1)) rest
         ] refl
 
+pub All-delta_between : (P : Item → Type 0) (mode : Mode) (rotation budget : ℕ) (from to : Table) → All P (candidates mode from to) → All P (delta_between mode rotation budget from to).items
+All-delta_between P mode rotation budget from to = All-sent P (sending_order mode from.nodes rotation (candidates mode from to)) (candidates mode from to) item_size budget
+
 -- so a receiver may take what is sent in answer to its digest
 pub answer-in_place : (mode : Mode) (rotation budget : ℕ) (from : Table) (receiver : ℕ) (told : DigestView) → IsProper from → MayTake receiver from.nodes from.keys (answer_of mode rotation budget from receiver told).items
 answer-in_place mode rotation budget from receiver told proper =
     let cs = items_above (told_version told) receiver (items_of from) in
-    let order = sending_order mode from.nodes rotation cs in
-    All-first_places (λ (i : Item). (i.owner ≢ receiver) × IsItemInPlace from.nodes from.keys i) order cs (count_by (fits order cs item_size budget) cs) (candidates-in_place from (told_version told) receiver proper)
+    All-sent (λ (i : Item). (i.owner ≢ receiver) × IsItemInPlace from.nodes from.keys i) (sending_order mode from.nodes rotation cs) cs item_size budget (candidates-in_place from (told_version told) receiver proper)
 
 -- and it is the delta to every table that the digest is of
 pub answer-of_tables : (mode : Mode) (rotation budget : ℕ) (from : Table) (receiver : ℕ) (told : DigestView) (delta : DeltaView) → IsProper from → told.nodes ≡ from.nodes → told.keys ≡ from.keys → delta ≡ answer_of mode rotation budget from receiver told → IsDeltaToReceiver mode rotation budget from receiver told delta

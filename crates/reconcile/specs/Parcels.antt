@@ -12,4 +12,5 @@ pub record AddsFitting (items : List Item) (old new : Parcel) : Type 0 where
 
 -- of any so many items at most these fit
 abbrev pub AreEnough : ℕ → ℕ → ℕ → Type 0
-AreEnough budget count most = (items : List Item) → length items ≤ count → length (fitting item_size budget items) ≤ most
+AreEnough budget count most =
+    (items : List Item) → length items ≤ count → length (fitting item_size budget items) ≤ most

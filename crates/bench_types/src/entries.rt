@@ -1,5 +1,10 @@
 //! What a node holds: versioned entries.
 
+ghost use Rattle.std.specs.Prelude.{◌≡◌, ◌≤◌};
+ghost use Rattle.bench_types.specs.Budget.{entry_size};
+
+use crate::limits::{ENTRY_SIZES, LEAST_ENTRY_SIZE, MOST_ENTRY_SIZE};
+
 /// One version of one key of a node's state.
 #[derive(Clone, Copy, Debug, PartialEq, Eq)]
 pub struct Entry {
@@ -9,6 +14,17 @@ pub struct Entry {
     pub value: u32,
     /// The round in which the owner wrote it.
     pub born: u32,
+}
+
+impl Entry {
+    /// How many bytes it takes of a message: so many for its numbers and its names, and up to 999
+    /// more for its value, by the number that stands for it.
+    pub fn size(&self) -> u32
+        ensures size { result ≡ entry_size self.now }
+        ensures limits { (LEAST_ENTRY_SIZE ≤ result) × (result ≤ MOST_ENTRY_SIZE) }
+    {
+        LEAST_ENTRY_SIZE + self.value % ENTRY_SIZES
+    }
 }
 
 /// An entry with the node that wrote it.

@@ -1,7 +1,10 @@
 //! How two nodes reconcile, and what is counted of it.
 
 ghost use Rattle.std.specs.Prelude.{◌≡◌, Some, find, bytes_eq};
+ghost use Rattle.bench_types.specs.Budget.{amount_of, share_of};
 ghost use Rattle.bench_types.specs.Mode.{told_by, mode_name, mode_named};
+
+use crate::entries::Entry;
 
 /// What a digest tells of a table.
 #[derive(Clone, Copy, Debug, PartialEq, Eq)]
@@ -72,12 +75,41 @@ fn named_among(modes: &[Mode], word: &str) -> Option<Mode>
     modes.iter().copied().find(|mode| word == mode.name())
 }
 
+/// How much one message may carry.
+#[derive(Clone, Copy, Debug, PartialEq, Eq)]
+pub enum Budget {
+    /// So many entries, at least 1.
+    Entries(u32),
+    /// Entries of so many bytes in all, at least those of the largest entry.
+    Bytes(u32),
+}
+
+impl Budget {
+    /// How much it has: entries or bytes.
+    pub fn amount(self) -> u32
+        ensures { result ≡ amount_of self }
+    {
+        match self {
+            Budget::Entries(amount) | Budget::Bytes(amount) => amount,
+        }
+    }
+
+    /// How much of it an entry takes: 1, or the entry's bytes.
+    pub fn share_of(self, entry: &Entry) -> u32
+        ensures { result ≡ share_of self entry.now }
+    {
+        match self {
+            Budget::Entries(_) => 1,
+            Budget::Bytes(_) => entry.size(),
+        }
+    }
+}
+
 /// The rules that all exchanges of a run share.
 #[derive(Clone, Copy, Debug, PartialEq, Eq)]
 pub struct Rules {
     pub mode: Mode,
-    /// The most entries that one message may carry, at least 1.
-    pub budget: u32,
+    pub budget: Budget,
 }
 
 /// One planned exchange of a round: who begins it, with whom, and which messages get lost.

@@ -13,7 +13,7 @@ mod sinks;
 mod sources;
 
 pub use entries::{Entry, Item};
-pub use exchanges::{Exchange, Fate, Mode, Record, Rules, Telling};
+pub use exchanges::{Budget, Exchange, Fate, Mode, Record, Rules, Telling};
 pub use faults::Fault;
 pub use fields::{Field, TableName};
 pub use rows::{Figures, Row};

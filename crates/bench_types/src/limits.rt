@@ -15,6 +15,14 @@ pub const MOST_ENTRIES: u64 = 268_435_456;
 pub const MOST_ROUNDS: u32 = 100_000;
 
 pub const MOST_BUDGET: u32 = 65_535;
+/// The fewest bytes of an entry.
+pub const LEAST_ENTRY_SIZE: u32 = 24;
+/// How many sizes an entry may have, from the least one on.
+pub const ENTRY_SIZES: u32 = 1000;
+/// The most bytes of an entry, which a budget in bytes has at least.
+pub const MOST_ENTRY_SIZE: u32 = 1023;
+
+pub const MOST_BUDGET_BYTES: u32 = 67_108_864;
 /// Losses are given in parts of a million.
 pub const MOST_LOSS: u32 = 1_000_000;
 /// The most writes of a node in one round.
@@ -41,4 +49,10 @@ pub fn limits_of_format_one()
     ensures elements { MOST_ELEMENTS ≡ 1000 }
     ensures bytes { MOST_BYTES ≡ 1048576 }
     ensures workers { MOST_WORKERS ≡ 64 }
+{}
+
+/// What format 2 has in place of the most entries of a budget. The call does nothing.
+pub fn limits_of_format_two()
+    ensures entry_size { (LEAST_ENTRY_SIZE ≡ 24) × (ENTRY_SIZES ≡ 1000) × (MOST_ENTRY_SIZE ≡ 1023) }
+    ensures budget_bytes { MOST_BUDGET_BYTES ≡ 67108864 }
 {}

@@ -12,6 +12,7 @@ use Rattle.board.specs.SeatView.{SeatView, IsWhole, first_seat, spent_seat, spli
 use Rattle.board.specs.Plan.{BoardPlan, table_at, initiator_of, responder_of, successor_list}
 use Rattle.board.specs.Rule.{Slot, TAKEN}
 use Rattle.board.specs.declared.views.View.{View}
+use Rattle.bench_types.specs.declared.exchanges.Budget.TheVariants.{Entries}
 use Rattle.bench_types.specs.declared.exchanges.Mode.TheVariants.{ScuttleBreadth}
 
 abbrev pub Sat : Type 0
@@ -122,7 +123,7 @@ both v w = view v.plan (joined v.seat w.seat) v.moving v.owes
 
 -- any plan; a spent seat is of none
 abbrev pub no_plan : BoardPlan
-no_plan = record { rules = record { mode = ScuttleBreadth; budget = 1 }; list = record { nodes = 0; unreached = 0; exchanges = [] }; tables = [] }
+no_plan = record { rules = record { mode = ScuttleBreadth; budget = Entries 1 }; list = record { nodes = 0; unreached = 0; exchanges = [] }; tables = [] }
 
 abbrev pub spent : View
 spent = resting no_plan spent_seat

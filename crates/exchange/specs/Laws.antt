@@ -1,7 +1,7 @@
 -- What an exchange never does to a table, whatever the mode, rotation, budget and losses are, and what it makes of
 -- both tables in a precise mode where nothing is lost or cut.
 -- Source: the LADIS 2008 paper, whose reconciliation keeps the entry with the greater version.
-use Rattle.std.specs.Prelude.{◌≡◌, ◌≢◌, ℕ, ◌<◌, ◌≤◌, ◌⊎◌, false, max, length, Some}
+use Rattle.std.specs.Prelude.{◌≡◌, ◌≢◌, ℕ, ◌<◌, ◌≤◌, ◌⊎◌, false, max, Some}
 use Rattle.bench_types.specs.declared.entries.Entry.{Entry}
 use Rattle.bench_types.specs.declared.exchanges.Exchange.{Exchange}
 use Rattle.bench_types.specs.declared.exchanges.Fate.TheVariants as fate
@@ -12,6 +12,7 @@ use Rattle.bench_types.specs.declared.exchanges.Telling.TheVariants.{Each}
 use Rattle.bench_types.specs.Mode.{told_by}
 use Rattle.node_table.specs.Table.{Table, entry_at, version_at, IsProper}
 use Rattle.reconcile.specs.Candidates.{candidates}
+use Rattle.reconcile.specs.Deltas.{AreWithin}
 use Rattle.exchange.specs.Exchanged.{exchanged}
 
 -- the tables that may meet in an exchange
@@ -67,7 +68,7 @@ LosesNothing e = (e.lost1 ≡ false) × (e.lost2 ≡ false) × (e.lost3 ≡ fals
 
 -- all candidates from one table to another fit into a delta
 abbrev pub AllFit : Rules → Table → Table → Type 0
-AllFit rules from to = length (candidates rules.mode from to) ≤ rules.budget
+AllFit rules from to = AreWithin rules.budget (candidates rules.mode from to)
 
 abbrev pub EnoughBudgetCutsNothing : Type 0
 EnoughBudgetCutsNothing =

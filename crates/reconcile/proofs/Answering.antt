@@ -1,24 +1,25 @@
 -- What is sent of the runs that were found, or of the candidates, is the answer to the digest.
-use Rattle.std.proofs.Common.{◌≡◌, ℕ, ◌-◌, ◌<◌, ◌≤◌, ◌^◌, not, ◌&&◌, eqb, ltb, Bool, List, length, sym, ap, ◌∙◌, arith}
+use Rattle.std.proofs.Common.{◌≡◌, ℕ, ◌-◌, ◌<◌, ◌≤◌, ◌^◌, not, ◌&&◌, eqb, ltb, Bool, List, length, sym, ap, ◌∙◌, arith, subst}
 use Rattle.std.specs.Prelude.{IsPermutation}
 use Rattle.std.proofs.lemmas.List.{length-map}
 use Rattle.std.proofs.lemmas.List.Elements.{Contains-get_or}
 use Rattle.std.proofs.lemmas.List.Sorted.{length_permutation, IsPermutation-map, IsPermutation-trans}
+use Rattle.bench_types.specs.declared.exchanges.Budget.{Budget}
+use Rattle.bench_types.specs.Budget.{amount_of}
 use Rattle.bench_types.specs.declared.entries.Item.{Item}
 use Rattle.bench_types.specs.declared.exchanges.Mode.{Mode}
 use Rattle.bench_types.specs.declared.exchanges.Telling.TheVariants.{Each}
 use Rattle.bench_types.specs.Mode.{told_by}
 use Rattle.node_table.specs.Table.{Table, items_of, IsProper}
 use Rattle.reconcile.specs.Candidates.{IsScuttleMode, items_above}
-use Rattle.reconcile.specs.Deltas.{DeltaView, item_size, answer_of}
+use Rattle.reconcile.specs.Deltas.{DeltaView, item_share, answer_of, AreWithin}
 use Rattle.reconcile.specs.Digests.{DigestView, told_version}
-use Rattle.reconcile.specs.Keys.{item_in, items_in, AllSet, AreFirstItems}
+use Rattle.reconcile.specs.Keys.{item_in, items_in, AllSet, AreFirstItems, IsSentOf}
 use Rattle.reconcile.specs.Newer.{AreCandidates}
 use Rattle.reconcile.specs.Runs.{items_of_runs, IsTurned, layered, AreLayered}
 use Rattle.reconcile.specs.declared.candidates.Candidate.{Candidate}
 use Rattle.reconcile.specs.declared.runs.Run.{Run}
-use Rattle.reconcile.proofs.Adding.{some_size}
-use Rattle.reconcile.proofs.Fitting.{length-fitting-le, length-fitting-le-budget}
+use Rattle.reconcile.proofs.Fitting.{length-fitting-le, sum-fitting}
 use Rattle.reconcile.proofs.Layers.{layered-permutation, order_layers}
 use Rattle.reconcile.proofs.Newer.{candidates-permuted}
 use Rattle.reconcile.proofs.Ordered.{first_key, order_numbers}
@@ -26,17 +27,20 @@ use Rattle.reconcile.proofs.Sending.{length-candidates-lt, sorted_sent}
 use Rattle.reconcile.proofs.Turned.{turned-permutation, turned-pairs}
 
 -- no more are sent than there are
-pub length-layered-le : (number : Item → ℕ) (budget : ℕ) (all items : List Item) → AreLayered number budget all items → length items ≤ length all
+pub length-layered-le : (number : Item → ℕ) (budget : Budget) (all items : List Item) → AreLayered number budget all items → length items ≤ length all
 length-layered-le number budget all items layers =
     let whole = layered number all layers.least layers.layers in
-    omega (arith, ap length layers.is, length-fitting-le item_size budget whole, length_permutation all whole (layered-permutation number layers.least all layers.layers layers.within))
+    omega (arith, ap length layers.is, length-fitting-le (item_share budget) (amount_of budget) whole, length_permutation all whole (layered-permutation number layers.least all layers.layers layers.within))
 
--- nor than the budget says
-pub length-layered-le-budget : (number : Item → ℕ) (budget : ℕ) (all items : List Item) → AreLayered number budget all items → length items ≤ budget
-length-layered-le-budget number budget all items layers = omega (arith, ap length layers.is, length-fitting-le-budget item_size some_size budget (layered number all layers.least layers.layers))
+-- and what is sent is within the budget
+pub within-layered : (number : Item → ℕ) (budget : Budget) (all items : List Item) → AreLayered number budget all items → AreWithin budget items
+within-layered number budget all items layers = subst (AreWithin budget) (sym layers.is) (sum-fitting (item_share budget) (amount_of budget) (layered number all layers.least layers.layers))
 
-pub length-first-le-budget : (budget : ℕ) (found : List Candidate) (items : List Item) → AreFirstItems budget found items → length items ≤ budget
-length-first-le-budget budget found items first = omega (arith, ap length first.is, length-fitting-le-budget item_size some_size budget (items_in first.sorted))
+pub within-first : (budget : Budget) (found : List Candidate) (items : List Item) → AreFirstItems budget found items → AreWithin budget items
+within-first budget found items first = subst (AreWithin budget) (sym first.is) (sum-fitting (item_share budget) (amount_of budget) (items_in first.sorted))
+
+pub length-first : (budget : Budget) (found : List Candidate) (items : List Item) → AreFirstItems budget found items → length items ≤ length found
+length-first budget found items first = omega (arith, ap length first.is, length-fitting-le (item_share budget) (amount_of budget) (items_in first.sorted), length-map first.sorted item_in, length_permutation found first.sorted first.same)
 
 module _ (mode : Mode) (t : Table) (told : DigestView) (receiver rotation : ℕ) (proper : IsProper t) (in_nodes : rotation < t.nodes) where
   abbrev unknown : Item → Bool
@@ -49,7 +53,7 @@ module _ (mode : Mode) (t : Table) (told : DigestView) (receiver rotation : ℕ)
     pub few-turned : length (items_of_runs new) < 2 ^ 32
     few-turned = length-candidates-lt t unknown (items_of_runs new) proper same
 
-    pub answer-turned : IsScuttleMode mode → (budget : ℕ) (items : List Item) → AreLayered (first_key mode (items_of_runs new)) budget (items_of_runs new) items → ◌≡◌ {A = DeltaView} (record { items = items; cut = length (items_of_runs new) - length items }) (answer_of mode rotation budget t receiver told)
+    pub answer-turned : IsScuttleMode mode → (budget : Budget) (items : List Item) → AreLayered (first_key mode (items_of_runs new)) budget (items_of_runs new) items → ◌≡◌ {A = DeltaView} (record { items = items; cut = length (items_of_runs new) - length items }) (answer_of mode rotation budget t receiver told)
     answer-turned scuttle budget items layers =
         sorted_sent mode t unknown (items_of_runs new) (layered (first_key mode (items_of_runs new)) (items_of_runs new) layers.least layers.layers) items rotation budget proper in_nodes same
         (layered-permutation (first_key mode (items_of_runs new)) layers.least (items_of_runs new) layers.layers layers.within)
@@ -61,13 +65,18 @@ module _ (mode : Mode) (t : Table) (told : DigestView) (receiver rotation : ℕ)
     pub few-found : length found < 2 ^ 32
     few-found = omega (arith, length-map found item_in, length-candidates-lt t unknown (items_in found) proper (candidates-permuted t told receiver (items_in found) proper are))
 
-    pub length-found_sent : (budget : ℕ) (items : List Item) → AreFirstItems budget found items → length items ≤ length found
-    length-found_sent budget items first = omega (arith, ap length first.is, length-fitting-le item_size budget (items_in first.sorted), length-map first.sorted item_in, length_permutation found first.sorted first.same)
-
-    pub answer-found : told_by mode ≡ Each → AllSet mode t.nodes rotation found → (budget : ℕ) (items : List Item) → AreFirstItems budget found items → ◌≡◌ {A = DeltaView} (record { items = items; cut = length found - length items }) (answer_of mode rotation budget t receiver told)
+    pub answer-found : told_by mode ≡ Each → AllSet mode t.nodes rotation found → (budget : Budget) (items : List Item) → AreFirstItems budget found items → ◌≡◌ {A = DeltaView} (record { items = items; cut = length found - length items }) (answer_of mode rotation budget t receiver told)
     answer-found precise set budget items first =
         (λ i. record { items = items; cut = sym (length-map found item_in) i - length items })
         ∙ sorted_sent mode t unknown (items_in found) (items_in first.sorted) items rotation budget proper in_nodes (candidates-permuted t told receiver (items_in found) proper are)
         (IsPermutation-map item_in found first.sorted first.same)
         (order_numbers mode precise t.nodes rotation found set first.sorted first.same first.rises)
         first.is
+
+    pub answer-sent : told_by mode ≡ Each → AllSet mode t.nodes rotation found → (budget : Budget) (d : DeltaView) → IsSentOf budget found d → d ≡ answer_of mode rotation budget t receiver told
+    answer-sent precise set budget d sent =
+        (λ i. record { items = d.items; cut = sent.cut i })
+        ∙ answer-found precise set budget d.items sent.items
+
+    pub few-sent : (budget : Budget) (d : DeltaView) → IsSentOf budget found d → length d.items < 2 ^ 32
+    few-sent budget d sent = omega (arith, few-found, length-first budget found d.items sent.items)

@@ -1,5 +1,5 @@
 -- Laws of the sending orders, and of what a budget lets through in them.
-use Rattle.std.proofs.Common.{◌≡◌, ℕ, ◌<◌, ◌≤◌, Bool, not, ◌&&◌, eqb, ltb, List, length, get_or, inl, inr, refl, sym, ap, ◌∙◌, arith}
+use Rattle.std.proofs.Common.{◌≡◌, ℕ, ◌<◌, ◌≤◌, Bool, not, ◌&&◌, eqb, ltb, List, length, get_or, inl, inr, sym, ap, ◌∙◌, arith}
 use Rattle.std.specs.Prelude.{count_by, Contains}
 use Rattle.std.specs.declared.cmp.Ordering.TheVariants.{Less, Equal}
 use Rattle.std.specs.Ordering.{nat_cmp, ordering_then}
@@ -8,6 +8,8 @@ use Rattle.std.proofs.lemmas.Bool.{cases_lt, eq-eqb, eqb-true, lt-ltb, ltb-true,
 use Rattle.std.proofs.lemmas.List.{get_or_default}
 use Rattle.std.proofs.lemmas.List.Elements.{All-filter}
 use Rattle.std.proofs.lemmas.List.Sorted.{IsPermutation-refl}
+use Rattle.bench_types.specs.declared.exchanges.Budget.{Budget}
+use Rattle.bench_types.specs.Budget.{amount_of}
 use Rattle.bench_types.specs.declared.entries.Item.{Item}
 use Rattle.bench_types.specs.declared.exchanges.Mode.{Mode}
 use Rattle.bench_types.specs.declared.exchanges.Mode.TheVariants.{ScuttleBreadth, ScuttleDepth, PreciseOldest, PreciseNewest}
@@ -16,12 +18,11 @@ use Rattle.node_table.specs.Table.{Table, items_of, IsProper}
 use Rattle.node_table.proofs.Proper.{items_sound}
 use Rattle.reconcile.specs.Candidates.{IsScuttleMode, known_version, candidates}
 use Rattle.reconcile.specs.Order.{rotated, rank_among, owner_count, sending_order}
-use Rattle.reconcile.specs.Deltas.{item_size, delta_of}
+use Rattle.reconcile.specs.Deltas.{item_share, delta_of, AreWithin}
 use Rattle.reconcile.specs.Picks.{fits}
 use Rattle.node_table.specs.View.{no_item}
 use Rattle.reconcile.proofs.Apart.{sending_total, sending_apart}
 use Rattle.node_table.proofs.Comparing.{nat_cmp-less, nat_cmp-equal}
-use Rattle.reconcile.proofs.Fitting.{sum_by-ones}
 use Rattle.reconcile.proofs.Places.{count_by-lt, Contains-first_places, before_count-lt, before_count-places, cut_count-none, uncut-Contains, first_places-before}
 use Rattle.reconcile.proofs.Sending.{owners_below}
 
@@ -55,14 +56,14 @@ sending_order-ascending ScuttleDepth is nodes rotation cs c d stands owners olde
 sending_order-ascending PreciseOldest is nodes rotation cs c d stands owners older = cc
 sending_order-ascending PreciseNewest is nodes rotation cs c d stands owners older = cc
 
-module _ (mode : Mode) (from to : Table) (rotation budget : ℕ) where
+module _ (mode : Mode) (from to : Table) (rotation : ℕ) (budget : Budget) where
   -- what is sent under the budget
   abbrev pub sent_items : List Item
   sent_items = (delta_of mode from.nodes rotation budget (candidates mode from to)).items
 
   -- how many places there are in what is sent
   abbrev sent_places : ℕ
-  sent_places = count_by (fits (sending_order mode from.nodes rotation (candidates mode from to)) (candidates mode from to) item_size budget) (candidates mode from to)
+  sent_places = count_by (fits (sending_order mode from.nodes rotation (candidates mode from to)) (candidates mode from to) (item_share budget) (amount_of budget)) (candidates mode from to)
 
   -- what is sent is a candidate
   pub sent-candidate : (c : Item) → Contains sent_items c → Contains (candidates mode from to) c
@@ -95,10 +96,9 @@ module _ (mode : Mode) (from to : Table) (rotation budget : ℕ) where
   sent-uncut proper in_nodes none c stands =
       let cs = candidates mode from to in
       let order = sending_order mode from.nodes rotation cs in
-      uncut-Contains order (sending_total from.nodes rotation cs mode) cs (sending_order-strict mode from to rotation proper in_nodes) item_size budget none c stands
+      uncut-Contains order (sending_total from.nodes rotation cs mode) cs (sending_order-strict mode from to rotation proper in_nodes) (item_share budget) (amount_of budget) none c stands
 
   -- and a budget for all candidates cuts none
-  pub cut-none : length (candidates mode from to) ≤ budget → (delta_of mode from.nodes rotation budget (candidates mode from to)).cut ≡ 0
+  pub cut-none : AreWithin budget (candidates mode from to) → (delta_of mode from.nodes rotation budget (candidates mode from to)).cut ≡ 0
   cut-none enough =
-      cut_count-none (sending_order mode from.nodes rotation (candidates mode from to)) (sending_total from.nodes rotation (candidates mode from to) mode) (candidates mode from to) item_size budget
-      (omega (arith, enough, sum_by-ones item_size (λ i. refl) (candidates mode from to)))
+      cut_count-none (sending_order mode from.nodes rotation (candidates mode from to)) (sending_total from.nodes rotation (candidates mode from to) mode) (candidates mode from to) (item_share budget) (amount_of budget) enough

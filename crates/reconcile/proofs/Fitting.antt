@@ -55,6 +55,16 @@ module _ {X : Type 0} (size : X → ℕ) where
       let sum = sum_by-cons size x xs in
       omega (arith, sum, within, left_after-cons_true budget x xs (le-leb (size x) budget (omega (arith, within, sum))), left_after-all (budget - size x) xs (omega (arith, within, sum)))
 
+  -- what fits is together within the budget
+  pub sum-fitting : (budget : ℕ) (xs : List X) → sum_by size (fitting size budget xs) ≤ budget
+  sum-fitting budget [] = omega arith
+  sum-fitting budget (x ∷ xs) =
+      let rest = sum-fitting (budget - size x) xs in
+      elim (leb (size x) budget) as (λ b. leb (size x) budget ≡ b → sum_by size (cond b (x ∷ fitting size (budget - size x) xs) []) ≤ budget) [
+        | true ↦ λ e. omega (arith, rest, sum_by-cons size x (fitting size (budget - size x) xs), leb-true (size x) budget e)
+        | false ↦ λ e. omega arith
+      ] refl
+
   -- what is up to a place that fits is within the budget
   pub sum-within : (budget : ℕ) (xs : List X) (i : ℕ) → i < length (fitting size budget xs) → sum_by size (take (suc i) xs) ≤ budget
   sum-within budget [] i lt = absurd (omega arith)

@@ -1,15 +1,18 @@
 -- Candidates sorted by their three numbers and by key are in the order of their mode.
-use Rattle.std.proofs.Common.{◌≡◌, ℕ, ◌+◌, ◌<◌, ◌^◌, Bool, eqb, ◌≤◌, List, ◌∷◌, ◌++◌, length, get_or, inl, inr, refl, sym, ap, ◌∙◌, subst, arith}
+use Rattle.std.proofs.Common.{◌≡◌, ℕ, zero, suc, ◌+◌, ◌<◌, ◌^◌, Bool, eqb, ◌≤◌, List, ◌∷◌, ◌++◌, length, take, get_or, inl, inr, refl, sym, ap, ◌∙◌, subst, arith}
 use Rattle.std.specs.Prelude.{IsPermutation}
+use Rattle.std.specs.List.{sum_by}
 use Rattle.std.specs.List.Sorted.{IsSorted, IsSortedBy, IsSplitAround}
 use Rattle.std.specs.declared.cmp.Ordering.{Ordering}
 use Rattle.std.specs.declared.cmp.Ordering.TheVariants.{Less, Equal, Greater}
 use Rattle.std.specs.Ordering.{nat_cmp, ordering_then, is_lt}
 use Rattle.std.specs.Cmp.{IsTotalOrder, nat_cmp_total, on_total, then_total}
-use Rattle.std.proofs.lemmas.Bool.{cases_order}
+use Rattle.std.proofs.lemmas.Bool.{cases_lt, cases_order}
 use Rattle.std.proofs.lemmas.List.{get_or-map, length-map, length-append, take-map, take_at, take_all}
 use Rattle.std.proofs.lemmas.List.Sums.{count_by-le-length}
-use Rattle.std.proofs.lemmas.List.Sorted.{All-permutation, length_permutation, IsPermutation-trans}
+use Rattle.std.proofs.lemmas.List.Sorted.{All-permutation, length_permutation, sum_by-IsPermutation, IsPermutation-map, IsPermutation-trans}
+use Rattle.bench_types.specs.declared.exchanges.Budget.{Budget}
+use Rattle.bench_types.specs.Budget.{amount_of}
 use Rattle.bench_types.specs.declared.entries.Item.{Item}
 use Rattle.bench_types.specs.declared.exchanges.Mode.{Mode}
 use Rattle.bench_types.specs.declared.exchanges.Mode.TheVariants.{ScuttleBreadth, ScuttleDepth, PreciseOldest, PreciseNewest}
@@ -18,11 +21,9 @@ use Rattle.bench_types.specs.Mode.{told_by}
 use Rattle.bench_types.specs.declared.exchanges.Telling.TheVariants.{Each}
 use Rattle.reconcile.specs.Order.{rotated, rank_among, owner_count, sending_order}
 use Rattle.reconcile.specs.Candidates.{IsScuttleMode}
-use Rattle.reconcile.specs.Deltas.{item_size}
+use Rattle.reconcile.specs.Deltas.{item_share, first_within}
 use Rattle.reconcile.specs.Keys.{item_in, items_in, reversed, IsSet, AllSet, AreFirstItems, number_order}
-use Rattle.reconcile.specs.Parcels.{AreEnough}
-use Rattle.reconcile.specs.Picks.{fitting}
-use Rattle.reconcile.proofs.Fitting.{fitting-take}
+use Rattle.reconcile.proofs.Fitting.{fitting-take, sum-within}
 use Rattle.reconcile.proofs.Front.{IsFront, whole, whole-permutation, whole-sorted, whole-front, front-split, split-permutation}
 use Rattle.node_table.proofs.Comparing.{nat_cmp-less, nat_cmp-equal, nat_cmp-greater}
 
@@ -110,18 +111,21 @@ module _ (mode : Mode) (precise : told_by mode ≡ Each) (ns s : ℕ) (old : Lis
           let all = All-permutation (IsSet mode ns s) old moved moves set in
           sym (numbers-sending mode precise ns s (items_in old) (get_or moved j d) (get_or moved k d) (all j d in_j) (all k d in_k))
 
+-- of any so many items that begin with these no more fit
+abbrev pub AllFitting : Budget → ℕ → ℕ → List Item → Type 0
+AllFitting budget count most first = (items : List Item) → length items ≤ count → take most items ≡ first → length (first_within budget items) ≤ most
+
 -- where a selection parted the front, and no more fit than are in it, the others need not be sorted
-pub front_first : (budget most : ℕ) (old front sorted : List Candidate) (x : Candidate) (back : List Candidate) (items : List Item) → IsSplitAround number_order front x back → IsPermutation old (front ++ x ∷ back) → IsPermutation front sorted → IsSorted number_order sorted → length front ≡ most → AreEnough budget (length old) most → items ≡ fitting item_size budget (items_in sorted) → AreFirstItems budget old items
+pub front_first : (budget : Budget) (most : ℕ) (old front sorted : List Candidate) (x : Candidate) (back : List Candidate) (items : List Item) → IsSplitAround number_order front x back → IsPermutation old (front ++ x ∷ back) → IsPermutation front sorted → IsSorted number_order sorted → length front ≡ most → AllFitting budget (length old) most (items_in sorted) → items ≡ first_within budget (items_in sorted) → AreFirstItems budget old items
 front_first budget most old front sorted x back items parted split same rises long enough is = record {
   sorted = all;
   same = moves;
   rises = whole-sorted number_order number_total most moved fits is_front;
   is =
       is
-      ∙ ap (λ cs. fitting item_size budget (items_in cs)) (sym (take_at sorted (x ∷ back) most count) ∙ sym (whole-front number_order number_total most moved fits is_front))
-      ∙ ap (fitting item_size budget) (sym (take-map item_in most all))
-      ∙ fitting-take item_size most budget (items_in all)
-      ∙ take_all most (fitting item_size budget (items_in all)) (enough (items_in all) (omega (arith, length-map all item_in, length_permutation old all moves)));
+      ∙ ap (first_within budget) begins
+      ∙ fitting-take (item_share budget) most (amount_of budget) (items_in all)
+      ∙ take_all most (first_within budget (items_in all)) (enough (items_in all) (omega (arith, length-map all item_in, length_permutation old all moves)) (sym begins));
 }
   where
     moved : List Candidate
@@ -141,3 +145,36 @@ front_first budget most old front sorted x back items parted split same rises lo
 
     moves : IsPermutation old all
     moves = IsPermutation-trans old moved all (split-permutation number_order number_total old front sorted x back split same) (whole-permutation number_order number_total most moved fits is_front)
+
+    begins : items_in sorted ≡ take most (items_in all)
+    begins =
+        ap items_in (sym (take_at sorted (x ∷ back) most count) ∙ sym (whole-front number_order number_total most moved fits is_front))
+        ∙ sym (take-map item_in most all)
+
+-- where those of the front take more than the budget has, no more fit
+pub exceeded : (budget : Budget) (count : ℕ) (front sorted : List Candidate) → IsPermutation front sorted → amount_of budget < sum_by (item_share budget) (items_in front) → (most : ℕ) → AllFitting budget count most (items_in sorted)
+exceeded budget count front sorted same more most items few begins = within most begins
+  where
+    share : Item → ℕ
+    share = item_share budget
+
+    sums : sum_by share (items_in sorted) ≡ sum_by share (items_in front)
+    sums = sum_by-IsPermutation share (items_in front) (items_in sorted) (IsPermutation-map item_in front sorted same)
+
+    within : (n : ℕ) → take n items ≡ items_in sorted → length (first_within budget items) ≤ n
+    within zero begins =
+        let none : 0 ≡ sum_by share (items_in sorted) = ap (sum_by share) begins in
+        absurd (omega (arith, none, sums, more))
+    within (suc m) begins = elim (cases_lt m (length (first_within budget items))) [
+      | inl lt ↦ absurd (omega (arith, more, sums, ap (sum_by share) begins, sum-within share (amount_of budget) items m lt))
+      | inr le ↦ omega (arith, le)
+    ]
+
+-- what is first among candidates is so where they stand in another order
+pub first-permuted : (budget : Budget) (old new : List Candidate) (items : List Item) → IsPermutation old new → AreFirstItems budget new items → AreFirstItems budget old items
+first-permuted budget old new items moved first = record {
+  sorted = first.sorted;
+  same = IsPermutation-trans old new first.sorted moved first.same;
+  rises = first.rises;
+  is = first.is;
+}

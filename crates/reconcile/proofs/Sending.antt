@@ -8,13 +8,15 @@ use Rattle.std.specs.Ordering.{nat_cmp, ordering_then, is_lt}
 use Rattle.std.proofs.lemmas.List.Sums.{length-filter, count_by-le-length}
 use Rattle.std.proofs.lemmas.List.Elements.{All-filter}
 use Rattle.std.proofs.lemmas.List.Sorted.{IsPermutation-trans, length_permutation, sum_by-IsPermutation}
+use Rattle.bench_types.specs.declared.exchanges.Budget.{Budget}
+use Rattle.bench_types.specs.Budget.{amount_of}
 use Rattle.bench_types.specs.declared.entries.Item.{Item}
 use Rattle.bench_types.specs.declared.exchanges.Mode.{Mode}
 use Rattle.node_table.specs.Table.{Table, items_of, IsProper}
 use Rattle.node_table.proofs.Proper.{items_sound, length-le-limit}
 use Rattle.bench_types.specs.declared.exchanges.Mode.TheVariants.{ScuttleBreadth, ScuttleDepth, PreciseOldest, PreciseNewest}
 use Rattle.reconcile.specs.Order.{rotated, rank_among, owner_count, sending_order}
-use Rattle.reconcile.specs.Deltas.{DeltaView, item_size, delta_of}
+use Rattle.reconcile.specs.Deltas.{DeltaView, item_share, delta_of}
 use Rattle.reconcile.specs.Picks.{fitting}
 use Rattle.node_table.specs.View.{no_item}
 use Rattle.reconcile.proofs.Apart.{sending_total, sending_apart}
@@ -31,10 +33,10 @@ pub owners_below : (t : Table) → IsProper t → All (λ (i : Item). i.owner < 
 owners_below t proper k d lt = ((items_sound t proper).in_place k d lt).owner_below
 
 -- what fits of sorted candidates is the delta
-pub sorted_delta : (mode : Mode) (t : Table) (q : Item → Bool) (sorted : List Item) (s budget : ℕ) → IsProper t → s < t.nodes → IsPermutation (filter q (items_of t)) sorted → IsSorted (sending_order mode t.nodes s (filter q (items_of t))) sorted → ◌≡◌ {A = DeltaView} (record { items = fitting item_size budget sorted; cut = length sorted - length (fitting item_size budget sorted) }) (delta_of mode t.nodes s budget (filter q (items_of t)))
+pub sorted_delta : (mode : Mode) (t : Table) (q : Item → Bool) (sorted : List Item) (s : ℕ) (budget : Budget) → IsProper t → s < t.nodes → IsPermutation (filter q (items_of t)) sorted → IsSorted (sending_order mode t.nodes s (filter q (items_of t))) sorted → ◌≡◌ {A = DeltaView} (record { items = fitting (item_share budget) (amount_of budget) sorted; cut = length sorted - length (fitting (item_share budget) (amount_of budget) sorted) }) (delta_of mode t.nodes s budget (filter q (items_of t)))
 sorted_delta mode t q sorted s budget proper in_s same rises = λ i. record {
-  items = sym (sent-is order (sending_total t.nodes s cs mode) cs sorted no_item same rises apart item_size budget) i;
-  cut = sym (cut_count-is order (sending_total t.nodes s cs mode) cs sorted no_item same rises apart item_size budget) i;
+  items = sym (sent-is order (sending_total t.nodes s cs mode) cs sorted no_item same rises apart (item_share budget) (amount_of budget)) i;
+  cut = sym (cut_count-is order (sending_total t.nodes s cs mode) cs sorted no_item same rises apart (item_share budget) (amount_of budget)) i;
 }
   where
     cs : List Item
@@ -58,7 +60,7 @@ sending_order-permuted PreciseOldest ns s xs ys same c d = refl
 sending_order-permuted PreciseNewest ns s xs ys same c d = refl
 
 -- what fits of the candidates, found and sorted in whatever way, and how many don't, are the delta
-pub sorted_sent : (mode : Mode) (t : Table) (q : Item → Bool) (found sorted items : List Item) (s budget : ℕ) → IsProper t → s < t.nodes → IsPermutation (filter q (items_of t)) found → IsPermutation found sorted → IsSorted (sending_order mode t.nodes s found) sorted → items ≡ fitting item_size budget sorted → ◌≡◌ {A = DeltaView} (record { items = items; cut = length found - length items }) (delta_of mode t.nodes s budget (filter q (items_of t)))
+pub sorted_sent : (mode : Mode) (t : Table) (q : Item → Bool) (found sorted items : List Item) (s : ℕ) (budget : Budget) → IsProper t → s < t.nodes → IsPermutation (filter q (items_of t)) found → IsPermutation found sorted → IsSorted (sending_order mode t.nodes s found) sorted → items ≡ fitting (item_share budget) (amount_of budget) sorted → ◌≡◌ {A = DeltaView} (record { items = items; cut = length found - length items }) (delta_of mode t.nodes s budget (filter q (items_of t)))
 sorted_sent mode t q found sorted items s budget proper in_s same moved rises is =
     (λ i. record { items = is i; cut = sym (length_permutation found sorted moved) i - length (is i) })
     ∙ sorted_delta mode t q sorted s budget proper in_s (IsPermutation-trans cs found sorted same moved)

@@ -5,6 +5,8 @@ use Rattle.std.specs.List.{filter_map, range_with_len, cons_option}
 use Rattle.std.specs.declared.cmp.Ordering.{Ordering}
 use Rattle.std.proofs.lemmas.Bool.{eq-eqb}
 use Rattle.std.proofs.lemmas.List.Elements.{All-nil, All-cons, All-head, All-tail}
+use Rattle.bench_types.specs.declared.exchanges.Budget.{Budget}
+use Rattle.bench_types.specs.Budget.{amount_of}
 use Rattle.bench_types.specs.declared.entries.Item.{Item}
 use Rattle.bench_types.specs.declared.exchanges.Mode.{Mode}
 use Rattle.bench_types.specs.declared.exchanges.Telling.{Telling}
@@ -15,7 +17,7 @@ use Rattle.node_table.specs.View.{IsItemInPlace}
 use Rattle.node_table.proofs.Proper.{items_sound}
 use Rattle.reconcile.specs.Candidates.{items_above, candidates, known_version}
 use Rattle.reconcile.specs.Digests.{DigestView, Knowledge, Greatest, Each, telling_of, IsDigestOf, greatest_in, each_in, known_in, told_version}
-use Rattle.reconcile.specs.Deltas.{DeltaView, item_size, delta_of, delta_between, answer_of, IsDeltaToReceiver, MayTake}
+use Rattle.reconcile.specs.Deltas.{DeltaView, item_share, delta_of, delta_between, answer_of, IsDeltaToReceiver, MayTake}
 use Rattle.reconcile.specs.Order.{sending_order}
 use Rattle.reconcile.specs.Picks.{at_place, fits, sent}
 use Rattle.reconcile.proofs.Picked.{find_stands}
@@ -81,22 +83,22 @@ All-sent P order cs size budget all = places 0 (count_by (fits order cs size bud
               All-cons P x (filter_map (at_place order cs) (range_with_len (a + 1) n)) (subst P there.2 (all there.0 x there.1)) rest
         ] refl
 
-pub All-delta_between : (P : Item → Type 0) (mode : Mode) (rotation budget : ℕ) (from to : Table) → All P (candidates mode from to) → All P (delta_between mode rotation budget from to).items
-All-delta_between P mode rotation budget from to = All-sent P (sending_order mode from.nodes rotation (candidates mode from to)) (candidates mode from to) item_size budget
+pub All-delta_between : (P : Item → Type 0) (mode : Mode) (rotation : ℕ) (budget : Budget) (from to : Table) → All P (candidates mode from to) → All P (delta_between mode rotation budget from to).items
+All-delta_between P mode rotation budget from to = All-sent P (sending_order mode from.nodes rotation (candidates mode from to)) (candidates mode from to) (item_share budget) (amount_of budget)
 
 -- so a receiver may take what is sent in answer to its digest
-pub answer-in_place : (mode : Mode) (rotation budget : ℕ) (from : Table) (receiver : ℕ) (told : DigestView) → IsProper from → MayTake receiver from.nodes from.keys (answer_of mode rotation budget from receiver told).items
+pub answer-in_place : (mode : Mode) (rotation : ℕ) (budget : Budget) (from : Table) (receiver : ℕ) (told : DigestView) → IsProper from → MayTake receiver from.nodes from.keys (answer_of mode rotation budget from receiver told).items
 answer-in_place mode rotation budget from receiver told proper =
     let cs = items_above (told_version told) receiver (items_of from) in
-    All-sent (λ (i : Item). (i.owner ≢ receiver) × IsItemInPlace from.nodes from.keys i) (sending_order mode from.nodes rotation cs) cs item_size budget (candidates-in_place from (told_version told) receiver proper)
+    All-sent (λ (i : Item). (i.owner ≢ receiver) × IsItemInPlace from.nodes from.keys i) (sending_order mode from.nodes rotation cs) cs (item_share budget) (amount_of budget) (candidates-in_place from (told_version told) receiver proper)
 
 -- and it is the delta to every table that the digest is of
-pub answer-of_tables : (mode : Mode) (rotation budget : ℕ) (from : Table) (receiver : ℕ) (told : DigestView) (delta : DeltaView) → IsProper from → told.nodes ≡ from.nodes → told.keys ≡ from.keys → delta ≡ answer_of mode rotation budget from receiver told → IsDeltaToReceiver mode rotation budget from receiver told delta
+pub answer-of_tables : (mode : Mode) (rotation : ℕ) (budget : Budget) (from : Table) (receiver : ℕ) (told : DigestView) (delta : DeltaView) → IsProper from → told.nodes ≡ from.nodes → told.keys ≡ from.keys → delta ≡ answer_of mode rotation budget from receiver told → IsDeltaToReceiver mode rotation budget from receiver told delta
 answer-of_tables mode rotation budget from receiver told delta proper nodes keys is to at of_to =
     is
     ∙ ap (λ r. delta_of mode from.nodes rotation budget (items_above (told_version told) r (items_of from))) (sym at)
     ∙ ap (delta_of mode from.nodes rotation budget) (candidates-told mode from to told proper of_to nodes keys)
 
-pub answer-sound : (mode : Mode) (rotation budget : ℕ) (from : Table) (receiver : ℕ) (told : DigestView) (delta : DeltaView) → IsProper from → delta ≡ answer_of mode rotation budget from receiver told → MayTake receiver from.nodes from.keys delta.items
+pub answer-sound : (mode : Mode) (rotation : ℕ) (budget : Budget) (from : Table) (receiver : ℕ) (told : DigestView) (delta : DeltaView) → IsProper from → delta ≡ answer_of mode rotation budget from receiver told → MayTake receiver from.nodes from.keys delta.items
 answer-sound mode rotation budget from receiver told delta proper is =
     subst (λ (d : DeltaView). MayTake receiver from.nodes from.keys d.items) (sym is) (answer-in_place mode rotation budget from receiver told proper)

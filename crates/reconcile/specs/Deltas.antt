@@ -1,41 +1,54 @@
 -- A delta: what is sent of the candidates under a budget, in the order sent, and how many are cut.
 -- Source: this project; the word is the LADIS 2008 paper's.
-use Rattle.std.specs.Prelude.{◌≡◌, ◌≢◌, ℕ, List, All}
+use Rattle.std.specs.Prelude.{◌≡◌, ◌≢◌, ℕ, ◌≤◌, List, All}
+use Rattle.std.specs.List.{sum_by}
 use Rattle.bench_types.specs.declared.entries.Item.{Item}
 use Rattle.bench_types.specs.declared.exchanges.Mode.{Mode}
-use Rattle.bench_types.specs.Budget.{entry_size}
+use Rattle.bench_types.specs.declared.exchanges.Budget.{Budget}
+use Rattle.bench_types.specs.Budget.{amount_of, share_of}
 use Rattle.bench_types.specs.Mode.{told_by}
 use Rattle.node_table.specs.Table.{Table, items_of}
 use Rattle.node_table.specs.View.{IsItemInPlace}
 use Rattle.reconcile.specs.Candidates.{items_above, candidates}
 use Rattle.reconcile.specs.Digests.{DigestView, IsDigestOf, told_version}
 use Rattle.reconcile.specs.Order.{sending_order}
-use Rattle.reconcile.specs.Picks.{sent, cut_count}
+use Rattle.reconcile.specs.Picks.{sent, cut_count, fitting}
 
 pub record DeltaView : Type 0 where
   pub items : List Item
   pub cut : ℕ
 
 -- what an item takes of a budget
-abbrev pub item_size : Item → ℕ
-item_size i = entry_size i.entry
+abbrev pub item_share : Budget → Item → ℕ
+item_share budget i = share_of budget i.entry
 
-abbrev pub delta_of : Mode → ℕ → ℕ → ℕ → List Item → DeltaView
+-- as many of these items, from the first one on, as a budget has room for
+abbrev pub first_within : Budget → List Item → List Item
+first_within budget items = fitting (item_share budget) (amount_of budget) items
+
+-- a budget has room for them all
+abbrev pub AreWithin : Budget → List Item → Type 0
+AreWithin budget items = sum_by (item_share budget) items ≤ amount_of budget
+
+abbrev pub delta_of : Mode → ℕ → ℕ → Budget → List Item → DeltaView
 delta_of mode ns s budget cs =
     let order = sending_order mode ns s cs in
-    record { items = sent order cs item_size budget; cut = cut_count order cs item_size budget }
+    record {
+      items = sent order cs (item_share budget) (amount_of budget);
+      cut = cut_count order cs (item_share budget) (amount_of budget);
+    }
 
 -- what a table sends to a receiver whose digest this is
-abbrev pub answer_of : Mode → ℕ → ℕ → Table → ℕ → DigestView → DeltaView
+abbrev pub answer_of : Mode → ℕ → Budget → Table → ℕ → DigestView → DeltaView
 answer_of mode rotation budget from receiver told =
     delta_of mode from.nodes rotation budget (items_above (told_version told) receiver (items_of from))
 
 -- the delta from one table to another
-abbrev pub delta_between : Mode → ℕ → ℕ → Table → Table → DeltaView
+abbrev pub delta_between : Mode → ℕ → Budget → Table → Table → DeltaView
 delta_between mode rotation budget from to = delta_of mode from.nodes rotation budget (candidates mode from to)
 
 -- it is the delta to every table of the receiver that this is the digest of
-abbrev pub IsDeltaToReceiver : Mode → ℕ → ℕ → Table → ℕ → DigestView → DeltaView → Type 0
+abbrev pub IsDeltaToReceiver : Mode → ℕ → Budget → Table → ℕ → DigestView → DeltaView → Type 0
 IsDeltaToReceiver mode rotation budget from receiver told delta =
     (to : Table) → to.node ≡ receiver → IsDigestOf (told_by mode) to told
     → delta ≡ delta_between mode rotation budget from to

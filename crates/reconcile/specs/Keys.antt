@@ -1,16 +1,16 @@
 -- Candidates of a precise mode on the way into their order: each beside three numbers, by which and by the key they are
 -- sorted. What comes later where it is greater stands as it is, and what comes earlier where it is greater is taken
 -- from the greatest number of 32 bits. Source: this project.
-use Rattle.std.specs.Prelude.{◌≡◌, ℕ, ◌-◌, ◌<◌, ◌^◌, List, All, map, IsPermutation, IsSorted}
+use Rattle.std.specs.Prelude.{◌≡◌, ℕ, ◌-◌, ◌<◌, ◌^◌, List, length, All, map, IsPermutation, IsSorted}
 use Rattle.std.specs.Ordering.{nat_cmp, ordering_then}
 use Rattle.std.specs.declared.cmp.Ordering.{Ordering}
 use Rattle.bench_types.specs.declared.entries.Item.{Item}
+use Rattle.bench_types.specs.declared.exchanges.Budget.{Budget}
 use Rattle.bench_types.specs.declared.exchanges.Mode.{Mode}
 use Rattle.bench_types.specs.declared.exchanges.Mode.TheVariants.{ScuttleBreadth, ScuttleDepth, PreciseOldest, PreciseNewest}
 use Rattle.reconcile.specs.declared.candidates.Candidate.{Candidate}
-use Rattle.reconcile.specs.Deltas.{item_size}
+use Rattle.reconcile.specs.Deltas.{DeltaView, first_within}
 use Rattle.reconcile.specs.Order.{rotated}
-use Rattle.reconcile.specs.Picks.{fitting}
 
 abbrev pub item_in : Candidate → Item
 item_in c = c.item
@@ -45,11 +45,16 @@ number_order c d =
     ordering_then (ordering_then (ordering_then (nat_cmp c.first d.first) (nat_cmp c.turn d.turn)) (nat_cmp c.second d.second)) (nat_cmp c.item.entry.key d.item.entry.key)
 
 -- they are what a budget lets through of the items of candidates that stand by their numbers
-pub record AreFirstItems (budget : ℕ) (cs : List Candidate) (items : List Item) : Type 0 where
+pub record AreFirstItems (budget : Budget) (cs : List Candidate) (items : List Item) : Type 0 where
   pub sorted : List Candidate
   pub same : IsPermutation cs sorted
   pub rises : IsSorted number_order sorted
-  pub is : items ≡ fitting item_size budget (items_in sorted)
+  pub is : items ≡ first_within budget (items_in sorted)
+
+-- what a budget lets through of candidates, and how many of them it doesn't
+pub record IsSentOf (budget : Budget) (found : List Candidate) (delta : DeltaView) : Type 0 where
+  pub items : AreFirstItems budget found delta.items
+  pub cut : delta.cut ≡ length found - length delta.items
 
 -- where the old ones were set, so are the new ones
 abbrev pub SetsStay : Mode → ℕ → ℕ → List Candidate → List Candidate → Type 0

@@ -3,6 +3,7 @@
 use Rattle.std.specs.Prelude.{◌≡◌, ℕ, ◌<◌, ◌≤◌, List, length, slice_index_or, Contains}
 use Rattle.std.specs.Cmp.{IsTotalOrder}
 use Rattle.bench_types.specs.declared.entries.Item.{Item}
+use Rattle.bench_types.specs.declared.exchanges.Budget.{Budget}
 use Rattle.bench_types.specs.declared.exchanges.Mode.{Mode}
 use Rattle.node_table.specs.Table.{Table, IsProper}
 use Rattle.reconcile.specs.Candidates.{IsScuttleMode, candidates}
@@ -23,7 +24,7 @@ AscendByOwner items =
 -- and so do those of every delta of a scuttle mode
 abbrev pub ScuttleDeltasAscend : Type 0
 ScuttleDeltasAscend =
-    (mode : Mode) (rotation budget : ℕ) (from to : Table) → IsScuttleMode mode
+    (mode : Mode) (rotation : ℕ) (budget : Budget) (from to : Table) → IsScuttleMode mode
     → AscendByOwner (delta_between mode rotation budget from to).items
 
 -- it has each of these items
@@ -33,6 +34,6 @@ SendsAll items delta = (c : Item) → Contains items c → Contains delta.items 
 -- in every mode a delta that cuts nothing sends all candidates
 abbrev pub UncutDeltasSendAll : Type 0
 UncutDeltasSendAll =
-    (mode : Mode) (rotation budget : ℕ) (from to : Table) → IsProper from → rotation < from.nodes
+    (mode : Mode) (rotation : ℕ) (budget : Budget) (from to : Table) → IsProper from → rotation < from.nodes
     → (delta_between mode rotation budget from to).cut ≡ 0
     → SendsAll (candidates mode from to) (delta_between mode rotation budget from to)

@@ -5,13 +5,13 @@ use Rattle.std.specs.Prelude.{◌≡◌, ◌≢◌, ℕ, zero, suc, ◌+◌, ◌
 use Rattle.std.specs.List.{AllPairs, flat_map}
 use Rattle.bench_types.specs.declared.entries.Entry.{Entry}
 use Rattle.bench_types.specs.declared.entries.Item.{Item}
+use Rattle.bench_types.specs.declared.exchanges.Budget.{Budget}
 use Rattle.node_table.specs.Rows.{StandsBefore}
-use Rattle.reconcile.specs.Deltas.{item_size}
+use Rattle.reconcile.specs.Deltas.{first_within}
 use Rattle.reconcile.specs.Keys.{reversed}
 use Rattle.reconcile.specs.Newer.{item_with}
 use Rattle.reconcile.specs.Order.{owner_count}
 use Rattle.reconcile.specs.Parcels.{AddsFitting}
-use Rattle.reconcile.specs.Picks.{fitting}
 use Rattle.reconcile.specs.declared.parcels.Parcel.{Parcel}
 use Rattle.reconcile.specs.declared.runs.Run.{Run}
 
@@ -69,8 +69,8 @@ layered number items least zero = []
 layered number items least (suc n) = layered number items least n ++ layer_of number items (least + n)
 
 -- what a budget lets through of all items, layer by layer
-pub record AreLayered (number : Item → ℕ) (budget : ℕ) (all sent : List Item) : Type 0 where
+pub record AreLayered (number : Item → ℕ) (budget : Budget) (all sent : List Item) : Type 0 where
   pub least : ℕ
   pub layers : ℕ
   pub within : All (λ i. (least ≤ number i) × (number i < least + layers)) all
-  pub is : sent ≡ fitting item_size budget (layered number all least layers)
+  pub is : sent ≡ first_within budget (layered number all least layers)

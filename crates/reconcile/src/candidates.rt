@@ -1,22 +1,23 @@
 //! What answers a digest that gives each version: the entries that it doesn't know, the oldest or the
 //! newest first.
 
-ghost use Rattle.std.specs.Prelude.{◌≡◌, ◌^◌, ◌<◌, ◌≤◌, All, length, IfOk, OnOk, IsOkUnless, IsPermutation, IsSorted};
+ghost use Rattle.std.specs.Prelude.{◌≡◌, ◌^◌, ◌<◌, ◌≤◌, nat_lt, All, length, IfOk, IfSome, OnOk, IsOkUnless, IsPermutation, IsSorted};
+ghost use Rattle.std.specs.List.{sum_by};
 ghost use Rattle.bench_types.specs.declared.faults.Fault.TheVariants.{OutOfMemory};
+ghost use Rattle.bench_types.specs.Budget.{amount_of};
 ghost use Rattle.bench_types.specs.Mode.{told_by};
 ghost use Rattle.node_table.specs.Table.{IsProper};
-ghost use Rattle.reconcile.specs.Deltas.{answer_of, item_size};
+ghost use Rattle.reconcile.specs.Deltas.{answer_of, first_within, item_share, AreWithin};
 ghost use Rattle.reconcile.specs.Digests.{IsOfKind};
 ghost use Rattle.reconcile.specs.Newer.{AddsNewer, AreCandidates};
 ghost use Rattle.reconcile.specs.Order.{rotated};
-ghost use Rattle.reconcile.specs.Picks.{fitting};
-ghost use Rattle.reconcile.specs.Keys.{items_in, age_first, AllSet, AreFirstItems, IsSet, SetsStay, number_order};
+ghost use Rattle.reconcile.specs.Keys.{items_in, age_first, AllSet, AreFirstItems, IsSentOf, IsSet, SetsStay, number_order};
 
 use crate::deltas::Delta;
 use crate::digests::Digest;
 use crate::orders::Turns;
 use crate::parcels::{Parcel, most_sent};
-use bench_types::{Entry, Fault, Item, Mode, Telling};
+use bench_types::{Budget, Entry, Fault, Item, Mode, Telling};
 use node_table::NodeTable;
 use std::alloc::Global;
 
@@ -41,7 +42,7 @@ pub(crate) fn precise_delta(
     digest: &Digest,
     receiver: u32,
     turns: Turns,
-    budget: u32,
+    budget: Budget,
 ) -> Result<Delta, Fault>
     requires precise { told_by turns.mode ≡ Telling.Each }
     requires proper { IsProper table.now.table }
@@ -52,12 +53,85 @@ pub(crate) fn precise_delta(
     requires rotation { turns.rotation < turns.nodes }
     ensures ok { IfOk result
         (λ d. d ≡ answer_of turns.mode turns.rotation budget table.now.table receiver digest.now) }
-    ensures within { IfOk result (λ d. length d.items ≤ budget) }
+    ensures within { IfOk result (λ d. AreWithin budget d.items) }
+    ensures few { IfOk result (λ d. length d.items < 2 ^ 32) }
     ensures only { IsOkUnless result OutOfMemory }
 {
     let mut found = candidates(alloc, table, digest, receiver, turns)?;
-    let count = found.len();
-    let items = front_items(alloc, &mut found, budget)?;
+    let likely = likely_count(&found, budget);
+    if likely < found.len() {
+        if let Some(delta) = likely_delta(alloc, &mut found, likely, budget)? {
+            return Ok(delta);
+        }
+        // The selection has moved them.
+        found = candidates(alloc, table, digest, receiver, turns)?;
+    }
+    sorted_delta(alloc, &mut found, budget)
+}
+
+// About how many candidates a budget in bytes lets through, by their mean size, and some more: any
+// number would do.
+fn likely_count(order: &[Candidate], budget: Budget) -> usize {
+    let Budget::Bytes(bytes) = budget else {
+        return order.len();
+    };
+    let mut taken = 0usize;
+    for candidate in order {
+        taken = taken.saturating_add(candidate.item.entry.size() as usize);
+    }
+    let mean = taken.checked_div(order.len()).unwrap_or(1).max(1);
+    let likely = bytes as usize / mean;
+    likely + likely / 8 + 8
+}
+
+// What the budget lets through, where so many candidates take more than it has. Where they don't, the
+// candidates have only been moved.
+fn likely_delta(
+    alloc: Global,
+    order: &mut [Candidate],
+    likely: usize,
+    budget: Budget,
+) -> Result<Option<Delta>, Fault>
+    requires likely { likely < length order.old }
+    requires few { length order.old < 2 ^ 32 }
+    ensures sent { IfOk result (λ found. IfSome found (IsSentOf budget order.old)) }
+    ensures only { IsOkUnless result OutOfMemory }
+{
+    let count = order.len();
+    let (front, _, _) = order.select_nth_unstable_by_key(
+        likely,
+        |c| (c.first, c.turn, c.second, c.item.entry.key),
+    );
+    if !exceeds(front, budget) {
+        return Ok(None);
+    }
+    let items = sorted_items(alloc, front, budget)?;
+    let cut = (count - items.len()) as u32;
+    Ok(Some(Delta { items, cut }))
+}
+
+// Whether candidates take more than the whole budget.
+fn exceeds(order: &[Candidate], budget: Budget) -> bool
+    ensures { result ≡ nat_lt (amount_of budget) (sum_by (item_share budget) (items_in order.now)) }
+{
+    let mut left = budget.amount();
+    for candidate in order {
+        match left.checked_sub(budget.share_of(&candidate.item.entry)) {
+            Some(less) => left = less,
+            None => return true,
+        }
+    }
+    false
+}
+
+// What the budget lets through.
+fn sorted_delta(alloc: Global, order: &mut [Candidate], budget: Budget) -> Result<Delta, Fault>
+    requires few { length order.old < 2 ^ 32 }
+    ensures sent { IfOk result (IsSentOf budget order.old) }
+    ensures only { IsOkUnless result OutOfMemory }
+{
+    let count = order.len();
+    let items = front_items(alloc, order, budget)?;
     let cut = (count - items.len()) as u32;
     Ok(Delta { items, cut })
 }
@@ -163,7 +237,7 @@ fn age_first(mode: Mode, age: u32) -> u32
 
 // What the budget lets through of the candidates by their three numbers and then by key, in that
 // order. No more are sorted than it may let through.
-fn front_items(alloc: Global, order: &mut [Candidate], budget: u32) -> Result<Vec<Item>, Fault>
+fn front_items(alloc: Global, order: &mut [Candidate], budget: Budget) -> Result<Vec<Item>, Fault>
     ensures first { IfOk result (λ v. AreFirstItems budget order.old v.items) }
     ensures only { IsOkUnless result OutOfMemory }
 {
@@ -181,10 +255,10 @@ fn front_items(alloc: Global, order: &mut [Candidate], budget: u32) -> Result<Ve
 
 // Sorts the candidates by their three numbers and then by key. What the budget lets through of them
 // in that order.
-fn sorted_items(alloc: Global, order: &mut [Candidate], budget: u32) -> Result<Vec<Item>, Fault>
+fn sorted_items(alloc: Global, order: &mut [Candidate], budget: Budget) -> Result<Vec<Item>, Fault>
     ensures same { IsPermutation order.old order.new }
     ensures sorted { IsSorted number_order order.new }
-    ensures items { IfOk result (λ v. v.items ≡ fitting item_size budget (items_in order.new)) }
+    ensures items { IfOk result (λ v. v.items ≡ first_within budget (items_in order.new)) }
     ensures only { IsOkUnless result OutOfMemory }
 {
     order.sort_unstable_by_key(|c| (c.first, c.turn, c.second, c.item.entry.key));
@@ -192,8 +266,8 @@ fn sorted_items(alloc: Global, order: &mut [Candidate], budget: u32) -> Result<V
 }
 
 // What the budget lets through of the candidates as they stand.
-fn first_items(alloc: Global, order: &[Candidate], budget: u32) -> Result<Vec<Item>, Fault>
-    ensures items { IfOk result (λ v. v.items ≡ fitting item_size budget (items_in order.now)) }
+fn first_items(alloc: Global, order: &[Candidate], budget: Budget) -> Result<Vec<Item>, Fault>
+    ensures items { IfOk result (λ v. v.items ≡ first_within budget (items_in order.now)) }
     ensures only { IsOkUnless result OutOfMemory }
 {
     let mut parcel = Parcel::new(alloc, order.len(), budget)?;

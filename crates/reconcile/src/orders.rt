@@ -1,22 +1,22 @@
 //! Which items answer a digest, and in which order.
 
-ghost use Rattle.std.specs.Prelude.{◌≡◌, ◌<◌, ◌≤◌, length, IfOk, IsOkUnless};
+ghost use Rattle.std.specs.Prelude.{◌≡◌, ◌^◌, ◌<◌, ◌≤◌, length, IfOk, IsOkUnless};
 ghost use Rattle.bench_types.specs.declared.faults.Fault.TheVariants.{OutOfMemory};
 ghost use Rattle.bench_types.specs.Budget.{IsLawfulBudget};
 ghost use Rattle.bench_types.specs.Mode.{told_by};
-ghost use Rattle.reconcile.specs.Deltas.{answer_of, IsDeltaToReceiver, MayTake};
+ghost use Rattle.reconcile.specs.Deltas.{answer_of, AreWithin, IsDeltaToReceiver, MayTake};
 ghost use Rattle.reconcile.specs.Digests.{IsOfKind};
 
 use crate::candidates::precise_delta;
 use crate::deltas::Delta;
 use crate::digests::Digest;
 use crate::runs::scuttle_delta;
-use bench_types::{Fault, Mode, Telling};
+use bench_types::{Budget, Fault, Mode, Telling};
 use node_table::NodeTable;
 use std::alloc::Global;
 
-/// What is sent to a receiver whose digest came in: the first `budget` candidates in the order of
-/// the mode.
+/// What is sent to a receiver whose digest came in: the first candidates in the order of the mode, as
+/// many as the budget has room for.
 ///
 /// A scuttle mode compares a number for each owner, and looks at the entries of those where its own
 /// is greater. Nothing is sorted: scuttle-breadth goes over those owners once for each place in
@@ -31,7 +31,7 @@ pub fn delta(
     receiver: u32,
     mode: Mode,
     rotation: u32,
-    budget: u32,
+    budget: Budget,
 ) -> Result<Delta, Fault>
     requires kind { IsOfKind (told_by mode) digest.now }
     requires nodes { digest.now.nodes ≡ table.now.table.nodes }
@@ -41,7 +41,8 @@ pub fn delta(
     requires budget { IsLawfulBudget budget }
     ensures ok { IfOk result (λ d. d ≡ answer_of mode rotation budget table.now.table receiver digest.now) }
     ensures of_tables { IfOk result (IsDeltaToReceiver mode rotation budget table.now.table receiver digest.now) }
-    ensures within { IfOk result (λ d. length d.items ≤ budget) }
+    ensures within { IfOk result (λ d. AreWithin budget d.items) }
+    ensures few { IfOk result (λ d. length d.items < 2 ^ 32) }
     ensures sound { IfOk result (λ d. MayTake receiver table.now.table.nodes table.now.table.keys d.items) }
     ensures only { IsOkUnless result OutOfMemory }
 {

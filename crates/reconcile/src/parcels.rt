@@ -1,32 +1,37 @@
 //! Items on their way into a delta, as long as a budget lasts.
 
-ghost use Rattle.std.specs.Prelude.{◌≡◌, ◌≤◌, [], ◌∷◌, ◌++◌, map, IfOk, OnOk, IsOkUnless};
+ghost use Rattle.std.specs.Prelude.{◌≡◌, ◌-◌, ◌≤◌, [], ◌∷◌, ◌++◌, map, IfOk, OnOk, IsOkUnless};
 ghost use Rattle.std.specs.List.{sum_by};
+ghost use Rattle.std.specs.Option.{SomeIff};
+ghost use Rattle.bench_types.specs.Budget.{amount_of, entry_size, share_of};
 ghost use Rattle.bench_types.specs.declared.faults.Fault.TheVariants.{OutOfMemory};
-ghost use Rattle.bench_types.specs.Budget.{entry_size};
 ghost use Rattle.reconcile.specs.Newer.{item_with};
 ghost use Rattle.reconcile.specs.Parcels.{AddsFitting, AreEnough};
 
-use bench_types::{Entry, Fault, Item};
+use bench_types::limits::LEAST_ENTRY_SIZE;
+use bench_types::{Budget, Entry, Fault, Item};
 use std::alloc::Global;
 
-// What is sent so far, and what is left of the budget: nothing, once an item didn't fit.
+// What is sent so far under a budget, and what is left of it: nothing, once an item didn't fit.
 #[derive(Drop)]
 pub(crate) struct Parcel {
     pub(crate) items: Vec<Item>,
     pub(crate) left: usize,
+    pub(crate) budget: Budget,
 }
 
 impl Parcel {
-    // An empty one under a budget, with room for what fits of so many items.
-    pub(crate) fn new(alloc: Global, found: usize, budget: u32) -> Result<Parcel, Fault>
+    // An empty one, with room for what fits of so many items.
+    pub(crate) fn new(alloc: Global, found: usize, budget: Budget) -> Result<Parcel, Fault>
         ensures empty { IfOk result (λ p. p.items.items ≡ []) }
-        ensures left { IfOk result (λ p. p.left ≡ budget) }
+        ensures left { IfOk result (λ p. p.left ≡ amount_of budget) }
+        ensures budget { IfOk result (λ p. p.budget ≡ budget) }
         ensures only { IsOkUnless result OutOfMemory }
     {
         Ok(Parcel {
             items: Vec::with_capacity(alloc, most_sent(found, budget))?,
-            left: budget as usize,
+            left: budget.amount() as usize,
+            budget,
         })
     }
 
@@ -35,25 +40,24 @@ impl Parcel {
         ensures added { OnOk result (AddsFitting (item ∷ []) self.old self.new) }
         ensures only { IsOkUnless result OutOfMemory }
     {
-        let size = size_of(&item.entry);
-        if size <= self.left {
+        let share = self.budget.share_of(&item.entry) as usize;
+        if share <= self.left {
             self.items.push(item)?;
-            self.left -= size;
+            self.left -= share;
         } else {
             self.left = 0;
         }
         Ok(())
     }
 
-    // Adds an owner's entries as long as they fit. Where all do, one comparison tells so.
+    // Adds an owner's entries as long as they fit. Where all do, they are compared with what is left once.
     pub(crate) fn add_entries(&mut self, owner: u32, entries: &[Entry]) -> Result<(), Fault>
         ensures added { OnOk result (AddsFitting (map (item_with owner) entries.now) self.old self.new) }
         ensures only { IsOkUnless result OutOfMemory }
     {
-        let together = size_of_all(entries);
-        if together <= self.left {
+        if let Some(left) = left_behind(self.budget, self.left, entries) {
             push_entries(&mut self.items, owner, entries)?;
-            self.left -= together;
+            self.left = left;
             return Ok(());
         }
         for entry in entries {
@@ -76,24 +80,34 @@ fn push_entries(items: &mut Vec<Item>, owner: u32, entries: &[Entry]) -> Result<
     Ok(())
 }
 
-// What an entry takes of a budget.
-fn size_of(entry: &Entry) -> usize
-    ensures { result ≡ entry_size entry.now }
+// What entries leave of so much of a budget, where all of them fit.
+fn left_behind(budget: Budget, left: usize, entries: &[Entry]) -> Option<usize>
+    ensures { SomeIff result (sum_by (share_of budget) entries.now ≤ left) (left - sum_by (share_of budget) entries.now) }
 {
-    1
+    match budget {
+        Budget::Entries(_) => left.checked_sub(entries.len()),
+        Budget::Bytes(_) => bytes_left(left, entries),
+    }
 }
 
-// What entries take of it together.
-fn size_of_all(entries: &[Entry]) -> usize
-    ensures { result ≡ sum_by entry_size entries.now }
+// What entries leave of so many bytes, where these are enough.
+fn bytes_left(bytes: usize, entries: &[Entry]) -> Option<usize>
+    ensures { SomeIff result (sum_by entry_size entries.now ≤ bytes) (bytes - sum_by entry_size entries.now) }
 {
-    entries.len()
+    let mut left = bytes;
+    for entry in entries {
+        left = left.checked_sub(entry.size() as usize)?;
+    }
+    Some(left)
 }
 
 // How many of so many items a budget lets through at most.
-pub(crate) fn most_sent(found: usize, budget: u32) -> usize
+pub(crate) fn most_sent(found: usize, budget: Budget) -> usize
     ensures within { result ≤ found }
     ensures enough { AreEnough budget found result }
 {
-    found.min(budget as usize)
+    match budget {
+        Budget::Entries(entries) => found.min(entries as usize),
+        Budget::Bytes(bytes) => found.min((bytes / LEAST_ENTRY_SIZE) as usize),
+    }
 }

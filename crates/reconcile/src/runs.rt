@@ -7,7 +7,7 @@ ghost use Rattle.bench_types.specs.declared.faults.Fault.TheVariants.{OutOfMemor
 ghost use Rattle.bench_types.specs.Mode.{told_by};
 ghost use Rattle.node_table.specs.Rows.{StandsBefore, AreAbove};
 ghost use Rattle.node_table.specs.Table.{IsProper};
-ghost use Rattle.reconcile.specs.Deltas.{answer_of};
+ghost use Rattle.reconcile.specs.Deltas.{answer_of, AreWithin};
 ghost use Rattle.reconcile.specs.Digests.{IsOfKind};
 ghost use Rattle.reconcile.specs.Newer.{AreCandidates};
 ghost use Rattle.reconcile.specs.Order.{rank_among, owner_count};
@@ -17,7 +17,7 @@ use crate::deltas::Delta;
 use crate::digests::Digest;
 use crate::orders::Turns;
 use crate::parcels::Parcel;
-use bench_types::{Entry, Fault, Item, Mode, Telling};
+use bench_types::{Budget, Entry, Fault, Item, Mode, Telling};
 use node_table::NodeTable;
 use std::alloc::Global;
 
@@ -36,7 +36,7 @@ pub(crate) fn scuttle_delta(
     digest: &Digest,
     receiver: u32,
     turns: Turns,
-    budget: u32,
+    budget: Budget,
 ) -> Result<Delta, Fault>
     requires scuttle { told_by turns.mode ≡ Telling.Greatest }
     requires proper { IsProper table.now.table }
@@ -46,7 +46,8 @@ pub(crate) fn scuttle_delta(
     requires rotation { turns.rotation < turns.nodes }
     ensures ok { IfOk result
         (λ d. d ≡ answer_of turns.mode turns.rotation budget table.now.table receiver digest.now) }
-    ensures within { IfOk result (λ d. length d.items ≤ budget) }
+    ensures within { IfOk result (λ d. AreWithin budget d.items) }
+    ensures few { IfOk result (λ d. length d.items < 2 ^ 32) }
     ensures only { IsOkUnless result OutOfMemory }
 {
     let mut runs = runs_above(alloc, table, digest, receiver)?;
@@ -140,7 +141,7 @@ fn by_rank(
     alloc: Global,
     runs: &mut Vec<Run>,
     found: usize,
-    budget: u32,
+    budget: Budget,
 ) -> Result<Vec<Item>, Fault>
     requires runs { AreRuns runs.old.items }
     ensures layers { IfOk result
@@ -191,7 +192,7 @@ fn entries_ranked(entries: &[Entry], rank: usize) -> &[Entry]
 }
 
 // What the budget lets through of the runs, which have so many entries, those of the longest first.
-fn by_length(alloc: Global, runs: &[Run], found: usize, budget: u32) -> Result<Vec<Item>, Fault>
+fn by_length(alloc: Global, runs: &[Run], found: usize, budget: Budget) -> Result<Vec<Item>, Fault>
     requires runs { AreRuns runs.now }
     requires few { length (items_of_runs runs.now) < 2 ^ 32 }
     requires found { found ≡ length (items_of_runs runs.now) }

@@ -3,19 +3,20 @@ use Rattle.std.proofs.Common.{◌≡◌, ◌≢◌, ℕ, ◌+◌, ◌-◌, ◌*�
 use Rattle.toml.specs.Data as toml
 use Rattle.toml.specs.Data.{Data, integer, string, Members, get_member}
 use Rattle.bench_types.specs.declared.faults.Fault.{Fault}
-use Rattle.bench_types.specs.declared.faults.Fault.TheVariants.{OutOfMemory, TooLarge, OutOfRange}
+use Rattle.bench_types.specs.declared.faults.Fault.TheVariants.{OutOfMemory, TooLarge, OutOfRange, BudgetTooSmall}
 use Rattle.bench_types.specs.declared.fields.Field.{Field}
 use Rattle.bench_types.specs.declared.fields.Field.TheVariants as field
 use Rattle.bench_types.specs.declared.fields.TableName.{TableName}
 use Rattle.bench_types.specs.declared.fields.TableName.TheVariants as name
-use Rattle.bench_types.specs.declared.limits.TheConstants.{LEAST_NODES, MOST_NODES, LEAST_KEYS, MOST_KEYS, MOST_ENTRIES, MOST_ROUNDS, MOST_BUDGET, MOST_LOSS, MOST_WRITES, MOST_SEED, MOST_ELEMENTS}
+use Rattle.bench_types.specs.declared.limits.TheConstants.{LEAST_NODES, MOST_NODES, LEAST_KEYS, MOST_KEYS, MOST_ENTRIES, MOST_ROUNDS, MOST_BUDGET, MOST_ENTRY_SIZE, MOST_BUDGET_BYTES, MOST_LOSS, MOST_WRITES, MOST_SEED, MOST_ELEMENTS}
+use Rattle.scenario.specs.Budgets.{is_in_entries, entries_at, is_too_small, bytes_of, bytes_at, budget_at}
 use Rattle.scenario.specs.Checked.{checked, unknown_checked}
 use Rattle.scenario.specs.Elements.{array_of, table_of, few, elements_of, elements_at, each, ascending, apart_at, array_at, partition_of, restart_of, load_of, partitions_at, restarts_at, loads_at, elements_have_only, only_elements, partition_fields, restart_fields, load_fields}
 use Rattle.scenario.specs.Fields.{◌>>=◌, name_of, value_at, number_at, number_of, present, text_of, only, only_fields}
 use Rattle.scenario.specs.Parts.{size_checked, basics_at, conduct_at}
 use Rattle.scenario.specs.CheckFault.{IsFaultOfCheck}
 use Rattle.scenario.specs.Settings.{Settings}
-use Rattle.scenario.specs.Top.{format_at, nodes_at, keys_at, rounds_at, seed_at, mode_at, budget_at, peers_at, rotation_at, choice_at, loss_ppm_at, writes_at, top_fields}
+use Rattle.scenario.specs.Top.{format_at, nodes_at, keys_at, rounds_at, seed_at, mode_at, peers_at, rotation_at, choice_at, loss_ppm_at, writes_at, top_fields}
 use Rattle.scenario.specs.Words.{or_out_of_range, word_at, mode_of, peers_of, rotation_of, choice_of}
 
 abbrev OnlyFaultsOfCheck : {A : Type 0} → Result A Fault → Type 0
@@ -123,26 +124,40 @@ of_only : (name : TableName) (b : Bool) → OnlyFaultsOfCheck (only name b)
 of_only name true = tt
 of_only name false = tt
 
-of_unknown : (table : Members) → OnlyFaultsOfCheck (unknown_checked table)
-of_unknown table =
-    next (only_fields name.Top top_fields table) _ (of_only name.Top _) (λ _.
+of_unknown : (format : ℕ) (table : Members) → OnlyFaultsOfCheck (unknown_checked format table)
+of_unknown format table =
+    next (only_fields name.Top (top_fields format) table) _ (of_only name.Top _) (λ _.
     next (only_elements name.Partition field.Partition partition_fields table) _ (of_only name.Partition _) (λ _.
     next (only_elements name.Restart field.Restart restart_fields table) _ (of_only name.Restart _) (λ _.
     of_only name.Load (elements_have_only field.Load load_fields table))))
 
 of_basics : (table : Members) → OnlyFaultsOfCheck (basics_at table)
 of_basics table =
-    next (format_at table) _ (at_number field.Format 1 1 table) (λ format.
+    next (format_at table) _ (at_number field.Format 1 2 table) (λ format.
     next (nodes_at table) _ (at_number field.Nodes LEAST_NODES MOST_NODES table) (λ nodes.
     next (keys_at table) _ (at_number field.Keys LEAST_KEYS MOST_KEYS table) (λ keys.
     next (size_checked nodes keys) _ (of_size nodes keys) (λ _.
     next (rounds_at table) _ (at_number field.Rounds 1 MOST_ROUNDS table) (λ rounds.
     next (seed_at table) _ (at_number field.Seed 0 MOST_SEED table) (λ seed. tt))))))
 
-of_conduct : (table : Members) → OnlyFaultsOfCheck (conduct_at table)
-of_conduct table =
+of_bytes : (value : Data) → OnlyFaultsOfCheck (bytes_of value)
+of_bytes value = small (is_too_small value) where
+  small : (b : Bool) → OnlyFaultsOfCheck (cond b (Err BudgetTooSmall) (number_of field.BudgetBytes MOST_ENTRY_SIZE MOST_BUDGET_BYTES value))
+  small true = tt
+  small false = of_number field.BudgetBytes MOST_ENTRY_SIZE MOST_BUDGET_BYTES value
+
+of_budget : (format : ℕ) (table : Members) → OnlyFaultsOfCheck (budget_at format table)
+of_budget format table = either (is_in_entries format) where
+  either : (b : Bool) → OnlyFaultsOfCheck (cond b (entries_at table) (bytes_at table))
+  either true = next (number_at field.Budget 1 MOST_BUDGET table) _ (at_number field.Budget 1 MOST_BUDGET table) (λ n. tt)
+  either false =
+      next (value_at field.BudgetBytes table >>= bytes_of) _
+      (next (value_at field.BudgetBytes table) _ (of_present field.BudgetBytes _) of_bytes) (λ n. tt)
+
+of_conduct : (format : ℕ) (table : Members) → OnlyFaultsOfCheck (conduct_at format table)
+of_conduct format table =
     next (mode_at table) _ (at_word field.Mode mode_of table) (λ mode.
-    next (budget_at table) _ (at_number field.Budget 1 MOST_BUDGET table) (λ budget.
+    next (budget_at format table) _ (of_budget format table) (λ budget.
     next (peers_at table) _ (at_word field.Peers peers_of table) (λ peers.
     next (rotation_at table) _ (at_word field.Rotation rotation_of table) (λ rotation.
     next (choice_at table) _ (at_word field.Choice choice_of table) (λ choice.
@@ -152,11 +167,11 @@ of_conduct table =
 of_checked : (table : Members) → OnlyFaultsOfCheck (checked table)
 of_checked table =
     next (basics_at table) _ (of_basics table) (λ basics.
-    next (conduct_at table) _ (of_conduct table) (λ conduct.
+    next (conduct_at basics.format table) _ (of_conduct basics.format table) (λ conduct.
     next (partitions_at basics.nodes table) _ (at_array field.Partition (partition_of basics.nodes) table (of_partition basics.nodes)) (λ partitions.
     next (restarts_at basics.nodes table) _ (at_array field.Restart (restart_of basics.nodes) table (of_restart basics.nodes)) (λ restarts.
     next (loads_at table) _ (at_array field.Load load_of table of_load) (λ loads.
-    next (unknown_checked table) _ (of_unknown table) (λ _. tt))))))
+    next (unknown_checked basics.format table) _ (of_unknown basics.format table) (λ _. tt))))))
 
 -- a fault is one of reading where it is so unless memory was refused
 unless_memory : (fault : Fault) → (fault ≢ OutOfMemory → IsFaultOfCheck fault) → IsFaultOfCheck fault

@@ -11,13 +11,14 @@ use Rattle.bench_types.specs.declared.fields.Field.TheVariants as field
 use Rattle.bench_types.specs.declared.fields.TableName.TheVariants as name
 use Rattle.bench_types.specs.declared.limits.TheConstants.{MOST_ROUNDS, MOST_WRITES}
 use Rattle.scenario.specs.declared.parts.Basics.{Basics}
+use Rattle.scenario.specs.Budgets.{budget_at}
 use Rattle.scenario.specs.Checked.{checked, unknown_checked}
 use Rattle.scenario.specs.Elements.{array_of, elements_at, each, ascending, array_at, partition_of, restart_of, load_of, partitions_at, restarts_at, loads_at, only_elements, partition_fields, restart_fields, load_fields}
 use Rattle.scenario.specs.Fields.{◌>>=◌, value_at, number_of, number_at, only_fields}
-use Rattle.scenario.specs.Order.{faults, first_of, size_fault, above, ascending_faults, partition_faults, restart_faults, load_faults, array_faults, unknown_faults, nodes_in}
+use Rattle.scenario.specs.Order.{faults, first_of, size_fault, above, ascending_faults, partition_faults, restart_faults, load_faults, array_faults, unknown_faults, format_in, nodes_in}
 use Rattle.scenario.specs.Parts.{size_checked, basics_at, conduct_at}
 use Rattle.scenario.specs.Settings.{Settings}
-use Rattle.scenario.specs.Top.{format_at, nodes_at, keys_at, rounds_at, seed_at, mode_at, budget_at, peers_at, rotation_at, choice_at, loss_ppm_at, writes_at, top_fields}
+use Rattle.scenario.specs.Top.{format_at, nodes_at, keys_at, rounds_at, seed_at, mode_at, peers_at, rotation_at, choice_at, loss_ppm_at, writes_at, top_fields}
 use Rattle.scenario.proofs.Steps.{passed, same_ok, elements_found, array_found, number_found_at}
 
 first_of-passed : (own others : List (Option Fault)) → first_of own ≡ None → first_of (own ++ others) ≡ first_of others
@@ -118,10 +119,10 @@ first_of-basics table =
     step (seed_at table) _ _ (λ seed _. refl)))))))
 
 -- the checks of its rules, in order
-abbrev conduct_faults : Members → List (Option Fault)
-conduct_faults table =
+abbrev conduct_faults : ℕ → Members → List (Option Fault)
+conduct_faults format table =
     result_err (mode_at table)
-    ∷ result_err (budget_at table)
+    ∷ result_err (budget_at format table)
     ∷ result_err (peers_at table)
     ∷ result_err (rotation_at table)
     ∷ result_err (choice_at table)
@@ -129,19 +130,19 @@ conduct_faults table =
     ∷ result_err (writes_at table)
     ∷ []
 
-first_of-conduct : (table : Members) → result_err (conduct_at table) ≡ first_of (conduct_faults table)
-first_of-conduct table =
+first_of-conduct : (format : ℕ) (table : Members) → result_err (conduct_at format table) ≡ first_of (conduct_faults format table)
+first_of-conduct format table =
     step (mode_at table) _ _ (λ mode _.
-    step (budget_at table) _ _ (λ budget _.
+    step (budget_at format table) _ _ (λ budget _.
     step (peers_at table) _ _ (λ peers _.
     step (rotation_at table) _ _ (λ rotation _.
     step (choice_at table) _ _ (λ choice _.
     step (loss_ppm_at table) _ _ (λ loss_ppm _.
     step (writes_at table) _ _ (λ writes _. refl)))))))
 
-first_of-unknown : (table : Members) → result_err (unknown_checked table) ≡ first_of (unknown_faults table)
+first_of-unknown : (table : Members) → result_err (unknown_checked (format_in table) table) ≡ first_of (unknown_faults table)
 first_of-unknown table =
-    step (only_fields name.Top top_fields table) _ _ (λ _ _.
+    step (only_fields name.Top (top_fields (format_in table)) table) _ _ (λ _ _.
     step (only_elements name.Partition field.Partition partition_fields table) _ _ (λ _ _.
     step (only_elements name.Restart field.Restart restart_fields table) _ _ (λ _ _.
     sole (only_elements name.Load field.Load load_fields table)))) where
@@ -159,16 +160,27 @@ nodes_known table basics all =
     passed (seed_at table) _ basics e (λ _ _ e.
     ap (λ r. result_unwrap_or r 0) is_nodes ∙ ap (λ b. b.nodes) (same_ok _ basics e)))))))
 
+format_known : (table : Members) (basics : Basics) → basics_at table ≡ Ok basics → format_in table ≡ basics.format
+format_known table basics all =
+    passed (format_at table) _ basics all (λ format is_format e.
+    passed (nodes_at table) _ basics e (λ nodes _ e.
+    passed (keys_at table) _ basics e (λ keys _ e.
+    passed (size_checked nodes keys) _ basics e (λ _ _ e.
+    passed (rounds_at table) _ basics e (λ _ _ e.
+    passed (seed_at table) _ basics e (λ _ _ e.
+    ap (λ r. result_unwrap_or r 1) is_format ∙ ap (λ b. b.format) (same_ok _ basics e)))))))
+
 -- the fault of the check is that of the first check that fails
 pub first_of-faults : (table : Members) → result_err (checked table) ≡ first_of (faults table)
 first_of-faults table =
-    steps (basics_at table) _ (basics_faults table) (conduct_faults table ++ arrays) (first_of-basics table) (λ basics is_basics.
-    steps (conduct_at table) _ (conduct_faults table) arrays (first_of-conduct table) (λ conduct _.
+    steps (basics_at table) _ (basics_faults table) (conduct_faults (format_in table) table ++ arrays) (first_of-basics table) (λ basics is_basics.
+    let format = format_known table basics is_basics in
+    steps (conduct_at basics.format table) _ (conduct_faults (format_in table) table) arrays (ap (λ n. result_err (conduct_at n table)) (sym format) ∙ first_of-conduct (format_in table) table) (λ conduct _.
     let same = nodes_known table basics is_basics in
     steps (partitions_at basics.nodes table) _ (array_faults field.Partition (partition_faults (nodes_in table)) table) (array_faults field.Restart (restart_faults (nodes_in table)) table ++ (array_faults field.Load load_faults table ++ unknown_faults table)) (first_of-array field.Partition _ (partition_faults (nodes_in table)) (λ value. first_of-partition basics.nodes value ∙ ap (λ n. first_of (partition_faults n value)) (sym same)) table) (λ partitions _.
     steps (restarts_at basics.nodes table) _ (array_faults field.Restart (restart_faults (nodes_in table)) table) (array_faults field.Load load_faults table ++ unknown_faults table) (first_of-array field.Restart _ (restart_faults (nodes_in table)) (λ value. first_of-restart basics.nodes value ∙ ap (λ n. first_of (restart_faults n value)) (sym same)) table) (λ restarts _.
     steps (loads_at table) _ (array_faults field.Load load_faults table) (unknown_faults table) (first_of-array field.Load _ load_faults first_of-load table) (λ loads _.
-    made _ _ ∙ first_of-unknown table))))) where
+    made _ _ ∙ ap (λ n. result_err (unknown_checked n table)) (sym format) ∙ first_of-unknown table))))) where
       arrays : List (Option Fault)
       arrays =
           array_faults field.Partition (partition_faults (nodes_in table)) table

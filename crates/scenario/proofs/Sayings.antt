@@ -1,14 +1,16 @@
 -- What the check of a document gives is what the document says.
-use Rattle.std.proofs.Common.{◌≡◌, ℕ, ◌+◌, ◌-◌, ◌⊎◌, inl, inr, pos, Bool, true, false, nat_le, List, [], ◌∷◌, length, map, Option, None, Some, Result, Ok, Err, IfOk, refl, sym, ap, subst}
+use Rattle.std.proofs.Common.{◌≡◌, ℕ, ◌+◌, ◌-◌, ◌⊎◌, inl, inr, pos, Bool, true, false, nat_le, cond, List, [], ◌∷◌, length, map, Option, None, Some, Result, Ok, Err, IfOk, refl, sym, ap, subst}
 use Rattle.std.specs.List.{AllZip}
 use Rattle.toml.specs.Data as toml
 use Rattle.toml.specs.Data.{Data, integer, string, Items, Members, get_member}
+use Rattle.bench_types.specs.declared.exchanges.Budget.{Budget}
 use Rattle.bench_types.specs.declared.faults.Fault.{Fault}
+use Rattle.bench_types.specs.declared.faults.Fault.TheVariants.{BudgetTooSmall}
 use Rattle.bench_types.specs.declared.fields.Field.{Field}
 use Rattle.bench_types.specs.declared.fields.Field.TheVariants as field
 use Rattle.bench_types.specs.declared.fields.TableName.{TableName}
 use Rattle.bench_types.specs.declared.fields.TableName.TheVariants as name
-use Rattle.bench_types.specs.declared.limits.TheConstants.{MOST_ROUNDS, MOST_WRITES, MOST_ELEMENTS}
+use Rattle.bench_types.specs.declared.limits.TheConstants.{MOST_ROUNDS, MOST_BUDGET, MOST_ENTRY_SIZE, MOST_BUDGET_BYTES, MOST_WRITES, MOST_ELEMENTS}
 use Rattle.scenario.specs.declared.elements.Partition.{Partition}
 use Rattle.scenario.specs.declared.elements.Restart.{Restart}
 use Rattle.scenario.specs.declared.elements.Load.{Load}
@@ -16,11 +18,12 @@ use Rattle.scenario.specs.declared.parts.Basics.{Basics}
 use Rattle.scenario.specs.declared.parts.Conduct.{Conduct}
 use Rattle.scenario.specs.Checked.{checked, unknown_checked}
 use Rattle.scenario.specs.Elements.{list_of, array_of, few, elements_of, each, ascending, apart_at, partition_of, restart_of, load_of, partitions_at, restarts_at, loads_at, elements_have_only, only_elements, partition_fields, restart_fields, load_fields}
-use Rattle.scenario.specs.Fields.{◌>>=◌, number_of, number_at, present, text_of, only, only_fields, has_only}
-use Rattle.scenario.specs.Order.{HasNumber, HasWord, SaysPartition, SaysRestart, SaysLoad, Says}
+use Rattle.scenario.specs.Fields.{◌>>=◌, value_at, number_of, number_at, present, text_of, only, only_fields, has_only}
+use Rattle.scenario.specs.Order.{HasNumber, HasBudget, HasWord, SaysPartition, SaysRestart, SaysLoad, Says}
 use Rattle.scenario.specs.Parts.{size_checked, basics_at, conduct_at}
+use Rattle.scenario.specs.Budgets.{is_in_entries, entries_at, is_too_small, bytes_of, bytes_at, budget_at}
 use Rattle.scenario.specs.Settings.{Settings}
-use Rattle.scenario.specs.Top.{format_at, nodes_at, keys_at, rounds_at, seed_at, mode_at, budget_at, peers_at, rotation_at, choice_at, loss_ppm_at, writes_at, top_fields}
+use Rattle.scenario.specs.Top.{format_at, nodes_at, keys_at, rounds_at, seed_at, mode_at, peers_at, rotation_at, choice_at, loss_ppm_at, writes_at, top_fields}
 use Rattle.scenario.specs.Words.{or_out_of_range, mode_of, peers_of, rotation_of, choice_of}
 use Rattle.scenario.proofs.Steps.{passed, same_ok, kept, number_found_at}
 
@@ -147,17 +150,35 @@ basics_say table b all =
 -- and so is what is read of its rules
 record SayConduct (table : Members) (c : Conduct) : Type 0 where
   mode : HasWord table field.Mode mode_of c.mode
-  budget : HasNumber table field.Budget c.budget
+  budget : HasBudget table c.budget
   peers : HasWord table field.Peers peers_of c.peers
   rotation : HasWord table field.Rotation rotation_of c.rotation
   choice : HasWord table field.Choice choice_of c.choice
   loss_ppm : HasNumber table field.LossPpm c.loss_ppm
   writes : HasNumber table field.Writes c.writes
 
-conduct_says : (table : Members) (c : Conduct) → conduct_at table ≡ Ok c → SayConduct table c
-conduct_says table c all =
+-- a budget that was read stands in the document
+bytes_found : (n : ℕ) (o : Option Data) → (present field.BudgetBytes o >>= bytes_of) ≡ Ok n → o ≡ Some (integer (pos n))
+bytes_found n None e = absurd cc
+bytes_found n (Some value) e = ap (λ v. Some v) (large (is_too_small value) e) where
+  large : (b : Bool) → cond b (Err BudgetTooSmall) (number_of field.BudgetBytes MOST_ENTRY_SIZE MOST_BUDGET_BYTES value) ≡ Ok n → value ≡ integer (pos n)
+  large true e = absurd cc
+  large false e = number_found_at field.BudgetBytes MOST_ENTRY_SIZE MOST_BUDGET_BYTES n value e
+
+budget_found : (format : ℕ) (table : Members) (b : Budget) → budget_at format table ≡ Ok b → HasBudget table b
+budget_found format table b all = either (is_in_entries format) all where
+  either : (is : Bool) → cond is (entries_at table) (bytes_at table) ≡ Ok b → HasBudget table b
+  either true e =
+      passed (number_at field.Budget 1 MOST_BUDGET table) _ b e (λ n is_n e.
+      subst (HasBudget table) (same_ok _ b e) (number_found field.Budget _ _ _ _ is_n))
+  either false e =
+      passed (value_at field.BudgetBytes table >>= bytes_of) _ b e (λ n is_n e.
+      subst (HasBudget table) (same_ok _ b e) (bytes_found n _ is_n))
+
+conduct_says : (format : ℕ) (table : Members) (c : Conduct) → conduct_at format table ≡ Ok c → SayConduct table c
+conduct_says format table c all =
     passed (mode_at table) _ c all (λ mode is_mode e.
-    passed (budget_at table) _ c e (λ budget is_budget e.
+    passed (budget_at format table) _ c e (λ budget is_budget e.
     passed (peers_at table) _ c e (λ peers is_peers e.
     passed (rotation_at table) _ c e (λ rotation is_rotation e.
     passed (choice_at table) _ c e (λ choice is_choice e.
@@ -165,7 +186,7 @@ conduct_says table c all =
     passed (writes_at table) _ c e (λ writes is_writes e.
     subst (SayConduct table) (same_ok _ c e) (record {
       mode = word_found field.Mode mode_of _ _ is_mode;
-      budget = number_found field.Budget _ _ _ _ is_budget;
+      budget = budget_found format table _ is_budget;
       peers = word_found field.Peers peers_of _ _ is_peers;
       rotation = word_found field.Rotation rotation_of _ _ is_rotation;
       choice = word_found field.Choice choice_of _ _ is_choice;
@@ -177,16 +198,16 @@ conduct_says table c all =
 pub Says-checked : (table : Members) (s : Settings) → checked table ≡ Ok s → Says table s
 Says-checked table s all =
     passed (basics_at table) _ s all (λ basics is_basics e.
-    passed (conduct_at table) _ s e (λ conduct is_conduct e.
+    passed (conduct_at basics.format table) _ s e (λ conduct is_conduct e.
     passed (partitions_at basics.nodes table) _ s e (λ partitions is_partitions e.
     passed (restarts_at basics.nodes table) _ s e (λ restarts is_restarts e.
     passed (loads_at table) _ s e (λ loads is_loads e.
-    passed (unknown_checked table) _ s e (λ u is_known e.
-    passed (only_fields name.Top top_fields table) _ u is_known (λ _ is_top known.
+    passed (unknown_checked basics.format table) _ s e (λ u is_known e.
+    passed (only_fields name.Top (top_fields basics.format) table) _ u is_known (λ _ is_top known.
     passed (only_elements name.Partition field.Partition partition_fields table) _ u known (λ _ is_partition known.
     passed (only_elements name.Restart field.Restart restart_fields table) _ u known (λ _ is_restart is_load.
     let said = basics_say table basics is_basics in
-    let ruled = conduct_says table conduct is_conduct in
+    let ruled = conduct_says basics.format table conduct is_conduct in
     subst (Says table) (same_ok _ s e) (record {
       format = said.format;
       nodes = said.nodes;
@@ -203,7 +224,7 @@ Says-checked table s all =
       partitions = elements_found field.Partition SaysPartition (partition_of basics.nodes) (partition_says basics.nodes) partitions _ is_partitions;
       restarts = elements_found field.Restart SaysRestart (restart_of basics.nodes) (restart_says basics.nodes) restarts _ is_restarts;
       loads = elements_found field.Load SaysLoad load_of load_says loads _ is_loads;
-      others = only_known name.Top (has_only top_fields table) _ is_top;
+      others = only_known name.Top (has_only (top_fields basics.format) table) _ is_top;
       others_of_partitions = only_known name.Partition (elements_have_only field.Partition partition_fields table) _ is_partition;
       others_of_restarts = only_known name.Restart (elements_have_only field.Restart restart_fields table) _ is_restart;
       others_of_loads = only_known name.Load (elements_have_only field.Load load_fields table) _ is_load;

@@ -17,10 +17,10 @@ use Rattle.scenario.specs.Settings.{Settings}
 use Rattle.scenario.specs.Parts.{basics_at, conduct_at}
 use Rattle.scenario.specs.Top.{top_fields}
 
--- no table has a key that is not listed
-abbrev pub unknown_checked : Members → Result (Unit {0}) Fault
-unknown_checked table = do
-  _ ← only_fields name.Top top_fields table
+-- no table has a key that the format does not list
+abbrev pub unknown_checked : ℕ → Members → Result (Unit {0}) Fault
+unknown_checked format table = do
+  _ ← only_fields name.Top (top_fields format) table
   _ ← only_elements name.Partition field.Partition partition_fields table
   _ ← only_elements name.Restart field.Restart restart_fields table
   only_elements name.Load field.Load load_fields table
@@ -29,11 +29,11 @@ unknown_checked table = do
 abbrev pub checked : Members → Result Settings Fault
 checked table = do
   basics ← basics_at table
-  conduct ← conduct_at table
+  conduct ← conduct_at basics.format table
   partitions ← partitions_at basics.nodes table
   restarts ← restarts_at basics.nodes table
   loads ← loads_at table
-  _ ← unknown_checked table
+  _ ← unknown_checked basics.format table
   Ok (record {
     format = basics.format;
     nodes = basics.nodes;

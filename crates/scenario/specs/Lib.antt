@@ -4,6 +4,7 @@ pub mod View
 pub mod Fields
 pub mod Words
 pub mod Elements
+pub mod Budgets
 pub mod Top
 pub mod Parts
 pub mod Checked

@@ -6,6 +6,8 @@ use Rattle.std.specs.List.{AllZip, flat_map}
 use Rattle.std.specs.Result.{result_err, result_unwrap_or}
 use Rattle.toml.specs.Data as toml
 use Rattle.toml.specs.Data.{Data, integer, string, Items, Members, get_member}
+use Rattle.bench_types.specs.declared.exchanges.Budget.{Budget}
+use Rattle.bench_types.specs.declared.exchanges.Budget.TheVariants.{Entries, Bytes}
 use Rattle.bench_types.specs.declared.faults.Fault.{Fault}
 use Rattle.bench_types.specs.declared.faults.Fault.TheVariants.{NotToml}
 use Rattle.bench_types.specs.declared.fields.Field.{Field}
@@ -15,11 +17,12 @@ use Rattle.bench_types.specs.declared.limits.TheConstants.{MOST_ROUNDS, MOST_WRI
 use Rattle.scenario.specs.declared.elements.Partition.{Partition}
 use Rattle.scenario.specs.declared.elements.Restart.{Restart}
 use Rattle.scenario.specs.declared.elements.Load.{Load}
+use Rattle.scenario.specs.Budgets.{budget_at}
 use Rattle.scenario.specs.Parts.{size_checked}
 use Rattle.scenario.specs.Elements.{list_of, array_of, table_of, values_at, elements_at, elements_have_only, only_elements, partition_fields, restart_fields, load_fields}
 use Rattle.scenario.specs.Fields.{◌>>=◌, name_of, value_at, number_of, number_at, has_only, only_fields}
 use Rattle.scenario.specs.Settings.{Settings}
-use Rattle.scenario.specs.Top.{format_at, nodes_at, keys_at, rounds_at, seed_at, mode_at, budget_at, peers_at, rotation_at, choice_at, loss_ppm_at, writes_at, top_fields}
+use Rattle.scenario.specs.Top.{format_at, nodes_at, keys_at, rounds_at, seed_at, mode_at, peers_at, rotation_at, choice_at, loss_ppm_at, writes_at, top_fields}
 use Rattle.scenario.specs.Words.{mode_of, peers_of, rotation_of, choice_of}
 
 -- the fault of the size, where both numbers are lawful
@@ -83,6 +86,10 @@ load_faults value =
 abbrev pub array_faults : Field → (Data → List (Option Fault)) → Members → List (Option Fault)
 array_faults f element table = result_err (elements_at f table) ∷ flat_map element (values_at f table)
 
+-- the format of the document
+abbrev pub format_in : Members → ℕ
+format_in table = result_unwrap_or (format_at table) 1
+
 -- the nodes of the document
 abbrev pub nodes_in : Members → ℕ
 nodes_in table = result_unwrap_or (nodes_at table) 0
@@ -90,7 +97,7 @@ nodes_in table = result_unwrap_or (nodes_at table) 0
 -- each check that no table has another key, in order
 abbrev pub unknown_faults : Members → List (Option Fault)
 unknown_faults table =
-    result_err (only_fields name.Top top_fields table)
+    result_err (only_fields name.Top (top_fields (format_in table)) table)
     ∷ result_err (only_elements name.Partition field.Partition partition_fields table)
     ∷ result_err (only_elements name.Restart field.Restart restart_fields table)
     ∷ result_err (only_elements name.Load field.Load load_fields table)
@@ -106,7 +113,7 @@ faults table =
     ∷ result_err (rounds_at table)
     ∷ result_err (seed_at table)
     ∷ result_err (mode_at table)
-    ∷ result_err (budget_at table)
+    ∷ result_err (budget_at (format_in table) table)
     ∷ result_err (peers_at table)
     ∷ result_err (rotation_at table)
     ∷ result_err (choice_at table)
@@ -130,6 +137,11 @@ first_fault (Some table) = first_of (faults table)
 -- the document has this number at the field's key
 abbrev pub HasNumber : Members → Field → ℕ → Type 0
 HasNumber table f n = get_member (name_of f) table ≡ Some (integer (pos n))
+
+-- the document has the budget's number at the key of its field
+abbrev pub HasBudget : Members → Budget → Type 0
+HasBudget table (Entries n) = HasNumber table field.Budget n
+HasBudget table (Bytes n) = HasNumber table field.BudgetBytes n
 
 -- the document has a word at the field's key that stands for this
 abbrev pub HasWord : {A : Type 0} → Members → Field → (List ℕ → Option A) → A → Type 0
@@ -177,7 +189,7 @@ pub record Says (table : Members) (s : Settings) : Type 0 where
   pub rounds : HasNumber table field.Rounds s.rounds
   pub seed : HasNumber table field.Seed s.seed
   pub mode : HasWord table field.Mode mode_of s.mode
-  pub budget : HasNumber table field.Budget s.budget
+  pub budget : HasBudget table s.budget
   pub peers : HasWord table field.Peers peers_of s.peers
   pub rotation : HasWord table field.Rotation rotation_of s.rotation
   pub choice : HasWord table field.Choice choice_of s.choice
@@ -186,7 +198,7 @@ pub record Says (table : Members) (s : Settings) : Type 0 where
   pub partitions : HasElements table field.Partition SaysPartition s.partitions
   pub restarts : HasElements table field.Restart SaysRestart s.restarts
   pub loads : HasElements table field.Load SaysLoad s.loads
-  pub others : has_only top_fields table ≡ true
+  pub others : has_only (top_fields s.format) table ≡ true
   pub others_of_partitions : elements_have_only field.Partition partition_fields table ≡ true
   pub others_of_restarts : elements_have_only field.Restart restart_fields table ≡ true
   pub others_of_loads : elements_have_only field.Load load_fields table ≡ true

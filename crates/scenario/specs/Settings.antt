@@ -1,8 +1,10 @@
 -- What a scenario says, and the limits that each accepted one keeps. Source: this project.
 use Rattle.std.specs.Prelude.{◌≡◌, ℕ, ◌*◌, ◌<◌, ◌≤◌, List, length, All}
 use Rattle.std.specs.List.Sorted.{IsStrictlyIncreasing}
+use Rattle.bench_types.specs.declared.exchanges.Budget.{Budget}
+use Rattle.bench_types.specs.declared.exchanges.Budget.TheVariants.{Entries, Bytes}
 use Rattle.bench_types.specs.declared.exchanges.Mode.{Mode}
-use Rattle.bench_types.specs.declared.limits.TheConstants.{LEAST_NODES, MOST_NODES, LEAST_KEYS, MOST_KEYS, MOST_ENTRIES, MOST_ROUNDS, MOST_BUDGET, MOST_LOSS, MOST_WRITES, MOST_SEED, MOST_ELEMENTS}
+use Rattle.bench_types.specs.declared.limits.TheConstants.{LEAST_NODES, MOST_NODES, LEAST_KEYS, MOST_KEYS, MOST_ENTRIES, MOST_ROUNDS, MOST_BUDGET, MOST_ENTRY_SIZE, MOST_BUDGET_BYTES, MOST_LOSS, MOST_WRITES, MOST_SEED, MOST_ELEMENTS}
 use Rattle.scenario.specs.declared.choices.Peers.{Peers}
 use Rattle.scenario.specs.declared.choices.Rotation.{Rotation}
 use Rattle.scenario.specs.declared.choices.Choice.{Choice}
@@ -18,7 +20,7 @@ pub record Settings : Type 0 where
   pub rounds : ℕ
   pub seed : ℕ
   pub mode : Mode
-  pub budget : ℕ
+  pub budget : Budget
   pub peers : Peers
   pub rotation : Rotation
   pub choice : Choice
@@ -35,6 +37,11 @@ with_mode s m = record s { mode = m }
 -- a number from low to high
 abbrev pub IsWithin : ℕ → ℕ → ℕ → Type 0
 IsWithin low high n = (low ≤ n) × (n ≤ high)
+
+-- the limits of a format's budget: in format 1 it is in entries, in format 2 in bytes
+abbrev pub IsBudgetOf : ℕ → Budget → Type 0
+IsBudgetOf format (Entries n) = (format ≡ 1) × IsWithin 1 MOST_BUDGET n
+IsBudgetOf format (Bytes n) = (format ≡ 2) × IsWithin MOST_ENTRY_SIZE MOST_BUDGET_BYTES n
 
 -- the limits of a partition among so many nodes
 pub record IsLawfulPartition (nodes : ℕ) (p : Partition) : Type 0 where
@@ -62,13 +69,13 @@ pub record AreLawful {X : Type 0} (IsLawfulElement : X → Type 0) (xs : List X)
 
 -- the limits of an accepted scenario
 pub record IsLawfulScenario (s : Settings) : Type 0 where
-  pub format : s.format ≡ 1
+  pub format : IsWithin 1 2 s.format
   pub nodes : IsWithin LEAST_NODES MOST_NODES s.nodes
   pub keys : IsWithin LEAST_KEYS MOST_KEYS s.keys
   pub entries : s.nodes * s.nodes * s.keys ≤ MOST_ENTRIES
   pub rounds : IsWithin 1 MOST_ROUNDS s.rounds
   pub seed : s.seed ≤ MOST_SEED
-  pub budget : IsWithin 1 MOST_BUDGET s.budget
+  pub budget : IsBudgetOf s.format s.budget
   pub loss_ppm : s.loss_ppm ≤ MOST_LOSS
   pub writes : s.writes ≤ MOST_WRITES
   pub partitions : AreLawful (IsLawfulPartition s.nodes) s.partitions

@@ -5,15 +5,16 @@ use Rattle.bench_types.specs.declared.exchanges.Mode.{Mode}
 use Rattle.bench_types.specs.declared.faults.Fault.{Fault}
 use Rattle.bench_types.specs.declared.fields.Field.{Field}
 use Rattle.bench_types.specs.declared.fields.Field.TheVariants as field
-use Rattle.bench_types.specs.declared.limits.TheConstants.{LEAST_NODES, MOST_NODES, LEAST_KEYS, MOST_KEYS, MOST_ROUNDS, MOST_BUDGET, MOST_LOSS, MOST_WRITES, MOST_SEED}
+use Rattle.bench_types.specs.declared.limits.TheConstants.{LEAST_NODES, MOST_NODES, LEAST_KEYS, MOST_KEYS, MOST_ROUNDS, MOST_LOSS, MOST_WRITES, MOST_SEED}
 use Rattle.scenario.specs.declared.choices.Peers.{Peers}
 use Rattle.scenario.specs.declared.choices.Rotation.{Rotation}
 use Rattle.scenario.specs.declared.choices.Choice.{Choice}
+use Rattle.scenario.specs.Budgets.{budget_field}
 use Rattle.scenario.specs.Fields.{number_at}
 use Rattle.scenario.specs.Words.{word_at, mode_of, peers_of, rotation_of, choice_of}
 
 abbrev pub format_at : Members → Result ℕ Fault
-format_at = number_at field.Format 1 1
+format_at = number_at field.Format 1 2
 
 abbrev pub nodes_at : Members → Result ℕ Fault
 nodes_at = number_at field.Nodes LEAST_NODES MOST_NODES
@@ -30,9 +31,6 @@ seed_at = number_at field.Seed 0 MOST_SEED
 abbrev pub mode_at : Members → Result Mode Fault
 mode_at = word_at field.Mode mode_of
 
-abbrev pub budget_at : Members → Result ℕ Fault
-budget_at = number_at field.Budget 1 MOST_BUDGET
-
 abbrev pub peers_at : Members → Result Peers Fault
 peers_at = word_at field.Peers peers_of
 
@@ -48,16 +46,16 @@ loss_ppm_at = number_at field.LossPpm 0 MOST_LOSS
 abbrev pub writes_at : Members → Result ℕ Fault
 writes_at = number_at field.Writes 0 MOST_WRITES
 
--- all of them, in order, and the arrays
-abbrev pub top_fields : List Field
-top_fields =
+-- all that a format has, in order, and the arrays
+abbrev pub top_fields : ℕ → List Field
+top_fields format =
     field.Format
     ∷ field.Nodes
     ∷ field.Keys
     ∷ field.Rounds
     ∷ field.Seed
     ∷ field.Mode
-    ∷ field.Budget
+    ∷ budget_field format
     ∷ field.Peers
     ∷ field.Rotation
     ∷ field.Choice

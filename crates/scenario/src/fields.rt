@@ -20,6 +20,7 @@ fn name_of(field: Field) -> &'static str
         Field::Seed => "seed",
         Field::Mode => "mode",
         Field::Budget => "budget",
+        Field::BudgetBytes => "budget_bytes",
         Field::Peers => "peers",
         Field::Rotation => "rotation",
         Field::Choice => "choice",

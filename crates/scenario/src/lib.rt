@@ -4,6 +4,7 @@
 #![tactic(auto)]
 
 mod arrays;
+mod budgets;
 mod choices;
 mod elements;
 mod fields;

@@ -4,14 +4,15 @@ ghost use Rattle.std.specs.Prelude.{◌≡◌, ◌*◌, ◌≤◌, IfOk, OnOk};
 ghost use Rattle.toml.specs.View.{table_view};
 ghost use Rattle.scenario.specs.Parts.{size_checked, basics_at, conduct_at, IsLawfulBasics, IsLawfulConduct};
 
+use crate::budgets::budget_at;
 use crate::choices::{Choice, Peers, Rotation};
 use crate::fields::{integer_at, number_at};
 use crate::words::{choice_at, mode_at, peers_at, rotation_at};
 use bench_types::limits::{
-    LEAST_KEYS, LEAST_NODES, MOST_BUDGET, MOST_ENTRIES, MOST_KEYS, MOST_LOSS, MOST_NODES,
-    MOST_ROUNDS, MOST_SEED, MOST_WRITES,
+    LEAST_KEYS, LEAST_NODES, MOST_ENTRIES, MOST_KEYS, MOST_LOSS, MOST_NODES, MOST_ROUNDS,
+    MOST_SEED, MOST_WRITES,
 };
-use bench_types::{Fault, Field, Mode};
+use bench_types::{Budget, Fault, Field, Mode};
 use toml::Table;
 
 /// How large a run is, and what its random words follow from.
@@ -26,7 +27,7 @@ pub(crate) struct Basics {
 /// By which rules the nodes write and exchange.
 pub(crate) struct Conduct {
     pub(crate) mode: Mode,
-    pub(crate) budget: u32,
+    pub(crate) budget: Budget,
     pub(crate) peers: Peers,
     pub(crate) rotation: Rotation,
     pub(crate) choice: Choice,
@@ -53,7 +54,7 @@ pub(crate) fn basics_at(table: &Table) -> Result<Basics, Fault>
     ensures answer { result ≡ basics_at (table_view table.now) }
     ensures lawful { IfOk result IsLawfulBasics }
 {
-    let format = number_at(table, Field::Format, 1, 1)?;
+    let format = number_at(table, Field::Format, 1, 2)?;
     let nodes = number_at(table, Field::Nodes, LEAST_NODES, MOST_NODES)?;
     let keys = number_at(table, Field::Keys, LEAST_KEYS, MOST_KEYS)?;
     check_size(nodes, keys)?;
@@ -68,13 +69,14 @@ pub(crate) fn basics_at(table: &Table) -> Result<Basics, Fault>
     })
 }
 
-/// Reads the rules of the run.
-pub(crate) fn conduct_at(table: &Table) -> Result<Conduct, Fault>
-    ensures answer { result ≡ conduct_at (table_view table.now) }
-    ensures lawful { IfOk result IsLawfulConduct }
+/// Reads the rules of the run in a format.
+pub(crate) fn conduct_at(table: &Table, format: u32) -> Result<Conduct, Fault>
+    requires { (1 ≤ format) × (format ≤ 2) }
+    ensures answer { result ≡ conduct_at format (table_view table.now) }
+    ensures lawful { IfOk result (IsLawfulConduct format) }
 {
     let mode = mode_at(table)?;
-    let budget = number_at(table, Field::Budget, 1, MOST_BUDGET)?;
+    let budget = budget_at(table, format)?;
     let peers = peers_at(table)?;
     let rotation = rotation_at(table)?;
     let choice = choice_at(table)?;

@@ -2,41 +2,25 @@
 
 ghost use Rattle.std.specs.Prelude.{◌≡◌, ◌≢◌, ◌*◌, ◌≤◌, IfOk, IfErr};
 ghost use Rattle.toml.specs.View.{table_view};
+ghost use Rattle.bench_types.specs.Budget.{IsLawfulBudget};
 ghost use Rattle.scenario.specs.Checked.{checked, unknown_checked};
+ghost use Rattle.scenario.specs.Top.{top_fields};
 
 use crate::arrays::only_elements;
+use crate::budgets::budget_field;
 use crate::choices::{Choice, Peers, Rotation};
 use crate::elements::{Load, Partition, Restart};
 use crate::fields::only_fields;
 use crate::parts::{Basics, Conduct, basics_at, conduct_at};
 use crate::tables::{loads_at, partitions_at, restarts_at};
 use bench_types::limits::{
-    LEAST_KEYS, LEAST_NODES, MOST_BUDGET, MOST_ENTRIES, MOST_KEYS, MOST_LOSS, MOST_NODES,
-    MOST_ROUNDS, MOST_SEED, MOST_WRITES,
+    LEAST_KEYS, LEAST_NODES, MOST_ENTRIES, MOST_KEYS, MOST_LOSS, MOST_NODES, MOST_ROUNDS,
+    MOST_SEED, MOST_WRITES,
 };
-use bench_types::{Fault, Field, Mode, TableName};
+use bench_types::{Budget, Fault, Field, Mode, TableName};
 use std::alloc::Global;
 use std::marker::Model;
 use toml::Table;
-
-/// The fields of the text itself, in the order of their checks.
-const TOP_FIELDS: [Field; 15] = [
-    Field::Format,
-    Field::Nodes,
-    Field::Keys,
-    Field::Rounds,
-    Field::Seed,
-    Field::Mode,
-    Field::Budget,
-    Field::Peers,
-    Field::Rotation,
-    Field::Choice,
-    Field::LossPpm,
-    Field::Writes,
-    Field::Partition,
-    Field::Restart,
-    Field::Load,
-];
 
 const PARTITION_FIELDS: [Field; 3] = [
     Field::PartitionFrom,
@@ -57,7 +41,7 @@ pub struct Scenario {
     rounds: u32,
     seed: u64,
     mode: Mode,
-    budget: u32,
+    budget: Budget,
     peers: Peers,
     rotation: Rotation,
     choice: Choice,
@@ -80,11 +64,34 @@ impl Model for Scenario {
     ghost invariant = { λ s. IsLawfulScenario (settings_of s) };
 }
 
-// That no table has a key that is not a field's: first the text itself, then each element.
-fn check_unknown(table: &Table) -> Result<(), Fault>
-    ensures { result ≡ unknown_checked (table_view table.now) }
+// The fields of the text itself in a format, in the order of their checks.
+fn top_fields(format: u32) -> [Field; 15]
+    ensures { result ≡ top_fields format }
 {
-    only_fields(table, TableName::Top, &TOP_FIELDS)?;
+    [
+        Field::Format,
+        Field::Nodes,
+        Field::Keys,
+        Field::Rounds,
+        Field::Seed,
+        Field::Mode,
+        budget_field(format),
+        Field::Peers,
+        Field::Rotation,
+        Field::Choice,
+        Field::LossPpm,
+        Field::Writes,
+        Field::Partition,
+        Field::Restart,
+        Field::Load,
+    ]
+}
+
+// That no table has a key that is no field's of the format: first the text itself, then each element.
+fn check_unknown(table: &Table, format: u32) -> Result<(), Fault>
+    ensures { result ≡ unknown_checked format (table_view table.now) }
+{
+    only_fields(table, TableName::Top, &top_fields(format))?;
     only_elements(
         table,
         TableName::Partition,
@@ -96,7 +103,7 @@ fn check_unknown(table: &Table) -> Result<(), Fault>
 }
 
 impl Scenario {
-    ghost use Rattle.scenario.specs.Settings.{with_mode, IsLawfulScenario, AreLawful, IsLawfulPartition, IsLawfulRestart, IsLawfulLoad};
+    ghost use Rattle.scenario.specs.Settings.{with_mode, IsBudgetOf, IsLawfulScenario, AreLawful, IsLawfulPartition, IsLawfulRestart, IsLawfulLoad};
 
     pub(crate) fn checked(alloc: Global, table: &Table) -> Result<Scenario, Fault>
         ensures ok { IfOk result (λ scenario. checked (table_view table.now) ≡ Ok scenario) }
@@ -118,11 +125,11 @@ impl Scenario {
             choice,
             loss_ppm,
             writes,
-        } = conduct_at(table)?;
+        } = conduct_at(table, format)?;
         let partitions = partitions_at(alloc, table, nodes)?;
         let restarts = restarts_at(alloc, table, nodes)?;
         let loads = loads_at(alloc, table, nodes)?;
-        check_unknown(table)?;
+        check_unknown(table, format)?;
         Ok(Scenario {
             format,
             nodes,
@@ -145,7 +152,7 @@ impl Scenario {
     /// The format of the text.
     pub fn format(&self) -> u32
         ensures value { result ≡ self.now.format }
-        ensures limits { result ≡ 1 }
+        ensures limits { (1 ≤ result) × (result ≤ 2) }
     {
         self.format
     }
@@ -192,10 +199,11 @@ impl Scenario {
         self.mode
     }
 
-    /// The most entries that one message may carry.
-    pub fn budget(&self) -> u32
+    /// How much one message may carry: so many entries in format 1, so many bytes in format 2.
+    pub fn budget(&self) -> Budget
         ensures value { result ≡ self.now.budget }
-        ensures limits { (1 ≤ result) × (result ≤ MOST_BUDGET) }
+        ensures limits { IsBudgetOf self.now.format result }
+        ensures lawful { IsLawfulBudget result }
     {
         self.budget
     }

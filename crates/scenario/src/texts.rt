@@ -13,8 +13,8 @@ use toml::Table;
 
 /// Reads and checks the text of a scenario. The time is about in proportion to the text.
 ///
-/// Answers `NotToml`, `Missing`, `WrongType`, `OutOfRange`, `TooLarge` or `UnknownField` for a text
-/// at fault, and `OutOfMemory` where memory was refused.
+/// Answers `NotToml`, `Missing`, `WrongType`, `OutOfRange`, `TooLarge`, `BudgetTooSmall` or
+/// `UnknownField` for a text at fault, and `OutOfMemory` where memory was refused.
 pub fn read(alloc: Global, bytes: &[u8]) -> Result<Scenario, Fault>
     ensures accepted { IfOk result (λ scenario. text_checked bytes.now ≡ Ok scenario) }
     ensures refused { IfErr result (λ fault.

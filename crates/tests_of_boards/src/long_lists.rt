@@ -10,7 +10,7 @@ use crate::pools::run_fresh;
 use crate::small_boards::tables_of;
 use crate::threads::{Order, Worked, work_in_four, work_in_three, work_in_two};
 use bench_types::limits::MOST_WORKERS;
-use bench_types::{Exchange, Fault, Mode, Record, Rules};
+use bench_types::{Budget, Exchange, Fault, Mode, Record, Rules};
 use node_table::NodeTable;
 use pool::FreeGate;
 use round_plan::RoundList;
@@ -25,7 +25,7 @@ const KEYS: u32 = 4;
 
 const EXCHANGES: u32 = 2000;
 
-const BUDGET: u32 = 40;
+const BUDGET: Budget = Budget::Entries(40);
 
 /// Numbers without an order that one could see.
 #[derive(Drop)]

@@ -8,7 +8,7 @@ ghost use Rattle.board.specs.Boards.{plan_of, IsSeatOf, seat_view};
 ghost use Rattle.board.specs.SeatView.{first_seat};
 
 use bench_types::limits::{MOST_KEYS, MOST_NODES};
-use bench_types::{Exchange, Fault, Mode, Rules};
+use bench_types::{Budget, Exchange, Fault, Mode, Rules};
 use board::{Board, Seat};
 use dependencies::Deps;
 use node_table::NodeTable;
@@ -19,7 +19,7 @@ use std::process::Abort;
 /// One entry each way, which is all that two of these nodes have to tell when they first meet.
 pub(crate) const ONE_ENTRY: Rules = Rules {
     mode: Mode::ScuttleBreadth,
-    budget: 1,
+    budget: Budget::Entries(1),
 };
 
 /// Four pairs, and then each node meets one of another pair. At each of its two meetings a node is told of one key

@@ -5,7 +5,7 @@ ghost use Rattle.cluster.specs.Tables.{tables_in, IsCluster};
 
 use crate::comparing::{expect, expect_at};
 use crate::exchange_lists::{CROSSING, TWICE, list_of};
-use bench_types::{Entry, Fate, Fault, Item, Mode, Record, Rules};
+use bench_types::{Budget, Entry, Fate, Fault, Item, Mode, Record, Rules};
 use node_table::NodeTable;
 use planner::{Event, play};
 use round_plan::RoundList;
@@ -69,7 +69,7 @@ fn played(
     assert!(rt; list.nodes() == 4);
     let rules = Rules {
         mode: Mode::ScuttleBreadth,
-        budget: 10,
+        budget: Budget::Entries(10),
     };
     let tables = four_tables(rt, rt.alloc())?;
     play(rt.alloc(), list, tables, events, &rules)

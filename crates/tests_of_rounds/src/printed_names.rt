@@ -50,7 +50,7 @@ const LINES: [(Fault, &str); 20] = [
     ),
 ];
 
-const FIELDS: [(Field, &str); 24] = [
+const FIELDS: [(Field, &str); 25] = [
     (Field::Format, "format"),
     (Field::Nodes, "nodes"),
     (Field::Keys, "keys"),
@@ -58,6 +58,7 @@ const FIELDS: [(Field, &str); 24] = [
     (Field::Seed, "seed"),
     (Field::Mode, "mode"),
     (Field::Budget, "budget"),
+    (Field::BudgetBytes, "budget_bytes"),
     (Field::Peers, "peers"),
     (Field::Rotation, "rotation"),
     (Field::Choice, "choice"),

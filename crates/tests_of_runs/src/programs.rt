@@ -18,7 +18,11 @@ struct Case<'a> {
     err: &'a str,
 }
 
-const CASES: [Case; 9] = [
+// A scenario whose budget has no room for the largest entry.
+const TOO_FEW_BYTES: &str = "format = 2\nnodes = 2\nkeys = 1\nrounds = 1\nseed = 0\n\
+    mode = 'scuttle-depth'\nbudget_bytes = 1022";
+
+const CASES: [Case; 10] = [
     Case {
         words: &["check"],
         text: TWO_NODES,
@@ -77,10 +81,17 @@ const CASES: [Case; 9] = [
     },
     Case {
         words: &["compare"],
-        text: "format = 2",
+        text: "format = 3",
         status: 1,
         out: "",
         err: "fault 6: field format is out of range\n",
+    },
+    Case {
+        words: &["check"],
+        text: TOO_FEW_BYTES,
+        status: 1,
+        out: "",
+        err: "fault 20: budget_bytes is below 1023\n",
     },
 ];
 

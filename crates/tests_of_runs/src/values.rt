@@ -1,7 +1,7 @@
 //! What an accepted scenario says.
 
 use crate::texts::changed;
-use bench_types::{Fault, Field, Mode};
+use bench_types::{Budget, Fault, Field, Mode};
 use scenario::{Choice, Load, Partition, Peers, Restart, Rotation, Scenario, read};
 use std::process::Abort;
 
@@ -28,9 +28,10 @@ fn expect_numbers(rt: &impl Abort, scenario: &Scenario) {
         scenario.rounds(),
     ];
     assert_eq!(rt; sizes, [1, 2048, 64, 100_000]);
-    let limits = [scenario.budget(), scenario.loss_ppm(), scenario.writes()];
-    assert_eq!(rt; limits, [65_535, 999_999, 8]);
-    assert_eq!(rt; scenario.seed(), 42);
+    let rules = [scenario.loss_ppm(), scenario.writes()];
+    assert_eq!(rt; rules, [999_999, 8]);
+    let budget = scenario.budget();
+    assert!(rt; scenario.seed() == 42 && budget == Budget::Entries(65_535));
 }
 
 fn expect_words(
@@ -53,6 +54,23 @@ fn values_of_the_fields(rt: HostRuntime) -> Result<(), Fault> {
     assert!(rt; scenario.partitions().is_empty());
     assert!(rt; scenario.restarts().is_empty());
     assert!(rt; scenario.loads().is_empty());
+    Ok(())
+}
+
+const BYTES: [(&str, u32); 2] = [
+    ("budget_bytes = 1023", 1023),
+    ("budget_bytes = 67_108_864", 67_108_864),
+];
+
+#[test]
+fn byte_budget_limits(rt: HostRuntime) -> Result<(), Fault> {
+    for (line, bytes) in BYTES {
+        let changes = [("format = 1", "format = 2"), ("budget = 1", line)];
+        let text = changed(rt.alloc(), &changes, "")?;
+        let scenario = read(rt.alloc(), text.as_bytes())?;
+        assert!(rt; scenario.format() == 2);
+        assert_eq!(rt; scenario.budget(), Budget::Bytes(bytes));
+    }
     Ok(())
 }
 

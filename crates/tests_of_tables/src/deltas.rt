@@ -1,9 +1,9 @@
 //! Deltas by hand: what is sent of one table in each mode, and of many tables against a program that
 //! places each candidate by counting those that come before it.
 
-use crate::fixtures::{expect_items, expect_number, item, new_table, next, take};
-use crate::model::{NODES, Turn, count_before, small_table};
-use bench_types::{Item, Mode};
+use crate::fixtures::{expect_items, expect_number, item, lawful, new_table, next, take};
+use crate::model::{NODES, Turn, count_before, is_sent, small_table};
+use bench_types::{Budget, Item, Mode};
 use node_table::NodeTable;
 use reconcile::{Delta, Digest, delta};
 use std::alloc::Global;
@@ -35,8 +35,7 @@ fn sender(rt: &impl Abort, alloc: Global) -> NodeTable {
 fn answer(rt: &impl Abort, alloc: Global, from: &NodeTable, to: &NodeTable, turn: Turn) -> Delta {
     assert!(rt; from.nodes() == to.nodes() && from.keys() == to.keys());
     assert!(rt; to.node() < from.nodes() && turn.rotation < from.nodes());
-    assert!(rt; turn.budget >= 1);
-    let (mode, rotation, budget) = (turn.mode, turn.rotation, turn.budget);
+    let (mode, rotation, budget) = (turn.mode, turn.rotation, lawful(rt, turn.budget));
     let digest = Digest::of(alloc, to, mode).expect(rt, "memory");
     delta(alloc, from, &digest, to.node(), mode, rotation, budget).expect(rt, "memory")
 }
@@ -54,7 +53,7 @@ fn unturned(mode: Mode, budget: u32) -> Turn {
     Turn {
         mode,
         rotation: 0,
-        budget,
+        budget: Budget::Entries(budget),
     }
 }
 
@@ -91,7 +90,7 @@ fn rotation_turns_the_order(rt: HostRuntime) {
         let turn = Turn {
             mode: Mode::ScuttleBreadth,
             rotation,
-            budget: 1,
+            budget: Budget::Entries(1),
         };
         expect_sent(&rt, rt.alloc(), turn, &[first], 2);
     }
@@ -104,6 +103,37 @@ fn budget_cuts_the_rest(rt: HostRuntime) {
         expect_sent(&rt, rt.alloc(), unturned(mode, 3), &order, 0);
         expect_sent(&rt, rt.alloc(), unturned(mode, 2), &[first, second], 1);
         expect_sent(&rt, rt.alloc(), unturned(mode, 65535), &order, 0);
+    }
+}
+
+// Those entries with the largest one in the middle, and with so many bytes in a message what is sent of
+// them, and how many are cut.
+const LARGE: Item = item!(1, 1, 5, 999, 3);
+
+const BYTES: [(Mode, u32, &[Item], u32); 6] = [
+    (Mode::ScuttleBreadth, 1023, &[OLD, OTHER], 1),
+    (Mode::ScuttleBreadth, 1070, &[OLD, OTHER], 1),
+    (Mode::ScuttleBreadth, 1071, &[OLD, OTHER, LARGE], 0),
+    (Mode::ScuttleDepth, 1023, &[OLD], 2),
+    (Mode::PreciseOldest, 1070, &[OTHER, OLD], 1),
+    (Mode::PreciseNewest, 1046, &[LARGE], 2),
+];
+
+#[test]
+fn byte_budget_delta(rt: HostRuntime) {
+    let alloc = rt.alloc();
+    let mut from = new_table(&rt, alloc, 3, NODES, 2);
+    take(&rt, &mut from, &[OLD, LARGE, OTHER]);
+    let to = new_table(&rt, alloc, 0, NODES, 2);
+    for (mode, bytes, items, cut) in BYTES {
+        let turn = Turn {
+            mode,
+            rotation: 0,
+            budget: Budget::Bytes(bytes),
+        };
+        let delta = answer(&rt, alloc, &from, &to, turn);
+        expect_items(&rt, "sent", delta.items(), items);
+        expect_number(&rt, "cut", delta.cut(), cut);
     }
 }
 
@@ -166,25 +196,38 @@ fn expect_at(rt: &impl Abort, delta: &Delta, place: usize, item: Item, mode: Mod
 
 // Compares a delta with the candidates, each at the place that is the number of those before it.
 fn compare_by_counting(rt: &impl Abort, delta: &Delta, all: &[Item], turn: Turn) {
-    let budget = turn.budget as usize;
     let mut cut = 0u32;
     for item in all {
-        let before = count_before(turn, all, *item);
-        if before < budget {
+        if is_sent(turn, all, *item) {
+            let before = count_before(turn, all, *item);
             expect_at(rt, delta, before, *item, turn.mode);
         } else {
             cut = cut.saturating_add(1);
         }
     }
-    assert!(rt; delta.items().len() == all.len().min(budget));
+    assert!(rt; delta.items().len() == all.len().saturating_sub(cut as usize));
     expect_number(rt, "cut", delta.cut(), cut);
 }
 
-// Compares the deltas of a mode at each rotation and at budgets around the number of candidates.
+// Budgets around the number of candidates, and around their sizes.
+const BUDGETS: [Budget; 10] = [
+    Budget::Entries(1),
+    Budget::Entries(2),
+    Budget::Entries(3),
+    Budget::Entries(5),
+    Budget::Entries(12),
+    Budget::Bytes(1023),
+    Budget::Bytes(1500),
+    Budget::Bytes(2500),
+    Budget::Bytes(4000),
+    Budget::Bytes(9300),
+];
+
+// Compares the deltas of a mode at each rotation and with each budget.
 fn expect_deltas(rt: &impl Abort, alloc: Global, from: &NodeTable, to: &NodeTable, mode: Mode) {
     let all = lacked(rt, alloc, from, to, mode);
     for rotation in 0..NODES {
-        for budget in [1, 2, 3, 5, 12] {
+        for budget in BUDGETS {
             let turn = Turn {
                 mode,
                 rotation,

@@ -1,7 +1,7 @@
 //! Exchanges of two tables, with records and tables worked out from the rules.
 
-use crate::fixtures::{expect_held, item, new_table, take, write};
-use bench_types::{Exchange, Fate, Fault, Item, Mode, Record, Rules};
+use crate::fixtures::{expect_held, item, lawful, new_table, take, write};
+use bench_types::{Budget, Exchange, Fate, Fault, Item, Mode, Record, Rules};
 use exchange::exchange;
 use node_table::NodeTable;
 use std::alloc::Global;
@@ -13,14 +13,14 @@ pub(crate) struct Plan {
     pub(crate) fate: Fate,
     pub(crate) rotation: u32,
     pub(crate) mode: Mode,
-    pub(crate) budget: u32,
+    pub(crate) budget: Budget,
 }
 
 const PLAN: Plan = Plan {
     fate: Fate::Ok,
     rotation: 0,
     mode: Mode::ScuttleBreadth,
-    budget: 1,
+    budget: Budget::Entries(1),
 };
 
 // An exchange that the first table's node begins with the second's.
@@ -32,7 +32,7 @@ fn meet(
     plan: Plan,
 ) -> Result<Record, Fault> {
     assert!(rt; first.nodes() == second.nodes() && first.keys() == second.keys());
-    assert!(rt; plan.budget >= 1 && plan.rotation < first.nodes());
+    assert!(rt; plan.rotation < first.nodes());
     let planned = Exchange {
         initiator: first.node(),
         responder: second.node(),
@@ -43,7 +43,7 @@ fn meet(
     };
     let rules = Rules {
         mode: plan.mode,
-        budget: plan.budget,
+        budget: lawful(rt, plan.budget),
     };
     exchange(alloc, first, second, &planned, &rules)
 }
@@ -242,7 +242,7 @@ fn expect_turned(
 ) {
     let plan = Plan {
         rotation,
-        budget,
+        budget: Budget::Entries(budget),
         ..PLAN
     };
     expect_back(rt, alloc, plan, sent, sizes);

@@ -1,10 +1,11 @@
 //! Items, steps of a table and comparisons that several tests share. Where memory is refused they stop.
 
 ghost use Rattle.std.specs.Prelude.{◌≡◌, ◌≢◌, ◌<◌, ◌≤◌, All, IsTrue};
+ghost use Rattle.bench_types.specs.Budget.{IsLawfulBudget};
 ghost use Rattle.node_table.specs.Table.{empty_table};
 ghost use Rattle.node_table.specs.View.{IsItemInPlace};
 
-use bench_types::{Entry, Fault, Item};
+use bench_types::{Budget, Entry, Fault, Item};
 use node_table::NodeTable;
 use std::alloc::Global;
 use std::process::Abort;
@@ -41,6 +42,18 @@ pub(crate) fn may_take(node: u32, nodes: u32, keys: u32, items: &[Item]) -> bool
         }
     }
     true
+}
+
+/// A budget that has room for any one entry.
+pub(crate) fn lawful(rt: &impl Abort, budget: Budget) -> Budget
+    ensures same { result ≡ budget }
+    ensures lawful { IsLawfulBudget result }
+{
+    match budget {
+        Budget::Entries(entries) => assert!(rt; entries >= 1),
+        Budget::Bytes(bytes) => assert!(rt; bytes >= 1023),
+    }
+    budget
 }
 
 /// Makes room for the items and takes them.

@@ -2,8 +2,8 @@
 
 use crate::exchanges::{Plan, expect_sent};
 use crate::fixtures::next;
-use crate::model::{NODES, Turn, count_before, small_table};
-use bench_types::{Fate, Item, Mode};
+use crate::model::{NODES, Turn, is_sent, small_table};
+use bench_types::{Budget, Fate, Item, Mode};
 use node_table::NodeTable;
 use std::alloc::Global;
 use std::process::Abort;
@@ -86,12 +86,12 @@ struct Sent {
     cut: u32,
 }
 
-// Sends those that have fewer than the budget before them.
+// Sends those for which the budget has room.
 fn sent_of(rt: &impl Abort, alloc: Global, all: &[Item], turn: Turn) -> Sent {
     let mut items = Vec::new(alloc);
     let mut cut = 0u32;
     for item in all {
-        if count_before(turn, all, *item) < turn.budget as usize {
+        if is_sent(turn, all, *item) {
             items.push(*item).expect(rt, "memory");
         } else {
             cut = cut.saturating_add(1);
@@ -197,7 +197,17 @@ fn expect_meeting(
     expect_taken(rt, alloc, second, &responder, &forth, came);
 }
 
-// They meet with each loss and with budgets around the number of candidates.
+const BUDGETS: [Budget; 7] = [
+    Budget::Entries(1),
+    Budget::Entries(2),
+    Budget::Entries(4),
+    Budget::Entries(12),
+    Budget::Bytes(1023),
+    Budget::Bytes(2500),
+    Budget::Bytes(9300),
+];
+
+// They meet with each loss and with budgets around the number of candidates and around their sizes.
 fn expect_mode(
     rt: &impl Abort,
     alloc: Global,
@@ -207,7 +217,7 @@ fn expect_mode(
     mode: Mode,
 ) {
     for fate in [Fate::Ok, Fate::Lost1, Fate::Lost2, Fate::Lost3] {
-        for budget in [1, 2, 4, 12] {
+        for budget in BUDGETS {
             let plan = Plan {
                 fate,
                 rotation,

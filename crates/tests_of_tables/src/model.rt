@@ -2,7 +2,7 @@
 //! it.
 
 use crate::fixtures::{item, new_table, next, take, try_write};
-use bench_types::{Item, Mode};
+use bench_types::{Budget, Item, Mode};
 use node_table::NodeTable;
 use std::alloc::Global;
 use std::cmp::Ordering;
@@ -16,7 +16,7 @@ pub(crate) const NODES: u32 = 4;
 pub(crate) struct Turn {
     pub(crate) mode: Mode,
     pub(crate) rotation: u32,
-    pub(crate) budget: u32,
+    pub(crate) budget: Budget,
 }
 
 // How far behind the rotation an owner comes.
@@ -68,6 +68,26 @@ pub(crate) fn count_before(turn: Turn, all: &[Item], item: Item) -> usize {
     count
 }
 
+// What an item takes of a budget.
+fn share(budget: Budget, item: Item) -> u32 {
+    match budget {
+        Budget::Entries(_) => 1,
+        Budget::Bytes(_) => 24 + item.entry.value % 1000,
+    }
+}
+
+/// Whether a candidate is sent: with all that come before it, it has room in the budget.
+pub(crate) fn is_sent(turn: Turn, all: &[Item], item: Item) -> bool {
+    let mut taken = 0u32;
+    for other in all {
+        if compare(turn, all, *other, item) != Ordering::Greater {
+            taken = taken.saturating_add(share(turn.budget, *other));
+        }
+    }
+    let (Budget::Entries(room) | Budget::Bytes(room)) = turn.budget;
+    taken <= room
+}
+
 /// A small table that holds about so many of ten entries. Two keys of an owner may have one version.
 pub(crate) fn small_table(
     rt: &impl Abort,
@@ -94,8 +114,9 @@ fn others(rt: &impl Abort, alloc: Global, state: &mut u64, node: u32, full: u32)
         for key in 0..3 {
             let version = next(state, 4).saturating_add(1);
             let born = next(state, 3).saturating_add(1);
+            let value = next(state, 3000);
             if owner != node && next(state, 10) < full {
-                let item = item!(owner, key, version, 0, born);
+                let item = item!(owner, key, version, value, born);
                 held.push(item).expect(rt, "memory");
             }
         }

@@ -1,36 +1,100 @@
-use Rattle.std.proofs.Common.{◌<◌, ◌-◌, List, ◌∙◌, subst, arith}
+use Rattle.std.proofs.Common.{◌≡◌, ◌<◌, ◌^◌, length, List, IfSome, sym, ap, subst, arith}
+use Rattle.std.proofs.lemmas.Result.{IfOk-weaker}
 use Rattle.reconcile.specs.declared.candidates.Candidate.{Candidate}
-use Rattle.reconcile.specs.Keys.{items_in, AllSet, AreFirstItems}
+use Rattle.reconcile.specs.Deltas.{AreWithin, answer_of}
+use Rattle.reconcile.specs.Keys.{items_in, AllSet, IsSentOf}
 use Rattle.reconcile.specs.Newer.{AreCandidates}
-use Rattle.reconcile.proofs.Answering.{few-found, length-found_sent, length-first-le-budget, answer-found}
+use Rattle.reconcile.proofs.Answering.{few-found, within-first, answer-sent, few-sent}
 use Rattle.reconcile.proofs.candidates.precise_delta.Goals as goal
+use Rattle.reconcile.proofs.candidates.precise_delta.Goals.{then-likely-len+in_ok-delta+in_default+in_ok-found-2, else-likely-len}
 
-pub overflow_sub-cut : goal.overflow_sub-cut
-overflow_sub-cut c =
+pub likely_delta-requires-clause-few : goal.likely_delta-requires-clause-few
+likely_delta-requires-clause-few c =
     let t = c.args.table.now.table in
     let found = c.in_ok-found.found.items in
-    let items = c.in_ok-items.items.items in
+    let in_nodes = subst (λ n. c.args.turns.rotation < n) c.requires.nodes c.requires.rotation in
     let are = subst (λ n. AreCandidates t c.args.digest.now c.args.receiver n (items_in found)) c.requires.nodes c.in_ok-found.ensures.all in
-    let first = subst (λ (cs : List Candidate). AreFirstItems c.args.budget cs items) c.deref_mut.ensures.value c.in_ok-items.ensures.first in
-    omega (arith, c.len.ensures, c.in_ok-items.items.ok.0, c.len-count.ensures, c.in_ok-found.found.ok.0, length-found_sent c.args.turns.mode t c.args.digest.now c.args.receiver c.args.turns.rotation c.requires.proper (subst (λ n. c.args.turns.rotation < n) c.requires.nodes c.requires.rotation) found are c.args.budget items first)
+    omega (arith, few-found c.args.turns.mode t c.args.digest.now c.args.receiver c.args.turns.rotation c.requires.proper in_nodes found are, ap length c.deref_mut.ensures.value)
 
-pub overflow_cast-cut : goal.overflow_cast-cut
-overflow_cast-cut c =
+pub returns-in-Some-clause-ok : goal.returns-in-Some-clause-ok
+returns-in-Some-clause-ok c =
     let t = c.args.table.now.table in
     let found = c.in_ok-found.found.items in
+    let in_nodes = subst (λ n. c.args.turns.rotation < n) c.requires.nodes c.requires.rotation in
     let are = subst (λ n. AreCandidates t c.args.digest.now c.args.receiver n (items_in found)) c.requires.nodes c.in_ok-found.ensures.all in
-    omega (arith, few-found c.args.turns.mode t c.args.digest.now c.args.receiver c.args.turns.rotation c.requires.proper (subst (λ n. c.args.turns.rotation < n) c.requires.nodes c.requires.rotation) found are, c.len-count.ensures, c.in_ok-found.found.ok.0)
+    let set = subst (λ n. AllSet c.args.turns.mode n c.args.turns.rotation found) c.requires.nodes c.in_ok-found.ensures.set in
+    let sent = subst (λ o. IfSome o (IsSentOf c.args.budget c.deref_mut.result.now)) c.in-Some.is c.in_ok-delta.ensures.sent in
+    answer-sent c.args.turns.mode t c.args.digest.now c.args.receiver c.args.turns.rotation c.requires.proper in_nodes found are c.requires.precise set c.args.budget c.in-Some.delta
+    (subst (λ (cs : List Candidate). IsSentOf c.args.budget cs c.in-Some.delta) c.deref_mut.ensures.value sent)
+
+pub returns-in-Some-clause-within : goal.returns-in-Some-clause-within
+returns-in-Some-clause-within c =
+    let sent = subst (λ o. IfSome o (IsSentOf c.args.budget c.deref_mut.result.now)) c.in-Some.is c.in_ok-delta.ensures.sent in
+    within-first c.args.budget c.deref_mut.result.now c.in-Some.delta.items sent.items
+
+pub returns-in-Some-clause-few : goal.returns-in-Some-clause-few
+returns-in-Some-clause-few c =
+    let t = c.args.table.now.table in
+    let found = c.in_ok-found.found.items in
+    let in_nodes = subst (λ n. c.args.turns.rotation < n) c.requires.nodes c.requires.rotation in
+    let are = subst (λ n. AreCandidates t c.args.digest.now c.args.receiver n (items_in found)) c.requires.nodes c.in_ok-found.ensures.all in
+    let sent = subst (λ o. IfSome o (IsSentOf c.args.budget c.deref_mut.result.now)) c.in-Some.is c.in_ok-delta.ensures.sent in
+    few-sent c.args.turns.mode t c.args.digest.now c.args.receiver c.args.turns.rotation c.requires.proper in_nodes found are c.args.budget c.in-Some.delta
+    (subst (λ (cs : List Candidate). IsSentOf c.args.budget cs c.in-Some.delta) c.deref_mut.ensures.value sent)
+
+pub sorted_delta-requires : goal.sorted_delta-requires
+sorted_delta-requires c =
+    let t = c.args.table.now.table in
+    let found = c.if-likely-len.found.items in
+    let in_nodes = subst (λ n. c.args.turns.rotation < n) c.requires.nodes c.requires.rotation in
+    let all : AreCandidates t c.args.digest.now c.args.receiver c.args.turns.nodes (items_in found) =
+    elim c.if-likely-len.branch [
+      | then-likely-len+in_ok-delta+in_default+in_ok-found-2 w ↦ subst (λ v. AreCandidates t c.args.digest.now c.args.receiver c.args.turns.nodes (items_in v.items)) (sym w.found-is) w.in_ok-found-2.ensures.all
+      | else-likely-len w ↦ subst (λ v. AreCandidates t c.args.digest.now c.args.receiver c.args.turns.nodes (items_in v.items)) (sym w.found-is) c.in_ok-found.ensures.all
+    ] in
+    let are = subst (λ n. AreCandidates t c.args.digest.now c.args.receiver n (items_in found)) c.requires.nodes all in
+    record { few = omega (arith, few-found c.args.turns.mode t c.args.digest.now c.args.receiver c.args.turns.rotation c.requires.proper in_nodes found are, ap length c.deref_mut-2.ensures.value) }
 
 pub returns-clause-ok : goal.returns-clause-ok
 returns-clause-ok c =
     let t = c.args.table.now.table in
-    let found = c.in_ok-found.found.items in
-    let items = c.in_ok-items.items.items in
-    let are = subst (λ n. AreCandidates t c.args.digest.now c.args.receiver n (items_in found)) c.requires.nodes c.in_ok-found.ensures.all in
-    let set = subst (λ n. AllSet c.args.turns.mode n c.args.turns.rotation found) c.requires.nodes c.in_ok-found.ensures.set in
-    let first = subst (λ (cs : List Candidate). AreFirstItems c.args.budget cs items) c.deref_mut.ensures.value c.in_ok-items.ensures.first in
-    (λ i. record { items = items; cut = (c.len-count.ensures ∙ c.in_ok-found.found.ok.0) i - (c.len.ensures ∙ c.in_ok-items.items.ok.0) i })
-    ∙ answer-found c.args.turns.mode t c.args.digest.now c.args.receiver c.args.turns.rotation c.requires.proper (subst (λ n. c.args.turns.rotation < n) c.requires.nodes c.requires.rotation) found are c.requires.precise set c.args.budget items first
+    let found = c.if-likely-len.found.items in
+    let in_nodes = subst (λ n. c.args.turns.rotation < n) c.requires.nodes c.requires.rotation in
+    let all : AreCandidates t c.args.digest.now c.args.receiver c.args.turns.nodes (items_in found) =
+    elim c.if-likely-len.branch [
+      | then-likely-len+in_ok-delta+in_default+in_ok-found-2 w ↦ subst (λ v. AreCandidates t c.args.digest.now c.args.receiver c.args.turns.nodes (items_in v.items)) (sym w.found-is) w.in_ok-found-2.ensures.all
+      | else-likely-len w ↦ subst (λ v. AreCandidates t c.args.digest.now c.args.receiver c.args.turns.nodes (items_in v.items)) (sym w.found-is) c.in_ok-found.ensures.all
+    ] in
+    let numbers : AllSet c.args.turns.mode c.args.turns.nodes c.args.turns.rotation found =
+    elim c.if-likely-len.branch [
+      | then-likely-len+in_ok-delta+in_default+in_ok-found-2 w ↦ subst (λ v. AllSet c.args.turns.mode c.args.turns.nodes c.args.turns.rotation v.items) (sym w.found-is) w.in_ok-found-2.ensures.set
+      | else-likely-len w ↦ subst (λ v. AllSet c.args.turns.mode c.args.turns.nodes c.args.turns.rotation v.items) (sym w.found-is) c.in_ok-found.ensures.set
+    ] in
+    let are = subst (λ n. AreCandidates t c.args.digest.now c.args.receiver n (items_in found)) c.requires.nodes all in
+    let set = subst (λ n. AllSet c.args.turns.mode n c.args.turns.rotation found) c.requires.nodes numbers in
+    IfOk-weaker c.sorted_delta.result (IsSentOf c.args.budget c.deref_mut-2.result.now) (λ d. d ≡ answer_of c.args.turns.mode c.args.turns.rotation c.args.budget t c.args.receiver c.args.digest.now)
+    (λ d sent. answer-sent c.args.turns.mode t c.args.digest.now c.args.receiver c.args.turns.rotation c.requires.proper in_nodes found are c.requires.precise set c.args.budget d
+    (subst (λ (cs : List Candidate). IsSentOf c.args.budget cs d) c.deref_mut-2.ensures.value sent))
+    c.sorted_delta.ensures.sent
 
 pub returns-clause-within : goal.returns-clause-within
-returns-clause-within c = length-first-le-budget c.args.budget _ c.in_ok-items.items.items c.in_ok-items.ensures.first
+returns-clause-within c =
+    IfOk-weaker c.sorted_delta.result (IsSentOf c.args.budget c.deref_mut-2.result.now) (λ d. AreWithin c.args.budget d.items)
+    (λ d sent. within-first c.args.budget c.deref_mut-2.result.now d.items sent.items)
+    c.sorted_delta.ensures.sent
+
+pub returns-clause-few : goal.returns-clause-few
+returns-clause-few c =
+    let t = c.args.table.now.table in
+    let found = c.if-likely-len.found.items in
+    let in_nodes = subst (λ n. c.args.turns.rotation < n) c.requires.nodes c.requires.rotation in
+    let all : AreCandidates t c.args.digest.now c.args.receiver c.args.turns.nodes (items_in found) =
+    elim c.if-likely-len.branch [
+      | then-likely-len+in_ok-delta+in_default+in_ok-found-2 w ↦ subst (λ v. AreCandidates t c.args.digest.now c.args.receiver c.args.turns.nodes (items_in v.items)) (sym w.found-is) w.in_ok-found-2.ensures.all
+      | else-likely-len w ↦ subst (λ v. AreCandidates t c.args.digest.now c.args.receiver c.args.turns.nodes (items_in v.items)) (sym w.found-is) c.in_ok-found.ensures.all
+    ] in
+    let are = subst (λ n. AreCandidates t c.args.digest.now c.args.receiver n (items_in found)) c.requires.nodes all in
+    IfOk-weaker c.sorted_delta.result (IsSentOf c.args.budget c.deref_mut-2.result.now) (λ d. length d.items < 2 ^ 32)
+    (λ d sent. few-sent c.args.turns.mode t c.args.digest.now c.args.receiver c.args.turns.rotation c.requires.proper in_nodes found are c.args.budget d
+    (subst (λ (cs : List Candidate). IsSentOf c.args.budget cs d) c.deref_mut-2.ensures.value sent))
+    c.sorted_delta.ensures.sent

@@ -1,11 +1,11 @@
 use Rattle.std.proofs.Common.{◌≡◌, ◌+◌, ◌-◌, ◌<◌, ◌≤◌, All, ap, sym, ◌∙◌, subst, arith}
 use Rattle.std.specs.List.{flat_map}
+use Rattle.bench_types.specs.Budget.{amount_of}
 use Rattle.bench_types.specs.declared.entries.Item.{Item}
-use Rattle.reconcile.specs.Deltas.{item_size}
+use Rattle.reconcile.specs.Deltas.{item_share, first_within}
 use Rattle.reconcile.specs.Keys.{reversed}
-use Rattle.reconcile.specs.Picks.{fitting}
 use Rattle.reconcile.specs.Runs.{items_of_runs, of_length, layer_of, layered, lengths_first}
-use Rattle.reconcile.proofs.Adding.{some_size}
+use Rattle.reconcile.proofs.Adding.{some_share, adds-under}
 use Rattle.reconcile.proofs.Layers.{layered-next, layered-left, layered-full, layered-whole}
 use Rattle.reconcile.proofs.RunLayers.{layer-length, within-length}
 use Rattle.reconcile.proofs.runs.by_length.Goals as goal
@@ -19,12 +19,13 @@ loop-shorter-preserved c =
     let at = c.loop-shorter.shorter in
     let fits = c.longest-most.ensures.within in
     let so_far = c.loop-shorter.invariant in
-    let adds = c.in_ok-add_long.ensures.added in
+    let adds = adds-under c.args.budget _ c.loop-shorter.parcel c.add_long.new.parcel so_far.budget c.in_ok-add_long.ensures.added in
     let layer : flat_map (of_length (most - at)) runs ≡ layer_of (lengths_first all) all (reversed most + at) =
     sym (ap (layer_of (lengths_first all) all) {x = reversed most + at} {y = reversed (most - at)} (omega (arith, fits, c.requires.few)) ∙ layer-length runs c.requires.runs (most - at) (omega (arith, fits, c.requires.few)) c.requires.few) in
     record {
-      items = layered-next item_size some_size (lengths_first all) all (reversed most) c.args.budget at c.loop-shorter.parcel.items.items c.add_long.new.parcel.items.items _ c.loop-shorter.parcel.left so_far.items so_far.left layer adds.added;
-      left = layered-left item_size some_size (lengths_first all) all (reversed most) c.args.budget at _ c.loop-shorter.parcel.left c.add_long.new.parcel.left so_far.left layer adds.left;
+      budget = adds.same;
+      items = layered-next (item_share c.args.budget) (some_share c.args.budget) (lengths_first all) all (reversed most) (amount_of c.args.budget) at c.loop-shorter.parcel.items.items c.add_long.new.parcel.items.items _ c.loop-shorter.parcel.left so_far.items so_far.left layer adds.added;
+      left = layered-left (item_share c.args.budget) (some_share c.args.budget) (lengths_first all) all (reversed most) (amount_of c.args.budget) at _ c.loop-shorter.parcel.left c.add_long.new.parcel.left so_far.left layer adds.left;
     }
 
 pub returns-then-parcel-eq0-clause-layers : goal.returns-then-parcel-eq0-clause-layers
@@ -42,13 +43,13 @@ returns-then-parcel-eq0-clause-layers c =
       layers = most;
       within = within;
       is = elim c.then-parcel-eq0.branch [
-        | then-parcel-eq0-via-then-parcel-eq0 w ↦ layered-full item_size some_size (lengths_first all) all (reversed most) c.args.budget at (most - at) items c.loop-shorter.parcel.left so_far.items so_far.left w.if-parcel-eq0.true
+        | then-parcel-eq0-via-then-parcel-eq0 w ↦ layered-full (item_share c.args.budget) (some_share c.args.budget) (lengths_first all) all (reversed most) (amount_of c.args.budget) at (most - at) items c.loop-shorter.parcel.left so_far.items so_far.left w.if-parcel-eq0.true
         | then-parcel-eq0-via-else-parcel-eq0+then-len-found w ↦
-            layered-whole item_size some_size (lengths_first all) all (reversed most) c.args.budget at (most - at) items so_far.items
+            layered-whole (item_share c.args.budget) (some_share c.args.budget) (lengths_first all) all (reversed most) (amount_of c.args.budget) at (most - at) items so_far.items
             (subst (λ n. All (λ (i : Item). (reversed most ≤ lengths_first all i) × (lengths_first all i < reversed most + n)) all) (sym layers) within)
             (omega (arith, w.if-len-found.true, w.len.ensures, c.loop-shorter.parcel.items.ok.0, c.requires.found))
       ]
-          ∙ ap (λ n. fitting item_size c.args.budget (layered (lengths_first all) all (reversed most) n)) layers;
+          ∙ ap (λ n. first_within c.args.budget (layered (lengths_first all) all (reversed most) n)) layers;
     }
 
 pub returns-clause-layers : goal.returns-clause-layers
@@ -60,5 +61,5 @@ returns-clause-layers c =
       least = reversed most;
       layers = most;
       within = within-length runs c.requires.runs most (omega (arith, c.longest-most.ensures.within, c.requires.few)) c.longest-most.ensures.all;
-      is = c.loop-shorter.invariant.items ∙ ap (λ n. fitting item_size c.args.budget (layered (lengths_first all) all (reversed most) n)) {x = c.loop-shorter.shorter} {y = most} (omega arith);
+      is = c.loop-shorter.invariant.items ∙ ap (λ n. first_within c.args.budget (layered (lengths_first all) all (reversed most) n)) {x = c.loop-shorter.shorter} {y = most} (omega arith);
     }

@@ -1,7 +1,8 @@
 use Rattle.std.proofs.Common.{◌≡◌, ◌<◌, ◌-◌, length, sym, ap, ◌∙◌, subst, arith}
+use Rattle.reconcile.specs.Deltas.{AreWithin}
 use Rattle.reconcile.specs.Order.{rank_among}
 use Rattle.reconcile.specs.Runs.{items_of_runs, AreRuns, AreLayered, lengths_first}
-use Rattle.reconcile.proofs.Answering.{few-turned, length-layered-le, length-layered-le-budget, answer-turned}
+use Rattle.reconcile.proofs.Answering.{few-turned, length-layered-le, within-layered, answer-turned}
 use Rattle.reconcile.proofs.Ordered.{first_key}
 use Rattle.reconcile.proofs.Turned.{seen-turned, turned-runs}
 use Rattle.reconcile.proofs.runs.scuttle_delta.Goals as goal
@@ -87,7 +88,27 @@ pub returns-clause-within : goal.returns-clause-within
 returns-clause-within c =
     elim c.match-turns.branch [
       | in-ScuttleBreadth+in_ok-items-in-ScuttleBreadth w ↦
-          omega (arith, ap (λ v. length v.items) w.items-is, length-layered-le-budget _ c.args.budget _ _ w.in_ok-items-in-ScuttleBreadth.ensures.layers)
+          subst (λ v. AreWithin c.args.budget v.items) (sym w.items-is) (within-layered _ c.args.budget _ _ w.in_ok-items-in-ScuttleBreadth.ensures.layers)
       | in-ScuttleDepth+in_ok-items-in-ScuttleDepth w ↦
-          omega (arith, ap (λ v. length v.items) w.items-is, length-layered-le-budget _ c.args.budget _ _ w.in_ok-items-in-ScuttleDepth.ensures.layers)
+          subst (λ v. AreWithin c.args.budget v.items) (sym w.items-is) (within-layered _ c.args.budget _ _ w.in_ok-items-in-ScuttleDepth.ensures.layers)
+    ]
+
+pub returns-clause-few : goal.returns-clause-few
+returns-clause-few c =
+    let found = c.count_of-found.ensures in
+    let in_nodes = subst (λ n. c.args.turns.rotation < n) c.requires.nodes c.requires.rotation in
+    let turned = seen-turned c.args.turns.rotation c.deref_mut.result.now c.in_ok-runs.runs.items c.turn_to.new.runs _ c.deref.result.now c.in_ok-runs.runs.len c.deref_mut.ensures.value c.in_ok-runs.runs.ok.0 c.turn_to.ensures c.deref.ensures.value in
+    let few = few-turned c.args.turns.mode c.args.table.now.table c.args.digest.now c.args.receiver c.args.turns.rotation c.requires.proper in_nodes c.in_ok-runs.runs.items c.deref.result.now c.in_ok-runs.ensures.all turned in
+    elim c.match-turns.branch [
+      | in-ScuttleBreadth+in_ok-items-in-ScuttleBreadth w ↦
+          let all = items_of_runs c.deref.result.now in
+          let items = w.in_ok-items-in-ScuttleBreadth.items in
+          let layers = subst (λ rs. AreLayered (rank_among (items_of_runs rs)) c.args.budget (items_of_runs rs) items.items) (sym c.deref.ensures.value) w.in_ok-items-in-ScuttleBreadth.ensures.layers in
+          omega (arith, few, ap (λ v. length v.items) w.items-is, length-layered-le (rank_among all) c.args.budget all items.items layers)
+      | in-ScuttleDepth+in_ok-items-in-ScuttleDepth w ↦
+          let seen = w.deref-in-ScuttleDepth in
+          let all = items_of_runs seen.result.now in
+          let items = w.in_ok-items-in-ScuttleDepth.items in
+          let same = ap (λ rs. length (items_of_runs rs)) (c.deref.ensures.value ∙ sym seen.ensures.value) in
+          omega (arith, few, same, ap (λ v. length v.items) w.items-is, length-layered-le (lengths_first all) c.args.budget all items.items w.in_ok-items-in-ScuttleDepth.ensures.layers)
     ]

@@ -1,0 +1,86 @@
+#!/usr/bin/env python3
+"""read_runs.py window FROM TO [FOLDER]
+read_runs.py level FROM LEVEL [FOLDER]
+
+Prints a line for each report that grid.sh left in the folder, `runs` where none is named.
+
+  window   what was cut in the rounds FROM to TO, in per cent of all that was lacking, and the least and the most of
+           `greatest` and of `stale` there
+  level    the first round from FROM on in which `greatest` is at most LEVEL, or `never`
+"""
+import csv
+import pathlib
+import sys
+
+COLUMNS = ["round", "exchanges", "unreached", "lost", "entries", "cut", "stale", "greatest"]
+MODES = ["scuttle-breadth", "scuttle-depth", "precise-oldest", "precise-newest"]
+
+
+def refuse(why):
+    print(f"read_runs.py: {why}", file=sys.stderr)
+    sys.exit(2)
+
+
+def number(text):
+    """The number that an argument or a column has."""
+    if not (text.isascii() and text.isdigit()):
+        refuse(f"'{text}' isn't a whole number.")
+    return int(text)
+
+
+def report(file):
+    """The rows of a report, in numbers."""
+    with open(file, newline="") as lines:
+        header, *rows = list(csv.reader(lines)) or [[]]
+    if header != COLUMNS or any(len(row) != len(COLUMNS) for row in rows):
+        refuse(f"{file} isn't a report.")
+    return [dict(zip(COLUMNS, map(number, row))) for row in rows]
+
+
+def window(rows, first, last):
+    rows = [row for row in rows if first <= row["round"] <= last]
+    cut, sent = (sum(row[name] for row in rows) for name in ("cut", "entries"))
+    yield f"{100 * cut / (cut + sent or 1):.2f}"
+    for name in ("greatest", "stale"):
+        yield min(row[name] for row in rows)
+        yield max(row[name] for row in rows)
+
+
+def level(rows, first, most):
+    yield next((row["round"] for row in rows if row["round"] >= first and row["greatest"] <= most), "never")
+
+
+READINGS = {
+    "window": (window, ["percent_cut", "greatest_least", "greatest_most", "stale_least", "stale_most"]),
+    "level": (level, ["round"]),
+}
+
+
+def place(values):
+    """Where a run stands among others: numbers by size, modes in their usual order."""
+    return [(MODES.index(it),) if it in MODES else (int(it), "") if it.isdigit() else (0, it) for it in values]
+
+
+def main(words):
+    if len(words) not in (3, 4) or words[0] not in READINGS:
+        refuse("usage: read_runs.py window FROM TO [FOLDER], or read_runs.py level FROM LEVEL [FOLDER]")
+    reading, columns = READINGS[words[0]]
+    first, second = number(words[1]), number(words[2])
+    last = second if words[0] == "window" else first
+    folder = pathlib.Path(words[3] if len(words) == 4 else "runs")
+    runs, fields = {}, None
+    for file in folder.glob("*-*.csv"):
+        names, values = zip(*(part.split("-", 1) for part in file.stem.split(".")))
+        if names != (fields := fields or names):
+            refuse(f"the runs in {folder} differ in their fields.")
+        runs[values] = rows = report(file)
+        if not 1 <= first <= last <= len(rows):
+            refuse(f"the rounds {first} to {last} aren't in {file}, which has {len(rows)}.")
+    if not runs:
+        refuse(f"there are no runs in {folder}.")
+    print(*fields, *columns, sep=",")
+    for values in sorted(runs, key=place):
+        print(*values, *reading(runs[values], first, second), sep=",")
+
+
+main(sys.argv[1:])

@@ -89,7 +89,7 @@ names=$(spread "$(cat "$room/scenario")" "" "$@") || exit
 mkdir -p "$folder" && cp "$room/scenario" "$room"/*.toml "$folder" && cd "$folder" ||
     refuse "$folder can't be written."
 
-export GOSSIP_BENCH="$program" PARALLEL_SHELL=/bin/sh
+export GOSSIP_BENCH="$program" PARALLEL_SHELL=/bin/sh HOME="${HOME:-$room}"
 without_report() {
     for name in $names; do
         [ -f "$name.csv" ] || echo "$name"

@@ -65,8 +65,8 @@ def main(words):
     ppm = it["loss"] * 10000
     if ppm.denominator != 1 or not it["entry"]:
         refuse("loss has at most four decimals." if it["entry"] else "an entry has bytes.")
-    it["loss_ppm"] = ppm
-    top = {name: limited(name, it[name]) for name in ("nodes", "keys", "rounds", "seed", "loss_ppm", "writes")}
+    top = {name: limited(name, it[name]) for name in ("nodes", "keys", "rounds", "seed")}
+    loss, writes = limited("loss_ppm", ppm), limited("writes", it["writes"])
     if top["nodes"] ** 2 * top["keys"] > 268435456:
         refuse("nodes * nodes * keys is above 268435456, the most that a scenario takes.")
     numbers = top["nodes"] * (top["keys"] if it["mode"].startswith("precise") else 1)
@@ -90,10 +90,10 @@ def main(words):
         print("# All entries count alike: that sizes differ is left out.")
     print("# Left out: latency, more than one peer a round, generations, failure detectors, nodes that join or leave.")
     print("# Not asked for: restarts (restarts.sh), partitions (apart.sh), rounds with other writes.")
-    choice = "random" if in_bytes else "cycle"
-    print(f"format = {2 if in_bytes else 1}")
-    print(*(f"{name} = {value}" for name, value in top.items()), sep="\n")
-    print(f'mode = "{it["mode"]}"\n{field} = {budget}\npeers = "random"\nrotation = "random"\nchoice = "{choice}"')
+    fields = {"format": 2 if in_bytes else 1, **top, "mode": f'"{it["mode"]}"', field: budget, "peers": '"random"',
+              "rotation": '"random"', "choice": '"random"' if in_bytes else '"cycle"', "loss_ppm": loss,
+              "writes": writes}
+    print(*(f"{name} = {value}" for name, value in fields.items()), sep="\n")
 
 
 main(sys.argv[1:])

@@ -30,11 +30,17 @@ def number(text):
 
 def report(file):
     """The rows of a report, in numbers."""
-    with open(file, newline="") as lines:
-        header, *rows = list(csv.reader(lines)) or [[]]
+    try:
+        with open(file, newline="") as lines:
+            header, *rows = list(csv.reader(lines)) or [[]]
+    except (OSError, UnicodeDecodeError, csv.Error):
+        refuse(f"{file} can't be read.")
     if header != COLUMNS or any(len(row) != len(COLUMNS) for row in rows):
         refuse(f"{file} isn't a report.")
-    return [dict(zip(COLUMNS, map(number, row))) for row in rows]
+    rows = [dict(zip(COLUMNS, map(number, row))) for row in rows]
+    if any(row["round"] != at for at, row in enumerate(rows, 1)):
+        refuse(f"{file} lacks a round.")
+    return rows
 
 
 def window(rows, first, last):
@@ -70,7 +76,7 @@ def main(words):
     folder = pathlib.Path(words[3] if len(words) == 4 else "runs")
     runs, fields = {}, None
     for file in folder.glob("*-*.csv"):
-        names, values = zip(*(part.split("-", 1) for part in file.stem.split(".")))
+        names, _, values = zip(*(part.partition("-") for part in file.stem.split(".")))
         if names != (fields := fields or names):
             refuse(f"the runs in {folder} differ in their fields.")
         runs[values] = rows = report(file)

@@ -1,16 +1,14 @@
 #!/usr/bin/env python3
 """check_trace.py REPORT TRACE
 
-Works out from a trace what the report of the same run says: exchanges, lost, entries and cut of each round. (The
-columns unreached, stale and greatest don't follow from a trace.) Prints how many rounds agree, or the first that
-doesn't, with status 1. To hold an implementation against the bench, compare its own lines with those of the trace in
-the same way.
+Works out from a trace what the report of the same run says of each round, but for the columns that don't follow from a
+trace. Prints how many rounds agree, or the first that doesn't, with status 1. An implementation is held against the
+bench in the same way, by lines of its own in place of one of the two.
 """
 import csv
 import sys
-from collections import Counter
 
-SENT, CUT = ("back", "forth"), ("back_cut", "forth_cut")
+COLUMNS = ["exchanges", "lost", "entries", "cut"]
 
 
 def refuse(why):
@@ -18,36 +16,36 @@ def refuse(why):
     sys.exit(2)
 
 
-def rows(path, begins):
-    """The rows of a CSV file whose header begins so."""
+def rows(path, last):
+    """The rows of a CSV file whose last column has this name."""
     try:
         with open(path, newline="") as file:
-            reader = csv.DictReader(file)
-            if (reader.fieldnames or [])[:len(begins)] != begins:
-                refuse(f"the header of {path} doesn't begin with {','.join(begins)}.")
-            return list(reader)
+            lines = csv.DictReader(file)
+            if (lines.fieldnames or [""])[-1] != last:
+                refuse(f"{path} has no column {last} at the end.")
+            return list(lines)
     except (OSError, UnicodeDecodeError, csv.Error):
         refuse(f"{path} can't be read.")
 
 
+def main(report, trace):
+    try:
+        told = {it["round"]: [int(it[name]) for name in COLUMNS] for it in report}
+        found = {number: [0, 0, 0, 0] for number in told}
+        for it in trace:
+            sent, cut = int(it["back"]) + int(it["forth"]), int(it["back_cut"]) + int(it["forth_cut"])
+            before = found.setdefault(it["round"], [0, 0, 0, 0])
+            found[it["round"]] = [a + b for a, b in zip(before, (1, it["fate"] != "ok", sent, cut))]
+    except (KeyError, TypeError, ValueError):
+        refuse("a line isn't whole.")
+    for number in found:
+        if told.get(number) != found[number]:
+            print(f"round {number}, {', '.join(COLUMNS)}: the report {told.get(number)}, the trace {found[number]}")
+            return 1
+    print(f"{len(told)} rounds agree")
+    return 0
+
+
 if len(sys.argv) != 3:
     refuse("usage: check_trace.py REPORT TRACE")
-report, trace = rows(sys.argv[1], ["round", "exchanges"]), rows(sys.argv[2], ["round", "index"])
-exchanges, lost, entries, cut = Counter(), Counter(), Counter(), Counter()
-try:
-    for it in trace:
-        exchanges[it["round"]] += 1
-        lost[it["round"]] += it["fate"] != "ok"
-        entries[it["round"]] += sum(int(it[name]) for name in SENT)
-        cut[it["round"]] += sum(int(it[name]) for name in CUT)
-    for number, it in enumerate(report, 1):
-        told = [int(it[name]) for name in ("round", "exchanges", "lost", "entries", "cut")]
-        found = [number, *(count[str(number)] for count in (exchanges, lost, entries, cut))]
-        if told != found:
-            print(f"round,exchanges,lost,entries,cut: the report has {told}, the trace {found}")
-            sys.exit(1)
-except (KeyError, TypeError, ValueError):
-    refuse("a line isn't whole.")
-if len(exchanges) and max(map(int, exchanges)) > len(report):
-    refuse("the trace has rounds that the report lacks.")
-print(f"{len(report)} rounds agree")
+sys.exit(main(rows(sys.argv[1], "greatest"), rows(sys.argv[2], "forth_cut")))

@@ -83,8 +83,8 @@ def main(words):
         print("# The last message of an exchange has no digest; the room for one is lost there.")
     if in_bytes:
         # (sizes of format 2 are spread evenly over 24 to 1023 bytes with choice = "random" alone)
-        print("# Entries of format 2 have 24 to 1023 bytes, all as often, and 523.5 on average. So the packet is scaled:")
-        print(f"# budget_bytes = {room} / {it['entry']} * 523.5. Where your sizes are spread otherwise, that is left out.")
+        print("# Entries of format 2 have 24 to 1023 bytes, all as often, 523.5 on average. So the packet is scaled:")
+        print(f"# budget_bytes = {room} / {it['entry']} * 523.5. That your sizes may be spread otherwise is left out.")
         print("# Which key is written is left to chance; keys in turn give entries of nearly one size.")
     else:
         print("# All entries count alike: that sizes differ is left out.")

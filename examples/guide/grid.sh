@@ -102,7 +102,8 @@ elif parallel --version 2>&1 | grep -q '^GNU parallel'; then
     set --
     [ ! -t 2 ] || set -- --bar
     [ -z "$JOBS" ] || set -- "$@" --jobs "$JOBS"
-    [ -z "$HOSTS" ] || set -- "$@" --sshlogin "$HOSTS" --transferfile {}.toml --return {}.csv --cleanup
+    # (a folder of the same name there, so that two sweeps keep apart)
+    [ -z "$HOSTS" ] || set -- "$@" --sshlogin "$HOSTS" --workdir . --transferfile {}.toml --return {}.csv --cleanup
     parallel "$@" --halt soon,fail=1 --env GOSSIP_BENCH \
         '"$GOSSIP_BENCH" run <{}.toml >{}.part && mv {}.part {}.csv' <"$room/to_do"
 else

@@ -57,5 +57,7 @@ fn trace<'a>(alloc: Global) -> Arg<'a> {
     Arg::new(alloc, "trace")
         .long("trace")
         .value_name("FILE")
-        .help("Write a line for each exchange to FILE, which is made anew")
+        .help(
+            "Write a line for each exchange to FILE, which is made anew before the scenario is read: name a file of its own",
+        )
 }

@@ -1,5 +1,5 @@
 -- What one message may carry, its budget: so many entries, or entries of so many bytes in all. An entry's size is 24
--- bytes and as many more as its value tells, up to 999. Source: this project; the LADIS 2008 paper has a bound of the
+-- bytes and as many more as its value modulo 1000. Source: this project; the LADIS 2008 paper has a bound of the
 -- message's size alone.
 use Rattle.std.specs.Prelude.{ℕ, ◌+◌, ◌%◌, ◌≤◌}
 use Rattle.bench_types.specs.declared.entries.Entry.{Entry}

@@ -17,8 +17,7 @@ pub struct Entry {
 }
 
 impl Entry {
-    /// How many bytes it takes of a message: so many for its numbers and its names, and up to 999
-    /// more for its value, by the number that stands for it.
+    /// How many bytes it takes of a message: 24, and as many more as its value modulo 1000.
     pub fn size(&self) -> u32
         ensures size { result ≡ entry_size self.now }
         ensures limits { (LEAST_ENTRY_SIZE ≤ result) × (result ≤ MOST_ENTRY_SIZE) }

@@ -51,7 +51,7 @@ pub fn limits_of_format_one()
     ensures workers { MOST_WORKERS ≡ 64 }
 {}
 
-/// What format 2 has in place of the most entries of a budget. The call does nothing.
+/// The limits of a budget in bytes, and the sizes of entries. The call does nothing.
 pub fn limits_of_format_two()
     ensures entry_size { (LEAST_ENTRY_SIZE ≡ 24) × (ENTRY_SIZES ≡ 1000) × (MOST_ENTRY_SIZE ≡ 1023) }
     ensures budget_bytes { MOST_BUDGET_BYTES ≡ 67108864 }

@@ -24,8 +24,9 @@ use std::alloc::Global;
 ///
 /// Where no message is lost, a scuttle mode copies a number for each owner and compares it with the
 /// other side's, on both sides. Each side looks at its entries of the owners where its own number is
-/// greater. A precise mode looks at each entry of both tables twice, and sorts what is sent. To this
-/// come both calls of `apply`. What a lost message leaves unsent isn't worked out.
+/// greater. A precise mode looks at each entry of both tables twice, under a budget in bytes at times
+/// three times, and sorts what is sent. To this come both calls of `apply`. What a lost message leaves
+/// unsent isn't worked out.
 pub fn exchange(
     alloc: Global,
     initiator: &mut NodeTable,

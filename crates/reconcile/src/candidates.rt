@@ -84,8 +84,8 @@ fn likely_count(order: &[Candidate], budget: Budget) -> usize {
     likely + likely / 8 + 8
 }
 
-// What the budget lets through, where so many candidates take more than it has. Where they don't, the
-// candidates have only been moved.
+// What the budget lets through, where the first so many in the order take more than it has. Where they
+// don't, the candidates have only been moved.
 fn likely_delta(
     alloc: Global,
     order: &mut [Candidate],

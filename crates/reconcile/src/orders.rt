@@ -21,9 +21,11 @@ use std::alloc::Global;
 /// A scuttle mode compares a number for each owner, and looks at the entries of those where its own
 /// is greater. Nothing is sorted: scuttle-breadth goes over those owners once for each place in
 /// their runs of entries, scuttle-depth once for each length of these, so at most once for each key,
-/// until the budget is reached. It takes memory for those owners and for what is sent.
-/// A precise mode looks at each entry once, and sorts what is sent: where the budget cuts, a
-/// selection parts it from the rest. It takes memory in proportion to the candidates.
+/// until the budget is reached. It takes memory for those owners, and for as many items as the budget
+/// may let through: in bytes, as if all were of the least size.
+/// A precise mode looks at each entry once, under a budget in bytes at times twice. It sorts what is
+/// sent, in bytes about an eighth more: where the budget cuts, a selection parts it from the rest. It
+/// takes memory in proportion to the candidates.
 pub fn delta(
     alloc: Global,
     table: &NodeTable,

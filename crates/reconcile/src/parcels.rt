@@ -50,7 +50,7 @@ impl Parcel {
         Ok(())
     }
 
-    // Adds an owner's entries as long as they fit. Where all do, they are compared with what is left once.
+    // Adds an owner's entries as long as they fit.
     pub(crate) fn add_entries(&mut self, owner: u32, entries: &[Entry]) -> Result<(), Fault>
         ensures added { OnOk result (AddsFitting (map (item_with owner) entries.now) self.old self.new) }
         ensures only { IsOkUnless result OutOfMemory }

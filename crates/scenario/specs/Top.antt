@@ -46,7 +46,7 @@ loss_ppm_at = number_at field.LossPpm 0 MOST_LOSS
 abbrev pub writes_at : Members → Result ℕ Fault
 writes_at = number_at field.Writes 0 MOST_WRITES
 
--- all that a format has, in order, and the arrays
+-- the fields that a format has, in order, the arrays last
 abbrev pub top_fields : ℕ → List Field
 top_fields format =
     field.Format

@@ -6,7 +6,7 @@
 //! |---|---|
 //! | `small` | runs that can be followed by hand |
 //! | `lawful` | scenarios of many shapes, whose texts an independent program worked out |
-//! | `bytes` | the same of format 2, with budgets in bytes |
+//! | `bytes` | the same of format 2, with budgets in bytes, with their comparisons |
 //! | `examples` | the scenarios of the repository's `examples/` |
 //! | `refused` | texts that are refused, each with the fault that `stdout` has |
 //! | `changed` | tables of changes to the scenario `small/two_nodes.toml` |

@@ -49,32 +49,32 @@ in_round_behind sink old now new text whole line workers fault first stop = elim
 ]
 
 -- the next round was played
-module _ {W : Type 0} (sink : Sink W) (old now : W) (s : Settings) (sim sim' : SimView) (rounds : ℕ) (round : RoundView) (so_far : AreRoundsWritten sink old now s sim rounds) (played : PlaysNext sim sim' round) (mode : Mode) (mode_is : mode ≡ s.mode) (row : Row) (row_is : row ≡ round.row) where
+module _ {W : Type 0} (sink : Sink W) (old now : W) (s : Settings) (sim sim' : SimView) (rounds : ℕ) (round : RoundView) (so_far : AreRoundsWritten sink old now s sim rounds) (played : PlaysNext sim sim' round) (format : ℕ) (format_is : format ≡ s.format) (mode : Mode) (mode_is : mode ≡ s.mode) (row : Row) (row_is : row ≡ round.row) where
   row_here : row ≡ row_in s (rounds + 1)
   row_here = row_is ∙ ap (λ (r : RoundView). r.row) played.played ∙ (λ i. row_in ((played.settings ∙ so_far.settings) i) ((played.done ∙ ap (λ n. n + 1) so_far.done) i))
 
-  line_is : compare_line mode row ≡ compare_line s.mode (row_in s (rounds + 1))
-  line_is = λ i. compare_line (mode_is i) (row_here i)
+  line_is : compare_line format mode row ≡ compare_line s.format s.mode (row_in s (rounds + 1))
+  line_is = λ i. compare_line (format_is i) (mode_is i) (row_here i)
 
-  lines : lines_upto s (rounds + 1) ≡ lines_upto s rounds ++ compare_line s.mode (row_in s (rounds + 1))
+  lines : lines_upto s (rounds + 1) ≡ lines_upto s rounds ++ compare_line s.format s.mode (row_in s (rounds + 1))
   lines =
-      ap (compare_lines s.mode) (map-range_with_len_more (row_in s) 1 rounds (rounds + 1) (omega arith))
-      ∙ flat_map-append (compare_line s.mode) (rows_upto s rounds) (row_in s (rounds + 1) ∷ [])
-      ∙ ap (λ l. lines_upto s rounds ++ l) (append-nil (compare_line s.mode (row_in s (rounds + 1))))
+      ap (compare_lines s.format s.mode) (map-range_with_len_more (row_in s) 1 rounds (rounds + 1) (omega arith))
+      ∙ flat_map-append (compare_line s.format s.mode) (rows_upto s rounds) (row_in s (rounds + 1) ∷ [])
+      ∙ ap (λ l. lines_upto s rounds ++ l) (append-nil (compare_line s.format s.mode (row_in s (rounds + 1))))
 
-  pub stops_in_line : (after : W) (workers : ℕ) (fault : Fault) → rounds < s.rounds → IsWriteFault sink now after (compare_line mode row) fault → IsFaultInRounds sink old after [] s workers fault
+  pub stops_in_line : (after : W) (workers : ℕ) (fault : Fault) → rounds < s.rounds → IsWriteFault sink now after (compare_line format mode row) fault → IsFaultInRounds sink old after [] s workers fault
   stops_in_line after workers fault more stop = record {
     rounds = rounds;
     within = more;
     stops = inr (now, so_far.written, subst (λ l. IsWriteFault sink now after l fault) line_is stop);
   }
 
-  pub rounds_more : (after : W) → IsWritten sink now after (compare_line mode row) → AreRoundsWritten sink old after s sim' (rounds + 1)
+  pub rounds_more : (after : W) → IsWritten sink now after (compare_line format mode row) → AreRoundsWritten sink old after s sim' (rounds + 1)
   rounds_more after line = record {
     settings = played.settings ∙ so_far.settings;
     unbroken = played.still;
     done = played.done ∙ ap (λ n. n + 1) so_far.done;
-    written = subst (IsWritten sink old after) (sym lines) (written_then sink old now after (lines_upto s rounds) (compare_line s.mode (row_in s (rounds + 1))) so_far.written (subst (IsWritten sink now after) line_is line));
+    written = subst (IsWritten sink old after) (sym lines) (written_then sink old now after (lines_upto s rounds) (compare_line s.format s.mode (row_in s (rounds + 1))) so_far.written (subst (IsWritten sink now after) line_is line));
   }
 
 -- the lines of so many modes are written, and the scenario at hand differs in its mode alone
@@ -117,8 +117,12 @@ module _ {W : Type 0} (sink : Sink W) (old now after : W) (s : Settings) (ms : L
     written = subst (IsWritten sink old after) (sym lines_more) (written_then sink old now after (lines_of_modes s (take i ms)) (lines_under s (get_or ms i d)) so_far.written (subst (λ (t : Settings). IsWritten sink now after (lines_upto t t.rounds)) is_under lines));
   }
 
+-- the header is that of the scenario's format
+pub header_of : {W : Type 0} (sink : Sink W) (old now : W) (s : Settings) (format : ℕ) → format ≡ s.format → IsWritten sink old now (compare_header_line format) → IsWritten sink old now (compare_header_line s.format)
+header_of sink old now s format is header = subst (λ f. IsWritten sink old now (compare_header_line f)) is header
+
 -- behind the header
-pub stops_behind_header : {W : Type 0} (sink : Sink W) (old now new : W) (s : Settings) (workers : ℕ) (fault : Fault) → IsWritten sink old now compare_header_line → IsFaultInModes sink now new [] s modes workers fault → IsFaultInModes sink old new compare_header_line s modes workers fault
+pub stops_behind_header : {W : Type 0} (sink : Sink W) (old now new : W) (s : Settings) (workers : ℕ) (fault : Fault) → IsWritten sink old now (compare_header_line s.format) → IsFaultInModes sink now new [] s modes workers fault → IsFaultInModes sink old new (compare_header_line s.format) s modes workers fault
 stops_behind_header sink old now new s workers fault header stop = record {
   done = stop.done;
   next = stop.next;
@@ -127,16 +131,16 @@ stops_behind_header sink old now new s workers fault header stop = record {
   stops = record {
     rounds = stop.stops.rounds;
     within = stop.stops.within;
-    stops = subst (λ whole. IsFaultInRound sink old new whole (compare_line stop.next (row_in (with_mode s stop.next) (stop.stops.rounds + 1))) workers fault)
-        (sym (append_assoc compare_header_line (lines_of_modes s stop.done) (lines_upto (with_mode s stop.next) stop.stops.rounds)))
-        (in_round_behind sink old now new compare_header_line _ _ workers fault header stop.stops.stops);
+    stops = subst (λ whole. IsFaultInRound sink old new whole (compare_line s.format stop.next (row_in (with_mode s stop.next) (stop.stops.rounds + 1))) workers fault)
+        (sym (append_assoc (compare_header_line s.format) (lines_of_modes s stop.done) (lines_upto (with_mode s stop.next) stop.stops.rounds)))
+        (in_round_behind sink old now new (compare_header_line s.format) _ _ workers fault header stop.stops.stops);
   };
 }
 
 -- the header and all lines are the comparison
-pub compared_whole : {W : Type 0} (sink : Sink W) (old now new : W) (s : Settings) → IsWritten sink old now compare_header_line → IsWritten sink now new (lines_of_modes s modes) → IsWritten sink old new (comparison_text s)
+pub compared_whole : {W : Type 0} (sink : Sink W) (old now new : W) (s : Settings) → IsWritten sink old now (compare_header_line s.format) → IsWritten sink now new (lines_of_modes s modes) → IsWritten sink old new (comparison_text s)
 unfolding comparison_text
-compared_whole sink old now new s header lines = written_then sink old now new compare_header_line (lines_of_modes s modes) header lines
+compared_whole sink old now new s header lines = written_then sink old now new (compare_header_line s.format) (lines_of_modes s modes) header lines
 
 -- under another mode it is the same
 pub own_mode : (s : Settings) (mode : Mode) → comparison_text (with_mode s mode) ≡ comparison_text s

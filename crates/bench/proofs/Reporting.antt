@@ -45,13 +45,13 @@ pub record AreWrittenUpto {W X : Type 0} (sink : Sink W) (old now : W) (sink' : 
   pub trace : IsWritten sink' old' now' (trace_upto s rounds)
 
 -- the headers alone
-pub headers_written : {W X : Type 0} (sink : Sink W) (old now : W) (sink' : Sink X) (old' now' : X) (sim : SimView) → sim.broken ≡ false → sim.rounds_done ≡ 0
-    → IsWritten sink old now report_header_line → IsWritten sink' old' now' trace_header_line → AreWrittenUpto sink old now sink' old' now' sim.settings sim 0
-headers_written sink old now sink' old' now' sim unbroken first header header' = record {
+pub headers_written : {W X : Type 0} (sink : Sink W) (old now : W) (sink' : Sink X) (old' now' : X) (sim : SimView) (format : ℕ) → format ≡ sim.settings.format → sim.broken ≡ false → sim.rounds_done ≡ 0
+    → IsWritten sink old now (report_header_line format) → IsWritten sink' old' now' trace_header_line → AreWrittenUpto sink old now sink' old' now' sim.settings sim 0
+headers_written sink old now sink' old' now' sim format format_is unbroken first header header' = record {
   settings = refl;
   unbroken = unbroken;
   done = first;
-  report = subst (IsWritten sink old now) (sym (append-nil report_header_line)) header;
+  report = subst (IsWritten sink old now) (ap report_header_line format_is ∙ sym (append-nil (report_header_line sim.settings.format))) header;
   trace = subst (IsWritten sink' old' now') (sym (append-nil trace_header_line)) header';
 }
 
@@ -61,12 +61,12 @@ range_more n =
     ∙ map-range_with_len_more (λ (x : ℕ). x) 1 n (n + 1) (omega arith)
     ∙ ap (λ xs. xs ++ ((n + 1) ∷ [])) (map-id (range_with_len 1 n))
 
-report_more : (s : Settings) (rounds : ℕ) → report_upto s (rounds + 1) ≡ report_upto s rounds ++ report_line (row_in s (rounds + 1))
+report_more : (s : Settings) (rounds : ℕ) → report_upto s (rounds + 1) ≡ report_upto s rounds ++ report_line s.format (row_in s (rounds + 1))
 report_more s rounds =
-    ap (λ rows. report_header_line ++ report_lines rows) (map-range_with_len_more (row_in s) 1 rounds (rounds + 1) (omega arith))
-    ∙ ap (λ lines. report_header_line ++ lines) (flat_map-append report_line (rows_upto s rounds) (row_in s (rounds + 1) ∷ []))
-    ∙ sym (append_assoc report_header_line (report_lines (rows_upto s rounds)) (report_line (row_in s (rounds + 1)) ++ []))
-    ∙ ap (λ line. report_upto s rounds ++ line) (append-nil (report_line (row_in s (rounds + 1))))
+    ap (λ rows. (report_header_line s.format) ++ report_lines s.format rows) (map-range_with_len_more (row_in s) 1 rounds (rounds + 1) (omega arith))
+    ∙ ap (λ lines. (report_header_line s.format) ++ lines) (flat_map-append (report_line s.format) (rows_upto s rounds) (row_in s (rounds + 1) ∷ []))
+    ∙ sym (append_assoc (report_header_line s.format) (report_lines s.format (rows_upto s rounds)) (report_line s.format (row_in s (rounds + 1)) ++ []))
+    ∙ ap (λ line. report_upto s rounds ++ line) (append-nil (report_line s.format (row_in s (rounds + 1))))
 
 trace_more : (s : Settings) (rounds : ℕ) → trace_upto s (rounds + 1) ≡ trace_upto s rounds ++ trace_in s (rounds + 1)
 trace_more s rounds =
@@ -128,17 +128,17 @@ module _ {W X : Type 0} (sink : Sink W) (old now : W) (sink' : Sink X) (old' now
     pub stops_in_lines : (after' : X) (workers : ℕ) (fault : Fault) → rounds < s.rounds → IsWriteFault sink' now' after' lines fault → StopsAt sink old now sink' old' after' s workers fault (lines_after rounds)
     stops_in_lines after' workers fault more stop = (more, so_far.report, (now', so_far.trace, subst (λ l. IsWriteFault sink' now' after' l fault) lines_here stop))
 
-    pub stops_in_row : (row : Row) → row ≡ round.row → (after : W) (after' : X) (workers : ℕ) (fault : Fault) → rounds < s.rounds → IsWritten sink' now' after' lines
-        → IsWriteFault sink now after (report_line row) fault → StopsAt sink old after sink' old' after' s workers fault (row_after rounds)
-    stops_in_row row row_is after after' workers fault more written stop =
-        (more, (now, so_far.report, subst (λ r. IsWriteFault sink now after (report_line r) fault) (row_here row row_is) stop), traced after' written)
+    pub stops_in_row : (format : ℕ) → format ≡ s.format → (row : Row) → row ≡ round.row → (after : W) (after' : X) (workers : ℕ) (fault : Fault) → rounds < s.rounds → IsWritten sink' now' after' lines
+        → IsWriteFault sink now after (report_line format row) fault → StopsAt sink old after sink' old' after' s workers fault (row_after rounds)
+    stops_in_row format format_is row row_is after after' workers fault more written stop =
+        (more, (now, so_far.report, subst (λ l. IsWriteFault sink now after l fault) (λ i. report_line (format_is i) (row_here row row_is i)) stop), traced after' written)
 
-    pub one_more : (row : Row) → row ≡ round.row → (after : W) (after' : X) → IsWritten sink' now' after' lines → IsWritten sink now after (report_line row)
+    pub one_more : (format : ℕ) → format ≡ s.format → (row : Row) → row ≡ round.row → (after : W) (after' : X) → IsWritten sink' now' after' lines → IsWritten sink now after (report_line format row)
         → AreWrittenUpto sink old after sink' old' after' s sim' (rounds + 1)
-    one_more row row_is after after' written row_written = record {
+    one_more format format_is row row_is after after' written row_written = record {
       settings = played.settings ∙ so_far.settings;
       unbroken = played.still;
       done = played.done ∙ ap (λ n. n + 1) so_far.done;
-      report = subst (IsWritten sink old after) (sym (report_more s rounds)) (written_then sink old now after (report_upto s rounds) (report_line (row_in s (rounds + 1))) so_far.report (subst (λ r. IsWritten sink now after (report_line r)) (row_here row row_is) row_written));
+      report = subst (IsWritten sink old after) (sym (report_more s rounds)) (written_then sink old now after (report_upto s rounds) (report_line s.format (row_in s (rounds + 1))) so_far.report (subst (IsWritten sink now after) (λ i. report_line (format_is i) (row_here row row_is i)) row_written));
       trace = traced after' written;
     }

@@ -18,7 +18,7 @@ use Rattle.bench.specs.Runs.{IsFaultAfter}
 
 -- the lines of the first so many rounds of a scenario
 abbrev pub lines_upto : Settings → ℕ → List ℕ
-lines_upto s rounds = compare_lines s.mode (rows_upto s rounds)
+lines_upto s rounds = compare_lines s.format s.mode (rows_upto s rounds)
 
 -- the lines of all its rounds under a mode, and under these modes in turn
 abbrev pub lines_under : Settings → Mode → List ℕ
@@ -28,7 +28,7 @@ abbrev pub lines_of_modes : Settings → List Mode → List ℕ
 lines_of_modes s ms = flat_map (lines_under s) ms
 
 unfoldable pub comparison_text : Settings → List ℕ
-comparison_text s = compare_header_line ++ lines_of_modes s modes
+comparison_text s = (compare_header_line s.format) ++ lines_of_modes s modes
 
 -- a text was written, and then the next round wasn't carried out, or writing its line came to this fault
 abbrev pub IsFaultInRound : {W : Type 0} → Sink W → W → W → List ℕ → List ℕ → ℕ → Fault → Type 0
@@ -41,7 +41,8 @@ IsFaultInRound sink old new whole line workers fault =
 pub record IsFaultInRounds {W : Type 0} (sink : Sink W) (old new : W) (whole : List ℕ) (s : Settings) (workers : ℕ) (fault : Fault) : Type 0 where
   pub rounds : ℕ
   pub within : rounds < s.rounds
-  pub stops : IsFaultInRound sink old new (whole ++ lines_upto s rounds) (compare_line s.mode (row_in s (rounds + 1))) workers fault
+  pub stops : IsFaultInRound sink old new (whole ++ lines_upto s rounds)
+      (compare_line s.format s.mode (row_in s (rounds + 1))) workers fault
 
 -- the text `whole` and all lines of the first of these modes were written, and then writing those of the next mode
 -- came to this fault
@@ -55,8 +56,8 @@ pub record IsFaultInModes {W : Type 0} (sink : Sink W) (old new : W) (whole : Li
 -- the fault of a comparison behind its reading: at the header, or behind it
 abbrev pub IsComparingFault : {W : Type 0} → Sink W → W → W → Settings → ℕ → Fault → Type 0
 IsComparingFault sink old new s workers fault =
-    IsWriteFault sink old new compare_header_line fault
-    ⊎ IsFaultInModes sink old new compare_header_line s modes workers fault
+    IsWriteFault sink old new (compare_header_line s.format) fault
+    ⊎ IsFaultInModes sink old new (compare_header_line s.format) s modes workers fault
 
 module _ {R W : Type 0} (source : Source R) (reader reader' : R) (sink : Sink W) (old new : W) where
   -- a scenario was read, and its comparison was written; its own mode has no effect on it

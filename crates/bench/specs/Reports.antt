@@ -16,7 +16,7 @@ rows_upto s rounds = map (row_in s) (range_with_len 1 rounds)
 
 -- the report after so many rounds, and the whole of it
 abbrev pub report_upto : Settings → ℕ → List ℕ
-report_upto s rounds = report_header_line ++ report_lines (rows_upto s rounds)
+report_upto s rounds = (report_header_line s.format) ++ report_lines s.format (rows_upto s rounds)
 
 unfoldable pub report_text : Settings → List ℕ
 report_text s = report_upto s s.rounds

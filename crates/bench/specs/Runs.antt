@@ -39,9 +39,9 @@ pub data StoppingPlace : Type 0 where
 module _ {W X : Type 0} (sink : Sink W) (old new : W) (sink' : Sink X) (old' new' : X) (s : Settings) (workers : ℕ) (fault : Fault) where
   -- all that stands before this place was written, and then the round, or writing what stands there, came to the fault
   abbrev pub StopsAt : StoppingPlace → Type 0
-  StopsAt report_header = IsWriteFault sink old new report_header_line fault × (new' ≡ old')
+  StopsAt report_header = IsWriteFault sink old new (report_header_line s.format) fault × (new' ≡ old')
   StopsAt trace_header =
-      IsWritten sink old new report_header_line
+      IsWritten sink old new (report_header_line s.format)
       × IsWriteFault sink' old' new' trace_header_line fault
   StopsAt (round_after rounds) =
       (rounds < s.rounds)
@@ -54,7 +54,7 @@ module _ {W X : Type 0} (sink : Sink W) (old new : W) (sink' : Sink X) (old' new
       × IsFaultAfter sink' old' new' (trace_upto s rounds) (trace_in s (rounds + 1)) fault
   StopsAt (row_after rounds) =
       (rounds < s.rounds)
-      × IsFaultAfter sink old new (report_upto s rounds) (report_line (row_in s (rounds + 1))) fault
+      × IsFaultAfter sink old new (report_upto s rounds) (report_line s.format (row_in s (rounds + 1))) fault
       × IsWritten sink' old' new' (trace_upto s (rounds + 1))
 
   -- the fault of the rounds and of writing the report and the trace

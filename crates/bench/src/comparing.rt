@@ -36,7 +36,7 @@ pub fn compare<H: Threads + Wait + Sync, R: Source, W: Sink>(
     ensures failing_end { IfErr result (TellsOfFailing W.Sink writer.old writer.new) }
 {
     let scenario = check_input(alloc, reader)?;
-    compare_header(alloc, writer)?;
+    compare_header(alloc, writer, scenario.format())?;
     write_modes(rt, alloc, scenario, &Mode::ALL, writer, workers)
 }
 
@@ -108,9 +108,10 @@ fn write_rows<H: Threads + Wait + Sync, W: Sink>(
         (IsWritten W.Sink writer.old writer.new (lines_upto sim.old.settings rounds)) }
     ensures fault { IfErr result (IsFaultInRounds W.Sink writer.old writer.new [] sim.old.settings workers) }
 {
+    let format = sim.format();
     for _ in 0..rounds {
         let round = sim.step(rt, workers, &FreeGate)?;
-        write_compare_row(alloc, writer, mode, &round.row())?;
+        write_compare_row(alloc, writer, format, mode, &round.row())?;
     }
     Ok(())
 }

@@ -86,13 +86,14 @@ fn write_texts<H: Threads + Wait + Sync, W: Sink, X: Sink>(
     ensures fault { IfErr result
         (IsWritingFault W.Sink writer.old writer.new X.Sink trace.old trace.new sim.old.settings workers) }
 {
-    report_header(alloc, writer)?;
+    let format = sim.format();
+    report_header(alloc, writer, format)?;
     trace_header(alloc, trace)?;
     for _ in 0..sim.rounds() {
         let round = sim.step(rt, workers, &FreeGate)?;
         let row = round.row();
         write_trace_rows(alloc, trace, row.round, round.list(), round.records())?;
-        write_report_row(alloc, writer, &row)?;
+        write_report_row(alloc, writer, format, &row)?;
     }
     Ok(())
 }

@@ -1,4 +1,5 @@
 pub mod Budget
 pub mod Entry
 pub mod Exchange
+pub mod Mark
 pub mod Mode

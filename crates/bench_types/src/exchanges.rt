@@ -9,22 +9,23 @@ use crate::entries::Entry;
 /// What a digest tells of a table.
 #[derive(Clone, Copy, Debug, PartialEq, Eq)]
 pub enum Telling {
-    /// The greatest version that is held of each owner.
+    /// The greatest mark that is held of each owner.
     Greatest,
-    /// Each version that is held, of each owner and key.
+    /// Each mark that is held, of each owner and key, and the generation held of each owner.
     Each,
 }
 
 /// Which entries are sent, which follows from what digests tell, and in which order.
 #[derive(Clone, Copy, Debug, PartialEq, Eq)]
 pub enum Mode {
-    /// What is above the receiver's greatest version of the owner, one entry of each owner in turn.
+    /// What is above the receiver's greatest mark of the owner, one entry of each owner in turn.
     ScuttleBreadth,
-    /// What is above the receiver's greatest version of the owner, the longest list of an owner first.
+    /// What is above the receiver's greatest mark of the owner, the longest list of an owner first.
     ScuttleDepth,
-    /// What is newer than the receiver's entry, by the round of its write.
+    /// What is newer than the receiver's entry, and of no older generation than its copy of the owner, by
+    /// the round of its write.
     PreciseOldest,
-    /// What is newer than the receiver's entry, the latest round first.
+    /// The same, the latest round first.
     PreciseNewest,
 }
 

@@ -12,7 +12,7 @@ mod rows;
 mod sinks;
 mod sources;
 
-pub use entries::{Entry, Item};
+pub use entries::{Entry, Item, Mark};
 pub use exchanges::{Budget, Exchange, Fate, Mode, Record, Rules, Telling};
 pub use faults::Fault;
 pub use fields::{Field, TableName};

@@ -3,10 +3,12 @@
 /// How far the copies lag behind their owners at the end of a round.
 #[derive(Clone, Copy, Debug, PartialEq, Eq)]
 pub struct Figures {
-    /// How many keys of copies are below their owners' version.
+    /// How many keys of copies are below their owners' mark.
     pub stale: u64,
     /// The most rounds that one of them has lagged, 0 where none is stale.
     pub greatest: u32,
+    /// How many keys of copies are of an older generation than their owner's.
+    pub leftover: u64,
 }
 
 /// One line of the report.
@@ -22,4 +24,5 @@ pub struct Row {
     pub cut: u64,
     pub stale: u64,
     pub greatest: u32,
+    pub leftover: u64,
 }

@@ -12,14 +12,14 @@ use Rattle.reconcile.specs.Candidates.{IsScuttleMode}
 use Rattle.exchange.specs.Exchanged.{Exchanged, exchanged}
 use Rattle.cluster.specs.Tables.{table_of_node, AreTablesInOrder, IsTableOf, AreProper}
 use Rattle.cluster.specs.Folds.{Folded, exchange_in, fold_of, tables_before}
-use Rattle.exchange.specs.Laws.{MayMeet, NoVersionFalls}
-use Rattle.exchange.specs.Copies.{OwnParts, WritesBy, AreLastOf, HoldsWrites, HasNoGap}
+use Rattle.exchange.specs.Laws.{MayMeet, NoMarkFalls}
+use Rattle.exchange.specs.Copies.{OwnParts, Generations, WritesBy, IsLastOf, AreLastOf, HoldsWrites, HasNoGap}
 use Rattle.bench_types.specs.Exchange.{IsPlanned}
-use Rattle.cluster.specs.Clusters.{own_parts, AreCopiesOf, HaveNoGap, NoVersionsFall, KeepOwnParts}
+use Rattle.cluster.specs.Clusters.{own_parts, generations_of, AreCopiesOf, HaveNoGap, NoMarksFall, KeepOwnParts}
 use Rattle.exchange.specs.Owns.{KeepsOwn}
 use Rattle.exchange.proofs.OwnParts.{keeps_own_same, keeps_own_then, initiator_keeps_own, responder_keeps_own}
 use Rattle.cluster.proofs.Tables.{still_in_order}
-use Rattle.exchange.proofs.ExchangeLaws.{initiator_rises, responder_rises, initiator_proper, responder_proper, initiator_writes, responder_writes, initiator_no_gap, responder_no_gap}
+use Rattle.exchange.proofs.ExchangeLaws.{marks_stay, marks_then, initiator_rises, responder_rises, initiator_proper, responder_proper, initiator_writes, responder_writes, initiator_no_gap, responder_no_gap}
 
 -- what holds of two tables that are written back and of the others holds of each
 set_both-each : (P : ℕ → Table → Type 0) (ts : List Table) (p q : ℕ) (x y : Table) → p < length ts → q < length ts → p ≢ q → P p x → P q y → ((n : ℕ) → P n (table_of_node ts n)) → (n : ℕ) → P n (table_of_node (set (set ts p x) q y) n)
@@ -67,7 +67,11 @@ module _ (rules : Rules) (nodes keys : ℕ) (s : Folded) (e : Exchange) (planned
   pub step_keeps_own : KeepOwnParts s.tables (exchange_in rules s e).tables
   step_keeps_own = each (λ n t. KeepsOwn (table_of_node s.tables n) t) (initiator_keeps_own rules e p q) (responder_keeps_own rules e p q) (λ n. keeps_own_same (table_of_node s.tables n))
 
-  -- and so does what the nodes hold of themselves
+  -- and so do their generations
+  pub step-generations : generations_of (exchange_in rules s e).tables ≡ generations_of s.tables
+  step-generations = λ i n. (step_keeps_own n).generation i
+
+  -- and what the nodes hold of themselves
   pub step-own_parts : own_parts (exchange_in rules s e).tables ≡ own_parts s.tables
   step-own_parts = λ i n key. each (λ m t. entry_at t m key ≡ own_parts s.tables m key)
       (subst (λ m. entry_at done.initiator m key ≡ entry_at p m key) first.node ((initiator_keeps_own rules e p q).own_part key))
@@ -79,10 +83,6 @@ module _ (rules : Rules) (nodes keys : ℕ) (s : Folded) (e : Exchange) (planned
 
       second : IsTableOf nodes keys e.responder q
       second = tables.tables e.responder planned.responder
-
-  -- no version goes down
-  pub step_rises : NoVersionsFall s.tables (exchange_in rules s e).tables
-  step_rises = each (λ n t. NoVersionFalls (table_of_node s.tables n) t) (initiator_rises rules e p q) (responder_rises rules e p q) (λ n owner key. omega arith)
 
   -- the tables stay those of all nodes
   pub step_tables : AreTablesInOrder nodes keys (exchange_in rules s e).tables
@@ -104,6 +104,10 @@ module _ (rules : Rules) (nodes keys : ℕ) (s : Folded) (e : Exchange) (planned
           rotation = subst (λ n. e.rotation < n) (sym first.nodes) planned.rotation;
         }
 
+    -- no mark goes down
+    pub step_rises : NoMarksFall s.tables (exchange_in rules s e).tables
+    step_rises = each (λ n t. NoMarkFalls (table_of_node s.tables n) t) (initiator_rises rules e p q meet) (responder_rises rules e p q meet) (λ n. marks_stay (table_of_node s.tables n))
+
     -- and proper
     pub step_proper : AreProper (exchange_in rules s e).tables
     step_proper n lt = each (λ m t. m < nodes → IsProper t) (λ _. initiator_proper rules e p q meet) (λ _. responder_proper rules e p q meet) proper_at n (omega (arith, lt, step_size rules s e, tables.size))
@@ -114,7 +118,8 @@ module _ (rules : Rules) (nodes keys : ℕ) (s : Folded) (e : Exchange) (planned
   step_copies = record {
     tables = step_tables rules nodes keys s e planned copies.tables;
     proper = step_proper rules nodes keys s e planned copies.tables copies.proper;
-    last = subst (λ own. AreLastOf nodes writes own) (sym (step-own_parts rules nodes keys s e planned copies.tables)) copies.last;
+    last = λ owner lt. subst (λ g. IsLastOf (g owner) (writes owner) (own_parts (exchange_in rules s e).tables owner)) (sym (step-generations rules nodes keys s e planned copies.tables))
+        (subst (λ own. IsLastOf (generations_of s.tables owner) (writes owner) (own owner)) (sym (step-own_parts rules nodes keys s e planned copies.tables)) (copies.last owner lt));
     holds = each rules nodes keys s e planned copies.tables (λ n t. n < nodes → HoldsWrites writes t)
         (λ lt. initiator_writes rules e first second meeting writes (copies.holds e.initiator planned.initiator) (copies.holds e.responder planned.responder))
         (λ lt. responder_writes rules e first second meeting writes (copies.holds e.initiator planned.initiator) (copies.holds e.responder planned.responder))
@@ -135,13 +140,16 @@ module _ (rules : Rules) (nodes keys : ℕ) (s : Folded) (e : Exchange) (planned
   step_no_gap scuttle gapless n lt =
       subst (λ own. HasNoGap own (table_of_node (exchange_in rules s e).tables n)) (sym (step-own_parts rules nodes keys s e planned copies.tables))
       (each rules nodes keys s e planned copies.tables (λ m t. m < nodes → HasNoGap own t)
-      (λ _. initiator_no_gap rules e first second meeting writes (copies.holds e.initiator planned.initiator) (copies.holds e.responder planned.responder) scuttle own last first_gapless second_gapless)
-      (λ _. responder_no_gap rules e first second meeting writes (copies.holds e.initiator planned.initiator) (copies.holds e.responder planned.responder) scuttle own last first_gapless second_gapless)
+      (λ _. initiator_no_gap rules e first second meeting writes (copies.holds e.initiator planned.initiator) (copies.holds e.responder planned.responder) scuttle generations own last first_gapless second_gapless)
+      (λ _. responder_no_gap rules e first second meeting writes (copies.holds e.initiator planned.initiator) (copies.holds e.responder planned.responder) scuttle generations own last first_gapless second_gapless)
       (λ m in_nodes. gapless m (omega (arith, in_nodes, copies.tables.size)))
       n (omega (arith, lt, (step_tables rules nodes keys s e planned copies.tables).size)))
     where
       own : OwnParts
       own = own_parts s.tables
+
+      generations : Generations
+      generations = generations_of s.tables
 
       first : Table
       first = table_of_node s.tables e.initiator
@@ -152,8 +160,8 @@ module _ (rules : Rules) (nodes keys : ℕ) (s : Folded) (e : Exchange) (planned
       meeting : MayMeet e first second
       meeting = meet rules nodes keys s e planned copies.tables copies.proper
 
-      last : AreLastOf first.nodes writes own
-      last = subst (λ m. AreLastOf m writes own) (sym (copies.tables.tables e.initiator planned.initiator).nodes) copies.last
+      last : AreLastOf first.nodes generations writes own
+      last = subst (λ m. AreLastOf m generations writes own) (sym (copies.tables.tables e.initiator planned.initiator).nodes) copies.last
 
       first_gapless : HasNoGap own first
       first_gapless = gapless e.initiator (omega (arith, planned.initiator, copies.tables.size))
@@ -211,14 +219,17 @@ module _ (rules : Rules) (nodes keys : ℕ) (es : List Exchange) (ts : List Tabl
     pub before_keeps_own : (i : ℕ) → KeepOwnParts ts (tables_before rules ts es i)
     before_keeps_own i = fold_keeps_own rules nodes keys (take i es) ts (ahead i) tables
 
-    -- no version has gone down since an earlier one
-    pub before_rises : (i j : ℕ) → i ≤ j → NoVersionsFall (tables_before rules ts es i) (tables_before rules ts es j)
-    before_rises i j le =
-        subst (λ us. NoVersionsFall (tables_before rules ts es i) (fold_of rules ts us).tables) (ap (λ us. us ++ drop i (take j es)) (sym (take-take i j es le)) ∙ take-append-drop i (take j es))
-        (subst (λ (s : Folded). NoVersionsFall (tables_before rules ts es i) s.tables) (sym (fold-append (exchange_in rules) (record { tables = ts; records = [] }) (take i es) (drop i (take j es))))
-        (on_fold rules nodes keys (λ us. AreTablesInOrder nodes keys us × NoVersionsFall (tables_before rules ts es i) us)
-        (λ s e is both. (step_tables rules nodes keys s e is both.0, λ n owner key. omega (arith, both.1 n owner key, step_rises rules nodes keys s e is both.0 n owner key)))
-        (drop i (take j es)) (fold_of rules ts (take i es)) (All-drop (IsPlanned nodes) i (take j es) (ahead j)) (before_tables i, λ n owner key. omega arith)).1)
+    -- no mark has gone down since an earlier one
+    pub before_rises : AreProper ts → (i j : ℕ) → i ≤ j → NoMarksFall (tables_before rules ts es i) (tables_before rules ts es j)
+    before_rises proper i j le =
+        subst (λ us. NoMarksFall (tables_before rules ts es i) (fold_of rules ts us).tables) (ap (λ us. us ++ drop i (take j es)) (sym (take-take i j es le)) ∙ take-append-drop i (take j es))
+        (subst (λ (s : Folded). NoMarksFall (tables_before rules ts es i) s.tables) (sym (fold-append (exchange_in rules) (record { tables = ts; records = [] }) (take i es) (drop i (take j es))))
+        (on_fold rules nodes keys (λ us. (AreTablesInOrder nodes keys us × AreProper us) × NoMarksFall (tables_before rules ts es i) us)
+        (λ s e is both. (
+          (step_tables rules nodes keys s e is both.0.0, step_proper rules nodes keys s e is both.0.0 both.0.1),
+          λ n. marks_then (table_of_node (tables_before rules ts es i) n) (table_of_node s.tables n) (table_of_node (exchange_in rules s e).tables n) (both.1 n) (step_rises rules nodes keys s e is both.0.0 both.0.1 n),
+        ))
+        (drop i (take j es)) (fold_of rules ts (take i es)) (All-drop (IsPlanned nodes) i (take j es) (ahead j)) ((before_tables i, before_proper proper i), λ n. marks_stay (table_of_node (tables_before rules ts es i) n))).1)
 
   module _ (writes : WritesBy) (copies : AreCopiesOf writes nodes keys ts) where
     pub before_copies : (i : ℕ) → AreCopiesOf writes nodes keys (tables_before rules ts es i)

@@ -4,10 +4,10 @@ use Rattle.bench_types.specs.declared.entries.Item.{Item}
 use Rattle.bench_types.specs.declared.exchanges.Exchange.{Exchange}
 use Rattle.bench_types.specs.declared.exchanges.Rules.{Rules}
 use Rattle.bench_types.specs.Mode.{told_by}
-use Rattle.node_table.specs.Table.{Table, applied, items_of, entry_at, greatest_version}
-use Rattle.node_table.proofs.Laws.{entry_at-applied_other}
-use Rattle.node_table.proofs.Versions.{greatest_version-applied_other}
-use Rattle.reconcile.specs.Candidates.{candidates, known_version}
+use Rattle.node_table.specs.Table.{Table, applied, items_of, entry_at, greatest_mark}
+use Rattle.node_table.proofs.Laws.{entry_at-applied_other, frame-applied}
+use Rattle.node_table.proofs.MarkLaws.{greatest_mark-applied_other}
+use Rattle.reconcile.specs.Candidates.{candidates, known_mark}
 use Rattle.reconcile.specs.Deltas.{delta_between}
 use Rattle.reconcile.proofs.Told.{All-delta_between, All-items_above}
 use Rattle.exchange.specs.Exchanged.{exchanged, fate_of}
@@ -20,27 +20,29 @@ pub delta-others : (rules : Rules) (s : ℕ) (from to : Table) → All (λ (i : 
 delta-others rules s from to =
     All-delta_between (λ (i : Item). i.owner ≢ to.node) rules.mode s rules.budget from to
     (All-weaker (λ (i : Item). (i.owner ≢ to.node) × Unit {0}) (λ (i : Item). i.owner ≢ to.node) (λ i h. h.0) (candidates rules.mode from to)
-    (All-items_above (λ i. Unit {0}) (known_version (told_by rules.mode) to) to.node (items_of from) (λ k d lt. tt)))
+    (All-items_above (λ i. Unit {0}) (known_mark (told_by rules.mode) to) to.node (items_of from) (λ k d lt. tt)))
 
 pub keeps_own_same : (t : Table) → KeepsOwn t t
-keeps_own_same t = record { node = refl; nodes = refl; keys = refl; own_part = λ key. refl; greatest = refl }
+keeps_own_same t = record { node = refl; nodes = refl; keys = refl; generation = refl; own_part = λ key. refl; greatest = refl }
 
 pub keeps_own_then : (t u v : Table) → KeepsOwn t u → KeepsOwn u v → KeepsOwn t v
 keeps_own_then t u v a b = record {
   node = b.node ∙ a.node;
   nodes = b.nodes ∙ a.nodes;
   keys = b.keys ∙ a.keys;
+  generation = b.generation ∙ a.generation;
   own_part = λ key. ap (λ o. entry_at v o key) (sym a.node) ∙ b.own_part key ∙ ap (λ o. entry_at u o key) a.node ∙ a.own_part key;
-  greatest = ap (greatest_version v) (sym a.node) ∙ b.greatest ∙ ap (greatest_version u) a.node ∙ a.greatest;
+  greatest = ap (greatest_mark v) (sym a.node) ∙ b.greatest ∙ ap (greatest_mark u) a.node ∙ a.greatest;
 }
 
 keeps_own_applied : (t : Table) (added : List Item) → All (λ (i : Item). i.owner ≢ t.node) added → KeepsOwn t (applied t added)
 keeps_own_applied t added others = record {
-  node = refl;
-  nodes = refl;
-  keys = refl;
+  node = (frame-applied t added).node;
+  nodes = (frame-applied t added).nodes;
+  keys = (frame-applied t added).keys;
+  generation = (frame-applied t added).generation;
   own_part = λ key. entry_at-applied_other t added t.node key others;
-  greatest = greatest_version-applied_other t added t.node others;
+  greatest = greatest_mark-applied_other t added t.node others;
 }
 
 module _ (rules : Rules) (e : Exchange) (p q : Table) where

@@ -1,7 +1,8 @@
 -- What an exchange never does to a table, whatever the mode, rotation, budget and losses are, and what it makes of
 -- both tables in a precise mode where nothing is lost or cut.
--- Source: the LADIS 2008 paper, whose reconciliation keeps the entry with the greater version.
-use Rattle.std.specs.Prelude.{◌≡◌, ◌≢◌, ℕ, ◌<◌, ◌≤◌, ◌⊎◌, false, max, Some}
+-- Source: the LADIS 2008 paper, whose reconciliation keeps the entry with the greater version; generations are this
+-- project's.
+use Rattle.std.specs.Prelude.{◌≡◌, ◌≢◌, ℕ, ◌<◌, ◌⊎◌, ◌==◌, false, max, Some, if◌then◌else◌}
 use Rattle.bench_types.specs.declared.entries.Entry.{Entry}
 use Rattle.bench_types.specs.declared.exchanges.Exchange.{Exchange}
 use Rattle.bench_types.specs.declared.exchanges.Fate.TheVariants as fate
@@ -9,8 +10,9 @@ use Rattle.bench_types.specs.declared.exchanges.Mode.{Mode}
 use Rattle.bench_types.specs.declared.exchanges.Record.{Record}
 use Rattle.bench_types.specs.declared.exchanges.Rules.{Rules}
 use Rattle.bench_types.specs.declared.exchanges.Telling.TheVariants.{Each}
+use Rattle.bench_types.specs.Mark.{IsUpTo}
 use Rattle.bench_types.specs.Mode.{told_by}
-use Rattle.node_table.specs.Table.{Table, entry_at, version_at, IsProper}
+use Rattle.node_table.specs.Table.{Table, entry_at, mark_at, greatest_mark, generation_held, IsProper}
 use Rattle.reconcile.specs.Candidates.{candidates}
 use Rattle.reconcile.specs.Deltas.{AreWithin}
 use Rattle.exchange.specs.Exchanged.{exchanged}
@@ -23,9 +25,11 @@ pub record MayMeet (e : Exchange) (p q : Table) : Type 0 where
   pub keys : p.keys ≡ q.keys
   pub rotation : e.rotation < p.nodes
 
--- no version goes down
-abbrev pub NoVersionFalls : Table → Table → Type 0
-NoVersionFalls old new = (owner key : ℕ) → version_at old owner key ≤ version_at new owner key
+-- no greatest mark of a copy goes down, and no mark of a key as long as the copy's generation stays
+pub record NoMarkFalls (old new : Table) : Type 0 where
+  pub greatest : (owner : ℕ) → IsUpTo (greatest_mark old owner) (greatest_mark new owner)
+  pub within : (owner key : ℕ) → generation_held new owner ≡ generation_held old owner
+      → IsUpTo (mark_at old owner key) (mark_at new owner key)
 
 -- each entry stood at its place in one of two tables
 abbrev pub StoodInEither : Table → Table → Table → Type 0
@@ -49,18 +53,28 @@ pub record LosesAndCutsNothing (r : Record) : Type 0 where
   pub back : r.back_cut ≡ 0
   pub forth : r.forth_cut ≡ 0
 
--- of each owner but the table's own node it has, at each key, the greater of the versions of two tables
-abbrev pub HasTheGreater : Table → Table → Table → Type 0
-HasTheGreater p q new =
-    (owner key : ℕ) → owner ≢ new.node
-    → version_at new owner key ≡ max (version_at p owner key) (version_at q owner key)
+-- the version of a key in a generation, 0 where the copy of its owner is of another one
+abbrev pub version_in : ℕ → Table → ℕ → ℕ → ℕ
+version_in generation t owner key = if generation_held t owner == generation then (mark_at t owner key).version else 0
+
+-- the newer of the generations that two tables hold of an owner
+abbrev pub newer_generation : Table → Table → ℕ → ℕ
+newer_generation p q owner = max (generation_held p owner) (generation_held q owner)
+
+-- of each owner but the table's own node it has the newer of the generations that two tables have, and in it, at each
+-- key, the greater of their versions
+pub record HasTheNewer (p q new : Table) : Type 0 where
+  pub generation : (owner : ℕ) → owner ≢ new.node → generation_held new owner ≡ newer_generation p q owner
+  pub versions : (owner key : ℕ) → owner ≢ new.node
+      → (mark_at new owner key).version
+      ≡ max (version_in (newer_generation p q owner) p owner key) (version_in (newer_generation p q owner) q owner key)
 
 -- and so have both tables after an exchange in a precise mode, where nothing is lost or cut
-abbrev pub WholePreciseExchangesGiveTheGreater : Type 0
-WholePreciseExchangesGiveTheGreater =
+abbrev pub WholePreciseExchangesGiveTheNewer : Type 0
+WholePreciseExchangesGiveTheNewer =
     (rules : Rules) (e : Exchange) (p q : Table) → MayMeet e p q → IsPreciseMode rules.mode
     → LosesAndCutsNothing (exchanged rules e p q).sent
-    → HasTheGreater p q (exchanged rules e p q).initiator × HasTheGreater p q (exchanged rules e p q).responder
+    → HasTheNewer p q (exchanged rules e p q).initiator × HasTheNewer p q (exchanged rules e p q).responder
 
 -- no message of it is lost
 abbrev pub LosesNothing : Exchange → Type 0

@@ -1,6 +1,6 @@
 //! What holds of every exchange. The calls do nothing.
 
-ghost use Rattle.exchange.specs.Laws.{EntriesComeFromEither, EnoughBudgetCutsNothing, WholePreciseExchangesGiveTheGreater};
+ghost use Rattle.exchange.specs.Laws.{EntriesComeFromEither, EnoughBudgetCutsNothing, WholePreciseExchangesGiveTheNewer};
 
 /// After an exchange each entry is one that stood at its place in one of the two tables before it.
 pub fn entries_come_from_either()
@@ -13,7 +13,7 @@ pub fn enough_budget_cuts_nothing()
 {}
 
 /// In the precise modes an exchange without loss or cut leaves each side, of every owner but itself,
-/// with the greater of the two versions of each key.
-pub fn whole_precise_exchanges_give_the_greater()
-    ensures { WholePreciseExchangesGiveTheGreater }
+/// with the newer of the two generations, and of each key with the greater of the two versions in it.
+pub fn whole_precise_exchanges_give_the_newer()
+    ensures { WholePreciseExchangesGiveTheNewer }
 {}

@@ -3,7 +3,7 @@ use Rattle.std.proofs.Common.{◌≡◌, ℕ, zero, suc, ◌+◌, ◌-◌, ◌<�
 use lib.Seq.{paste}
 use borrow.Rule.Slice.PartMut.{put_mid}
 use Rattle.std.specs.List.{insert, remove, copy_within}
-use Rattle.std.proofs.lemmas.List.{length-take-le, length-drop, take-take, take_more_set, drop-take, set-append_left, take-append-le, drop-append-le, drop_at, take-replicate}
+use Rattle.std.proofs.lemmas.List.{length-take-le, length-drop, take-take, take_more_set, drop-take, set-append_left, take-append-le, drop-append-le, drop_at, drop-set, drop-set-lt, take-set-le, take-replicate}
 use Rattle.std.proofs.lemmas.List.Edits.{take-paste}
 use Rattle.std.proofs.lemmas.Slice.{drop-put_mid}
 
@@ -77,6 +77,15 @@ take-behind s n xs ys within =
 -- a new block begins with what fills it
 pub take-new : {X : Type 0} (keys : ℕ) (xs : List X) (y : X) → 1 ≤ keys → take 1 (drop (length xs) (xs ++ replicate keys y)) ≡ y ∷ []
 take-new keys xs y some = ap (take 1) (drop_at xs (replicate keys y) (length xs) refl) ∙ take-replicate 1 keys y some
+
+-- a row outside of a slot that was written
+pub take-set_outside : {X : Type 0} (i s n : ℕ) (xs : List X) (y : X) → (s + n ≤ i) ⊎ (i < s) → take n (drop s (set xs i y)) ≡ take n (drop s xs)
+take-set_outside i s n xs y (inl before) = sym (drop-take s n (set xs i y)) ∙ ap (drop s) (take-set-le (s + n) xs i y before) ∙ drop-take s n xs
+take-set_outside i s n xs y (inr behind) = ap (take n) (drop-set-lt s xs i y behind)
+
+-- and the row of that slot alone
+pub take-set_here : {X : Type 0} (i : ℕ) (xs : List X) (y : X) → i < length xs → take 1 (drop i (set xs i y)) ≡ y ∷ []
+take-set_here i xs y lt = ap (take 1) (drop-set xs i y lt)
 
 pub length-block : {X : Type 0} (start keys : ℕ) (xs : List X) → start + keys ≤ length xs → length (take (start + keys - start) (drop start xs)) ≡ keys
 length-block start keys xs within =

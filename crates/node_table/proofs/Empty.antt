@@ -1,22 +1,28 @@
 -- A layout of which no row has an entry.
-use Rattle.std.proofs.Common.{◌≡◌, ℕ, [], length, replicate, inl, inr, refl, sym, ap, ◌∙◌, subst, arith}
-use Rattle.std.specs.Prelude.{sum_by}
+use Rattle.std.proofs.Common.{◌≡◌, ℕ, [], replicate, None, inl, inr, refl, sym, ap, ◌∙◌, subst, arith}
+use Rattle.std.specs.Prelude.{◌≤◌, List, vec_capacity, sum_by}
+use Rattle.std.specs.FinMap.{empty, get-empty}
 use Rattle.std.proofs.lemmas.Bool.{cases_lt}
 use Rattle.std.proofs.lemmas.List.{length-replicate, get_or-replicate}
-use Rattle.node_table.specs.Table.{Table, empty_table}
-use Rattle.node_table.specs.Rows.{AreGreatest}
-use Rattle.node_table.specs.Layouts.{row_of, rows_of, row_at, row_len, block_len, held_in, entry_in, IsInSlots, AreLaid}
-use Rattle.node_table.proofs.Laws.{same_table, entry_at-empty_table}
-use Rattle.node_table.proofs.Versions.{greatest_version-empty_table}
+use Rattle.bench_types.specs.declared.entries.Mark.{Mark}
+use Rattle.bench_types.specs.Mark.{absent}
+use Rattle.bench_types.specs.declared.entries.Entry.{Entry}
+use Rattle.node_table.specs.declared.layouts.Row.{Row}
+use Rattle.node_table.specs.declared.layouts.Layout.{Layout}
+use Rattle.node_table.specs.Table.{place_cmp, Table, entry_at, greatest_mark, IsProper}
+use Rattle.node_table.specs.Rows.{AreGenerations, AreGreatest}
+use Rattle.node_table.specs.Layouts.{row_of, rows_of, row_at, held_in, row_len, block_len, entry_in, table_in, IsInSlots, AreLaid, IsLayout}
+use Rattle.node_table.proofs.Laws.{same_table}
 use Rattle.node_table.proofs.Laid.{row_at-get_or, row_at-past}
+use Rattle.node_table.proofs.Greatest.{greatest_mark-none}
 use Rattle.node_table.proofs.InRows.{get-held_in}
 use Rattle.node_table.proofs.Forgotten.{empty_row, empty_is_row, sum_none}
 
-module _ (node nodes keys : ℕ) where
+module _ (nodes keys : ℕ) where
   empty_lies : IsInSlots keys [] empty_row
   empty_lies = record { within = omega arith; block = λ some. absurd (omega arith); row = empty_is_row keys }
 
-  pub laid_empty : AreLaid nodes keys [] (replicate nodes empty_row)
+  laid_empty : AreLaid nodes keys [] (replicate nodes empty_row)
   laid_empty = record {
     as_many = length-replicate nodes empty_row;
     each = λ k d lt. subst (IsInSlots keys []) (sym (get_or-replicate nodes k empty_row d (omega (arith, length-replicate nodes empty_row)))) empty_lies;
@@ -24,7 +30,7 @@ module _ (node nodes keys : ℕ) where
     filled = sum_none (block_len keys) nodes empty_row refl;
   }
 
-  pub counted_empty : 0 ≡ sum_by row_len (replicate nodes empty_row)
+  counted_empty : 0 ≡ sum_by row_len (replicate nodes empty_row)
   counted_empty = sym (sum_none row_len nodes empty_row refl)
 
   row_at-empty : (owner : ℕ) → row_at [] (replicate nodes empty_row) owner ≡ []
@@ -33,15 +39,40 @@ module _ (node nodes keys : ℕ) where
     | inr past ↦ row_at-past [] (replicate nodes empty_row) owner (omega (arith, length-replicate nodes empty_row))
   ]
 
-  pub table_empty : ◌≡◌ {A = Table} (record { node = node; nodes = nodes; keys = keys; held = held_in (rows_of [] (replicate nodes empty_row)) }) (empty_table node nodes keys)
-  table_empty = same_table _ (empty_table node nodes keys) refl refl refl (λ owner key.
-      get-held_in (rows_of [] (replicate nodes empty_row)) owner key ∙ ap (λ row. entry_in row key) (row_at-empty owner) ∙ sym (entry_at-empty_table node nodes keys owner key))
+-- the table that holds nothing
+abbrev pub bare : ℕ → ℕ → ℕ → ℕ → Table
+bare node nodes keys generation = record { node = node; nodes = nodes; keys = keys; generation = generation; held = empty }
 
-  length-none : length {A = ℕ} (replicate nodes 0) ≡ nodes
-  length-none = length-replicate {A = ℕ} nodes 0
+module _ (node nodes keys generation : ℕ) where
+  entry_at-bare : (owner key : ℕ) → entry_at (bare node nodes keys generation) owner key ≡ None
+  entry_at-bare owner key = get-empty place_cmp (owner, key)
 
-  pub greatest_empty : AreGreatest (empty_table node nodes keys) (replicate nodes 0)
-  greatest_empty = record {
-    count = length-none;
-    greatest = λ owner lt. get_or-replicate nodes owner 0 0 lt ∙ sym (greatest_version-empty_table node nodes keys owner);
+  mark-bare : (owner : ℕ) → greatest_mark (bare node nodes keys generation) owner ≡ absent
+  mark-bare owner = greatest_mark-none (bare node nodes keys generation) owner (λ key _. entry_at-bare owner key)
+
+  module _ (slots : List Entry) (rows : List Row) (no_slots : slots ≡ []) (no_entries : rows ≡ replicate nodes empty_row) where
+    row_none : (owner : ℕ) → row_at slots rows owner ≡ []
+    row_none owner = ap (λ xs. row_at xs rows owner) no_slots ∙ ap (λ xs. row_at [] xs owner) no_entries ∙ row_at-empty nodes keys owner
+
+    pub table_bare : ◌≡◌ {A = Table} (record { node = node; nodes = nodes; keys = keys; generation = generation; held = held_in (rows_of slots rows) }) (bare node nodes keys generation)
+    table_bare = same_table _ (bare node nodes keys generation) refl refl refl refl (λ owner key. get-held_in (rows_of slots rows) owner key ∙ ap (λ row. entry_in row key) (row_none owner) ∙ sym (entry_at-bare owner key))
+
+module _ (l : Layout) (slots : l.slots.items ≡ []) (rows : l.rows.items ≡ replicate l.nodes empty_row) where
+  bare_in : table_in l ≡ bare l.node l.nodes l.keys l.generation
+  bare_in = table_bare l.node l.nodes l.keys l.generation l.slots.items l.rows.items slots rows
+
+  pub layout_bare : IsProper (bare l.node l.nodes l.keys l.generation) → l.greatest.items ≡ replicate l.nodes 0 → l.generations.items ≡ [] → l.nodes ≤ vec_capacity l.generations → l.count ≡ 0 → IsLayout l
+  layout_bare proper greatest generations room count = record {
+    proper = subst IsProper (sym bare_in) proper;
+    laid = subst (λ xs. AreLaid l.nodes l.keys xs l.rows.items) (sym slots) (subst (AreLaid l.nodes l.keys []) (sym rows) (laid_empty l.nodes l.keys));
+    greatest = subst (λ (t : Table). AreGreatest t l.greatest.items) (sym bare_in) (subst (AreGreatest (bare l.node l.nodes l.keys l.generation)) (sym greatest) (record {
+      count = length-replicate {A = ℕ} l.nodes 0;
+      greatest = λ owner lt. get_or-replicate l.nodes owner 0 0 lt ∙ sym (ap (λ (m : Mark). m.version) (mark-bare l.node l.nodes l.keys l.generation owner));
+    }));
+    generations = subst (λ (t : Table). AreGenerations t l.generations.items) (sym bare_in) (subst (AreGenerations (bare l.node l.nodes l.keys l.generation)) (sym generations) (record {
+      count = inl refl;
+      held = λ owner lt. sym (ap (λ (m : Mark). m.generation) (mark-bare l.node l.nodes l.keys l.generation owner));
+    }));
+    room = room;
+    counted = count ∙ counted_empty l.nodes l.keys ∙ ap (sum_by row_len) (sym rows);
   }

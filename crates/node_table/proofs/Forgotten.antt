@@ -8,11 +8,12 @@ use Rattle.std.proofs.lemmas.List.Sums.{sum_by-cons, sum_by-set}
 use Rattle.bench_types.specs.declared.entries.Entry.{Entry}
 use Rattle.node_table.specs.declared.layouts.Row.{Row}
 use Rattle.node_table.specs.declared.layouts.Layout.{Layout}
-use Rattle.node_table.specs.Table.{Table, without_others, entry_at, greatest_version}
-use Rattle.node_table.specs.Rows.{AreGreatest}
-use Rattle.node_table.specs.Layouts.{row_of, rows_of, row_at, row_len, held_in, block_len, entry_in, table_in, IsRow, IsInSlots, AreApart, AreLaid}
+use Rattle.bench_types.specs.declared.entries.Mark.{Mark}
+use Rattle.node_table.specs.Table.{Table, without_others, entry_at, generation_held, greatest_version}
+use Rattle.node_table.specs.Rows.{AreGenerations, AreGreatest}
+use Rattle.node_table.specs.Layouts.{row_of, rows_of, row_at, row_len, held_in, block_len, entry_in, table_in, IsRow, IsInSlots, AreApart, AreLaid, AreOthersKept}
 use Rattle.node_table.proofs.Laws.{same_table, entry_at-without_others_own, entry_at-without_others_other}
-use Rattle.node_table.proofs.Versions.{greatest_version-without_others_own, greatest_version-without_others_other}
+use Rattle.node_table.proofs.MarkLaws.{greatest_mark-without_others_own, greatest_mark-without_others_other}
 use Rattle.node_table.proofs.Laid.{row_at-get_or, row_at-past, block_len-some}
 use Rattle.node_table.proofs.InRows.{get-held_in}
 use Rattle.node_table.proofs.InLayout.{entry_at-in}
@@ -88,12 +89,18 @@ module _ (nodes keys owner : ℕ) (r : Row) (slots slots' : List Entry) (below :
   ]
 
 -- with one row left the table is that of its owner's entries
-pub table_one : (l : Layout) (slots' : List Entry) (rows' : List Row) → row_at slots' rows' l.node ≡ row_at l.slots.items l.rows.items l.node → ((k : ℕ) → k ≢ l.node → row_at slots' rows' k ≡ []) → ◌≡◌ {A = Table} (record { node = l.node; nodes = l.nodes; keys = l.keys; held = held_in (rows_of slots' rows') }) (without_others (table_in l))
-table_one l slots' rows' own others = same_table _ (without_others (table_in l)) refl refl refl (λ owner key. get-held_in (rows_of slots' rows') owner key ∙ elim (cases_eq owner l.node) [
+pub table_one : (l : Layout) (slots' : List Entry) (rows' : List Row) → row_at slots' rows' l.node ≡ row_at l.slots.items l.rows.items l.node → ((k : ℕ) → k ≢ l.node → row_at slots' rows' k ≡ []) → ◌≡◌ {A = Table} (record { node = l.node; nodes = l.nodes; keys = l.keys; generation = l.generation; held = held_in (rows_of slots' rows') }) (without_others (table_in l))
+table_one l slots' rows' own others = same_table _ (without_others (table_in l)) refl refl refl refl (λ owner key. get-held_in (rows_of slots' rows') owner key ∙ elim (cases_eq owner l.node) [
   | inl is ↦ subst (λ o. entry_in (row_at slots' rows' o) key ≡ entry_at (without_others (table_in l)) o key) (sym is)
       (ap (λ row. entry_in row key) own ∙ sym (entry_at-in l l.node key) ∙ sym (entry_at-without_others_own (table_in l) key))
   | inr other ↦ ap (λ row. entry_in row key) (others owner other) ∙ sym (entry_at-without_others_other (table_in l) owner key other)
 ])
+
+abbrev version_of : Mark → ℕ
+version_of m = m.version
+
+abbrev generation_of : Mark → ℕ
+generation_of m = m.generation
 
 -- and its greatest versions
 pub greatest_one : (t : Table) (own : ℕ) → t.node < t.nodes → own ≡ greatest_version t t.node → AreGreatest (without_others t) (set (replicate t.nodes 0) t.node own)
@@ -101,10 +108,30 @@ greatest_one t own below is = record {
   count = length-set (replicate t.nodes 0) t.node own ∙ length-none;
   greatest = λ o lt. elim (cases_eq o t.node) [
     | inl same ↦ subst (λ p. get_or (set (replicate t.nodes 0) t.node own) p 0 ≡ greatest_version (without_others t) p) (sym same)
-        (get_or-set_same (replicate t.nodes 0) t.node own 0 (omega (arith, length-none)) ∙ is ∙ sym (greatest_version-without_others_own t))
-    | inr other ↦ get_or-set_other (replicate t.nodes 0) t.node o own 0 other ∙ get_or-replicate t.nodes o 0 0 lt ∙ sym (greatest_version-without_others_other t o other)
+        (get_or-set_same (replicate t.nodes 0) t.node own 0 (omega (arith, length-none)) ∙ is ∙ sym (ap version_of (greatest_mark-without_others_own t)))
+    | inr other ↦ get_or-set_other (replicate t.nodes 0) t.node o own 0 other ∙ get_or-replicate t.nodes o 0 0 lt ∙ sym (ap version_of (greatest_mark-without_others_other t o other))
   ];
 }
   where
     length-none : length {A = ℕ} (replicate t.nodes 0) ≡ t.nodes
     length-none = length-replicate {A = ℕ} t.nodes 0
+
+-- and its generations, where the node's is 0
+pub generations_none : (t : Table) (generations : List ℕ) → generation_held t t.node ≡ 0 → generations ≡ [] → AreGenerations (without_others t) generations
+generations_none t generations zero_own none = subst (AreGenerations (without_others t)) (sym none) (record {
+  count = inl refl;
+  held = λ o lt. sym (elim (cases_eq o t.node) [
+    | inl same ↦ subst (λ p. generation_held (without_others t) p ≡ 0) (sym same) (ap generation_of (greatest_mark-without_others_own t) ∙ zero_own)
+    | inr other ↦ ap generation_of (greatest_mark-without_others_other t o other)
+  ]);
+})
+
+-- or another
+pub generations_one : (t : Table) (generations : List ℕ) → length generations ≡ t.nodes → get_or generations t.node 0 ≡ generation_held t t.node → AreOthersKept t.node [] generations → AreGenerations (without_others t) generations
+generations_one t generations len own others = record {
+  count = inr len;
+  held = λ o lt. elim (cases_eq o t.node) [
+    | inl same ↦ subst (λ p. get_or generations p 0 ≡ generation_held (without_others t) p) (sym same) (own ∙ sym (ap generation_of (greatest_mark-without_others_own t)))
+    | inr other ↦ others o other ∙ sym (ap generation_of (greatest_mark-without_others_other t o other))
+  ];
+}

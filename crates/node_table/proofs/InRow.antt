@@ -21,7 +21,7 @@ use Rattle.node_table.proofs.Comparing.{nat_cmp-less}
 use Rattle.node_table.proofs.Order.{place_total, place_same, place_turned}
 
 abbrev pub no_entry : Entry
-no_entry = record { key = 0; version = 0; value = 0; born = 0 }
+no_entry = record { key = 0; generation = 0; version = 0; value = 0; born = 0 }
 
 abbrev key_of : Entry → ℕ
 key_of e = e.key

@@ -8,7 +8,7 @@ use Rattle.std.proofs.lemmas.List.Elements.{All-head, All-tail}
 use Rattle.std.proofs.lemmas.List.Sums.{sum_by-cons, sum_by-set, sum_by-le}
 use Rattle.bench_types.specs.declared.entries.Entry.{Entry}
 use Rattle.node_table.specs.declared.layouts.Row.{Row}
-use Rattle.node_table.specs.Layouts.{row_of, rows_of, row_at, row_len, block_len, IsRow, IsInSlots, AreApart, AreLaid, IsPut, IsPlaced, KeepOutside}
+use Rattle.node_table.specs.Layouts.{row_of, rows_of, row_at, row_len, block_len, IsRow, IsInSlots, AreApart, AreLaid, IsPut, IsPlaced, IsRenewed, KeepOutside}
 use Rattle.node_table.proofs.InRow.{row_fits}
 
 pub length-row_of : (keys : ℕ) (slots : List Entry) (r : Row) → IsInSlots keys slots r → length (row_of slots r) ≡ r.len
@@ -112,6 +112,15 @@ module _ (nodes keys : ℕ) (slots slots' : List Entry) (rows : List Row) (owner
         counted = omega (arith, sum_by-set row_len rows owner r' r lt, ap row_len (is r), ap length own_before, ap length own_after, length-row_of keys slots r lies_before, length-row_of keys slots' r' lies);
       }
 
+  pub renewed_after : (entry : Entry) → row_of slots' r' ≡ entry ∷ [] → IsRenewed owner entry slots slots' rows (set rows owner r')
+  renewed_after entry alone =
+      let lies_before = subst (IsInSlots keys slots) (is r) (laid.each owner r lt) in
+      record {
+        alone = own_after ∙ alone;
+        others = other_after;
+        counted = omega (arith, sum_by-set row_len rows owner r' r lt, ap row_len (is r), ap length own_before, ap length alone, length-row_of keys slots r lies_before, length-row_of keys slots' r' lies);
+      }
+
 pub block_len-some : (keys : ℕ) (r : Row) → 0 < r.len → block_len keys r ≡ keys
 block_len-some keys r some = ap (λ b. cond b 0 keys) (ne_eqb r.len 0 (omega arith))
 
@@ -119,15 +128,15 @@ pub block_len-none : (keys : ℕ) (r : Row) → r.len ≡ 0 → block_len keys r
 block_len-none keys r none = ap (λ b. cond b 0 keys) (eq-eqb r.len 0 none)
 
 -- a row that stays where it is, and changes within its block
-module _ (nodes keys : ℕ) (slots slots' : List Entry) (rows : List Row) (owner : ℕ) (r r' : Row) (entry : Entry) (laid : AreLaid nodes keys slots rows) (lt : owner < length rows) (is : (d : Row) → get_or rows owner d ≡ r) (held : 0 < r.len) (start : r'.start ≡ r.start) (within : r'.len ≤ keys) (put : IsPut keys entry (row_of slots r) (row_of slots' r')) (len : length slots' ≡ length slots) (others : KeepOutside slots slots' r.start keys) where
+module _ (nodes keys : ℕ) (slots slots' : List Entry) (rows : List Row) (owner : ℕ) (r r' : Row) (laid : AreLaid nodes keys slots rows) (lt : owner < length rows) (is : (d : Row) → get_or rows owner d ≡ r) (held : 0 < r.len) (start : r'.start ≡ r.start) (within : r'.len ≤ keys) (anew : IsRow keys (row_of slots' r')) (some_anew : 0 < length (row_of slots' r')) (len : length slots' ≡ length slots) (others : KeepOutside slots slots' r.start keys) where
   lies_before : IsInSlots keys slots r
   lies_before = subst (IsInSlots keys slots) (is r) (laid.each owner r lt)
 
   lies_in : IsInSlots keys slots' r'
-  lies_in = record { within = omega (arith, lies_before.block held); block = λ some. omega (arith, lies_before.block held); row = put.row }
+  lies_in = record { within = omega (arith, lies_before.block held); block = λ some. omega (arith, lies_before.block held); row = anew }
 
   some_in : 0 < r'.len
-  some_in = omega (arith, put.some, length-row_of keys slots' r' lies_in)
+  some_in = omega (arith, some_anew, length-row_of keys slots' r' lies_in)
 
   apart_in : (k : ℕ) (d : Row) → k < length rows → k ≢ owner → AreApart keys (get_or rows k d) r
   apart_in k d in_range other = subst (AreApart keys (get_or rows k d)) (is d) (apart_at nodes keys slots rows k owner d laid in_range lt other)
@@ -150,5 +159,8 @@ module _ (nodes keys : ℕ) (slots slots' : List Entry) (rows : List Row) (owner
   pub laid_put : AreLaid nodes keys slots' (set rows owner r')
   laid_put = laid_after nodes keys slots slots' rows owner r r' laid lt is (omega arith) lies_in kept_in apart_anew filled_in
 
-  pub placed_put : IsPlaced keys owner entry slots slots' rows (set rows owner r')
-  placed_put = placed_after nodes keys slots slots' rows owner r r' laid lt is (omega arith) lies_in kept_in apart_anew filled_in entry put
+  pub placed_put : (entry : Entry) → IsPut keys entry (row_of slots r) (row_of slots' r') → IsPlaced keys owner entry slots slots' rows (set rows owner r')
+  placed_put = placed_after nodes keys slots slots' rows owner r r' laid lt is (omega arith) lies_in kept_in apart_anew filled_in
+
+  pub renewed_put : (entry : Entry) → row_of slots' r' ≡ entry ∷ [] → IsRenewed owner entry slots slots' rows (set rows owner r')
+  renewed_put = renewed_after nodes keys slots slots' rows owner r r' laid lt is (omega arith) lies_in kept_in apart_anew filled_in

@@ -1,18 +1,18 @@
 -- Laws of tables: what each place holds after a write, after a list of items and after a restart.
-use Rattle.std.proofs.Common.{◌≡◌, ◌≢◌, ℕ, suc, ◌<◌, ◌≤◌, Bool, true, false, cond, ◌==◌, List, [], ◌∷◌, get_or, Option, Some, None, All, fold, ◌⊎◌, inl, inr, if◌then◌else◌, refl, sym, ap, ◌∙◌, subst, arith}
+use Rattle.std.proofs.Common.{◌≡◌, ◌≢◌, ℕ, suc, ◌<◌, ◌≤◌, not, Bool, true, false, cond, ◌==◌, List, [], ◌∷◌, Option, Some, None, All, ◌⊎◌, inl, inr, if◌then◌else◌, refl, sym, ap, ◌∙◌, subst, arith}
 use Rattle.std.specs.Ordering.{is_eq, eq_by_cmp}
 use Rattle.std.specs.Cmp.{tied_itself}
-use Rattle.std.specs.List.{filter, Contains}
-use Rattle.std.specs.FinMap.{FinMap, get, insert, retain_keys, empty, get-insert, get-empty, get-retain_keys, same_map}
-use Rattle.std.proofs.lemmas.Bool.{cases_eq, and_parts, and_from, and_left, eq-eqb, ne_eqb, eqb-true}
-use Rattle.std.proofs.lemmas.List.Elements.{All-head, All-tail, All-contains}
+use Rattle.std.specs.List.{Contains}
+use Rattle.std.specs.FinMap.{get, get-insert, get-empty, get-retain_keys, same_map}
+use Rattle.std.proofs.lemmas.Bool.{cases_lt, cases_eq, and_parts, and_from, and_left, and_right, eq-eqb, ne_eqb, eqb-true, lt-ltb, le-ltb}
+use Rattle.std.proofs.lemmas.List.Elements.{All-head, All-tail}
 use Rattle.bench_types.specs.declared.entries.Entry.{Entry}
 use Rattle.bench_types.specs.declared.entries.Item.{Item}
-use Rattle.bench_types.specs.declared.limits.TheConstants.{LEAST_KEYS, MOST_NODES, MOST_KEYS}
 use Rattle.bench_types.specs.Entry.{newer}
-use Rattle.node_table.specs.Table.{Place, place_cmp, Held, Table, empty_table, entry_at, held_with, applied, own_write, with_own_write, without_others, IsInPlace, IsProper}
-use Rattle.node_table.specs.View.{place_of, IsItemInPlace}
-use Rattle.node_table.specs.Applied.{stands_at, items_at, newest_of}
+use Rattle.bench_types.specs.Mark.{mark_of, is_before}
+use Rattle.node_table.specs.Table.{Place, place_cmp, Held, Table, empty_table, entry_at, generation_held, held_with, without_owner, held_beside, taken, applied, own_write, with_own_write, without_others, without_all}
+use Rattle.node_table.specs.View.{place_of}
+use Rattle.node_table.specs.Applied.{stands_at, items_at}
 use Rattle.node_table.proofs.Order.{place_total, place_same}
 use Rattle.node_table.proofs.Comparing.{equal}
 use Rattle.std.proofs.lemmas.Option.{same_Some}
@@ -56,23 +56,11 @@ get-held_with m i owner key =
       | false ↦ λ _. refl
     ] refl
 
--- what a list of items leaves at a place
-pub get-fold : (added : List Item) (m : Held) (owner key : ℕ) → get (fold held_with m added) (owner, key) ≡ newest_of (get m (owner, key)) (items_at owner key added)
-get-fold [] m owner key = refl
-get-fold (i ∷ is) m owner key =
-    get-fold is (held_with m i) owner key
-    ∙ ap (λ h. newest_of h (items_at owner key is)) (get-held_with m i owner key)
-    ∙ elim (stands_at owner key i) as (λ b. newest_of (cond b (Some (newer (get m (owner, key)) i.entry)) (get m (owner, key))) (items_at owner key is) ≡ newest_of (get m (owner, key)) (cond b (i ∷ items_at owner key is) (items_at owner key is))) [ true ↦ refl | false ↦ refl ]
-
--- two tables with the same node, bounds and entries are one
-pub same_table : (t u : Table) → t.node ≡ u.node → t.nodes ≡ u.nodes → t.keys ≡ u.keys → ((owner key : ℕ) → entry_at t owner key ≡ entry_at u owner key) → t ≡ u
-same_table t u n ns ks same =
+-- two tables with the same node, bounds, generation and entries are one
+pub same_table : (t u : Table) → t.node ≡ u.node → t.nodes ≡ u.nodes → t.keys ≡ u.keys → t.generation ≡ u.generation → ((owner key : ℕ) → entry_at t owner key ≡ entry_at u owner key) → t ≡ u
+same_table t u n ns ks g same =
     let held = same_map place_total place_same t.held u.held (λ q. same q.0 q.1) in
-    λ i. record { node = n i; nodes = ns i; keys = ks i; held = held i }
-
--- each place keeps the newest of what is held and of the items that stand there, in turn
-pub entry_at-applied : (t : Table) (added : List Item) (owner key : ℕ) → entry_at (applied t added) owner key ≡ newest_of (entry_at t owner key) (items_at owner key added)
-entry_at-applied t added owner key = get-fold added t.held owner key
+    λ i. record { node = n i; nodes = ns i; keys = ks i; generation = g i; held = held i }
 
 pub items_at-none : (added : List Item) (owner key : ℕ) → All (λ i. stands_at owner key i ≡ false) added → items_at owner key added ≡ []
 items_at-none [] owner key none = refl
@@ -80,26 +68,129 @@ items_at-none (i ∷ is) owner key none =
     ap (λ b. cond b (i ∷ items_at owner key is) (items_at owner key is)) (All-head (λ x. stands_at owner key x ≡ false) i is none)
     ∙ items_at-none is owner key (All-tail (λ x. stands_at owner key x ≡ false) i is none)
 
--- with no item of a place nothing changes there
-pub entry_at-applied_none : (t : Table) (added : List Item) (owner key : ℕ) → All (λ i. stands_at owner key i ≡ false) added → entry_at (applied t added) owner key ≡ entry_at t owner key
-entry_at-applied_none t added owner key none = entry_at-applied t added owner key ∙ ap (newest_of (entry_at t owner key)) (items_at-none added owner key none)
-
--- with one the newer is kept
-pub entry_at-applied_one : (t : Table) (added : List Item) (owner key : ℕ) (i : Item) → items_at owner key added ≡ i ∷ [] → entry_at (applied t added) owner key ≡ Some (newer (entry_at t owner key) i.entry)
-entry_at-applied_one t added owner key i one = entry_at-applied t added owner key ∙ ap (newest_of (entry_at t owner key)) one
-
 -- an item of another owner stands elsewhere
 pub stands_at-other : (owner key : ℕ) (i : Item) → i.owner ≢ owner → stands_at owner key i ≡ false
 stands_at-other owner key i other = and_left (i.owner == owner) (i.entry.key == key) (ne_eqb i.owner owner other)
 
+-- of an owner that is dropped nothing is held, and of the others what was
+pub get-without_owner : (m : Held) (gone owner key : ℕ) → get (without_owner m gone) (owner, key) ≡ (if not (owner == gone) then get m (owner, key) else None)
+get-without_owner m gone owner key = get-retain_keys m (λ (p : Place). not (p.0 == gone)) (owner, key) (λ x tie. ap (λ (p : Place). not (p.0 == gone)) (sym (place_same (owner, key) x tie)))
+
+get-without_owner_other : (m : Held) (gone owner key : ℕ) → owner ≢ gone → get (without_owner m gone) (owner, key) ≡ get m (owner, key)
+get-without_owner_other m gone owner key other = get-without_owner m gone owner key ∙ ap (λ b. cond (not b) (get m (owner, key)) None) (ne_eqb owner gone other)
+
+get-without_owner_own : (m : Held) (owner key : ℕ) → get (without_owner m owner) (owner, key) ≡ None
+get-without_owner_own m owner key = get-without_owner m owner owner key ∙ ap (λ b. cond (not b) (get m (owner, key)) None) (eq-eqb owner owner refl)
+
+-- a table with an item taken among these entries
+abbrev taking : Table → Held → Item → Table
+taking t m i = record t { held = held_with m i }
+
+-- an item is of an older generation than the copy, of a newer one, or of the same
+pub cases_taken : (t : Table) (i : Item)
+    → ((i.entry.generation < generation_held t i.owner) × (taken t i ≡ t))
+    ⊎ (((generation_held t i.owner < i.entry.generation) × (taken t i ≡ taking t (without_owner t.held i.owner) i))
+    ⊎ ((i.entry.generation ≡ generation_held t i.owner) × (taken t i ≡ taking t t.held i)))
+cases_taken t i = elim (cases_lt i.entry.generation (generation_held t i.owner)) [
+  | inl older ↦ inl (older, ap (λ b. if b then t else taking t (held_beside t i.owner i.entry.generation) i) (lt-ltb i.entry.generation (generation_held t i.owner) older))
+  | inr not_older ↦ elim (cases_lt (generation_held t i.owner) i.entry.generation) [
+    | inl newer ↦ inr (inl (newer, not_left not_older ∙ ap (λ b. taking t (if b then without_owner t.held i.owner else t.held) i) (lt-ltb (generation_held t i.owner) i.entry.generation newer)))
+    | inr not_newer ↦ inr (inr (omega arith, not_left not_older ∙ ap (λ b. taking t (if b then without_owner t.held i.owner else t.held) i) (le-ltb (generation_held t i.owner) i.entry.generation not_newer)))
+  ]
+]
+  where
+    not_left : generation_held t i.owner ≤ i.entry.generation → taken t i ≡ taking t (held_beside t i.owner i.entry.generation) i
+    not_left le = ap (λ b. if b then t else taking t (held_beside t i.owner i.entry.generation) i) (le-ltb i.entry.generation (generation_held t i.owner) le)
+
+-- what stands at a place once an item was taken
+pub entry_at-taken_other : (t : Table) (i : Item) (owner key : ℕ) → i.owner ≢ owner → entry_at (taken t i) owner key ≡ entry_at t owner key
+entry_at-taken_other t i owner key other = elim (cases_taken t i) [
+  | inl older ↦ ap (λ (u : Table). entry_at u owner key) older.1
+  | inr (inl newer) ↦ ap (λ (u : Table). entry_at u owner key) newer.1 ∙ elsewhere (without_owner t.held i.owner) ∙ get-without_owner_other t.held i.owner owner key (λ same. other (sym same))
+  | inr (inr same) ↦ ap (λ (u : Table). entry_at u owner key) same.1 ∙ elsewhere t.held
+]
+  where
+    elsewhere : (m : Held) → get (held_with m i) (owner, key) ≡ get m (owner, key)
+    elsewhere m = get-held_with m i owner key ∙ ap (λ b. cond b (Some (newer (get m (owner, key)) i.entry)) (get m (owner, key))) (stands_at-other owner key i other)
+
+module _ (t : Table) (i : Item) where
+  stands_here : stands_at i.owner i.entry.key i ≡ true
+  stands_here = and_from (i.owner == i.owner) (i.entry.key == i.entry.key) (eq-eqb i.owner i.owner refl) (eq-eqb i.entry.key i.entry.key refl)
+
+  stands_off : (key : ℕ) → i.entry.key ≢ key → stands_at i.owner key i ≡ false
+  stands_off key off = and_right (i.owner == i.owner) (i.entry.key == key) (ne_eqb i.entry.key key off)
+
+  here : (m : Held) → entry_at (taking t m i) i.owner i.entry.key ≡ Some (newer (get m (i.owner, i.entry.key)) i.entry)
+  here m = get-held_with m i i.owner i.entry.key ∙ ap (λ b. cond b (Some (newer (get m (i.owner, i.entry.key)) i.entry)) (get m (i.owner, i.entry.key))) stands_here
+
+  off : (m : Held) (key : ℕ) → i.entry.key ≢ key → entry_at (taking t m i) i.owner key ≡ get m (i.owner, key)
+  off m key apart = get-held_with m i i.owner key ∙ ap (λ b. cond b (Some (newer (get m (i.owner, key)) i.entry)) (get m (i.owner, key))) (stands_off key apart)
+
+  -- one of a newer generation is all that is held of its owner
+  pub entry_at-taken_newer : generation_held t i.owner < i.entry.generation → (entry_at (taken t i) i.owner i.entry.key ≡ Some i.entry) × ((key : ℕ) → i.entry.key ≢ key → entry_at (taken t i) i.owner key ≡ None)
+  entry_at-taken_newer is_newer = elim (cases_taken t i) [
+    | inl older ↦ absurd (omega (arith, older.0))
+    | inr (inl next) ↦ (
+      ap (λ (u : Table). entry_at u i.owner i.entry.key) next.1 ∙ here (without_owner t.held i.owner) ∙ ap (λ h. Some (newer h i.entry)) (get-without_owner_own t.held i.owner i.entry.key),
+      λ key apart. ap (λ (u : Table). entry_at u i.owner key) next.1 ∙ off (without_owner t.held i.owner) key apart ∙ get-without_owner_own t.held i.owner key,
+    )
+    | inr (inr same) ↦ absurd (omega (arith, same.0))
+  ]
+
+  -- one of the same generation changes its own place alone
+  pub entry_at-taken_same : i.entry.generation ≡ generation_held t i.owner → (entry_at (taken t i) i.owner i.entry.key ≡ Some (newer (entry_at t i.owner i.entry.key) i.entry)) × ((key : ℕ) → i.entry.key ≢ key → entry_at (taken t i) i.owner key ≡ entry_at t i.owner key)
+  entry_at-taken_same is_same = elim (cases_taken t i) [
+    | inl older ↦ absurd (omega (arith, older.0))
+    | inr (inl next) ↦ absurd (omega (arith, next.0))
+    | inr (inr same) ↦ (
+      ap (λ (u : Table). entry_at u i.owner i.entry.key) same.1 ∙ here t.held,
+      λ key apart. ap (λ (u : Table). entry_at u i.owner key) same.1 ∙ off t.held key apart,
+    )
+  ]
+
+  -- one of an older generation changes nothing
+  pub taken-older : i.entry.generation < generation_held t i.owner → taken t i ≡ t
+  taken-older is_older = elim (cases_taken t i) [
+    | inl older ↦ older.1
+    | inr (inl next) ↦ absurd (omega (arith, next.0))
+    | inr (inr same) ↦ absurd (omega (arith, same.0))
+  ]
+
+-- a list of items changes neither the node nor the bounds nor the node's generation
+pub record KeepsFrame (t u : Table) : Type 0 where
+  pub node : u.node ≡ t.node
+  pub nodes : u.nodes ≡ t.nodes
+  pub keys : u.keys ≡ t.keys
+  pub generation : u.generation ≡ t.generation
+
+pub frame-itself : (t : Table) → KeepsFrame t t
+frame-itself t = record { node = refl; nodes = refl; keys = refl; generation = refl }
+
+pub frame-taken : (t : Table) (i : Item) → KeepsFrame t (taken t i)
+frame-taken t i = elim (cases_taken t i) [
+  | inl older ↦ subst (KeepsFrame t) (sym older.1) (frame-itself t)
+  | inr (inl next) ↦ subst (KeepsFrame t) (sym next.1) (record { node = refl; nodes = refl; keys = refl; generation = refl })
+  | inr (inr same) ↦ subst (KeepsFrame t) (sym same.1) (record { node = refl; nodes = refl; keys = refl; generation = refl })
+]
+
+pub frame-then : (t u v : Table) → KeepsFrame t u → KeepsFrame u v → KeepsFrame t v
+frame-then t u v a b = record { node = b.node ∙ a.node; nodes = b.nodes ∙ a.nodes; keys = b.keys ∙ a.keys; generation = b.generation ∙ a.generation }
+
+pub frame-applied : (t : Table) (added : List Item) → KeepsFrame t (applied t added)
+frame-applied t [] = frame-itself t
+frame-applied t (i ∷ is) = frame-then t (taken t i) (applied (taken t i) is) (frame-taken t i) (frame-applied (taken t i) is)
+
 -- the entries of an owner that no item has stay
 pub entry_at-applied_other : (t : Table) (added : List Item) (owner key : ℕ) → All (λ i. i.owner ≢ owner) added → entry_at (applied t added) owner key ≡ entry_at t owner key
-entry_at-applied_other t added owner key others = entry_at-applied_none t added owner key (λ n d lt. stands_at-other owner key (get_or added n d) (others n d lt))
+entry_at-applied_other t [] owner key others = refl
+entry_at-applied_other t (i ∷ is) owner key others =
+    entry_at-applied_other (taken t i) is owner key (All-tail (λ x. x.owner ≢ owner) i is others)
+    ∙ entry_at-taken_other t i owner key (All-head (λ x. x.owner ≢ owner) i is others)
 
 -- what is kept is one of the two
 newer_either : (held : Option Entry) (incoming e : Entry) → newer held incoming ≡ e → (held ≡ Some e) ⊎ (incoming ≡ e)
 newer_either None incoming e is = inr is
-newer_either (Some held) incoming e is = elim (Rattle.std.specs.Prelude.nat_lt held.version incoming.version) as (λ b. cond b incoming held ≡ e → (Some held ≡ Some e) ⊎ (incoming ≡ e)) [
+newer_either (Some held) incoming e is = elim (is_before (mark_of held) (mark_of incoming)) as (λ b. cond b incoming held ≡ e → (Some held ≡ Some e) ⊎ (incoming ≡ e)) [
   | true ↦ λ h. inr h
   | false ↦ λ h. inl (ap Some h)
 ] is
@@ -108,27 +199,47 @@ newer_either (Some held) incoming e is = elim (Rattle.std.specs.Prelude.nat_lt h
 abbrev pub CameWith : List Item → ℕ → ℕ → Entry → Type 0
 CameWith added owner key e = Contains added (record { owner = owner; entry = e }) × (e.key ≡ key)
 
-came : (added : List Item) (m : Held) (owner key : ℕ) (e : Entry) → get (fold held_with m added) (owner, key) ≡ Some e → (get m (owner, key) ≡ Some e) ⊎ CameWith added owner key e
-came [] m owner key e is = inl is
-came (i ∷ is) m owner key e found = elim (came is (held_with m i) owner key e found) [
-  | inl before ↦ first before
-  | inr later ↦ inr ((suc later.0.0, omega (arith, later.0.1), later.0.2), later.1)
+-- an entry stood in the table before or is the item's
+pub entry_at-taken_from : (t : Table) (i : Item) (owner key : ℕ) (e : Entry) → entry_at (taken t i) owner key ≡ Some e → (entry_at t owner key ≡ Some e) ⊎ ((i.owner ≡ owner) × (i.entry.key ≡ key) × (i.entry ≡ e))
+entry_at-taken_from t i owner key e found = elim (cases_eq i.owner owner) [
+  | inr other ↦ inl (sym (entry_at-taken_other t i owner key other) ∙ found)
+  | inl own ↦
+      let own_found : entry_at (taken t i) i.owner key ≡ Some e = subst (λ o. entry_at (taken t i) o key ≡ Some e) (sym own) found in
+      elim (from_own own_found) [ inl before ↦ inl (subst (λ o. entry_at t o key ≡ Some e) own before) | inr came ↦ inr (own, came.0, came.1) ]
 ]
   where
-    here : stands_at owner key i ≡ true → i.entry ≡ e → CameWith (i ∷ is) owner key e
-    here at same =
-        let place = place_from owner key i at in
-        ((0, omega arith, λ n. record { owner = (sym (ap (λ (p : Place). p.0) place)) n; entry = same n }), ap (λ (x : Entry). x.key) (sym same) ∙ sym (ap (λ (p : Place). p.1) place))
+    at_key : i.entry.key ≡ key → entry_at (taken t i) i.owner key ≡ Some e → entry_at (taken t i) i.owner i.entry.key ≡ Some e
+    at_key same there = subst (λ k. entry_at (taken t i) i.owner k ≡ Some e) (sym same) there
 
-    first : get (held_with m i) (owner, key) ≡ Some e → (get m (owner, key) ≡ Some e) ⊎ CameWith (i ∷ is) owner key e
-    first before = elim (stands_at owner key i) as (λ b. stands_at owner key i ≡ b → cond b (Some (newer (get m (owner, key)) i.entry)) (get m (owner, key)) ≡ Some e → (get m (owner, key) ≡ Some e) ⊎ CameWith (i ∷ is) owner key e) [
-      | true ↦ λ at kept. elim (newer_either (get m (owner, key)) i.entry e (same_Some _ e kept)) [ inl held ↦ inl held | inr same ↦ inr (here at same) ]
-      | false ↦ λ at kept. inl kept
-    ] refl (sym (get-held_with m i owner key) ∙ before)
+    from_own : entry_at (taken t i) i.owner key ≡ Some e → (entry_at t i.owner key ≡ Some e) ⊎ ((i.entry.key ≡ key) × (i.entry ≡ e))
+    from_own there = elim (cases_taken t i) [
+      | inl older ↦ inl (ap (λ (u : Table). entry_at u i.owner key) (sym older.1) ∙ there)
+      | inr (inl next) ↦ elim (cases_eq i.entry.key key) [
+        | inl same ↦ inr (same, same_Some _ e (sym (entry_at-taken_newer t i next.0).0 ∙ at_key same there))
+        | inr apart ↦ absurd (nothing (sym ((entry_at-taken_newer t i next.0).1 key apart) ∙ there))
+      ]
+      | inr (inr as_old) ↦ elim (cases_eq i.entry.key key) [
+        | inl same ↦ elim (newer_either (entry_at t i.owner i.entry.key) i.entry e (same_Some _ e (sym (entry_at-taken_same t i as_old.0).0 ∙ at_key same there))) [
+          | inl held ↦ inl (subst (λ k. entry_at t i.owner k ≡ Some e) same held)
+          | inr is ↦ inr (same, is)
+        ]
+        | inr apart ↦ inl (sym ((entry_at-taken_same t i as_old.0).1 key apart) ∙ there)
+      ]
+    ]
+      where
+        nothing : None ≡ Some e → ⊥
+        nothing h = cc
 
 -- each entry stood in the table before or is one of those that came
 pub entry_at-applied_from : (t : Table) (added : List Item) (owner key : ℕ) (e : Entry) → entry_at (applied t added) owner key ≡ Some e → (entry_at t owner key ≡ Some e) ⊎ CameWith added owner key e
-entry_at-applied_from t added owner key e found = came added t.held owner key e found
+entry_at-applied_from t [] owner key e found = inl found
+entry_at-applied_from t (i ∷ is) owner key e found = elim (entry_at-applied_from (taken t i) is owner key e found) [
+  | inl before ↦ elim (entry_at-taken_from t i owner key e before) [
+    | inl held ↦ inl held
+    | inr came ↦ inr ((0, omega arith, λ n. record { owner = came.0 n; entry = came.2 n }), ap (λ (x : Entry). x.key) (sym came.2) ∙ came.1)
+  ]
+  | inr came ↦ inr ((suc came.0.0, omega (arith, came.0.1), came.0.2), came.1)
+]
 
 -- an own write stands at its place
 pub entry_at-own_write : (t : Table) (k v b : ℕ) → entry_at (with_own_write t k v b) t.node k ≡ Some (own_write t k v b)
@@ -156,69 +267,9 @@ entry_at-without_others_own t key = entry_at-without_others t t.node key ∙ ap 
 pub entry_at-without_others_other : (t : Table) (owner key : ℕ) → owner ≢ t.node → entry_at (without_others t) owner key ≡ None
 entry_at-without_others_other t owner key other = entry_at-without_others t owner key ∙ ap (λ b. cond b (entry_at t owner key) None) (ne_eqb owner t.node other)
 
+-- and one that forgets keeps nothing
+pub entry_at-without_all : (t : Table) (owner key : ℕ) → entry_at (without_all t) owner key ≡ None
+entry_at-without_all t owner key = get-empty place_cmp (owner, key)
+
 pub entry_at-empty_table : (n ns ks owner key : ℕ) → entry_at (empty_table n ns ks) owner key ≡ None
 entry_at-empty_table n ns ks owner key = get-empty place_cmp (owner, key)
-
--- the tables that start, and what changes a table, keep it proper
-pub proper-empty_table : (n ns ks : ℕ) → n < ns → ns ≤ MOST_NODES → LEAST_KEYS ≤ ks → ks ≤ MOST_KEYS → IsProper (empty_table n ns ks)
-proper-empty_table n ns ks below limit some most = record {
-  node_below = below;
-  nodes_limit = limit;
-  some_key = some;
-  keys_limit = most;
-  in_place = λ owner key e found. absurd (nothing owner key e found);
-}
-  where
-    nothing : (owner key : ℕ) (e : Entry) → entry_at (empty_table n ns ks) owner key ≡ Some e → ⊥
-    nothing owner key e found = let none = entry_at-empty_table n ns ks owner key in cc
-
-pub proper-applied : (t : Table) (added : List Item) → IsProper t → All (IsItemInPlace t.nodes t.keys) added → IsProper (applied t added)
-proper-applied t added proper in_place = record {
-  node_below = proper.node_below;
-  nodes_limit = proper.nodes_limit;
-  some_key = proper.some_key;
-  keys_limit = proper.keys_limit;
-  in_place = λ owner key e found. elim (entry_at-applied_from t added owner key e found) [
-    | inl held ↦ proper.in_place owner key e held
-    | inr new ↦ subst (λ k. IsInPlace t.nodes t.keys owner k e) new.1 (All-contains (IsItemInPlace t.nodes t.keys) added (record { owner = owner; entry = e }) in_place new.0)
-  ];
-}
-
-pub proper-with_own_write : (t : Table) (k v b : ℕ) → IsProper t → k < t.keys → IsProper (with_own_write t k v b)
-proper-with_own_write t k v b proper below = record {
-  node_below = proper.node_below;
-  nodes_limit = proper.nodes_limit;
-  some_key = proper.some_key;
-  keys_limit = proper.keys_limit;
-  in_place = λ owner key e found. elim (cases_eq owner t.node) [
-    | inr other ↦ proper.in_place owner key e (sym (entry_at-own_write_other t k v b owner key (inl other)) ∙ found)
-    | inl own ↦ elim (cases_eq key k) [
-      | inr other ↦ proper.in_place owner key e (sym (entry_at-own_write_other t k v b owner key (inr other)) ∙ found)
-      | inl same ↦ at_place owner key e own same found
-    ]
-  ];
-}
-  where
-    written : IsInPlace t.nodes t.keys t.node k (own_write t k v b)
-    written = record { owner_below = proper.node_below; key_below = below; keyed = refl; written = omega arith }
-
-    at_place : (owner key : ℕ) (e : Entry) → owner ≡ t.node → key ≡ k → entry_at (with_own_write t k v b) owner key ≡ Some e → IsInPlace t.nodes t.keys owner key e
-    at_place owner key e own same found =
-        let there : entry_at (with_own_write t k v b) t.node k ≡ Some e = subst (λ n. entry_at (with_own_write t k v b) n k ≡ Some e) own (subst (λ j. entry_at (with_own_write t k v b) owner j ≡ Some e) same found) in
-        let is : own_write t k v b ≡ e = same_Some _ _ (sym (entry_at-own_write t k v b) ∙ there) in
-        subst (λ n. IsInPlace t.nodes t.keys n key e) (sym own) (subst (λ j. IsInPlace t.nodes t.keys t.node j e) (sym same) (subst (IsInPlace t.nodes t.keys t.node k) is written))
-
-pub proper-without_others : (t : Table) → IsProper t → IsProper (without_others t)
-proper-without_others t proper = record {
-  node_below = proper.node_below;
-  nodes_limit = proper.nodes_limit;
-  some_key = proper.some_key;
-  keys_limit = proper.keys_limit;
-  in_place = λ owner key e found. elim (owner == t.node) as (λ b. (if b then entry_at t owner key else None) ≡ Some e → IsInPlace t.nodes t.keys owner key e) [
-    | true ↦ λ held. proper.in_place owner key e held
-    | false ↦ λ none. absurd (nothing e none)
-  ] (sym (entry_at-without_others t owner key) ∙ found);
-}
-  where
-    nothing : (e : Entry) → None ≡ Some e → ⊥
-    nothing e h = cc

@@ -1,8 +1,9 @@
 -- Laws of the definitions, for the crates above.
 pub mod Laws
-pub mod Versions
+pub mod MarkLaws
 pub mod Items
 pub mod Proper
+pub mod ProperLaws
 -- What the proofs of this crate's functions rest on.
 pub mod Comparing
 pub mod Order
@@ -13,9 +14,8 @@ mod InRow
 mod InRows
 mod Laid
 mod Opened
-mod Entered
+mod Taking
 mod InLayout
-mod Receiving
 mod Forgotten
 mod Empty
 mod Room

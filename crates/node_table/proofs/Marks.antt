@@ -4,7 +4,7 @@ use Rattle.std.proofs.lemmas.Bool.{cases_lt, cases_eq, eq-eqb}
 use Rattle.std.proofs.lemmas.List.{drop_more, get_or_default}
 use Rattle.bench_types.specs.declared.entries.Entry.{Entry}
 use Rattle.bench_types.specs.declared.entries.Item.{Item}
-use Rattle.bench_types.specs.Entry.{version_of}
+use Rattle.bench_types.specs.Mark.{mark_held}
 use Rattle.node_table.specs.declared.layouts.Row.{Row}
 use Rattle.node_table.specs.declared.layouts.Layout.{Layout}
 use Rattle.node_table.specs.Table.{greatest_version}
@@ -14,7 +14,7 @@ use Rattle.node_table.specs.NodeTableView.{blocks_below}
 use Rattle.node_table.specs.Layouts.{row_at, entry_in, table_in, IsRow, IsLayout}
 use Rattle.node_table.specs.Marks.{ComesWithin, AreMarked, AreUnmarked}
 use Rattle.node_table.proofs.Room.{blocks-upto, blocks-came_held, blocks-came_new}
-use Rattle.node_table.proofs.Versions.{version_at-le-greatest_version}
+use Rattle.node_table.proofs.Taking.{version-le-greatest}
 use Rattle.node_table.proofs.Laid.{row_at-get_or, length-row_of}
 use Rattle.node_table.proofs.InLayout.{entry_at-in, some_held, is_row}
 
@@ -131,7 +131,7 @@ module _ (l : Layout) (sound : IsLayout l) where
   held_from_row : (owner : ℕ) → owner < l.nodes → 0 < length (row_at l.slots.items l.rows.items owner) → 0 < greatest_version (table_in l) owner
   held_from_row owner below some =
       let first = version_from_entry l.keys (row_at l.slots.items l.rows.items owner) (is_row l sound owner below) some in
-      omega (arith, version_at-le-greatest_version (table_in l) owner first.0.key first.2, ap version_of (entry_at-in l owner first.0.key ∙ first.1), first.3)
+      omega (arith, version-le-greatest (table_in l) owner first.0.key sound.proper first.2, ap (λ h. (mark_held h).version) (entry_at-in l owner first.0.key ∙ first.1), first.3)
 
   -- once the marks are gone the list is what it was
   pub greatest_again : (added : List Item) (marked after : List ℕ) → AreMarked added l.greatest.items marked → AreUnmarked l.rows.items added marked after → length marked ≡ length l.greatest.items → length after ≡ length marked → AreGreatest (table_in l) after

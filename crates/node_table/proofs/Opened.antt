@@ -5,9 +5,36 @@ use Rattle.std.proofs.lemmas.List.{length-replicate}
 use Rattle.std.proofs.lemmas.List.Elements.{All-cons, All-nil}
 use Rattle.bench_types.specs.declared.entries.Entry.{Entry}
 use Rattle.node_table.specs.declared.layouts.Row.{Row}
-use Rattle.node_table.specs.Layouts.{row_of, block_len, IsRow, IsInSlots, AreApart, AreLaid, IsPut, IsPlaced}
+use Rattle.node_table.specs.Layouts.{row_of, row_at, block_len, IsRow, IsInSlots, AreApart, AreLaid, IsPut, IsPlaced, IsRenewed}
 use Rattle.node_table.proofs.Blocks.{take-behind, take-new}
-use Rattle.node_table.proofs.Laid.{laid_after, placed_after, row_of-empty, block_len-some, block_len-none}
+use Rattle.node_table.proofs.Laid.{laid_after, renewed_after, block_len-some, block_len-none}
+
+-- a row of one entry
+pub one_row : (keys : ℕ) (entry : Entry) → entry.key < keys → 1 ≤ entry.version → IsRow keys (entry ∷ [])
+one_row keys entry below written = record {
+  rising = λ i j d before in_range. absurd (omega arith);
+  apart = λ i j d before in_range. absurd (omega arith);
+  keys_below = All-cons (λ e. e.key < keys) entry [] below (All-nil (λ e. e.key < keys));
+  written = All-cons (λ e. 1 ≤ e.version) entry [] written (All-nil (λ e. 1 ≤ e.version));
+}
+
+-- an entry is put where it is the first
+one_put : (keys : ℕ) (entry : Entry) → entry.key < keys → 1 ≤ entry.version → IsPut keys entry [] (entry ∷ [])
+one_put keys entry below written = record {
+  row = one_row keys entry below written;
+  here = ap (λ b. cond b (Some entry) None) (eq-eqb entry.key entry.key refl);
+  others = λ key other. ap (λ b. cond b (Some entry) None) (ne_eqb entry.key key (λ same. other (sym same)));
+  some = omega arith;
+  grows = omega arith;
+}
+
+-- an entry that became a row that had none was put into it
+pub placed_renewed : (keys owner : ℕ) (entry : Entry) (slots slots' : List Entry) (rows rows' : List Row) → row_at slots rows owner ≡ [] → entry.key < keys → 1 ≤ entry.version → IsRenewed owner entry slots slots' rows rows' → IsPlaced keys owner entry slots slots' rows rows'
+placed_renewed keys owner entry slots slots' rows rows' empty below written renewed = record {
+  put = rw (empty, renewed.alone) (one_put keys entry below written);
+  others = renewed.others;
+  counted = omega (arith, renewed.counted, ap length empty, ap length renewed.alone);
+}
 
 module _ (nodes keys : ℕ) (slots : List Entry) (rows : List Row) (owner : ℕ) (r : Row) (entry : Entry) (laid : AreLaid nodes keys slots rows) (lt : owner < length rows) (is : (d : Row) → get_or rows owner d ≡ r) (empty : r.len ≡ 0) (below : entry.key < keys) (written : 1 ≤ entry.version) where
   abbrev slots' : List Entry
@@ -22,25 +49,8 @@ module _ (nodes keys : ℕ) (slots : List Entry) (rows : List Row) (owner : ℕ)
   row_is : row_of slots' opened ≡ entry ∷ []
   row_is = take-new keys slots entry (omega arith)
 
-  one_row : IsRow keys (entry ∷ [])
-  one_row = record {
-    rising = λ i j d before in_range. absurd (omega arith);
-    apart = λ i j d before in_range. absurd (omega arith);
-    keys_below = All-cons (λ e. e.key < keys) entry [] below (All-nil (λ e. e.key < keys));
-    written = All-cons (λ e. 1 ≤ e.version) entry [] written (All-nil (λ e. 1 ≤ e.version));
-  }
-
-  one_put : IsPut keys entry [] (entry ∷ [])
-  one_put = record {
-    row = one_row;
-    here = ap (λ b. cond b (Some entry) None) (eq-eqb entry.key entry.key refl);
-    others = λ key other. ap (λ b. cond b (Some entry) None) (ne_eqb entry.key key (λ same. other (sym same)));
-    some = omega arith;
-    grows = omega arith;
-  }
-
   lies : IsInSlots keys slots' opened
-  lies = record { within = omega (arith, len_is); block = λ some. omega (arith, len_is); row = subst (IsRow keys) (sym row_is) one_row }
+  lies = record { within = omega (arith, len_is); block = λ some. omega (arith, len_is); row = subst (IsRow keys) (sym row_is) (one_row keys entry below written) }
 
   kept : (k : ℕ) (d : Row) → k < length rows → k ≢ owner → row_of slots' (get_or rows k d) ≡ row_of slots (get_or rows k d)
   kept k d in_range other = take-behind (get_or rows k d).start (get_or rows k d).len slots (replicate keys entry) (laid.each k d in_range).within
@@ -54,6 +64,5 @@ module _ (nodes keys : ℕ) (slots : List Entry) (rows : List Row) (owner : ℕ)
   pub laid_open : AreLaid nodes keys slots' (set rows owner opened)
   laid_open = laid_after nodes keys slots slots' rows owner r opened laid lt is (omega (arith, len_is)) lies kept apart filled
 
-  pub placed_open : IsPlaced keys owner entry slots slots' rows (set rows owner opened)
-  placed_open = placed_after nodes keys slots slots' rows owner r opened laid lt is (omega (arith, len_is)) lies kept apart filled entry
-      (rw (row_of-empty slots r empty, row_is) one_put)
+  pub renewed_open : IsRenewed owner entry slots slots' rows (set rows owner opened)
+  renewed_open = renewed_after nodes keys slots slots' rows owner r opened laid lt is (omega (arith, len_is)) lies kept apart filled entry row_is

@@ -59,7 +59,7 @@ module _ (ns ks : ℕ) (xs : List Item) (rising : IsRising xs) (in_place : All (
   length-le-places = bounded (length xs) refl
     where
       none : Item
-      none = record { owner = 0; entry = record { key = 0; version = 0; value = 0; born = 0 } }
+      none = record { owner = 0; entry = record { key = 0; generation = 0; version = 0; value = 0; born = 0 } }
 
       bounded : (n : ℕ) → length xs ≡ n → n ≤ ns * ks
       bounded zero e = omega arith

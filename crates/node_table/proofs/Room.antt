@@ -3,12 +3,14 @@ use Rattle.std.proofs.Common.{◌≡◌, ◌≢◌, ℕ, zero, suc, ◌+◌, ◌
 use Rattle.std.proofs.lemmas.Bool.{cases_lt, cases_eq, eq-eqb, ne_eqb}
 use Rattle.std.proofs.Math.Nat.{mul-le-mul_right}
 use Rattle.std.proofs.lemmas.Nat.{le-div, div-add-mod'}
-use Rattle.std.proofs.lemmas.List.Elements.{All-cons, All-nil}
 use Rattle.bench_types.specs.declared.entries.Item.{Item}
-use Rattle.node_table.specs.Table.{Table, greatest_version, applied}
+use Rattle.bench_types.specs.declared.entries.Mark.{Mark}
+use Rattle.node_table.specs.Table.{Table, greatest_version, taken, IsProper}
 use Rattle.node_table.specs.View.{IsItemInPlace}
 use Rattle.node_table.specs.NodeTableView.{comes_in, needs_block, blocks_below, blocks_for}
-use Rattle.node_table.proofs.Versions.{greatest_version-applied, greatest_version-applied_other, greatest_among-own}
+use Rattle.node_table.proofs.Laws.{frame-taken}
+use Rattle.node_table.proofs.MarkLaws.{greatest_mark-taken_other}
+use Rattle.node_table.proofs.Taking.{held-taken}
 
 -- greatest versions before and after an item came in, or its owner was marked
 module _ (g h : ℕ → ℕ) (i : Item) (is : List Item) (others : (owner : ℕ) → owner ≢ i.owner → h owner ≡ g owner) where
@@ -73,18 +75,18 @@ blocks-nil g (suc n) = omega (arith, blocks-nil g n, none)
     none = elim (g n == 0) as (λ b. let part : ℕ = cond (b && false) 1 0 in part ≡ 0) [ true ↦ refl | false ↦ refl ]
 
 -- a table before and after an item came in
-module _ (t u : Table) (i : Item) (is : List Item) (in_place : IsItemInPlace t.nodes t.keys i) (is_applied : u ≡ applied t (i ∷ [])) where
+module _ (t u : Table) (i : Item) (is : List Item) (in_place : IsItemInPlace t.nodes t.keys i) (is_taken : u ≡ taken t i) (proper : IsProper u) where
   nodes : u.nodes ≡ t.nodes
-  nodes = ap (λ (w : Table). w.nodes) is_applied
+  nodes = ap (λ (w : Table). w.nodes) is_taken ∙ (frame-taken t i).nodes
 
-  greatest_is : (owner : ℕ) → greatest_version u owner ≡ greatest_version (applied t (i ∷ [])) owner
-  greatest_is owner = ap (λ (w : Table). greatest_version w owner) is_applied
+  greatest_is : (owner : ℕ) → greatest_version u owner ≡ greatest_version (taken t i) owner
+  greatest_is owner = ap (λ (w : Table). greatest_version w owner) is_taken
 
   others : (owner : ℕ) → owner ≢ i.owner → greatest_version u owner ≡ greatest_version t owner
-  others owner other = greatest_is owner ∙ greatest_version-applied_other t (i ∷ []) owner (All-cons (λ (j : Item). j.owner ≢ owner) i [] (λ is_own. other (sym is_own)) (All-nil (λ (j : Item). j.owner ≢ owner)))
+  others owner other = greatest_is owner ∙ ap (λ (m : Mark). m.version) (greatest_mark-taken_other t i owner (λ is_own. other (sym is_own)))
 
   held : greatest_version u i.owner ≢ 0
-  held none = omega (arith, greatest_is i.owner, greatest_version-applied t (i ∷ []) i.owner (All-cons (IsItemInPlace t.nodes t.keys) i [] in_place (All-nil (IsItemInPlace t.nodes t.keys))), greatest_among-own i [] i.owner refl, in_place.written)
+  held none = omega (arith, greatest_is i.owner, held-taken t i in_place.key_below (subst IsProper is_taken proper) in_place.written)
 
   blocks-rest_held : greatest_version t i.owner ≢ 0 → blocks_for u is ≡ blocks_for t (i ∷ is)
   blocks-rest_held some = ap (blocks_below (greatest_version u) is) nodes ∙ blocks-came_held (greatest_version t) (greatest_version u) i is others held some t.nodes
@@ -103,9 +105,9 @@ module _ (t u : Table) (i : Item) (is : List Item) (in_place : IsItemInPlace t.n
   ]
 
 -- the room for an item of an owner of whom nothing is held
-pub room-first : (t : Table) (i : Item) (is : List Item) (len keys capacity : ℕ) → IsItemInPlace t.nodes t.keys i → len + blocks_for t (i ∷ is) * keys ≤ capacity → greatest_version t i.owner ≡ 0 → len + keys ≤ capacity
-room-first t i is len keys capacity in_place room none =
-    let le : 1 ≤ blocks_for t (i ∷ is) = omega (arith, blocks-rest_new t (applied t (i ∷ [])) i is in_place refl none) in
+pub room-first : (t : Table) (i : Item) (is : List Item) (len keys capacity : ℕ) → IsItemInPlace t.nodes t.keys i → IsProper (taken t i) → len + blocks_for t (i ∷ is) * keys ≤ capacity → greatest_version t i.owner ≡ 0 → len + keys ≤ capacity
+room-first t i is len keys capacity in_place proper room none =
+    let le : 1 ≤ blocks_for t (i ∷ is) = omega (arith, blocks-rest_new t (taken t i) i is in_place refl proper none) in
     let enough = mul-le-mul_right keys le in
     omega (arith, enough)
 

@@ -1,14 +1,13 @@
 -- How a table lies in memory. Each owner of whom something is held has a block of slots, one for each key; the
 -- front of the block is the owner's row. Blocks don't overlap. Source: this project.
-use Rattle.std.specs.Prelude.{◌≡◌, ◌≢◌, ℕ, suc, ◌+◌, ◌-◌, ◌/◌, ◌<◌, ◌≤◌, ◌==◌, ◌⊎◌, Bool, not, false, List, [], ◌∷◌, ◌++◌, Option, None, Some, length, map, take, drop, All, AllPairs, sum_by, slice_index_or, vec_len, vec_capacity, if◌then◌else◌}
+use Rattle.std.specs.Prelude.{◌≡◌, ◌≢◌, ℕ, suc, ◌+◌, ◌-◌, ◌/◌, ◌<◌, ◌≤◌, ◌==◌, ◌⊎◌, Bool, not, false, List, [], ◌∷◌, ◌++◌, Option, None, Some, length, map, take, drop, All, AllPairs, sum_by, slice_index, slice_index_or, vec_len, vec_capacity, if◌then◌else◌}
 use Rattle.std.specs.FinMap.{from_entries, insert}
 use Rattle.std.specs.Ordering.{is_lt}
 use Rattle.bench_types.specs.declared.entries.Entry.{Entry}
-use Rattle.bench_types.specs.declared.limits.TheConstants.{LEAST_KEYS, MOST_NODES, MOST_KEYS}
 use Rattle.node_table.specs.declared.layouts.Row.{Row}
 use Rattle.node_table.specs.declared.layouts.Layout.{Layout}
-use Rattle.node_table.specs.Table.{Place, Held, Table, greatest_version}
-use Rattle.node_table.specs.Rows.{entry_cmp, StandsBefore, AreGreatest}
+use Rattle.node_table.specs.Table.{Place, Held, Table, greatest_version, IsProper}
+use Rattle.node_table.specs.Rows.{entry_cmp, StandsBefore, AreGenerations, AreGreatest}
 
 -- the entries of a row
 abbrev pub row_of : List Entry → Row → List Entry
@@ -44,7 +43,7 @@ held_by l = held_in (rows_of l.slots.items l.rows.items)
 
 -- the table that lies in memory
 abbrev pub table_in : Layout → Table
-table_in l = record { node = l.node; nodes = l.nodes; keys = l.keys; held = held_by l }
+table_in l = record { node = l.node; nodes = l.nodes; keys = l.keys; generation = l.generation; held = held_by l }
 
 -- the table with an entry put at its place
 abbrev pub with_entry : Table → ℕ → Entry → Table
@@ -88,14 +87,13 @@ pub record AreLaid (nodes keys : ℕ) (slots : List Entry) (rows : List Row) : T
   pub apart : AllPairs (AreApart keys) rows
   pub filled : sum_by (block_len keys) rows ≡ length slots
 
--- what a table in memory keeps
+-- what a table in memory keeps; there is always room for the generations of all copies
 pub record IsLayout (l : Layout) : Type 0 where
-  pub node_below : l.node < l.nodes
-  pub nodes_limit : l.nodes ≤ MOST_NODES
-  pub some_key : LEAST_KEYS ≤ l.keys
-  pub keys_limit : l.keys ≤ MOST_KEYS
+  pub proper : IsProper (table_in l)
   pub laid : AreLaid l.nodes l.keys l.slots.items l.rows.items
   pub greatest : AreGreatest (table_in l) l.greatest.items
+  pub generations : AreGenerations (table_in l) l.generations.items
+  pub room : l.nodes ≤ vec_capacity l.generations
   pub counted : l.count ≡ total l.rows.items
 
 -- the owner's row has no entry
@@ -160,3 +158,13 @@ pub record IsPlaced (keys owner : ℕ) (entry : Entry) (slots slots' : List Entr
   pub put : IsPut keys entry (row_at slots rows owner) (row_at slots' rows' owner)
   pub others : (other : ℕ) → other ≢ owner → row_at slots' rows' other ≡ row_at slots rows other
   pub counted : total rows' + length (row_at slots rows owner) ≡ total rows + length (row_at slots' rows' owner)
+
+-- an entry became all of an owner's row, and the other rows stayed
+pub record IsRenewed (owner : ℕ) (entry : Entry) (slots slots' : List Entry) (rows rows' : List Row) : Type 0 where
+  pub alone : row_at slots' rows' owner ≡ entry ∷ []
+  pub others : (other : ℕ) → other ≢ owner → row_at slots' rows' other ≡ row_at slots rows other
+  pub counted : total rows' + length (row_at slots rows owner) ≡ total rows + 1
+
+-- the other owners' generations stayed
+abbrev pub AreOthersKept : ℕ → List ℕ → List ℕ → Type 0
+AreOthersKept owner before after = (other : ℕ) → other ≢ owner → slice_index after other ≡ slice_index before other

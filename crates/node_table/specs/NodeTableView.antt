@@ -1,5 +1,5 @@
 -- What contracts see of a node's table in memory: the table, and for how many more owners it has room.
--- Room is no part of the table: two tables are equal where node, nodes, keys and entries are. Source: this
+-- Room is no part of the table: two tables are equal where node, nodes, keys, generation and entries are. Source: this
 -- project.
 use Rattle.std.specs.Prelude.{◌≢◌, ℕ, zero, suc, ◌+◌, ◌≤◌, ◌==◌, ◌&&◌, Bool, List, All, if◌then◌else◌, refl}
 use Rattle.std.specs.List.{list_any}
@@ -18,7 +18,11 @@ held_code = finite.code (coded× coded_ℕ coded_ℕ) (entry.the_row).coded
 
 abbrev pub table_code : Coded Table
 table_code =
-    code_by (ℕ × (ℕ × (ℕ × Held))) (coded× coded_ℕ (coded× coded_ℕ (coded× coded_ℕ held_code))) (λ t. (t.node, (t.nodes, (t.keys, t.held)))) (λ p. record { node = p.0; nodes = p.1.0; keys = p.1.1.0; held = p.1.1.1 }) (λ _. refl)
+    code_by (ℕ × (ℕ × (ℕ × (ℕ × Held))))
+    (coded× coded_ℕ (coded× coded_ℕ (coded× coded_ℕ (coded× coded_ℕ held_code))))
+    (λ t. (t.node, (t.nodes, (t.keys, (t.generation, t.held)))))
+    (λ p. record { node = p.0; nodes = p.1.0; keys = p.1.1.0; generation = p.1.1.1.0; held = p.1.1.1.1 })
+    (λ _. refl)
 
 abbrev pub kept_code : Coded NodeTableView
 kept_code =

@@ -8,7 +8,7 @@ use Rattle.bench_types.specs.declared.limits.TheConstants.{LEAST_KEYS, MOST_NODE
 use Rattle.node_table.specs.Table.{Place, place_cmp, IsInPlace}
 
 abbrev pub no_item : Item
-no_item = record { owner = 0; entry = record { key = 0; version = 0; value = 0; born = 0 } }
+no_item = record { owner = 0; entry = record { key = 0; generation = 0; version = 0; value = 0; born = 0 } }
 
 abbrev pub place_of : Item → Place
 place_of i = (i.owner, i.entry.key)

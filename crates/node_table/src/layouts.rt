@@ -1,17 +1,20 @@
 //! How a table lies in memory: each owner of whom something is held has a block of slots, one for
 //! each key, at the front of which its entries lie ascending by version and then by key. So one
-//! item changes one block alone.
+//! item changes one block alone. The entries of an owner are of one generation, and while all are of
+//! generation 0 the generations take no walk and no memory that is touched.
 
-ghost use Rattle.std.specs.Prelude.{◌≡◌, ◌+◌, ◌<◌, ◌≤◌, [], ◌∷◌, IsOk, OnOk, OnErr, length, nat_lt, slice_index, take, vec_len, vec_capacity};
-ghost use Rattle.node_table.specs.Table.{IsInPlace, version_at, greatest_version, applied, without_others};
+ghost use Rattle.std.specs.Prelude.{◌≡◌, ◌≢◌, ◌⊎◌, ◌+◌, ◌^◌, ◌<◌, ◌≤◌, [], ◌∷◌, IsOk, OnOk, OnErr, length, nat_lt, slice_index, take, vec_len, vec_capacity};
+ghost use Rattle.bench_types.specs.Mark.{mark_of};
+ghost use Rattle.node_table.specs.Table.{mark_at, generation_held, greatest_mark, taken, without_others, without_all};
 ghost use Rattle.node_table.specs.View.{IsItemInPlace};
+ghost use Rattle.node_table.specs.Rows.{AreAbove};
 ghost use Rattle.node_table.specs.NodeTableView.{blocks_below, blocks_for};
 ghost use Rattle.node_table.specs.Marks.{AreMarked, AreUnmarked};
-ghost use Rattle.node_table.specs.Layouts.{row_of, row_at, block_len, table_in, with_entry, AreLaid, IsLayout, IsEmptyRow, IsInSlots, IsPlaced, IsPut, KeepOutside, HasEntries, IsHeld, HasBlockLeft};
+ghost use Rattle.node_table.specs.Layouts.{row_of, row_at, block_len, table_in, AreLaid, IsLayout, IsEmptyRow, IsInSlots, IsPlaced, AreOthersKept, IsRenewed, IsPut, KeepOutside, HasEntries, IsHeld, HasBlockLeft};
 
-use crate::rows::{find, put_in};
+use crate::rows::{find, put_in, rank_above};
 use bench_types::limits::{MOST_KEYS, MOST_NODES};
-use bench_types::{Entry, Item};
+use bench_types::{Entry, Item, Mark};
 use std::alloc::AllocError;
 
 // Where an owner's row starts among the slots, and how many entries it has.
@@ -21,15 +24,18 @@ pub(crate) struct Row {
     pub(crate) len: u32,
 }
 
-// Slots behind a row, up to the end of its block, hold no matter what.
+// Slots behind a row, up to the end of its block, hold no matter what. The generations are those of
+// each owner's copy, in order, or none while all are 0. They always have room for all.
 #[derive(Drop)]
 pub(crate) struct Layout {
     pub(crate) node: u32,
     pub(crate) nodes: u32,
     pub(crate) keys: u32,
+    pub(crate) generation: u32,
     pub(crate) slots: Vec<Entry>,
     pub(crate) rows: Vec<Row>,
     pub(crate) greatest: Vec<u32>,
+    pub(crate) generations: Vec<u32>,
     pub(crate) count: u32,
 }
 
@@ -45,28 +51,81 @@ impl Layout {
         &self.slots[start..start + row.len as usize]
     }
 
-    // Keeps the newer of an item and what is held at its place.
-    pub(crate) fn receive(&mut self, item: Item)
-        requires layout { IsLayout self.old }
-        requires in_place { IsItemInPlace self.old.nodes self.old.keys item }
-        requires room { greatest_version (table_in self.old) item.owner ≡ 0 → HasBlockLeft self.old }
-        ensures layout { IsLayout self.new }
-        ensures table { table_in self.new ≡ applied (table_in self.old) (item ∷ []) }
-        ensures capacity { vec_capacity self.old.slots ≤ vec_capacity self.new.slots }
-        ensures same_slots { IsHeld self.old item.owner → vec_len self.new.slots ≡ vec_len self.old.slots }
-        ensures slots { vec_len self.new.slots ≤ vec_len self.old.slots + self.old.keys }
+    // The entries held of an owner above a mark.
+    pub(crate) fn above(&self, owner: u32, mark: Mark) -> &[Entry]
+        requires layout { IsLayout self.now }
+        requires owner { owner < self.now.nodes }
+        ensures { AreAbove (table_in self.now) owner mark result.now }
     {
-        if self.is_newer(item) {
-            self.put(item.owner, item.entry).unwrap();
+        let row = self.row(owner);
+        let generation = self.generation_of(owner);
+        if generation < mark.generation {
+            return &row[row.len()..];
+        }
+        if generation > mark.generation {
+            return row;
+        }
+        &row[rank_above(row, mark.version)..]
+    }
+
+    // The generation of an owner's copy, 0 where nothing is held.
+    fn generation_of(&self, owner: u32) -> u32
+        requires layout { IsLayout self.now }
+        requires owner { owner < self.now.nodes }
+        ensures { result ≡ generation_held (table_in self.now) owner }
+    {
+        if self.generations.is_empty() {
+            0
+        } else {
+            self.generations[owner as usize]
         }
     }
 
-    // Whether an item is newer than what is held at its place. Where it is the newest of its owner no
-    // entry is looked at.
+    // The greatest mark held of an owner.
+    pub(crate) fn greatest_mark(&self, owner: u32) -> Mark
+        requires layout { IsLayout self.now }
+        requires owner { owner < self.now.nodes }
+        ensures { result ≡ greatest_mark (table_in self.now) owner }
+    {
+        Mark {
+            generation: self.generation_of(owner),
+            version: self.greatest[owner as usize],
+        }
+    }
+
+    // Takes an item: one of an older generation than its owner's copy changes nothing, one of a newer
+    // is all that is then held of its owner, and one of the same is kept where it is newer than what
+    // is held at its place. An error is lack of memory for a block, and then nothing changes.
+    pub(crate) fn take(&mut self, item: Item) -> Result<(), AllocError>
+        requires layout { IsLayout self.old }
+        requires in_place { IsItemInPlace self.old.nodes self.old.keys item }
+        requires own { item.owner ≡ self.old.node → item.entry.generation ≡ self.old.generation }
+        ensures layout { IsLayout self.new }
+        ensures ok { OnOk result (table_in self.new ≡ taken (table_in self.old) item) }
+        ensures err { OnErr result (table_in self.new ≡ table_in self.old) }
+        ensures keeps_slots { OnErr result (vec_len self.new.slots ≡ vec_len self.old.slots) }
+        ensures capacity { vec_capacity self.old.slots ≤ vec_capacity self.new.slots }
+        ensures same_slots { IsHeld self.old item.owner → vec_len self.new.slots ≡ vec_len self.old.slots }
+        ensures slots { vec_len self.new.slots ≤ vec_len self.old.slots + self.old.keys }
+        ensures held { IsHeld self.old item.owner → IsOk result }
+        ensures succeeds { HasBlockLeft self.old → IsOk result }
+    {
+        let held = self.generation_of(item.owner);
+        if held < item.entry.generation {
+            self.renew(item)
+        } else if held == item.entry.generation && self.is_newer(item) {
+            self.put(item)
+        } else {
+            Ok(())
+        }
+    }
+
+    // Whether an item of the copy's generation is newer than what is held at its place. Where it is
+    // the newest of its owner no entry is looked at.
     fn is_newer(&self, item: Item) -> bool
         requires layout { IsLayout self.now }
         requires in_place { IsItemInPlace self.now.nodes self.now.keys item }
-        ensures { result ≡ nat_lt (version_at (table_in self.now) item.owner item.entry.key) item.entry.version }
+        ensures { result ≡ nat_lt (mark_at (table_in self.now) item.owner item.entry.key).version item.entry.version }
     {
         if self.greatest[item.owner as usize] < item.entry.version {
             return true;
@@ -77,27 +136,70 @@ impl Layout {
         }
     }
 
-    // Puts an entry at its rank in an owner's row, over that of its key. An error is lack of memory
-    // for a block, and then nothing changes.
-    pub(crate) fn put(&mut self, owner: u32, entry: Entry) -> Result<(), AllocError>
+    // Puts an item's entry, which is newer than that of its place, at its rank in the owner's row.
+    fn put(&mut self, item: Item) -> Result<(), AllocError>
         requires layout { IsLayout self.old }
-        requires in_place { IsInPlace self.old.nodes self.old.keys owner entry.key entry }
-        requires newer { version_at (table_in self.old) owner entry.key ≤ entry.version }
+        requires in_place { IsItemInPlace self.old.nodes self.old.keys item }
+        requires own { item.owner ≡ self.old.node → item.entry.generation ≡ self.old.generation }
+        requires same { item.entry.generation ≡ generation_held (table_in self.old) item.owner }
+        requires newer { (mark_at (table_in self.old) item.owner item.entry.key).version < item.entry.version }
         ensures layout { IsLayout self.new }
-        ensures ok { OnOk result (table_in self.new ≡ with_entry (table_in self.old) owner entry) }
+        ensures ok { OnOk result (table_in self.new ≡ taken (table_in self.old) item) }
         ensures err { OnErr result (table_in self.new ≡ table_in self.old) }
         ensures keeps_slots { OnErr result (vec_len self.new.slots ≡ vec_len self.old.slots) }
         ensures capacity { vec_capacity self.old.slots ≤ vec_capacity self.new.slots }
-        ensures same_slots { IsHeld self.old owner → vec_len self.new.slots ≡ vec_len self.old.slots }
+        ensures same_slots { IsHeld self.old item.owner → vec_len self.new.slots ≡ vec_len self.old.slots }
         ensures slots { vec_len self.new.slots ≤ vec_len self.old.slots + self.old.keys }
-        ensures held { IsHeld self.old owner → IsOk result }
+        ensures held { IsHeld self.old item.owner → IsOk result }
         ensures succeeds { HasBlockLeft self.old → IsOk result }
     {
-        let at = owner as usize;
+        let at = item.owner as usize;
         let before = self.rows[at].len;
-        place(&mut self.slots, &mut self.rows, self.keys, owner, entry)?;
+        place(
+            &mut self.slots,
+            &mut self.rows,
+            self.keys,
+            item.owner,
+            item.entry,
+        )?;
         self.count += self.rows[at].len - before;
-        self.greatest[at] = self.greatest[at].max(entry.version);
+        self.greatest[at] = self.greatest[at].max(item.entry.version);
+        Ok(())
+    }
+
+    // Leaves an item's entry, which is of a newer generation, as all that is held of its owner.
+    fn renew(&mut self, item: Item) -> Result<(), AllocError>
+        requires layout { IsLayout self.old }
+        requires in_place { IsItemInPlace self.old.nodes self.old.keys item }
+        requires own { item.owner ≡ self.old.node → item.entry.generation ≡ self.old.generation }
+        requires newer { generation_held (table_in self.old) item.owner < item.entry.generation }
+        ensures layout { IsLayout self.new }
+        ensures ok { OnOk result (table_in self.new ≡ taken (table_in self.old) item) }
+        ensures err { OnErr result (table_in self.new ≡ table_in self.old) }
+        ensures keeps_slots { OnErr result (vec_len self.new.slots ≡ vec_len self.old.slots) }
+        ensures capacity { vec_capacity self.old.slots ≤ vec_capacity self.new.slots }
+        ensures same_slots { IsHeld self.old item.owner → vec_len self.new.slots ≡ vec_len self.old.slots }
+        ensures slots { vec_len self.new.slots ≤ vec_len self.old.slots + self.old.keys }
+        ensures held { IsHeld self.old item.owner → IsOk result }
+        ensures succeeds { HasBlockLeft self.old → IsOk result }
+    {
+        let at = item.owner as usize;
+        let before = self.rows[at].len;
+        place_alone(
+            &mut self.slots,
+            &mut self.rows,
+            self.keys,
+            item.owner,
+            item.entry,
+        )?;
+        self.count = self.count + 1 - before;
+        self.greatest[at] = item.entry.version;
+        set_generation(
+            &mut self.generations,
+            self.nodes,
+            item.owner,
+            item.entry.generation,
+        );
         Ok(())
     }
 
@@ -129,6 +231,7 @@ impl Layout {
         let own = self.node as usize;
         let row = self.rows[own];
         let greatest = self.greatest[own];
+        let generation = self.generation_of(self.node);
         move_to_front(&mut self.slots, row, self.keys);
         self.rows.fill(Row { start: 0, len: 0 });
         self.rows[own] = Row {
@@ -138,6 +241,28 @@ impl Layout {
         self.greatest.fill(0);
         self.greatest[own] = greatest;
         self.count = row.len;
+        self.generations.clear();
+        if generation > 0 {
+            set_generation(&mut self.generations, self.nodes, self.node, generation);
+        }
+    }
+
+    // Drops all rows and begins the next generation.
+    pub(crate) fn forget_all(&mut self)
+        requires layout { IsLayout self.old }
+        requires fits { self.old.generation + 1 < 2 ^ 32 }
+        ensures layout { IsLayout self.new }
+        ensures table { table_in self.new ≡ without_all (table_in self.old) }
+        ensures capacity { vec_capacity self.new.slots ≡ vec_capacity self.old.slots }
+        ensures slots { vec_len self.new.slots ≤ vec_len self.old.slots }
+        ensures keys { self.new.keys ≡ self.old.keys }
+    {
+        self.slots.clear();
+        self.rows.fill(Row { start: 0, len: 0 });
+        self.greatest.fill(0);
+        self.generations.clear();
+        self.count = 0;
+        self.generation += 1;
     }
 }
 
@@ -187,6 +312,23 @@ fn move_to_front(slots: &mut Vec<Entry>, row: Row, keys: u32)
     }
 }
 
+// Sets the generation of an owner's copy in a list of all owners', of which there are none while all
+// are 0.
+fn set_generation(generations: &mut Vec<u32>, nodes: u32, owner: u32, generation: u32)
+    requires owner { owner < nodes }
+    requires count { (vec_len generations.old ≡ 0) ⊎ (vec_len generations.old ≡ nodes) }
+    requires room { nodes ≤ vec_capacity generations.old }
+    ensures count { vec_len generations.new ≡ nodes }
+    ensures own { slice_index generations.new.items owner ≡ generation }
+    ensures others { AreOthersKept owner generations.old.items generations.new.items }
+    ensures capacity { vec_capacity generations.old ≤ vec_capacity generations.new }
+{
+    if generations.is_empty() {
+        generations.resize(nodes as usize, 0).unwrap();
+    }
+    generations[owner as usize] = generation;
+}
+
 // Puts an entry into an owner's row, which gets a block where it has no entry yet.
 fn place(
     slots: &mut Vec<Entry>,
@@ -216,6 +358,43 @@ fn place(
         open(slots, rows, keys, owner, entry)
     } else {
         rows[owner as usize] = put_among(slots, row, keys, entry);
+        Ok(())
+    }
+}
+
+// Leaves an entry alone in an owner's row, which gets a block where it has no entry yet.
+fn place_alone(
+    slots: &mut Vec<Entry>,
+    rows: &mut Vec<Row>,
+    keys: u32,
+    owner: u32,
+    entry: Entry,
+) -> Result<(), AllocError>
+    requires laid { AreLaid (vec_len rows.old) keys slots.old.items rows.old.items }
+    requires owner { owner < vec_len rows.old }
+    requires nodes { vec_len rows.old ≤ MOST_NODES }
+    requires keys { keys ≤ MOST_KEYS }
+    requires key { entry.key < keys }
+    requires written { 1 ≤ entry.version }
+    ensures laid { AreLaid (vec_len rows.old) keys slots.new.items rows.new.items }
+    ensures ok { OnOk result (IsRenewed owner entry slots.old.items slots.new.items rows.old.items rows.new.items) }
+    ensures err { OnErr result (slots.new.items ≡ slots.old.items) }
+    ensures err_rows { OnErr result (rows.new.items ≡ rows.old.items) }
+    ensures capacity { vec_capacity slots.old ≤ vec_capacity slots.new }
+    ensures same_slots { HasEntries slots.old.items rows.old.items owner → vec_len slots.new ≡ vec_len slots.old }
+    ensures held { HasEntries slots.old.items rows.old.items owner → IsOk result }
+    ensures slots { vec_len slots.new ≤ vec_len slots.old + keys }
+    ensures succeeds { vec_len slots.old + keys ≤ vec_capacity slots.old → IsOk result }
+{
+    let row = rows[owner as usize];
+    if row.len == 0 {
+        open(slots, rows, keys, owner, entry)
+    } else {
+        slots[row.start as usize] = entry;
+        rows[owner as usize] = Row {
+            start: row.start,
+            len: 1,
+        };
         Ok(())
     }
 }
@@ -258,7 +437,7 @@ fn open(
     requires key { entry.key < keys }
     requires written { 1 ≤ entry.version }
     ensures laid { AreLaid (vec_len rows.old) keys slots.new.items rows.new.items }
-    ensures ok { OnOk result (IsPlaced keys owner entry slots.old.items slots.new.items rows.old.items rows.new.items) }
+    ensures ok { OnOk result (IsRenewed owner entry slots.old.items slots.new.items rows.old.items rows.new.items) }
     ensures err { OnErr result (slots.new.items ≡ slots.old.items) }
     ensures err_rows { OnErr result (rows.new.items ≡ rows.old.items) }
     ensures capacity { vec_capacity slots.old ≤ vec_capacity slots.new }

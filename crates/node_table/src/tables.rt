@@ -5,9 +5,9 @@ ghost use Rattle.bench_types.specs.declared.faults.Fault.TheVariants.{OutOfMemor
 ghost use Rattle.node_table.specs.NodeTableView.{comes_in};
 
 use crate::layouts::{Layout, Row};
-use crate::rows::{find, rank_above};
+use crate::rows::find;
 use bench_types::limits::{LEAST_KEYS, MOST_KEYS, MOST_NODES};
-use bench_types::{Entry, Fault, Item};
+use bench_types::{Entry, Fault, Item, Mark};
 use std::alloc::Global;
 use std::marker::Model;
 
@@ -31,12 +31,14 @@ impl Model for NodeTable {
 }
 
 impl NodeTable {
-    ghost use Rattle.node_table.specs.Table.{empty_table, entry_at, greatest_version, count_of, with_own_write, applied, without_others, IsProper};
+    ghost use Rattle.node_table.specs.Table.{empty_table, entry_at, greatest_mark, greatest_version, count_of, with_own_write, applied, without_others, without_all, IsProper};
     ghost use Rattle.node_table.specs.NodeTableView.{blocks_for, HasRoom, MayApply, MayReceive};
     ghost use Rattle.node_table.specs.View.{IsItemInPlace};
-    ghost use Rattle.node_table.specs.Rows.{AreAbove, AreGreatest};
+    ghost use Rattle.node_table.specs.Rows.{AreAbove, AreGenerations, AreGreatest};
+    ghost use Rattle.bench_types.specs.Mark.{absent};
 
-    /// The empty table of a node. It takes 12 bytes for each node.
+    /// The empty table of a node, in its generation 0. It takes 16 bytes for each node, of which it
+    /// writes 12: the others are for the generations of copies, once one is above 0.
     pub fn new(alloc: Global, node: u32, nodes: u32, keys: u32) -> Result<NodeTable, Fault>
         requires node { node < nodes }
         requires nodes { nodes ≤ MOST_NODES }
@@ -49,9 +51,11 @@ impl NodeTable {
             node,
             nodes,
             keys,
+            generation: 0,
             slots: Vec::new(alloc),
             rows: vec![in alloc; Row { start: 0, len: 0 }; nodes as usize]?,
             greatest: vec![in alloc; 0; nodes as usize]?,
+            generations: Vec::with_capacity(alloc, nodes as usize)?,
             count: 0,
         };
         Ok(NodeTable { layout })
@@ -81,33 +85,50 @@ impl NodeTable {
         self.layout.keys
     }
 
+    /// The node's generation: how often it has forgotten.
+    pub fn generation(&self) -> u32
+        ensures value { result ≡ self.now.table.generation }
+        ensures proper { IsProper self.now.table }
+    {
+        self.layout.generation
+    }
+
     /// The entries held of an owner, ascending by version and then by key. Nothing is copied or
     /// walked over.
     pub fn row(&self, owner: u32) -> &[Entry]
         requires { owner < self.now.table.nodes }
-        ensures entries { AreAbove self.now.table owner 0 result.now }
+        ensures entries { AreAbove self.now.table owner absent result.now }
         ensures proper { IsProper self.now.table }
     {
         self.layout.row(owner)
     }
 
-    /// Those above a version. Nothing is copied, and each entry of the owner is looked at once.
-    pub fn above(&self, owner: u32, version: u32) -> &[Entry]
+    /// Those above a mark: all where the copy is of a newer generation than the mark, none where it
+    /// is of an older one. Nothing is copied, and each entry of the owner is looked at once at most.
+    pub fn above(&self, owner: u32, mark: Mark) -> &[Entry]
         requires { owner < self.now.table.nodes }
-        ensures entries { AreAbove self.now.table owner version result.now }
+        ensures entries { AreAbove self.now.table owner mark result.now }
         ensures proper { IsProper self.now.table }
     {
-        let row = self.layout.row(owner);
-        &row[rank_above(row, version)..]
+        self.layout.above(owner, mark)
     }
 
-    /// The greatest version held of each owner, in order, 0 where none is. Nothing is copied or
-    /// walked over.
+    /// The greatest version held of each owner in its copy's generation, in order, 0 where none is.
+    /// Nothing is copied or walked over.
     pub fn greatest_versions(&self) -> &[u32]
         ensures versions { AreGreatest self.now.table result.now }
         ensures proper { IsProper self.now.table }
     {
         &self.layout.greatest
+    }
+
+    /// The generation of each owner's copy, in order, 0 where nothing is held: an empty list stands
+    /// for generation 0 throughout. Nothing is copied or walked over.
+    pub fn generations(&self) -> &[u32]
+        ensures generations { AreGenerations self.now.table result.now }
+        ensures proper { IsProper self.now.table }
+    {
+        &self.layout.generations
     }
 
     /// How many entries are held. Nothing is walked over.
@@ -128,21 +149,21 @@ impl NodeTable {
         }
     }
 
-    /// The greatest version held of an owner, 0 where none is. Nothing is walked over.
-    pub fn greatest(&self, owner: u32) -> u32
-        ensures { result ≡ greatest_version self.now.table owner }
+    /// The greatest mark held of an owner, the absent one where none is. Nothing is walked over.
+    pub fn greatest(&self, owner: u32) -> Mark
+        ensures { result ≡ greatest_mark self.now.table owner }
     {
         if owner < self.layout.nodes {
-            self.layout.greatest[owner as usize]
+            self.layout.greatest_mark(owner)
         } else {
-            0
+            Mark::ABSENT
         }
     }
 
-    /// The node writes one of its own keys, and the answer is the version of that write: one walk
-    /// over the node's row, which closes it up. An error is lack of memory for the first write of
-    /// all, and then nothing was written and the room is no less. With room for one owner there is
-    /// none.
+    /// The node writes one of its own keys, in its generation, and the answer is the version of that
+    /// write: one walk over the node's row, which closes it up. An error is lack of memory for the
+    /// first write of all, and then nothing was written and the room is no less. With room for one
+    /// owner there is none.
     pub fn write_own(&mut self, key: u32, value: u32, born: u32) -> Result<u32, Fault>
         requires key { key < self.old.table.keys }
         requires fits { greatest_version self.old.table self.old.table.node + 1 < 2 ^ 32 }
@@ -154,14 +175,16 @@ impl NodeTable {
         ensures only { IsOkUnless result OutOfMemory }
     {
         let owner = self.layout.node;
+        let generation = self.layout.generation;
         let version = self.layout.greatest[owner as usize] + 1;
         let entry = Entry {
             key,
+            generation,
             version,
             value,
             born,
         };
-        self.layout.put(owner, entry)?;
+        self.layout.take(Item { owner, entry })?;
         Ok(version)
     }
 
@@ -186,10 +209,11 @@ impl NodeTable {
         }
     }
 
-    /// Takes items in turn: each place keeps the entry with the greater version, and the held one
-    /// where the versions are equal. It takes no memory. For each item it walks over the owner's
-    /// row: once where the item is the newest of its owner, and else for its key and for its rank.
-    /// No other row changes.
+    /// Takes items in turn: each place keeps the newer entry, and the held one where the marks are
+    /// equal. An item of a newer generation than its owner's copy drops all that is held of its owner,
+    /// and one of an older generation changes nothing. It takes no memory. For each item it walks over
+    /// the owner's row: once where the item is the newest of its owner, and else for its key and for
+    /// its rank. No other row changes.
     pub fn apply(&mut self, added: &[Item])
         requires room { HasRoom self.old added.now }
         requires others { All (λ i. i.owner ≢ self.old.table.node) added.now }
@@ -197,7 +221,7 @@ impl NodeTable {
         ensures { self.new.table ≡ applied self.old.table added.now }
     {
         for item in added {
-            self.layout.receive(*item);
+            self.layout.take(*item).unwrap();
         }
     }
 
@@ -217,7 +241,7 @@ impl NodeTable {
     {
         let mut blocks = 0;
         for owner in 0..self.layout.nodes {
-            if self.greatest(owner) == 0 && comes_in(added, owner) {
+            if self.greatest(owner).version == 0 && comes_in(added, owner) {
                 blocks += 1;
             }
         }
@@ -243,19 +267,34 @@ impl NodeTable {
         self.layout.forget_others();
     }
 
-    /// A table with the same node, nodes, keys and entries, but with room of its own. One walk over
+    /// Drops all entries, the node's own too, and begins the node's next generation, as a restart does
+    /// that forgets. It takes no memory and gives none back. One walk over the owners.
+    pub fn forget_all(&mut self)
+        requires { self.old.table.generation + 1 < 2 ^ 32 }
+        ensures table { self.new.table ≡ without_all self.old.table }
+        ensures keeps_room { self.old.spare ≤ self.new.spare }
+    {
+        self.layout.forget_all();
+    }
+
+    /// A table with the same node, nodes, keys, generation and entries, but with room of its own. One walk over
     /// the table.
     pub fn try_clone(&self) -> Result<NodeTable, Fault>
         ensures equal { IfOk result (λ t. t.table ≡ self.now.table) }
         ensures only { IsOkUnless result OutOfMemory }
     {
+        let nodes = self.layout.nodes;
+        let mut generations = self.layout.generations.clone()?;
+        generations.reserve(nodes as usize - generations.len())?;
         let layout = Layout {
             node: self.layout.node,
-            nodes: self.layout.nodes,
+            nodes,
             keys: self.layout.keys,
+            generation: self.layout.generation,
             slots: self.layout.slots.clone()?,
             rows: self.layout.rows.clone()?,
             greatest: self.layout.greatest.clone()?,
+            generations,
             count: self.layout.count,
         };
         Ok(NodeTable { layout })

@@ -1,5 +1,5 @@
 -- What is sent of the runs that were found, or of the candidates, is the answer to the digest.
-use Rattle.std.proofs.Common.{◌≡◌, ℕ, ◌-◌, ◌<◌, ◌≤◌, ◌^◌, not, ◌&&◌, eqb, ltb, Bool, List, length, sym, ap, ◌∙◌, arith, subst}
+use Rattle.std.proofs.Common.{◌≡◌, ℕ, ◌-◌, ◌<◌, ◌≤◌, ◌^◌, not, ◌&&◌, eqb, Bool, List, length, sym, ap, ◌∙◌, arith, subst}
 use Rattle.std.specs.Prelude.{IsPermutation}
 use Rattle.std.proofs.lemmas.List.{length-map}
 use Rattle.std.proofs.lemmas.List.Elements.{Contains-get_or}
@@ -9,11 +9,12 @@ use Rattle.bench_types.specs.Budget.{amount_of}
 use Rattle.bench_types.specs.declared.entries.Item.{Item}
 use Rattle.bench_types.specs.declared.exchanges.Mode.{Mode}
 use Rattle.bench_types.specs.declared.exchanges.Telling.TheVariants.{Each}
+use Rattle.bench_types.specs.Mark.{mark_of, is_before}
 use Rattle.bench_types.specs.Mode.{told_by}
 use Rattle.node_table.specs.Table.{Table, items_of, IsProper}
 use Rattle.reconcile.specs.Candidates.{IsScuttleMode, items_above}
 use Rattle.reconcile.specs.Deltas.{DeltaView, item_share, answer_of, AreWithin}
-use Rattle.reconcile.specs.Digests.{DigestView, told_version}
+use Rattle.reconcile.specs.Digests.{DigestView, told_mark}
 use Rattle.reconcile.specs.Keys.{item_in, items_in, AllSet, AreFirstItems, IsSentOf}
 use Rattle.reconcile.specs.Newer.{AreCandidates}
 use Rattle.reconcile.specs.Runs.{items_of_runs, IsTurned, layered, AreLayered}
@@ -44,11 +45,11 @@ length-first budget found items first = omega (arith, ap length first.is, length
 
 module _ (mode : Mode) (t : Table) (told : DigestView) (receiver rotation : ℕ) (proper : IsProper t) (in_nodes : rotation < t.nodes) where
   abbrev unknown : Item → Bool
-  unknown i = not (eqb i.owner receiver) && ltb (told_version told i) i.entry.version
+  unknown i = not (eqb i.owner receiver) && is_before (told_mark told i) (mark_of i.entry)
 
   module _ (old new : List Run) (are : AreCandidates t told receiver t.nodes (items_of_runs old)) (turned : IsTurned rotation old new) where
-    same : IsPermutation (items_above (told_version told) receiver (items_of t)) (items_of_runs new)
-    same = IsPermutation-trans (items_above (told_version told) receiver (items_of t)) (items_of_runs old) (items_of_runs new) (candidates-permuted t told receiver (items_of_runs old) proper are) (turned-permutation t.nodes rotation in_nodes old new turned)
+    same : IsPermutation (items_above (told_mark told) receiver (items_of t)) (items_of_runs new)
+    same = IsPermutation-trans (items_above (told_mark told) receiver (items_of t)) (items_of_runs old) (items_of_runs new) (candidates-permuted t told receiver (items_of_runs old) proper are) (turned-permutation t.nodes rotation in_nodes old new turned)
 
     pub few-turned : length (items_of_runs new) < 2 ^ 32
     few-turned = length-candidates-lt t unknown (items_of_runs new) proper same

@@ -1,14 +1,14 @@
 -- The versions of a table in one list, owner by owner, and where each stands.
-use Rattle.std.proofs.Common.{◌≡◌, ◌≢◌, ℕ, zero, suc, ◌+◌, ◌*◌, ◌<◌, ◌≤◌, ◌⊎◌, List, [], ◌∷◌, length, get_or, set, All, Some, None, inl, inr, refl, sym, ap, ◌∙◌, subst, arith}
+use Rattle.std.proofs.Common.{◌≡◌, ◌≢◌, ℕ, zero, suc, ◌+◌, ◌*◌, ◌<◌, ◌≤◌, ◌⊎◌, List, [], ◌∷◌, length, get_or, set, cond, All, Some, None, inl, inr, refl, sym, ap, ◌∙◌, subst, arith}
 use Rattle.std.proofs.Math.Nat.{mul-le-mul_right}
-use Rattle.std.proofs.lemmas.Bool.{cases_lt, cases_eq}
+use Rattle.std.proofs.lemmas.Bool.{cases_lt, cases_eq, ne_eqb}
 use Rattle.std.proofs.lemmas.List.{get_or_default, get_or-set_same, get_or-set_other, length-set}
 use Rattle.std.proofs.lemmas.List.Elements.{All-head, All-tail, Contains-get_or}
 use Rattle.bench_types.specs.declared.entries.Entry.{Entry}
-use Rattle.bench_types.specs.Entry.{version_of}
-use Rattle.node_table.specs.Table.{Table, entry_at, version_at, IsProper}
-use Rattle.node_table.specs.Rows.{AreAbove}
-use Rattle.reconcile.specs.Digests.{version_index}
+use Rattle.bench_types.specs.Mark.{absent, mark_held}
+use Rattle.node_table.specs.Table.{Table, entry_at, mark_at, generation_held, IsProper}
+use Rattle.node_table.specs.Rows.{AreAbove, AreGenerations}
+use Rattle.reconcile.specs.Digests.{mark_with, version_index}
 use Rattle.reconcile.specs.Inside.{AreVersions, with_row}
 
 -- an owner's keys are counted behind those of the owners before it
@@ -71,12 +71,12 @@ with_row-at start key version (e ∷ es) vs lt all there =
 -- the versions of the owners below a bound stand in their places, and the others are 0
 pub record AreFilled (t : Table) (bound : ℕ) (vs : List ℕ) : Type 0 where
   pub count : length vs ≡ t.nodes * t.keys
-  pub done : (owner key : ℕ) → owner < bound → key < t.keys → get_or vs (version_index t.keys owner key) 0 ≡ version_at t owner key
+  pub done : (owner key : ℕ) → owner < bound → key < t.keys → get_or vs (version_index t.keys owner key) 0 ≡ (mark_at t owner key).version
   pub blank : (owner key : ℕ) → bound ≤ owner → owner < t.nodes → key < t.keys → get_or vs (version_index t.keys owner key) 0 ≡ 0
 
 module _ (t : Table) (proper : IsProper t) where
   -- the next owner's row comes in
-  module _ (owner start : ℕ) (row : List Entry) (vs : List ℕ) (lt : owner < t.nodes) (at : start ≡ owner * t.keys) (are : AreAbove t owner 0 row) (so_far : AreFilled t owner vs) where
+  module _ (owner start : ℕ) (row : List Entry) (vs : List ℕ) (lt : owner < t.nodes) (at : start ≡ owner * t.keys) (are : AreAbove t owner absent row) (so_far : AreFilled t owner vs) where
     row_held : (k : ℕ) (d : Entry) → k < length row → entry_at t owner (get_or row k d).key ≡ Some (get_or row k d)
     row_held k d in_range = (are.held (get_or row k d) (Contains-get_or row k d in_range)).0
 
@@ -84,15 +84,15 @@ module _ (t : Table) (proper : IsProper t) where
     row-fits k d in_range =
         omega (arith, index-lt t.nodes t.keys owner (get_or row k d).key lt (proper.in_place owner (get_or row k d).key (get_or row k d) (row_held k d in_range)).key_below, so_far.count)
 
-    own_version : (key : ℕ) → key < t.keys → get_or (with_row start row vs) (start + key) 0 ≡ version_at t owner key
+    own_version : (key : ℕ) → key < t.keys → get_or (with_row start row vs) (start + key) 0 ≡ (mark_at t owner key).version
     own_version key fits =
-        with_row-at start key (version_at t owner key) row vs (omega (arith, index-lt t.nodes t.keys owner key lt fits, so_far.count))
-        (λ k d in_range same. sym (ap version_of (subst (λ n. entry_at t owner n ≡ Some (get_or row k d)) same (row_held k d in_range))))
-        (elim (entry_at t owner key) as (λ o. entry_at t owner key ≡ o → HasKey row key ⊎ (get_or vs (start + key) 0 ≡ version_of o)) [
+        with_row-at start key (mark_at t owner key).version row vs (omega (arith, index-lt t.nodes t.keys owner key lt fits, so_far.count))
+        (λ k d in_range same. sym (ap (λ h. (mark_held h).version) (subst (λ n. entry_at t owner n ≡ Some (get_or row k d)) same (row_held k d in_range))))
+        (elim (entry_at t owner key) as (λ o. entry_at t owner key ≡ o → HasKey row key ⊎ (get_or vs (start + key) 0 ≡ (mark_held o).version)) [
           | None ↦ λ none. inr (ap (λ n. get_or vs n 0) {x = start + key} {y = version_index t.keys owner key} (omega arith) ∙ so_far.blank owner key (omega arith) lt fits)
           | Some e ↦ λ held.
               let place = proper.in_place owner key e held in
-              let there = are.all key e held (omega (arith, place.written)) in
+              let there = are.all key e held (record { generation = omega arith; version = λ _. place.written }) in
               inl (there.0, there.1, λ d. ap (λ (x : Entry). x.key) (get_or_default row there.0 d e there.1 ∙ there.2) ∙ place.keyed)
         ] refl)
 
@@ -108,7 +108,7 @@ module _ (t : Table) (proper : IsProper t) where
         | inl same ↦
             ap (λ n. get_or (with_row start row vs) n 0) {x = version_index t.keys other key} {y = start + key} (omega (arith, ap (λ o. o * t.keys) same))
             ∙ own_version key fits
-            ∙ ap (λ o. version_at t o key) (sym same)
+            ∙ ap (λ o. (mark_at t o key).version) (sym same)
         | inr differs ↦ other_version other key differs fits ∙ so_far.done other key (omega arith) fits
       ];
       blank = λ other key above below fits. other_version other key (omega arith) fits ∙ so_far.blank other key (omega arith) below fits;
@@ -128,3 +128,16 @@ filled-none t vs count zeros = record {
   done = λ owner key below fits. absurd (omega arith);
   blank = λ owner key above below fits. zeros (version_index t.keys owner key) (omega (arith, count, index-lt t.nodes t.keys owner key below fits));
 }
+
+-- a table's versions with its generations are its marks
+module _ (t : Table) (proper : IsProper t) (generations versions : List ℕ) (held : AreGenerations t generations) (are : AreVersions t versions) where
+  pub marks_there : (owner key : ℕ) → owner < t.nodes → key < t.keys → mark_with (get_or generations owner 0) (get_or versions (version_index t.keys owner key) 0) ≡ mark_at t owner key
+  marks_there owner key lt fits =
+      (λ i. mark_with (held.held owner lt i) (are.each owner key lt fits i))
+      ∙ elim (entry_at t owner key) as (λ o. entry_at t owner key ≡ o → mark_with (generation_held t owner) (mark_held o).version ≡ mark_held o) [
+        | None ↦ λ _. refl
+        | Some e ↦ λ there.
+            let some : e.version ≢ 0 = λ none. absurd (omega (arith, none, (proper.in_place owner key e there).written)) in
+            ap (λ b. cond b absent (record { generation = generation_held t owner; version = e.version })) (ne_eqb e.version 0 some)
+            ∙ λ i. record { generation = sym (proper.copies owner key e there) i; version = e.version }
+      ] refl

@@ -1,19 +1,21 @@
 -- Runs found owner by owner: their items are the candidates so far.
-use Rattle.std.proofs.Common.{◌≡◌, ◌≢◌, ℕ, ◌+◌, ◌<◌, List, [], ◌∷◌, ◌++◌, length, map, All, refl, sym, ap, ◌∙◌, subst, arith}
+use Rattle.std.proofs.Common.{◌≡◌, ◌≢◌, ℕ, ◌+◌, ◌<◌, List, [], ◌∷◌, ◌++◌, length, map, get_or, All, refl, sym, ap, ◌∙◌, subst, arith}
 use Rattle.std.specs.Prelude.{Contains}
 use Rattle.std.specs.List.{AllPairs}
 use Rattle.std.proofs.lemmas.Grind.{flat_map-append}
 use Rattle.std.proofs.lemmas.List.{append-nil}
 use Rattle.std.proofs.lemmas.List.Elements.{All-nil, All-cons, All-append, All-weaker, All-contains}
 use Rattle.bench_types.specs.declared.entries.Entry.{Entry}
-use Rattle.node_table.specs.Table.{Table}
-use Rattle.node_table.specs.Rows.{StandsBefore, AreAbove}
-use Rattle.reconcile.specs.Digests.{DigestView, version_told}
+use Rattle.bench_types.specs.declared.entries.Mark.{Mark}
+use Rattle.bench_types.specs.Mark.{IsUpTo}
+use Rattle.node_table.specs.Table.{Table, greatest_mark, IsProper}
+use Rattle.node_table.specs.Rows.{StandsBefore, AreAbove, AreGenerations, AreGreatest}
+use Rattle.reconcile.specs.Digests.{DigestView, Greatest, known_in, mark_told}
 use Rattle.reconcile.specs.Newer.{AreCandidates, item_with}
 use Rattle.reconcile.specs.Runs.{run_items, items_of_runs, OwnersRise, AreRuns}
 use Rattle.reconcile.specs.declared.runs.Run.{Run}
 use Rattle.reconcile.proofs.Members.{AllPairs-append}
-use Rattle.reconcile.proofs.Newer.{newer-above, newer_items-above, candidates-none, candidates-own, candidates-more}
+use Rattle.reconcile.proofs.Newer.{newer-above, newer_items-above, above-none, candidates-none, candidates-own, candidates-more}
 
 -- the runs of the owners below a bound
 pub record AreFound (t : Table) (told : DigestView) (receiver bound : ℕ) (runs : List Run) : Type 0 where
@@ -28,9 +30,26 @@ InOrder r = AllPairs StandsBefore r.entries.now
 AllPairs-one : {X : Type 0} (R : X → X → Type 0) (x : X) → AllPairs R (x ∷ [])
 AllPairs-one R x i j d lt in_range = absurd (omega arith)
 
-empty : (entries : List Entry) → length entries ≡ 0 → entries ≡ []
-empty [] none = refl
-empty (e ∷ entries) none = absurd (omega arith)
+-- of no numbers each is 0
+pub none_there : (numbers : List ℕ) (k : ℕ) → length numbers ≡ 0 → get_or numbers k 0 ≡ 0
+none_there [] k none = refl
+none_there (n ∷ numbers) k none = absurd (omega arith)
+
+-- the mark of a generation and a version that stand in lists
+module _ (owner : ℕ) (mark : Mark) (generations versions : List ℕ) (generation : mark.generation ≡ get_or generations owner 0) (version : mark.version ≡ get_or versions owner 0) where
+  -- is told of all keys of an owner, where a digest has these
+  pub told_alike : (told : DigestView) → told.generations ≡ generations → told.knowledge ≡ Greatest versions → (key : ℕ) → mark_told told owner key ≡ mark
+  told_alike told gs vs key i = record {
+    generation = (ap (λ ns. get_or ns owner 0) gs ∙ sym generation) i;
+    version = (ap (λ k. known_in told.keys k owner key) vs ∙ sym version) i;
+  }
+
+  -- and is the greatest one, where these are a table's
+  pub greatest_there : (t : Table) → owner < t.nodes → AreGenerations t generations → AreGreatest t versions → mark ≡ greatest_mark t owner
+  greatest_there t lt gs vs i = record {
+    generation = (generation ∙ gs.held owner lt) i;
+    version = (version ∙ vs.greatest owner lt) i;
+  }
 
 module _ (t : Table) (told : DigestView) (receiver : ℕ) where
   pub found-first : AreFound t told receiver 0 []
@@ -49,21 +68,12 @@ module _ (t : Table) (told : DigestView) (receiver : ℕ) where
     pub found-own : bound ≡ receiver → AreFound t told receiver (bound + 1) runs
     found-own own = record { all = candidates-own t told receiver bound (items_of_runs runs) own so_far.all; rise = so_far.rise; are = so_far.are; below = wider }
 
-    module _ (version : ℕ) (entries : List Entry) (other : bound ≢ receiver) (same : (key : ℕ) → version_told told bound key ≡ version) (above : AreAbove t bound version entries) where
+    module _ (mark : Mark) (entries : List Entry) (other : bound ≢ receiver) (same : (key : ℕ) → mark_told told bound key ≡ mark) (above : AreAbove t bound mark entries) where
       more : AreCandidates t told receiver (bound + 1) (items_of_runs runs ++ map (item_with bound) entries)
-      more = subst (λ is. AreCandidates t told receiver (bound + 1) (items_of_runs runs ++ is)) (newer_items-above t told bound version entries same above)
-          (candidates-more t told receiver bound (items_of_runs runs) entries other so_far.all (newer-above t told bound version entries same above))
+      more = subst (λ is. AreCandidates t told receiver (bound + 1) (items_of_runs runs ++ is)) (newer_items-above t told bound mark entries same above)
+          (candidates-more t told receiver bound (items_of_runs runs) entries other so_far.all (newer-above t told bound mark entries same above))
 
-      -- an owner has none
-      pub found-none : length entries ≡ 0 → AreFound t told receiver (bound + 1) runs
-      found-none none = record {
-        all = subst (AreCandidates t told receiver (bound + 1)) (ap (λ es. items_of_runs runs ++ map (item_with bound) es) (empty entries none) ∙ append-nil (items_of_runs runs)) more;
-        rise = so_far.rise;
-        are = so_far.are;
-        below = wider;
-      }
-
-      -- or a run
+      -- an owner has a run
       pub found-more : (r : Run) → r.owner ≡ bound → r.entries.now ≡ entries → AreFound t told receiver (bound + 1) (runs ++ r ∷ [])
       found-more r owner is = record {
         all = subst (AreCandidates t told receiver (bound + 1)) items more;
@@ -85,3 +95,12 @@ module _ (t : Table) (told : DigestView) (receiver : ℕ) where
               ap (λ is. items_of_runs runs ++ is) (sym (append-nil (map (item_with bound) entries)))
               ∙ (λ i. items_of_runs runs ++ (map (item_with (sym owner i)) (sym is i) ++ []))
               ∙ sym (flat_map-append run_items runs (r ∷ []))
+
+    -- or none, where the greatest mark is told
+    pub found-none : (mark : Mark) → bound ≢ receiver → ((key : ℕ) → mark_told told bound key ≡ mark) → IsProper t → IsUpTo (greatest_mark t bound) mark → AreFound t told receiver (bound + 1) runs
+    found-none mark other same proper most = record {
+      all = subst (AreCandidates t told receiver (bound + 1)) (append-nil (items_of_runs runs)) (more mark [] other same (above-none t bound mark proper most));
+      rise = so_far.rise;
+      are = so_far.are;
+      below = wider;
+    }

@@ -2,6 +2,7 @@
 pub mod DeltaLaws
 pub mod Told
 pub mod Members
+pub mod Lacked
 -- What the proofs of this crate's functions rest on.
 pub mod Fitting
 pub mod Adding

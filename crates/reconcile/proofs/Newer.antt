@@ -1,26 +1,28 @@
 -- A table's entries that a digest doesn't know, owner by owner, are the candidates in another order.
-use Rattle.std.proofs.Common.{◌≡◌, ◌≢◌, ℕ, ◌+◌, ◌<◌, ◌≤◌, Bool, true, false, cond, not, ◌&&◌, eqb, ltb, List, [], ◌∷◌, ◌++◌, length, map, take, get_or, All, Some, inl, inr, refl, sym, ap, ◌∙◌, subst, arith}
+use Rattle.std.proofs.Common.{◌≡◌, ◌≢◌, ℕ, ◌+◌, ◌<◌, Bool, true, false, cond, not, ◌&&◌, eqb, List, [], ◌∷◌, ◌++◌, length, map, take, get_or, All, Some, inl, inr, refl, sym, ap, ◌∙◌, subst, arith}
 use Rattle.std.specs.Prelude.{filter, Contains, IsPermutation}
 use Rattle.std.specs.List.{AllPairs}
 use Rattle.std.specs.declared.cmp.Ordering.TheVariants.{Less, Equal}
 use Rattle.std.specs.Ordering.{nat_cmp, ordering_then, is_eq}
 use Rattle.std.specs.Cmp.{IsTotalOrder, nat_cmp_total, on_total, then_total, tied_itself}
-use Rattle.std.proofs.lemmas.Bool.{cases_lt, eq-eqb, ne_eqb, eqb-true, lt-ltb, ltb-true, le-ltb, and_parts, and_from, both_ways, not-true}
+use Rattle.std.proofs.lemmas.Bool.{cases_lt, eq-eqb, ne_eqb, eqb-true, and_parts, and_from, both_ways, not-true}
 use Rattle.std.proofs.lemmas.List.{append-nil, append_assoc, map-append, take_more}
 use Rattle.std.proofs.lemmas.List.Elements.{All-contains, All-head, All-tail, All-map, Contains-get_or, Contains-append_left, Contains-append_right, Contains-append_cases, filter-append}
 use Rattle.std.proofs.lemmas.List.Kept.{AllPairs-filter}
 use Rattle.bench_types.specs.declared.entries.Entry.{Entry}
 use Rattle.bench_types.specs.declared.entries.Item.{Item}
-use Rattle.bench_types.specs.Entry.{version_of}
-use Rattle.node_table.specs.Table.{Table, entry_at, greatest_version, items_of, IsProper}
+use Rattle.bench_types.specs.declared.entries.Mark.{Mark}
+use Rattle.bench_types.specs.Mark.{absent, mark_of, mark_held, is_before, IsBefore, IsUpTo}
+use Rattle.bench_types.proofs.Marks.{before-true, before-yes, before-no, up_to-then}
+use Rattle.node_table.specs.Table.{Table, entry_at, greatest_mark, generation_held, items_of, IsProper}
 use Rattle.node_table.specs.Rows.{AreAbove}
 use Rattle.node_table.specs.Applied.{stands_at}
 use Rattle.node_table.proofs.Comparing.{nat_cmp-less, nat_cmp-equal}
 use Rattle.node_table.proofs.Items.{IsApart, apart-items_of, entry_at-items_of, Contains-items_of}
 use Rattle.node_table.proofs.Laws.{tied-stands_at}
-use Rattle.node_table.proofs.Versions.{version_at-le-greatest_version}
+use Rattle.node_table.proofs.Greatest.{mark_at-up_to_greatest}
 use Rattle.reconcile.specs.Candidates.{items_above}
-use Rattle.reconcile.specs.Digests.{DigestView, version_told, told_version}
+use Rattle.reconcile.specs.Digests.{DigestView, told_generation, mark_told, told_mark}
 use Rattle.reconcile.specs.Newer.{AreNewer, item_with, newer_items, version_order, IsCandidate, AreCandidates}
 use Rattle.reconcile.specs.Keys.{item_in, items_in}
 use Rattle.reconcile.specs.declared.candidates.Candidate.{Candidate}
@@ -30,73 +32,93 @@ pub version_total : IsTotalOrder version_order
 version_total = then_total (on_total (λ (i : Item). i.owner) nat_cmp_total) (then_total (on_total (λ (i : Item). i.entry.version) nat_cmp_total) (on_total (λ (i : Item). i.entry.key) nat_cmp_total))
 
 module _ (t : Table) (told : DigestView) (owner : ℕ) where
-  -- where one version is told of all keys of an owner, the entries above it aren't known
-  pub newer-above : (version : ℕ) (entries : List Entry) → ((key : ℕ) → version_told told owner key ≡ version) → AreAbove t owner version entries → AreNewer t told owner entries
-  newer-above version entries same above = record {
+  -- where one mark is told of all keys of an owner, the entries above it aren't known
+  pub newer-above : (mark : Mark) (entries : List Entry) → ((key : ℕ) → mark_told told owner key ≡ mark) → AreAbove t owner mark entries → AreNewer t told owner entries
+  newer-above mark entries same above = record {
     rising = above.rising;
     held = λ e there. (above.held e there).0;
-    all = λ key e held newer. above.all key e held (subst (λ v. v < e.version) (same key) newer);
+    all = λ key e held newer. above.all key e held (subst (λ m. IsBefore m (mark_of e)) (same key) newer);
   }
 
   -- all entries of an owner have those among them that aren't known
-  pub newer-row : (entries : List Entry) → AreAbove t owner 0 entries → AreNewer t told owner entries
-  newer-row entries above = record {
+  pub newer-row : (entries : List Entry) → IsProper t → AreAbove t owner absent entries → AreNewer t told owner entries
+  newer-row entries proper above = record {
     rising = above.rising;
     held = λ e there. (above.held e there).0;
-    all = λ key e held newer. above.all key e held (omega (arith, newer));
+    all = λ key e held newer. above.all key e held (record { generation = omega arith; version = λ _. (proper.in_place owner key e held).written });
   }
 
--- none is above the greatest version
-pub above-none : (t : Table) (owner version : ℕ) → IsProper t → greatest_version t owner ≤ version → AreAbove t owner version []
-above-none t owner version proper most = record {
+-- none is above the greatest mark
+pub above-none : (t : Table) (owner : ℕ) (mark : Mark) → IsProper t → IsUpTo (greatest_mark t owner) mark → AreAbove t owner mark []
+above-none t owner mark proper most = record {
   rising = λ i j d lt in_range. absurd (omega arith);
   held = λ e (k, lt, is). absurd (omega arith);
-  all = λ key e held newer. absurd (omega (arith, most, newer, ap version_of held, version_at-le-greatest_version t owner key (proper.in_place owner key e held).key_below));
+  all = λ key e held newer.
+      let known = subst (λ h. IsUpTo (mark_held h) (greatest_mark t owner)) held (mark_at-up_to_greatest t owner key (proper.in_place owner key e held).key_below) in
+      absurd (both_ways (is_before mark (mark_of e)) (before-no mark (mark_of e) (up_to-then (mark_of e) (greatest_mark t owner) mark known most)) (before-yes mark (mark_of e) newer));
 }
 
+filter-all : (p : Item → Bool) (xs : List Item) → All (λ x. p x ≡ true) xs → filter p xs ≡ xs
+filter-all p [] each = refl
+filter-all p (x ∷ xs) each = ap (λ b. cond b (x ∷ filter p xs) (filter p xs)) (All-head (λ y. p y ≡ true) x xs each) ∙ ap (λ ys. x ∷ ys) (filter-all p xs (All-tail (λ y. p y ≡ true) x xs each))
+
+filter-none : (p : Item → Bool) (xs : List Item) → All (λ x. p x ≡ false) xs → filter p xs ≡ []
+filter-none p [] each = refl
+filter-none p (x ∷ xs) each = ap (λ b. cond b (x ∷ filter p xs) (filter p xs)) (All-head (λ y. p y ≡ false) x xs each) ∙ filter-none p xs (All-tail (λ y. p y ≡ false) x xs each)
+
 -- entries above what is told are all newer
-pub newer_items-above : (t : Table) (told : DigestView) (owner version : ℕ) (entries : List Entry) → ((key : ℕ) → version_told told owner key ≡ version) → AreAbove t owner version entries → newer_items told owner entries ≡ map (item_with owner) entries
-newer_items-above t told owner version entries same above =
-    filter-all (λ (i : Item). ltb (told_version told i) i.entry.version) (map (item_with owner) entries)
-    (All-map (λ (i : Item). ltb (told_version told i) i.entry.version ≡ true) (item_with owner) entries
+pub newer_items-above : (t : Table) (told : DigestView) (owner : ℕ) (mark : Mark) (entries : List Entry) → ((key : ℕ) → mark_told told owner key ≡ mark) → AreAbove t owner mark entries → newer_items told owner entries ≡ map (item_with owner) entries
+newer_items-above t told owner mark entries same above =
+    filter-all (λ (i : Item). is_before (told_mark told i) (mark_of i.entry)) (map (item_with owner) entries)
+    (All-map (λ (i : Item). is_before (told_mark told i) (mark_of i.entry) ≡ true) (item_with owner) entries
     (λ k d lt. let e = get_or entries k d in
-    lt-ltb (version_told told owner e.key) e.version (subst (λ v. v < e.version) (sym (same e.key)) (above.held e (Contains-get_or entries k d lt)).1)))
-  where
-    filter-all : (p : Item → Bool) (xs : List Item) → All (λ x. p x ≡ true) xs → filter p xs ≡ xs
-    filter-all p [] each = refl
-    filter-all p (x ∷ xs) each = ap (λ b. cond b (x ∷ filter p xs) (filter p xs)) (All-head (λ y. p y ≡ true) x xs each) ∙ ap (λ ys. x ∷ ys) (filter-all p xs (All-tail (λ y. p y ≡ true) x xs each))
+    before-yes (mark_told told owner e.key) (mark_of e) (subst (λ m. IsBefore m (mark_of e)) (sym (same e.key)) (above.held e (Contains-get_or entries k d lt)).1)))
+
+-- of an older generation than is told none is newer
+pub newer_items-older : (told : DigestView) (owner generation : ℕ) (entries : List Entry) → All (λ (e : Entry). e.generation ≡ generation) entries → generation < told_generation told owner → newer_items told owner entries ≡ []
+newer_items-older told owner generation entries alike older =
+    filter-none (λ (i : Item). is_before (told_mark told i) (mark_of i.entry)) (map (item_with owner) entries)
+    (All-map (λ (i : Item). is_before (told_mark told i) (mark_of i.entry) ≡ false) (item_with owner) entries
+    (λ k d lt. let e = get_or entries k d in
+    before-no (mark_told told owner e.key) (mark_of e) (record { generation = omega (arith, older, alike k d lt); version = λ same. absurd (omega (arith, same, older, alike k d lt)) })))
 
 -- the keys of a proper table's entries are in range
-pub row-keys : (t : Table) (owner version : ℕ) (entries : List Entry) → IsProper t → AreAbove t owner version entries → All (λ (e : Entry). e.key < t.keys) entries
-row-keys t owner version entries proper above k d lt =
+pub row-keys : (t : Table) (owner : ℕ) (mark : Mark) (entries : List Entry) → IsProper t → AreAbove t owner mark entries → All (λ (e : Entry). e.key < t.keys) entries
+row-keys t owner mark entries proper above k d lt =
     let e = get_or entries k d in
     (proper.in_place owner e.key e (above.held e (Contains-get_or entries k d lt)).0).key_below
+
+-- and they have the generation that is held
+pub row-generation : (t : Table) (owner : ℕ) (mark : Mark) (entries : List Entry) → IsProper t → AreAbove t owner mark entries → All (λ (e : Entry). e.generation ≡ generation_held t owner) entries
+row-generation t owner mark entries proper above k d lt =
+    let e = get_or entries k d in
+    proper.copies owner e.key e (above.held e (Contains-get_or entries k d lt)).0
 
 -- one more entry is looked at
 module _ (told : DigestView) (owner : ℕ) (entries : List Entry) (n : ℕ) (before : List Item) (found : List Candidate) (so_far : items_in found ≡ before ++ newer_items told owner (take n entries)) (lt : n < length entries) (d : Entry) where
   one_more : before ++ newer_items told owner (take (n + 1) entries) ≡ (before ++ newer_items told owner (take n entries)) ++ newer_items told owner (get_or entries n d ∷ [])
   one_more =
       ap (λ es. before ++ newer_items told owner es) (take_more entries n d lt)
-      ∙ ap (λ is. before ++ filter (λ (i : Item). ltb (told_version told i) i.entry.version) is) (map-append (item_with owner) (take n entries) (get_or entries n d ∷ []))
-      ∙ ap (λ is. before ++ is) (filter-append (λ (i : Item). ltb (told_version told i) i.entry.version) (map (item_with owner) (take n entries)) (item_with owner (get_or entries n d) ∷ []))
+      ∙ ap (λ is. before ++ filter (λ (i : Item). is_before (told_mark told i) (mark_of i.entry)) is) (map-append (item_with owner) (take n entries) (get_or entries n d ∷ []))
+      ∙ ap (λ is. before ++ is) (filter-append (λ (i : Item). is_before (told_mark told i) (mark_of i.entry)) (map (item_with owner) (take n entries)) (item_with owner (get_or entries n d) ∷ []))
       ∙ sym (append_assoc before (newer_items told owner (take n entries)) (newer_items told owner (get_or entries n d ∷ [])))
 
   -- and isn't known
-  pub newer_items-more : (c : Candidate) → c.item ≡ item_with owner (get_or entries n d) → version_told told owner (get_or entries n d).key < (get_or entries n d).version → items_in (found ++ c ∷ []) ≡ before ++ newer_items told owner (take (n + 1) entries)
+  pub newer_items-more : (c : Candidate) → c.item ≡ item_with owner (get_or entries n d) → IsBefore (mark_told told owner (get_or entries n d).key) (mark_of (get_or entries n d)) → items_in (found ++ c ∷ []) ≡ before ++ newer_items told owner (take (n + 1) entries)
   newer_items-more c is newer =
       let e = get_or entries n d in
       map-append item_in found (c ∷ [])
       ∙ (λ i. so_far i ++ is i ∷ [])
-      ∙ ap (λ b. (before ++ newer_items told owner (take n entries)) ++ cond b (item_with owner e ∷ []) []) (sym (lt-ltb (version_told told owner e.key) e.version newer))
+      ∙ ap (λ b. (before ++ newer_items told owner (take n entries)) ++ cond b (item_with owner e ∷ []) []) (sym (before-yes (mark_told told owner e.key) (mark_of e) newer))
       ∙ sym one_more
 
   -- or is known
-  pub newer_items-known : (get_or entries n d).version ≤ version_told told owner (get_or entries n d).key → items_in found ≡ before ++ newer_items told owner (take (n + 1) entries)
+  pub newer_items-known : IsUpTo (mark_of (get_or entries n d)) (mark_told told owner (get_or entries n d).key) → items_in found ≡ before ++ newer_items told owner (take (n + 1) entries)
   newer_items-known known =
       let e = get_or entries n d in
       so_far
       ∙ sym (append-nil (before ++ newer_items told owner (take n entries)))
-      ∙ ap (λ b. (before ++ newer_items told owner (take n entries)) ++ cond b (item_with owner e ∷ []) []) (sym (le-ltb (version_told told owner e.key) e.version known))
+      ∙ ap (λ b. (before ++ newer_items told owner (take n entries)) ++ cond b (item_with owner e ∷ []) []) (sym (before-no (mark_told told owner e.key) (mark_of e) known))
       ∙ sym one_more
 
 module _ (t : Table) (told : DigestView) (receiver : ℕ) where
@@ -121,7 +143,7 @@ module _ (t : Table) (told : DigestView) (receiver : ℕ) where
 
   module _ (bound : ℕ) (items : List Item) (entries : List Entry) (other : bound ≢ receiver) (so_far : AreCandidates t told receiver bound items) (newer : AreNewer t told bound entries) where
     abbrev is_newer : Item → Bool
-    is_newer i = ltb (told_version told i) i.entry.version
+    is_newer i = is_before (told_mark told i) (mark_of i.entry)
 
     abbrev IsHere : Item → Type 0
     IsHere i = (entry_at t bound i.entry.key ≡ Some i.entry) × (i.owner ≡ bound)
@@ -136,7 +158,7 @@ module _ (t : Table) (told : DigestView) (receiver : ℕ) where
         let one = here i there in (
           record {
             held = subst (λ o. entry_at t o i.entry.key ≡ Some i.entry) (sym one.0.1) one.0.0;
-            newer = ltb-true (told_version told i) i.entry.version one.1;
+            newer = before-true (told_mark told i) (mark_of i.entry) one.1;
             other = λ e. other (sym one.0.1 ∙ e);
           },
           omega (arith, one.0.1),
@@ -167,15 +189,15 @@ module _ (t : Table) (told : DigestView) (receiver : ℕ) where
         among i is at =
             let same : item_with bound i.entry ≡ i = λ n. record { owner = sym at n; entry = i.entry } in
             Contains-filter is_newer (map (item_with bound) entries) i
-            (subst (Contains (map (item_with bound) entries)) same (Contains-map (item_with bound) entries i.entry (newer.all i.entry.key i.entry (subst (λ o. entry_at t o i.entry.key ≡ Some i.entry) at is.held) (subst (λ o. version_told told o i.entry.key < i.entry.version) at is.newer))))
-            (lt-ltb (told_version told i) i.entry.version is.newer)
+            (subst (Contains (map (item_with bound) entries)) same (Contains-map (item_with bound) entries i.entry (newer.all i.entry.key i.entry (subst (λ o. entry_at t o i.entry.key ≡ Some i.entry) at is.held) (subst (λ o. IsBefore (mark_told told o i.entry.key) (mark_of i.entry)) at is.newer))))
+            (before-yes (told_mark told i) (mark_of i.entry) is.newer)
 
   -- all of them are the definition's, in another order
   module _ (items : List Item) (proper : IsProper t) (are : AreCandidates t told receiver t.nodes items) where
     abbrev unknown : Item → Bool
-    unknown i = not (eqb i.owner receiver) && ltb (told_version told i) i.entry.version
+    unknown i = not (eqb i.owner receiver) && is_before (told_mark told i) (mark_of i.entry)
 
-    defined_apart : IsApart (items_above (told_version told) receiver (items_of t))
+    defined_apart : IsApart (items_above (told_mark told) receiver (items_of t))
     defined_apart = AllPairs-filter (λ (i j : Item). stands_at i.owner i.entry.key j ≡ false) unknown (items_of t)
         (λ i j d lt in_range. sym (tied-stands_at (get_or (items_of t) i d).owner (get_or (items_of t) i d).entry.key (get_or (items_of t) j d)) ∙ ap is_eq (apart-items_of t proper i j d lt in_range))
 
@@ -200,22 +222,22 @@ module _ (t : Table) (told : DigestView) (receiver : ℕ) where
             let tied = subst (λ (z : Item). version_order x z ≡ Less) same less in
             let impossible : Less ≡ Equal = sym tied ∙ tied_itself version_total x in cc
 
-    pub candidates-permuted : IsPermutation (items_above (told_version told) receiver (items_of t)) items
-    candidates-permuted = same_members (items_above (told_version told) receiver (items_of t)) items defined_apart found_apart to from
+    pub candidates-permuted : IsPermutation (items_above (told_mark told) receiver (items_of t)) items
+    candidates-permuted = same_members (items_above (told_mark told) receiver (items_of t)) items defined_apart found_apart to from
       where
-        to : (i : Item) → Contains (items_above (told_version told) receiver (items_of t)) i → Contains items i
+        to : (i : Item) → Contains (items_above (told_mark told) receiver (items_of t)) i → Contains items i
         to i there =
             let kept = Contains-kept unknown (items_of t) i there in
-            let parts = and_parts (not (eqb i.owner receiver)) (ltb (told_version told i) i.entry.version) kept.1 in
+            let parts = and_parts (not (eqb i.owner receiver)) (is_before (told_mark told i) (mark_of i.entry)) kept.1 in
             let held = entry_at-items_of t i proper kept.0 in
             are.all i (record {
               held = held;
-              newer = ltb-true (told_version told i) i.entry.version parts.1;
+              newer = before-true (told_mark told i) (mark_of i.entry) parts.1;
               other = λ e. absurd (both_ways (eqb i.owner receiver) (not-true _ parts.0) (eq-eqb i.owner receiver e));
             }) (proper.in_place i.owner i.entry.key i.entry held).owner_below
 
-        from : (i : Item) → Contains items i → Contains (items_above (told_version told) receiver (items_of t)) i
+        from : (i : Item) → Contains items i → Contains (items_above (told_mark told) receiver (items_of t)) i
         from i there =
             let one = (are.each i there).0 in
             Contains-filter unknown (items_of t) i (Contains-items_of t i.owner i.entry.key i.entry one.held)
-            (and_from (not (eqb i.owner receiver)) (ltb (told_version told i) i.entry.version) (ap not (ne_eqb i.owner receiver one.other)) (lt-ltb (told_version told i) i.entry.version one.newer))
+            (and_from (not (eqb i.owner receiver)) (is_before (told_mark told i) (mark_of i.entry)) (ap not (ne_eqb i.owner receiver one.other)) (before-yes (told_mark told i) (mark_of i.entry) one.newer))

@@ -28,7 +28,7 @@ use Rattle.reconcile.proofs.Front.{IsFront, whole, whole-permutation, whole-sort
 use Rattle.node_table.proofs.Comparing.{nat_cmp-less, nat_cmp-equal, nat_cmp-greater}
 
 unfoldable pub no_candidate : Candidate
-no_candidate = record { first = 0; turn = 0; second = 0; item = record { owner = 0; entry = record { key = 0; version = 0; value = 0; born = 0 } } }
+no_candidate = record { first = 0; turn = 0; second = 0; item = record { owner = 0; entry = record { key = 0; generation = 0; version = 0; value = 0; born = 0 } } }
 
 -- what each mode looks at first, among all candidates
 abbrev pub first_key : Mode → List Item → Item → ℕ

@@ -12,7 +12,7 @@ use Rattle.reconcile.specs.Runs.{rank_in, entries_ranked}
 use Rattle.reconcile.proofs.Counts.{count_by-cons_true, count_by-cons_false}
 
 abbrev pub no_entry : Entry
-no_entry = record { key = 0; version = 0; value = 0; born = 0 }
+no_entry = record { key = 0; generation = 0; version = 0; value = 0; born = 0 }
 
 module _ {X : Type 0} (p : X → Bool) where
   -- what a test keeps that holds on one stretch

@@ -1,13 +1,15 @@
 -- What a digest tells is what the table holds, and what is sent stood among the candidates.
-use Rattle.std.proofs.Common.{◌≡◌, ◌≢◌, ℕ, zero, suc, ◌+◌, ◌<◌, Bool, true, false, cond, not, ◌&&◌, eqb, ltb, List, [], ◌∷◌, get_or, All, Some, None, refl, sym, ap, ◌∙◌, subst}
+use Rattle.std.proofs.Common.{◌≡◌, ◌≢◌, ℕ, zero, suc, ◌+◌, ◌<◌, Bool, true, false, cond, not, ◌&&◌, eqb, List, [], ◌∷◌, get_or, All, Some, None, refl, sym, ap, ◌∙◌, subst}
 use Rattle.std.specs.Prelude.{count_by, filter}
 use Rattle.std.specs.List.{filter_map, range_with_len, cons_option}
 use Rattle.std.specs.declared.cmp.Ordering.{Ordering}
-use Rattle.std.proofs.lemmas.Bool.{eq-eqb}
+use Rattle.std.proofs.lemmas.Bool.{eq-eqb, eqb-true}
 use Rattle.std.proofs.lemmas.List.Elements.{All-nil, All-cons, All-head, All-tail}
 use Rattle.bench_types.specs.declared.exchanges.Budget.{Budget}
 use Rattle.bench_types.specs.Budget.{amount_of}
 use Rattle.bench_types.specs.declared.entries.Item.{Item}
+use Rattle.bench_types.specs.declared.entries.Mark.{Mark}
+use Rattle.bench_types.specs.Mark.{absent, mark_of, is_before}
 use Rattle.bench_types.specs.declared.exchanges.Mode.{Mode}
 use Rattle.bench_types.specs.declared.exchanges.Telling.{Telling}
 use Rattle.bench_types.specs.declared.exchanges.Telling.TheVariants as telling
@@ -15,8 +17,8 @@ use Rattle.bench_types.specs.Mode.{told_by}
 use Rattle.node_table.specs.Table.{Table, items_of, IsProper}
 use Rattle.node_table.specs.View.{IsItemInPlace}
 use Rattle.node_table.proofs.Proper.{items_sound}
-use Rattle.reconcile.specs.Candidates.{items_above, candidates, known_version}
-use Rattle.reconcile.specs.Digests.{DigestView, Knowledge, Greatest, Each, telling_of, IsDigestOf, greatest_in, each_in, known_in, told_version}
+use Rattle.reconcile.specs.Candidates.{items_above, candidates, known_mark}
+use Rattle.reconcile.specs.Digests.{DigestView, Knowledge, Greatest, Each, telling_of, IsDigestOf, greatest_in, each_in, known_in, mark_with, told_generation, told_mark}
 use Rattle.reconcile.specs.Deltas.{DeltaView, item_share, delta_of, delta_between, answer_of, IsDeltaToReceiver, MayTake}
 use Rattle.reconcile.specs.Order.{sending_order}
 use Rattle.reconcile.specs.Picks.{at_place, fits, sent}
@@ -38,35 +40,48 @@ pub known_in-each : (k : Knowledge) (keys owner key : ℕ) → telling_of k ≡ 
 known_in-each (Greatest gs) keys owner key is = cc
 known_in-each (Each vs) keys owner key is = refl
 
+-- the version of a mark, which has none where it is 0
+pub version-mark_with : (generation version : ℕ) → (mark_with generation version).version ≡ version
+version-mark_with generation version = elim (eqb version 0) as (λ b. eqb version 0 ≡ b → (cond b absent (record { generation = generation; version = version })).version ≡ version) [
+  | true ↦ λ none. sym (eqb-true version 0 none)
+  | false ↦ λ _. refl
+] refl
+
 -- a table's digest knows what the table does
-pub told_version-known : (kind : Telling) (to : Table) (told : DigestView) (i : Item) → IsDigestOf kind to told → i.owner < to.nodes → i.entry.key < to.keys → told_version told i ≡ known_version kind to i
-told_version-known telling.Greatest to told i is lt fits = known_in-greatest told.knowledge told.keys i.owner i.entry.key is.of_kind ∙ is.tells i.owner lt
-told_version-known telling.Each to told i is lt fits = known_in-each told.knowledge told.keys i.owner i.entry.key is.of_kind ∙ is.tells i.owner i.entry.key lt fits
+pub told_mark-known : (kind : Telling) (to : Table) (told : DigestView) (i : Item) → IsDigestOf kind to told → i.owner < to.nodes → i.entry.key < to.keys → told_mark told i ≡ known_mark kind to i
+told_mark-known telling.Greatest to told i is lt fits =
+    ap (λ v. record { generation = told_generation told i.owner; version = v }) (known_in-greatest told.knowledge told.keys i.owner i.entry.key is.of_kind)
+    ∙ is.tells i.owner lt
+told_mark-known telling.Each to told i is lt fits =
+    λ n. record {
+      generation = is.generations i.owner lt n;
+      version = (known_in-each told.knowledge told.keys i.owner i.entry.key is.of_kind ∙ sym (version-mark_with (told_generation told i.owner) (each_in told.keys told.knowledge i.owner i.entry.key)) ∙ ap (λ (m : Mark). m.version) (is.tells i.owner i.entry.key lt fits)) n;
+    }
 
 -- what a table's digest does not tell are the candidates to that table
-pub candidates-told : (mode : Mode) (from to : Table) (told : DigestView) → IsProper from → IsDigestOf (told_by mode) to told → told.nodes ≡ from.nodes → told.keys ≡ from.keys → items_above (told_version told) to.node (items_of from) ≡ candidates mode from to
+pub candidates-told : (mode : Mode) (from to : Table) (told : DigestView) → IsProper from → IsDigestOf (told_by mode) to told → told.nodes ≡ from.nodes → told.keys ≡ from.keys → items_above (told_mark told) to.node (items_of from) ≡ candidates mode from to
 candidates-told mode from to told proper is nodes keys =
-    filter-same (λ i. not (eqb i.owner to.node) && ltb (told_version told i) i.entry.version) (λ i. not (eqb i.owner to.node) && ltb (known_version (told_by mode) to i) i.entry.version) (items_of from)
+    filter-same (λ i. not (eqb i.owner to.node) && is_before (told_mark told i) (mark_of i.entry)) (λ i. not (eqb i.owner to.node) && is_before (known_mark (told_by mode) to i) (mark_of i.entry)) (items_of from)
     (λ k d lt.
     let i = get_or (items_of from) k d in
     let here = (items_sound from proper).in_place k d lt in
-    ap (λ v. not (eqb i.owner to.node) && ltb v i.entry.version)
-    (told_version-known (told_by mode) to told i is (subst (λ n. i.owner < n) (sym nodes ∙ is.nodes) here.owner_below) (subst (λ n. i.entry.key < n) (sym keys ∙ is.keys) here.key_below)))
+    ap (λ v. not (eqb i.owner to.node) && is_before v (mark_of i.entry))
+    (told_mark-known (told_by mode) to told i is (subst (λ n. i.owner < n) (sym nodes ∙ is.nodes) here.owner_below) (subst (λ n. i.entry.key < n) (sym keys ∙ is.keys) here.key_below)))
 
 -- none of the candidates is the receiver's own, and each has what all the sender's items have
-pub All-items_above : (P : Item → Type 0) (known : Item → ℕ) (receiver : ℕ) (xs : List Item) → All P xs → All (λ (i : Item). (i.owner ≢ receiver) × P i) (items_above known receiver xs)
+pub All-items_above : (P : Item → Type 0) (known : Item → Mark) (receiver : ℕ) (xs : List Item) → All P xs → All (λ (i : Item). (i.owner ≢ receiver) × P i) (items_above known receiver xs)
 All-items_above P known receiver [] all = All-nil (λ (i : Item). (i.owner ≢ receiver) × P i)
 All-items_above P known receiver (x ∷ xs) all =
     let rest = All-items_above P known receiver xs (All-tail P x xs all) in
-    elim (eqb x.owner receiver) as (λ b. eqb x.owner receiver ≡ b → All (λ (i : Item). (i.owner ≢ receiver) × P i) (cond (not b && ltb (known x) x.entry.version) (x ∷ items_above known receiver xs) (items_above known receiver xs))) [
+    elim (eqb x.owner receiver) as (λ b. eqb x.owner receiver ≡ b → All (λ (i : Item). (i.owner ≢ receiver) × P i) (cond (not b && is_before (known x) (mark_of x.entry)) (x ∷ items_above known receiver xs) (items_above known receiver xs))) [
       | true ↦ λ own. rest
-      | false ↦ λ other. elim (ltb (known x) x.entry.version) as (λ b. All (λ (i : Item). (i.owner ≢ receiver) × P i) (cond b (x ∷ items_above known receiver xs) (items_above known receiver xs))) [
+      | false ↦ λ other. elim (is_before (known x) (mark_of x.entry)) as (λ b. All (λ (i : Item). (i.owner ≢ receiver) × P i) (cond b (x ∷ items_above known receiver xs) (items_above known receiver xs))) [
         | true ↦ All-cons (λ (i : Item). (i.owner ≢ receiver) × P i) x (items_above known receiver xs) ((λ e. let yes = eq-eqb x.owner receiver e in let no : true ≡ false = sym yes ∙ other in cc), All-head P x xs all) rest
         | false ↦ rest
       ]
     ] refl
 
-pub candidates-in_place : (t : Table) (known : Item → ℕ) (receiver : ℕ) → IsProper t → All (λ (i : Item). (i.owner ≢ receiver) × IsItemInPlace t.nodes t.keys i) (items_above known receiver (items_of t))
+pub candidates-in_place : (t : Table) (known : Item → Mark) (receiver : ℕ) → IsProper t → All (λ (i : Item). (i.owner ≢ receiver) × IsItemInPlace t.nodes t.keys i) (items_above known receiver (items_of t))
 candidates-in_place t known receiver proper = All-items_above (IsItemInPlace t.nodes t.keys) known receiver (items_of t) (items_sound t proper).in_place
 
 -- what is sent has what all candidates have
@@ -89,14 +104,14 @@ All-delta_between P mode rotation budget from to = All-sent P (sending_order mod
 -- so a receiver may take what is sent in answer to its digest
 pub answer-in_place : (mode : Mode) (rotation : ℕ) (budget : Budget) (from : Table) (receiver : ℕ) (told : DigestView) → IsProper from → MayTake receiver from.nodes from.keys (answer_of mode rotation budget from receiver told).items
 answer-in_place mode rotation budget from receiver told proper =
-    let cs = items_above (told_version told) receiver (items_of from) in
-    All-sent (λ (i : Item). (i.owner ≢ receiver) × IsItemInPlace from.nodes from.keys i) (sending_order mode from.nodes rotation cs) cs (item_share budget) (amount_of budget) (candidates-in_place from (told_version told) receiver proper)
+    let cs = items_above (told_mark told) receiver (items_of from) in
+    All-sent (λ (i : Item). (i.owner ≢ receiver) × IsItemInPlace from.nodes from.keys i) (sending_order mode from.nodes rotation cs) cs (item_share budget) (amount_of budget) (candidates-in_place from (told_mark told) receiver proper)
 
 -- and it is the delta to every table that the digest is of
 pub answer-of_tables : (mode : Mode) (rotation : ℕ) (budget : Budget) (from : Table) (receiver : ℕ) (told : DigestView) (delta : DeltaView) → IsProper from → told.nodes ≡ from.nodes → told.keys ≡ from.keys → delta ≡ answer_of mode rotation budget from receiver told → IsDeltaToReceiver mode rotation budget from receiver told delta
 answer-of_tables mode rotation budget from receiver told delta proper nodes keys is to at of_to =
     is
-    ∙ ap (λ r. delta_of mode from.nodes rotation budget (items_above (told_version told) r (items_of from))) (sym at)
+    ∙ ap (λ r. delta_of mode from.nodes rotation budget (items_above (told_mark told) r (items_of from))) (sym at)
     ∙ ap (delta_of mode from.nodes rotation budget) (candidates-told mode from to told proper of_to nodes keys)
 
 pub answer-sound : (mode : Mode) (rotation : ℕ) (budget : Budget) (from : Table) (receiver : ℕ) (told : DigestView) (delta : DeltaView) → IsProper from → delta ≡ answer_of mode rotation budget from receiver told → MayTake receiver from.nodes from.keys delta.items

@@ -10,7 +10,7 @@ use Rattle.bench_types.specs.Mode.{told_by}
 use Rattle.node_table.specs.Table.{Table, items_of}
 use Rattle.node_table.specs.View.{IsItemInPlace}
 use Rattle.reconcile.specs.Candidates.{items_above, candidates}
-use Rattle.reconcile.specs.Digests.{DigestView, IsDigestOf, told_version}
+use Rattle.reconcile.specs.Digests.{DigestView, IsDigestOf, told_mark}
 use Rattle.reconcile.specs.Order.{sending_order}
 use Rattle.reconcile.specs.Picks.{sent, cut_count, fitting}
 
@@ -41,7 +41,7 @@ delta_of mode ns s budget cs =
 -- what a table sends to a receiver whose digest this is
 abbrev pub answer_of : Mode → ℕ → Budget → Table → ℕ → DigestView → DeltaView
 answer_of mode rotation budget from receiver told =
-    delta_of mode from.nodes rotation budget (items_above (told_version told) receiver (items_of from))
+    delta_of mode from.nodes rotation budget (items_above (told_mark told) receiver (items_of from))
 
 -- the delta from one table to another
 abbrev pub delta_between : Mode → ℕ → Budget → Table → Table → DeltaView

@@ -1,4 +1,4 @@
--- What a digest of greatest versions doesn't know, as runs: the entries of one owner, ascending by version. A budget
+-- What a digest of greatest marks doesn't know, as runs: the entries of one owner, ascending by version. A budget
 -- is shared out among the runs layer by layer: in a layer each run sends its entries of one rank, or the runs of one
 -- length send all. Source: this project, after the two orders of the LADIS 2008 paper.
 use Rattle.std.specs.Prelude.{◌≡◌, ◌≢◌, ℕ, zero, suc, ◌+◌, ◌<◌, ◌≤◌, ◌==◌, nat_lt, List, [], ◌++◌, length, take, drop, filter, map, count_by, All, if◌then◌else◌}

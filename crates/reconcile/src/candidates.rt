@@ -1,4 +1,4 @@
-//! What answers a digest that gives each version: the entries that it doesn't know, the oldest or the
+//! What answers a digest that gives each mark: the entries that it doesn't know, the oldest or the
 //! newest first.
 
 ghost use Rattle.std.specs.Prelude.{◌≡◌, ◌^◌, ◌<◌, ◌≤◌, nat_lt, All, length, IfOk, IfSome, OnOk, IsOkUnless, IsPermutation, IsSorted};
@@ -14,7 +14,7 @@ ghost use Rattle.reconcile.specs.Order.{rotated};
 ghost use Rattle.reconcile.specs.Keys.{items_in, age_first, AllSet, AreFirstItems, IsSentOf, IsSet, SetsStay, number_order};
 
 use crate::deltas::Delta;
-use crate::digests::Digest;
+use crate::digests::{Digest, generation_in};
 use crate::orders::Turns;
 use crate::parcels::{Parcel, most_sent};
 use bench_types::{Budget, Entry, Fault, Item, Mode, Telling};
@@ -155,20 +155,30 @@ fn candidates(
     ensures set { IfOk result (λ v. AllSet turns.mode turns.nodes turns.rotation v.items) }
     ensures only { IsOkUnless result OutOfMemory }
 {
+    let generations = table.generations();
     let mut found = Vec::new(alloc);
     for owner in 0..table.nodes() {
         if owner != receiver {
-            push_newer(&mut found, digest, owner, table.row(owner), turns)?;
+            let generation = generation_in(generations, owner);
+            push_newer(
+                &mut found,
+                digest,
+                owner,
+                generation,
+                table.row(owner),
+                turns,
+            )?;
         }
     }
     Ok(found)
 }
 
-// Adds those of an owner's entries that the digest doesn't know.
+// Adds those of an owner's entries that the digest doesn't know. They are of one generation.
 fn push_newer(
     found: &mut Vec<Candidate>,
     digest: &Digest,
     owner: u32,
+    generation: u32,
     row: &[Entry],
     turns: Turns,
 ) -> Result<(), Fault>
@@ -177,14 +187,20 @@ fn push_newer(
     requires limit { turns.nodes ≤ 4096 }
     requires told { digest.now.nodes ≡ turns.nodes }
     requires owner { owner < turns.nodes }
+    requires generation { All (λ e. e.generation ≡ generation) row.now }
     requires keys { All (λ e. e.key < digest.now.keys) row.now }
     requires rotation { turns.rotation < turns.nodes }
     ensures items { OnOk result (AddsNewer digest.now owner row.now found.old.items found.new.items) }
     ensures set { OnOk result (SetsStay turns.mode turns.nodes turns.rotation found.old.items found.new.items) }
     ensures only { IsOkUnless result OutOfMemory }
 {
+    let told = digest.generation(owner);
+    if generation < told {
+        return Ok(());
+    }
+    let versions = digest.versions_of(owner);
     for entry in row {
-        if digest.version(owner, entry.key) < entry.version {
+        if told < generation || versions[entry.key as usize] < entry.version {
             let entry = *entry;
             found.push(candidate_of(Item { owner, entry }, turns))?;
         }

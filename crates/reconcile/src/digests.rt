@@ -1,29 +1,31 @@
 //! Digests of tables.
 
-ghost use Rattle.std.specs.Prelude.{◌≡◌, ◌^◌, ◌+◌, ◌<◌, nat_lt, count_by, All, length, IfOk, IsOkUnless};
+ghost use Rattle.std.specs.Prelude.{◌≡◌, ◌^◌, ◌+◌, ◌<◌, nat_lt, count_by, slice_index, All, length, IfOk, IsOkUnless};
 ghost use Rattle.bench_types.specs.declared.faults.Fault.TheVariants.{OutOfMemory};
 ghost use Rattle.bench_types.specs.Mode.{told_by};
-ghost use Rattle.reconcile.specs.Digests.{IsDigestOf, version_index};
+ghost use Rattle.reconcile.specs.Digests.{IsDigestOf, mark_with, version_index};
 ghost use Rattle.reconcile.specs.Inside.{AreVersions, with_row};
 
-use bench_types::{Entry, Fault, Mode, Telling};
+use bench_types::{Entry, Fault, Mark, Mode, Telling};
 use node_table::NodeTable;
 use std::alloc::Global;
 use std::marker::Model;
 
-/// What a table holds, in short: for each owner the greatest version held, or each version held.
+/// What a table holds, in short: for each owner the greatest mark held, or each mark held.
 #[derive(Drop)]
 pub struct Digest {
     nodes: u32,
     keys: u32,
     size: u32,
+    // The generation of each owner's copy, or none where all are 0.
+    generations: Vec<u32>,
     versions: Versions,
 }
 
 // Which versions a digest gives.
 #[derive(Drop)]
 enum Versions {
-    // The greatest one of each owner.
+    // The version of each owner's greatest mark.
     Greatest(Vec<u32>),
     // That of each key of each owner, owner by owner, 0 where none is held.
     Each(Vec<u32>),
@@ -37,17 +39,24 @@ impl Model for Digest {
 
     ghost use Rattle.reconcile.specs.Inside.{knowledge_of, IsComplete};
 
-    ghost view = { λ d. record { nodes = d.nodes; keys = d.keys; size = d.size; knowledge = knowledge_of d.versions } };
+    ghost view = { λ d. record {
+      nodes = d.nodes;
+      keys = d.keys;
+      size = d.size;
+      generations = d.generations.items;
+      knowledge = knowledge_of d.versions;
+    } };
 
-    ghost invariant = { λ d. IsComplete d.nodes d.keys d.versions };
+    ghost invariant = { λ d. IsComplete d.nodes d.keys d.generations.items d.versions };
 }
 
 impl Digest {
-    ghost use Rattle.reconcile.specs.Digests.{IsOfKind, Knowledge, told_greatest, told_each};
+    ghost use Rattle.reconcile.specs.Digests.{IsOfKind, Knowledge, told_generation, told_greatest, told_each};
+    ghost use Rattle.reconcile.specs.Inside.{AreVersionsTold};
 
     /// The digest that a mode asks of a table. In a scuttle mode it is a copy of a number for each
     /// owner; in a precise one it has a number for each key of each owner, and each entry is looked
-    /// at once.
+    /// at once. Where a generation above 0 is held it has one more number for each owner.
     pub fn of(alloc: Global, table: &NodeTable, mode: Mode) -> Result<Digest, Fault>
         ensures ok { IfOk result (IsDigestOf (told_by mode) table.now.table) }
         ensures only { IsOkUnless result OutOfMemory }
@@ -65,20 +74,20 @@ impl Digest {
         self.size
     }
 
-    /// The greatest version that is held of an owner: one look.
-    pub fn greatest(&self, owner: u32) -> u32
+    /// The greatest mark that is held of an owner: two looks.
+    pub fn greatest(&self, owner: u32) -> Mark
         requires kind { IsOfKind Telling.Greatest self.now }
         requires owner { owner < self.now.nodes }
         ensures { result ≡ told_greatest self.now owner }
     {
         match &self.versions {
-            Versions::Greatest(versions) => versions[owner as usize],
+            Versions::Greatest(versions) => mark_in(&self.generations, versions, owner),
             Versions::Each(_) => unreachable!(),
         }
     }
 
-    /// The version that is held of an owner's key, 0 where none is: one look.
-    pub fn version(&self, owner: u32, key: u32) -> u32
+    /// The mark that is held of an owner's key, the absent one where none is: two looks.
+    pub fn version(&self, owner: u32, key: u32) -> Mark
         requires kind { IsOfKind Telling.Each self.now }
         requires owner { owner < self.now.nodes }
         requires key { key < self.now.keys }
@@ -86,11 +95,31 @@ impl Digest {
     {
         match &self.versions {
             Versions::Greatest(_) => unreachable!(),
-            Versions::Each(versions) => versions[version_index(self.keys, owner, key)],
+            Versions::Each(versions) => {
+                mark_with(
+                    self.generation(owner),
+                    versions[version_index(self.keys, owner, key)],
+                )
+            }
         }
     }
 
-    /// The greatest version that is held of each owner, in order.
+    /// The generation of what is held of an owner, 0 where nothing is: one look.
+    pub fn generation(&self, owner: u32) -> u32
+        requires { owner < self.now.nodes }
+        ensures { result ≡ told_generation self.now owner }
+    {
+        generation_in(&self.generations, owner)
+    }
+
+    // The generation of what is held of each owner, in order, or none where all are 0.
+    pub(crate) fn generations(&self) -> &[u32]
+        ensures { result.now ≡ self.now.generations }
+    {
+        &self.generations
+    }
+
+    // The greatest version that is held of each owner, in order.
     pub(crate) fn all_greatest(&self) -> &[u32]
         requires kind { IsOfKind Telling.Greatest self.now }
         ensures versions { self.now.knowledge ≡ Knowledge.Greatest result.now }
@@ -101,6 +130,54 @@ impl Digest {
             Versions::Each(_) => unreachable!(),
         }
     }
+
+    // The version that is held of each of an owner's keys, in order, 0 where none is.
+    pub(crate) fn versions_of(&self, owner: u32) -> &[u32]
+        requires kind { IsOfKind Telling.Each self.now }
+        requires owner { owner < self.now.nodes }
+        ensures { AreVersionsTold self.now owner result.now }
+    {
+        match &self.versions {
+            Versions::Greatest(_) => unreachable!(),
+            Versions::Each(versions) => {
+                let start = version_index(self.keys, owner, 0);
+                &versions[start..start + self.keys as usize]
+            }
+        }
+    }
+}
+
+// The generation of an owner among those of all, 0 where none is given.
+pub(crate) fn generation_in(generations: &[u32], owner: u32) -> u32
+    ensures { result ≡ slice_index generations.now owner }
+{
+    generations.get(owner as usize).copied().unwrap_or(0)
+}
+
+// The mark of an owner's version and generation.
+pub(crate) fn mark_in(generations: &[u32], versions: &[u32], owner: u32) -> Mark
+    requires { owner < length versions.now }
+    ensures generation { result.generation ≡ slice_index generations.now owner }
+    ensures version { result.version ≡ slice_index versions.now owner }
+{
+    Mark {
+        generation: generation_in(generations, owner),
+        version: versions[owner as usize],
+    }
+}
+
+// The mark of a version, where 0 is none's.
+fn mark_with(generation: u32, version: u32) -> Mark
+    ensures { result ≡ mark_with generation version }
+{
+    if version == 0 {
+        Mark::ABSENT
+    } else {
+        Mark {
+            generation,
+            version,
+        }
+    }
 }
 
 // What the scuttle modes ask of a table.
@@ -108,11 +185,13 @@ fn greatest_of_table(alloc: Global, table: &NodeTable) -> Result<Digest, Fault>
     ensures ok { IfOk result (IsDigestOf Telling.Greatest table.now.table) }
     ensures only { IsOkUnless result OutOfMemory }
 {
+    let generations = Vec::from_slice(alloc, table.generations())?;
     let greatest = Vec::from_slice(alloc, table.greatest_versions())?;
     Ok(Digest {
         nodes: table.nodes(),
         keys: table.keys(),
         size: count_positive(&greatest),
+        generations,
         versions: Versions::Greatest(greatest),
     })
 }
@@ -126,6 +205,7 @@ fn each_of_table(alloc: Global, table: &NodeTable) -> Result<Digest, Fault>
         nodes: table.nodes(),
         keys: table.keys(),
         size: table.count(),
+        generations: Vec::from_slice(alloc, table.generations())?,
         versions: Versions::Each(each_version(alloc, table)?),
     })
 }

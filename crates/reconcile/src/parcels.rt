@@ -82,7 +82,8 @@ fn push_entries(items: &mut Vec<Item>, owner: u32, entries: &[Entry]) -> Result<
 
 // What entries leave of so much of a budget, where all of them fit.
 fn left_behind(budget: Budget, left: usize, entries: &[Entry]) -> Option<usize>
-    ensures { SomeIff result (sum_by (share_of budget) entries.now ≤ left) (left - sum_by (share_of budget) entries.now) }
+    ensures { SomeIff result
+        (sum_by (share_of budget) entries.now ≤ left) (left - sum_by (share_of budget) entries.now) }
 {
     match budget {
         Budget::Entries(_) => left.checked_sub(entries.len()),

@@ -1,11 +1,11 @@
-//! What answers a digest that gives the greatest version of each owner: the entries above it, owner
-//! by owner, and how they share out a budget.
+//! What answers a digest that gives the greatest mark of each owner: the entries above it, owner by
+//! owner, and how they share out a budget.
 
 ghost use Rattle.std.specs.Prelude.{◌≡◌, ◌+◌, ◌^◌, ◌<◌, ◌≤◌, All, length, IfOk, OnOk, IsOkUnless};
 ghost use Rattle.std.specs.List.{AllPairs};
 ghost use Rattle.bench_types.specs.declared.faults.Fault.TheVariants.{OutOfMemory};
 ghost use Rattle.bench_types.specs.Mode.{told_by};
-ghost use Rattle.node_table.specs.Rows.{StandsBefore, AreAbove};
+ghost use Rattle.node_table.specs.Rows.{StandsBefore};
 ghost use Rattle.node_table.specs.Table.{IsProper};
 ghost use Rattle.reconcile.specs.Deltas.{answer_of, AreWithin};
 ghost use Rattle.reconcile.specs.Digests.{IsOfKind};
@@ -14,7 +14,7 @@ ghost use Rattle.reconcile.specs.Order.{rank_among, owner_count};
 ghost use Rattle.reconcile.specs.Runs.{items_of_runs, entries_ranked, ranked, of_length, AddsLayer, AreLayered, AreRuns, IsTurned, OwnersRise, lengths_first};
 
 use crate::deltas::Delta;
-use crate::digests::Digest;
+use crate::digests::{Digest, mark_in};
 use crate::orders::Turns;
 use crate::parcels::Parcel;
 use bench_types::{Budget, Entry, Fault, Item, Mode, Telling};
@@ -29,7 +29,7 @@ pub(crate) struct Run<'a> {
 }
 
 /// The answer in a scuttle mode. Entries of those owners alone are looked at of whom the digest tells
-/// a smaller version than the table holds.
+/// a smaller mark than the table holds.
 pub(crate) fn scuttle_delta(
     alloc: Global,
     table: &NodeTable,
@@ -62,7 +62,8 @@ pub(crate) fn scuttle_delta(
     Ok(Delta { items, cut })
 }
 
-// What the digest doesn't know of each owner but the receiver, by owner.
+// What the digest doesn't know of each owner but the receiver, by owner. Where no generation is given
+// versions are compared alone.
 fn runs_above<'a>(
     alloc: Global,
     table: &'a NodeTable,
@@ -78,28 +79,27 @@ fn runs_above<'a>(
     ensures only { IsOkUnless result OutOfMemory }
 {
     let told = digest.all_greatest();
+    let held = table.greatest_versions();
+    let generations_told = digest.generations();
+    let generations_held = table.generations();
     let mut runs = Vec::new(alloc);
-    for owner in 0..table.nodes() {
-        if owner != receiver {
-            let entries = entries_above(table, owner, told[owner as usize]);
-            if !entries.is_empty() {
+    if generations_told.is_empty() && generations_held.is_empty() {
+        for owner in 0..table.nodes() {
+            if owner != receiver && told[owner as usize] < held[owner as usize] {
+                let entries = table.above(owner, mark_in(generations_told, told, owner));
+                runs.push(Run { owner, entries })?;
+            }
+        }
+    } else {
+        for owner in 0..table.nodes() {
+            let mark = mark_in(generations_told, told, owner);
+            if owner != receiver && mark.is_before(mark_in(generations_held, held, owner)) {
+                let entries = table.above(owner, mark);
                 runs.push(Run { owner, entries })?;
             }
         }
     }
     Ok(runs)
-}
-
-// The entries of an owner above a version. The row is looked at only where it has some.
-fn entries_above<'a>(table: &'a NodeTable, owner: u32, version: u32) -> &'a [Entry]
-    requires { owner < table.now.table.nodes }
-    ensures { AreAbove table.now.table owner version result.now }
-{
-    if version < table.greatest_versions()[owner as usize] {
-        table.above(owner, version)
-    } else {
-        &[]
-    }
 }
 
 // Brings the runs of the owners from the rotation on before the others.

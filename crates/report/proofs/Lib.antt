@@ -1,3 +1,5 @@
 pub mod Sinking
 pub mod CellFacts
+pub mod ColumnFacts
+pub mod Headers
 pub mod TraceFacts

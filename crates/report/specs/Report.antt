@@ -1,19 +1,24 @@
--- The lines of the report: its header names the columns, and a row has its numbers in the order of
--- the columns, in plain decimal. Source: this project.
-use Rattle.std.specs.Prelude.{ℕ, List, [], ◌∷◌, codes, decimal, map, flat_map}
+-- The lines of the report: its header names the columns, and a row has its number of each column, in plain decimal.
+-- Source: this project.
+use Rattle.std.specs.Prelude.{ℕ, List, decimal, map, flat_map}
 use Rattle.bench_types.specs.declared.rows.Row.{Row}
+use Rattle.report.specs.Columns.{columns}
 use Rattle.report.specs.Line.{line_of}
 
-unfoldable pub report_header_line : List ℕ
-report_header_line = codes "round,exchanges,unreached,lost,entries,cut,stale,greatest\n"
+-- the names of a format's columns
+abbrev pub names : ℕ → List (List ℕ)
+names format = map (λ c. c.name) (columns format)
 
-abbrev pub report_numbers : Row → List ℕ
-report_numbers row =
-    row.round ∷ row.exchanges ∷ row.unreached ∷ row.lost ∷ row.entries ∷ row.cut ∷ row.stale ∷ row.greatest ∷ []
+-- what a row has in them
+abbrev pub numbers : ℕ → Row → List (List ℕ)
+numbers format row = map (λ c. decimal (c.number row)) (columns format)
 
-unfoldable pub report_line : Row → List ℕ
-report_line row = line_of (map decimal (report_numbers row))
+unfoldable pub report_header_line : ℕ → List ℕ
+report_header_line format = line_of (names format)
+
+unfoldable pub report_line : ℕ → Row → List ℕ
+report_line format row = line_of (numbers format row)
 
 -- the lines of these rows, one after the other
-abbrev pub report_lines : List Row → List ℕ
-report_lines rows = flat_map report_line rows
+abbrev pub report_lines : ℕ → List Row → List ℕ
+report_lines format rows = flat_map (report_line format) rows

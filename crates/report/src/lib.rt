@@ -3,6 +3,7 @@
 #![tactic(auto)]
 
 mod cells;
+mod columns;
 mod comparisons;
 mod outputs;
 mod reports;

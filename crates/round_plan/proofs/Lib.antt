@@ -1,5 +1,7 @@
+pub mod Generations
 pub mod Growth
 pub mod Listed
 pub mod Others
 pub mod Planned
 pub mod Searched
+pub mod Written

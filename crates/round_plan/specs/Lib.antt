@@ -1,3 +1,4 @@
+pub mod Generations
 pub mod Outages
 pub mod Peer
 pub mod Plan

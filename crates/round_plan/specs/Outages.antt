@@ -26,6 +26,14 @@ restarts_in node round r = (r.node == node) && (r.round == round)
 unfoldable pub restarts_now : Settings → ℕ → ℕ → Bool
 restarts_now s node round = list_any (restarts_in node round) s.restarts
 
+-- a restart of a node begins in a round, and the node forgets all that it holds
+abbrev pub forgets_in : ℕ → ℕ → Restart → Bool
+forgets_in node round r = restarts_in node round r && r.forget
+
+-- where several restarts of a node begin in one round they act as one, which forgets where any of them does
+unfoldable pub forgets_now : Settings → ℕ → ℕ → Bool
+forgets_now s node round = list_any (forgets_in node round) s.restarts
+
 -- a partition lists a node
 abbrev pub lists : Partition → ℕ → Bool
 lists partition node = list_any (λ n. n == node) partition.apart

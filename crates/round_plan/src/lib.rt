@@ -11,7 +11,7 @@ mod rounds;
 mod words;
 
 pub use lists::{MOST_EXCHANGES, RoundList};
-pub use outages::{is_up, restarts_now, separated};
+pub use outages::{forgets_now, is_up, restarts_now, separated};
 pub use owners::{OwnWrite, Writes, writes_in, writes_of};
 pub use peers::peer;
 pub use rounds::round_list;

@@ -2,7 +2,7 @@
 
 ghost use Rattle.std.specs.Prelude.{◌≡◌, ◌<◌, ◌≤◌};
 ghost use Rattle.std.specs.List.Sorted.{IsStrictlyIncreasing};
-ghost use Rattle.round_plan.specs.Outages.{is_between, is_up, lists, restarts_now, separated, separates, takes_down};
+ghost use Rattle.round_plan.specs.Outages.{is_between, is_up, lists, restarts_in, restarts_now, forgets_now, separated, separates, takes_down};
 
 use bench_types::limits::MOST_ROUNDS;
 use scenario::{Partition, Restart, Scenario};
@@ -20,8 +20,8 @@ pub fn is_up(scenario: &Scenario, node: u32, round: u32) -> bool
         .any(|restart| takes_down(restart, node, round))
 }
 
-/// Whether a node restarts at the begin of a round, and so loses its copies of all others. Costs a
-/// step for each restart.
+/// Whether a node restarts at the begin of a round, and so loses its copies of all others, and what
+/// it holds of itself where it forgets. Costs a step for each restart.
 pub fn restarts_now(scenario: &Scenario, node: u32, round: u32) -> bool
     requires node { node < scenario.now.nodes }
     requires first { 1 ≤ round }
@@ -31,7 +31,18 @@ pub fn restarts_now(scenario: &Scenario, node: u32, round: u32) -> bool
     scenario
         .restarts()
         .iter()
-        .any(|restart| restart.node == node && restart.round == round)
+        .any(|restart| restarts_in(restart, node, round))
+}
+
+/// Whether a node forgets all that it holds at the begin of a round, and so begins its next
+/// generation: one of its restarts then does. Costs a step for each restart.
+pub fn forgets_now(scenario: &Scenario, node: u32, round: u32) -> bool
+    requires node { node < scenario.now.nodes }
+    requires first { 1 ≤ round }
+    requires last { round ≤ MOST_ROUNDS }
+    ensures { result ≡ forgets_now scenario.now node round }
+{
+    scenario.restarts().iter().any(|restart| restarts_in(restart, node, round) && restart.forget)
 }
 
 /// Whether two nodes are kept apart in a round: some partition that covers it lists exactly one of
@@ -55,6 +66,12 @@ fn takes_down(restart: &Restart, node: u32, round: u32) -> bool
     ensures { result ≡ takes_down node round restart.now }
 {
     restart.node == node && restart.round <= round && round - restart.round < restart.down
+}
+
+fn restarts_in(restart: &Restart, node: u32, round: u32) -> bool
+    ensures { result ≡ restarts_in node round restart.now }
+{
+    restart.node == node && restart.round == round
 }
 
 fn separates(partition: &Partition, p: u32, q: u32, round: u32) -> bool

@@ -1,7 +1,8 @@
 //! What a node writes of its own state.
 
 ghost use Rattle.std.specs.Prelude.{◌≡◌, ℕ, ◌+◌, ◌-◌, ◌^◌, ◌<◌, ◌≤◌, ◌==◌, ◌++◌, All, length, map, slice_get};
-ghost use Rattle.round_plan.specs.Writes.{writes_in, numbered_write, own_writes, writes_upto, born_in, AreNumbers};
+ghost use Rattle.round_plan.specs.Generations.{generation_upto};
+ghost use Rattle.round_plan.specs.Writes.{writes_in, numbered_write, own_writes, writes_before, writes_upto, born_in, AreNumbers};
 
 use crate::outages::{is_between, is_up};
 use crate::words::{WRITE_PLACE, words_of};
@@ -14,7 +15,7 @@ use std::marker::Model;
 pub struct OwnWrite {
     pub key: u32,
     pub value: u32,
-    /// The node's n-th write has version n, from 1.
+    /// The n-th write of the node's generation has version n, from 1.
     pub version: u32,
 }
 
@@ -89,20 +90,22 @@ pub fn writes_in(scenario: &Scenario, round: u32) -> u32
     }
 }
 
-/// The writes of a node in a round, before which it had made `count_before`: none where it is down.
+/// The writes of a node in a round, before which it had made `count_before` of its generation: none where it is down.
 /// Costs a step for each restart and load, and where writes are random one block of words.
 pub fn writes_of(scenario: &Scenario, node: u32, round: u32, count_before: u32) -> Writes
     requires node { node < scenario.now.nodes }
     requires first { 1 ≤ round }
     requires last { round ≤ MOST_ROUNDS }
     requires fits { count_before + MOST_WRITES < 2 ^ 32 }
-    ensures value { map (born_in round) result ≡ own_writes scenario.now node round count_before }
+    ensures value { map (born_in round (generation_upto scenario.now node round)) result
+        ≡ own_writes scenario.now node round count_before }
     ensures keys { All (λ write. write.key < scenario.now.keys) result }
 
-    // Put behind the node's earlier writes they make its writes up to the round.
-    ensures grows { length (writes_upto scenario.now node (round - 1)) ≡ count_before →
+    // Put behind the earlier writes of the node's generation they make its writes up to the round.
+    ensures grows { length (writes_before scenario.now node round) ≡ count_before →
         writes_upto scenario.now node round
-        ≡ writes_upto scenario.now node (round - 1) ++ map (born_in round) result }
+        ≡ writes_before scenario.now node round
+        ++ map (born_in round (generation_upto scenario.now node round)) result }
 {
     let mut items = [BLANK; MOST_WRITES as usize];
     if !is_up(scenario, node, round) {
@@ -118,7 +121,7 @@ pub fn writes_of(scenario: &Scenario, node: u32, round: u32, count_before: u32) 
     Writes { items, count }
 }
 
-// The numbers of the most writes of a node in a round, before which it had made `count_before`.
+// The numbers of the most writes of a node in a round, before which it had made `count_before` of its generation.
 fn numbers_of(
     scenario: &Scenario,
     node: u32,
@@ -146,11 +149,12 @@ fn numbers_of(
     numbers
 }
 
-// The write of a number that comes after so many: the keys in turn, and then each with the next value.
+// The write of a number that comes after so many of a generation: the keys in turn, and then each with the next value.
 fn numbered_write(keys: u32, number: u32, count: u32) -> OwnWrite
     requires keys { 1 ≤ keys }
     requires fits { count + 1 < 2 ^ 32 }
-    ensures value { (round : ℕ) → born_in round result ≡ numbered_write keys round number count }
+    ensures value { (round : ℕ) (generation : ℕ) →
+        born_in round generation result ≡ numbered_write keys round generation number count }
     ensures key { result.key < keys }
 {
     OwnWrite {

@@ -1,7 +1,7 @@
 -- What the check of an array gives keeps the limits of its elements.
-use Rattle.std.proofs.Common.{◌≡◌, ℕ, zero, suc, ◌+◌, ◌-◌, ◌<◌, ◌≤◌, pos, negsuc, nat_le, ◌&&◌, List, [], ◌∷◌, length, get_or, Option, None, Some, Result, Ok, Err, IfOk, Vec, Global, All, refl, sym, ap, subst, arith}
+use Rattle.std.proofs.Common.{◌≡◌, ℕ, zero, suc, ◌+◌, ◌-◌, ◌<◌, ◌≤◌, pos, negsuc, Bool, true, false, nat_le, ◌&&◌, cond, List, [], ◌∷◌, length, get_or, Option, None, Some, Result, Ok, Err, IfOk, Vec, Global, All, refl, sym, ap, subst, arith}
 use Rattle.std.specs.List.Sorted.{IsStrictlyIncreasing}
-use Rattle.std.proofs.lemmas.Bool.{leb-true, and_parts}
+use Rattle.std.proofs.lemmas.Bool.{eqb-true, leb-true, and_parts}
 use Rattle.std.proofs.lemmas.List.Elements.{All-nil, All-cons, All-weaker}
 use Rattle.toml.specs.Data as toml
 use Rattle.toml.specs.Data.{Data, integer, Members, get_member}
@@ -12,8 +12,8 @@ use Rattle.bench_types.specs.declared.limits.TheConstants.{MOST_ROUNDS, MOST_WRI
 use Rattle.scenario.specs.declared.elements.Partition.{Partition}
 use Rattle.scenario.specs.declared.elements.Restart.{Restart}
 use Rattle.scenario.specs.declared.elements.Load.{Load}
-use Rattle.scenario.specs.Elements.{list_of, array_of, elements_of, elements_at, each, ascending, apart_at, array_at, partition_of, restart_of, load_of}
-use Rattle.scenario.specs.Fields.{◌>>=◌, name_of, value_at, number_of, number_at}
+use Rattle.scenario.specs.Elements.{list_of, array_of, elements_of, elements_at, each, ascending, apart_at, has_generations, forget_at, array_at, partition_of, restart_of, load_of}
+use Rattle.scenario.specs.Fields.{◌>>=◌, name_of, value_at, number_of, number_at, flag_at}
 use Rattle.scenario.specs.Settings.{IsWithin, IsLawfulPartition, IsLawfulRestart, IsLawfulLoad, AreLawful}
 use Rattle.scenario.proofs.Steps.{passed, same_ok, kept}
 
@@ -70,18 +70,27 @@ partition_lawful nodes some (toml.table table) p all =
     })))))
 partition_lawful nodes some _ p all = absurd cc
 
-restart_lawful : (nodes : ℕ) → 2 ≤ nodes → (value : Data) (r : Restart) → restart_of nodes value ≡ Ok r → IsLawfulRestart nodes r
-restart_lawful nodes some (toml.table table) r all =
+-- a restart that forgets is one of format 2
+forget_lawful : (format : ℕ) (forget : Bool) (table : Members) → forget_at format table ≡ Ok forget → forget ≡ true → format ≡ 2
+forget_lawful format forget table e is = either (has_generations format) refl e where
+  either : (b : Bool) → has_generations format ≡ b → cond b (flag_at field.RestartForget table) (Ok false) ≡ Ok forget → format ≡ 2
+  either true has e = eqb-true format 2 has
+  either false has e = absurd (let none = same_ok false forget e in cc)
+
+restart_lawful : (format nodes : ℕ) → 2 ≤ nodes → (value : Data) (r : Restart) → restart_of format nodes value ≡ Ok r → IsLawfulRestart format nodes r
+restart_lawful format nodes some (toml.table table) r all =
     passed (number_at field.RestartNode 0 (nodes - 1) table) _ r all (λ node is_node e.
     passed (number_at field.RestartRound 1 MOST_ROUNDS table) _ r e (λ round is_round e.
     passed (number_at field.RestartDown 0 MOST_ROUNDS table) _ r e (λ down is_down e.
+    passed (forget_at format table) _ r e (λ forget is_forget e.
     let among = (within_at field.RestartNode 0 (nodes - 1) node table is_node).1 in
-    subst (IsLawfulRestart nodes) (same_ok _ r e) (record {
+    subst (IsLawfulRestart format nodes) (same_ok _ r e) (record {
       node = omega (arith, among);
       round = within_at field.RestartRound 1 MOST_ROUNDS round table is_round;
       down = (within_at field.RestartDown 0 MOST_ROUNDS down table is_down).1;
-    }))))
-restart_lawful nodes some _ r all = absurd cc
+      forget = forget_lawful format forget table is_forget;
+    })))))
+restart_lawful format nodes some _ r all = absurd cc
 
 load_lawful : (value : Data) (l : Load) → load_of value ≡ Ok l → IsLawfulLoad l
 load_lawful (toml.table table) l all =
@@ -123,8 +132,8 @@ module _ {X : Type 0} (IsLawfulElement : X → Type 0) (check : Data → Result 
 AreLawful-partitions : (nodes : ℕ) → 2 ≤ nodes → (table : Members) (ps : List Partition) → array_at field.Partition (partition_of nodes) table ≡ Ok ps → AreLawful (IsLawfulPartition nodes) ps
 AreLawful-partitions nodes some = array_lawful (IsLawfulPartition nodes) (partition_of nodes) (partition_lawful nodes some) field.Partition
 
-AreLawful-restarts : (nodes : ℕ) → 2 ≤ nodes → (table : Members) (rs : List Restart) → array_at field.Restart (restart_of nodes) table ≡ Ok rs → AreLawful (IsLawfulRestart nodes) rs
-AreLawful-restarts nodes some = array_lawful (IsLawfulRestart nodes) (restart_of nodes) (restart_lawful nodes some) field.Restart
+AreLawful-restarts : (format nodes : ℕ) → 2 ≤ nodes → (table : Members) (rs : List Restart) → array_at field.Restart (restart_of format nodes) table ≡ Ok rs → AreLawful (IsLawfulRestart format nodes) rs
+AreLawful-restarts format nodes some = array_lawful (IsLawfulRestart format nodes) (restart_of format nodes) (restart_lawful format nodes some) field.Restart
 
 AreLawful-loads : (table : Members) (ls : List Load) → array_at field.Load load_of table ≡ Ok ls → AreLawful IsLawfulLoad ls
 AreLawful-loads = array_lawful IsLawfulLoad load_of load_lawful field.Load
@@ -134,9 +143,9 @@ pub AreLawful-partitions-answer : (nodes : ℕ) → 2 ≤ nodes → (table : Mem
 AreLawful-partitions-answer nodes some table (Ok v) e = AreLawful-partitions nodes some table v.items e
 AreLawful-partitions-answer nodes some table (Err fault) e = tt
 
-pub AreLawful-restarts-answer : (nodes : ℕ) → 2 ≤ nodes → (table : Members) (answer : Result (Vec Restart Global) Fault) → IfOk answer (λ v. array_at field.Restart (restart_of nodes) table ≡ Ok v.items) → IfOk answer (λ v. AreLawful (IsLawfulRestart nodes) v.items)
-AreLawful-restarts-answer nodes some table (Ok v) e = AreLawful-restarts nodes some table v.items e
-AreLawful-restarts-answer nodes some table (Err fault) e = tt
+pub AreLawful-restarts-answer : (format nodes : ℕ) → 2 ≤ nodes → (table : Members) (answer : Result (Vec Restart Global) Fault) → IfOk answer (λ v. array_at field.Restart (restart_of format nodes) table ≡ Ok v.items) → IfOk answer (λ v. AreLawful (IsLawfulRestart format nodes) v.items)
+AreLawful-restarts-answer format nodes some table (Ok v) e = AreLawful-restarts format nodes some table v.items e
+AreLawful-restarts-answer format nodes some table (Err fault) e = tt
 
 pub AreLawful-loads-answer : (table : Members) (answer : Result (Vec Load Global) Fault) → IfOk answer (λ v. array_at field.Load load_of table ≡ Ok v.items) → IfOk answer (λ v. AreLawful IsLawfulLoad v.items)
 AreLawful-loads-answer table (Ok v) e = AreLawful-loads table v.items e

@@ -1,7 +1,7 @@
 -- The check of a document comes to no other faults than those of reading a scenario.
 use Rattle.std.proofs.Common.{◌≡◌, ◌≢◌, ℕ, ◌+◌, ◌-◌, ◌*◌, pos, negsuc, Bool, true, false, ◌&&◌, nat_le, cond, List, [], ◌∷◌, length, Option, None, Some, Result, Ok, Err, IfErr, subst}
 use Rattle.toml.specs.Data as toml
-use Rattle.toml.specs.Data.{Data, integer, string, Members, get_member}
+use Rattle.toml.specs.Data.{Data, integer, string, boolean, Members, get_member}
 use Rattle.bench_types.specs.declared.faults.Fault.{Fault}
 use Rattle.bench_types.specs.declared.faults.Fault.TheVariants.{OutOfMemory, TooLarge, OutOfRange, BudgetTooSmall}
 use Rattle.bench_types.specs.declared.fields.Field.{Field}
@@ -11,8 +11,8 @@ use Rattle.bench_types.specs.declared.fields.TableName.TheVariants as name
 use Rattle.bench_types.specs.declared.limits.TheConstants.{LEAST_NODES, MOST_NODES, LEAST_KEYS, MOST_KEYS, MOST_ENTRIES, MOST_ROUNDS, MOST_BUDGET, MOST_ENTRY_SIZE, MOST_BUDGET_BYTES, MOST_LOSS, MOST_WRITES, MOST_SEED, MOST_ELEMENTS}
 use Rattle.scenario.specs.Budgets.{is_in_entries, entries_at, is_too_small, bytes_of, bytes_at, budget_at}
 use Rattle.scenario.specs.Checked.{checked, unknown_checked}
-use Rattle.scenario.specs.Elements.{array_of, table_of, few, elements_of, elements_at, each, ascending, apart_at, array_at, partition_of, restart_of, load_of, partitions_at, restarts_at, loads_at, elements_have_only, only_elements, partition_fields, restart_fields, load_fields}
-use Rattle.scenario.specs.Fields.{◌>>=◌, name_of, value_at, number_at, number_of, present, text_of, only, only_fields}
+use Rattle.scenario.specs.Elements.{has_generations, array_of, table_of, few, elements_of, elements_at, each, ascending, apart_at, forget_at, array_at, partition_of, restart_of, load_of, partitions_at, restarts_at, loads_at, elements_have_only, only_elements, partition_fields, restart_fields, load_fields}
+use Rattle.scenario.specs.Fields.{◌>>=◌, name_of, value_at, number_at, number_of, present, text_of, flag_of, flag_at, only, only_fields}
 use Rattle.scenario.specs.Parts.{size_checked, basics_at, conduct_at}
 use Rattle.scenario.specs.CheckFault.{IsFaultOfCheck}
 use Rattle.scenario.specs.Settings.{Settings}
@@ -106,12 +106,24 @@ of_partition nodes value =
           (next (value_at field.PartitionApart members) _ (of_present field.PartitionApart _) (of_array field.PartitionApart))
           (of_ascending field.PartitionApart 0 (nodes - 1))
 
-of_restart : (nodes : ℕ) (value : Data) → OnlyFaultsOfCheck (restart_of nodes value)
-of_restart nodes value =
+of_flag : (f : Field) (o : Option Data) → OnlyFaultsOfCheck (flag_of f o)
+of_flag f None = tt
+of_flag f (Some (boolean flag)) = tt
+of_flag f (Some _) = tt
+
+of_forget : (format : ℕ) (table : Members) → OnlyFaultsOfCheck (forget_at format table)
+of_forget format table = either (has_generations format) where
+  either : (b : Bool) → OnlyFaultsOfCheck (cond b (flag_at field.RestartForget table) (Ok false))
+  either true = of_flag field.RestartForget (get_member (name_of field.RestartForget) table)
+  either false = tt
+
+of_restart : (format nodes : ℕ) (value : Data) → OnlyFaultsOfCheck (restart_of format nodes value)
+of_restart format nodes value =
     next (table_of field.Restart value) _ (of_table field.Restart value) (λ members.
     next (number_at field.RestartNode 0 (nodes - 1) members) _ (at_number field.RestartNode 0 (nodes - 1) members) (λ node.
     next (number_at field.RestartRound 1 MOST_ROUNDS members) _ (at_number field.RestartRound 1 MOST_ROUNDS members) (λ round.
-    next (number_at field.RestartDown 0 MOST_ROUNDS members) _ (at_number field.RestartDown 0 MOST_ROUNDS members) (λ down. tt))))
+    next (number_at field.RestartDown 0 MOST_ROUNDS members) _ (at_number field.RestartDown 0 MOST_ROUNDS members) (λ down.
+    next (forget_at format members) _ (of_forget format members) (λ forget. tt)))))
 
 of_load : (value : Data) → OnlyFaultsOfCheck (load_of value)
 of_load value =
@@ -128,7 +140,7 @@ of_unknown : (format : ℕ) (table : Members) → OnlyFaultsOfCheck (unknown_che
 of_unknown format table =
     next (only_fields name.Top (top_fields format) table) _ (of_only name.Top _) (λ _.
     next (only_elements name.Partition field.Partition partition_fields table) _ (of_only name.Partition _) (λ _.
-    next (only_elements name.Restart field.Restart restart_fields table) _ (of_only name.Restart _) (λ _.
+    next (only_elements name.Restart field.Restart (restart_fields format) table) _ (of_only name.Restart _) (λ _.
     of_only name.Load (elements_have_only field.Load load_fields table))))
 
 of_basics : (table : Members) → OnlyFaultsOfCheck (basics_at table)
@@ -169,7 +181,7 @@ of_checked table =
     next (basics_at table) _ (of_basics table) (λ basics.
     next (conduct_at basics.format table) _ (of_conduct basics.format table) (λ conduct.
     next (partitions_at basics.nodes table) _ (at_array field.Partition (partition_of basics.nodes) table (of_partition basics.nodes)) (λ partitions.
-    next (restarts_at basics.nodes table) _ (at_array field.Restart (restart_of basics.nodes) table (of_restart basics.nodes)) (λ restarts.
+    next (restarts_at basics.format basics.nodes table) _ (at_array field.Restart (restart_of basics.format basics.nodes) table (of_restart basics.format basics.nodes)) (λ restarts.
     next (loads_at table) _ (at_array field.Load load_of table of_load) (λ loads.
     next (unknown_checked basics.format table) _ (of_unknown basics.format table) (λ _. tt))))))
 

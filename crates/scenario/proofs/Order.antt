@@ -13,7 +13,7 @@ use Rattle.bench_types.specs.declared.limits.TheConstants.{MOST_ROUNDS, MOST_WRI
 use Rattle.scenario.specs.declared.parts.Basics.{Basics}
 use Rattle.scenario.specs.Budgets.{budget_at}
 use Rattle.scenario.specs.Checked.{checked, unknown_checked}
-use Rattle.scenario.specs.Elements.{array_of, elements_at, each, ascending, array_at, partition_of, restart_of, load_of, partitions_at, restarts_at, loads_at, only_elements, partition_fields, restart_fields, load_fields}
+use Rattle.scenario.specs.Elements.{array_of, elements_at, each, ascending, array_at, forget_at, partition_of, restart_of, load_of, partitions_at, restarts_at, loads_at, only_elements, partition_fields, restart_fields, load_fields}
 use Rattle.scenario.specs.Fields.{◌>>=◌, value_at, number_of, number_at, only_fields}
 use Rattle.scenario.specs.Order.{faults, first_of, size_fault, above, ascending_faults, partition_faults, restart_faults, load_faults, array_faults, unknown_faults, format_in, nodes_in}
 use Rattle.scenario.specs.Parts.{size_checked, basics_at, conduct_at}
@@ -82,12 +82,13 @@ first_of-partition nodes (toml.table members) =
     ∙ ap (λ vs. first_of (ascending_faults field.PartitionApart 0 (nodes - 1) vs)) (sym (array_found field.PartitionApart _ values found))))))
 first_of-partition nodes _ = refl
 
-first_of-restart : (nodes : ℕ) (value : Data) → result_err (restart_of nodes value) ≡ first_of (restart_faults nodes value)
-first_of-restart nodes (toml.table members) =
+first_of-restart : (format nodes : ℕ) (value : Data) → result_err (restart_of format nodes value) ≡ first_of (restart_faults format nodes value)
+first_of-restart format nodes (toml.table members) =
     step (number_at field.RestartNode 0 (nodes - 1) members) _ _ (λ node _.
     step (number_at field.RestartRound 1 MOST_ROUNDS members) _ _ (λ round _.
-    step (number_at field.RestartDown 0 MOST_ROUNDS members) _ _ (λ down _. refl)))
-first_of-restart nodes _ = refl
+    step (number_at field.RestartDown 0 MOST_ROUNDS members) _ _ (λ down _.
+    step (forget_at format members) _ _ (λ forget _. refl))))
+first_of-restart format nodes _ = refl
 
 first_of-load : (value : Data) → result_err (load_of value) ≡ first_of (load_faults value)
 first_of-load (toml.table members) =
@@ -144,7 +145,7 @@ first_of-unknown : (table : Members) → result_err (unknown_checked (format_in 
 first_of-unknown table =
     step (only_fields name.Top (top_fields (format_in table)) table) _ _ (λ _ _.
     step (only_elements name.Partition field.Partition partition_fields table) _ _ (λ _ _.
-    step (only_elements name.Restart field.Restart restart_fields table) _ _ (λ _ _.
+    step (only_elements name.Restart field.Restart (restart_fields (format_in table)) table) _ _ (λ _ _.
     sole (only_elements name.Load field.Load load_fields table)))) where
       sole : (r : Result (Unit {0}) Fault) → result_err r ≡ first_of (result_err r ∷ [])
       sole (Ok x) = refl
@@ -177,14 +178,14 @@ first_of-faults table =
     let format = format_known table basics is_basics in
     steps (conduct_at basics.format table) _ (conduct_faults (format_in table) table) arrays (ap (λ n. result_err (conduct_at n table)) (sym format) ∙ first_of-conduct (format_in table) table) (λ conduct _.
     let same = nodes_known table basics is_basics in
-    steps (partitions_at basics.nodes table) _ (array_faults field.Partition (partition_faults (nodes_in table)) table) (array_faults field.Restart (restart_faults (nodes_in table)) table ++ (array_faults field.Load load_faults table ++ unknown_faults table)) (first_of-array field.Partition _ (partition_faults (nodes_in table)) (λ value. first_of-partition basics.nodes value ∙ ap (λ n. first_of (partition_faults n value)) (sym same)) table) (λ partitions _.
-    steps (restarts_at basics.nodes table) _ (array_faults field.Restart (restart_faults (nodes_in table)) table) (array_faults field.Load load_faults table ++ unknown_faults table) (first_of-array field.Restart _ (restart_faults (nodes_in table)) (λ value. first_of-restart basics.nodes value ∙ ap (λ n. first_of (restart_faults n value)) (sym same)) table) (λ restarts _.
+    steps (partitions_at basics.nodes table) _ (array_faults field.Partition (partition_faults (nodes_in table)) table) (array_faults field.Restart (restart_faults (format_in table) (nodes_in table)) table ++ (array_faults field.Load load_faults table ++ unknown_faults table)) (first_of-array field.Partition _ (partition_faults (nodes_in table)) (λ value. first_of-partition basics.nodes value ∙ ap (λ n. first_of (partition_faults n value)) (sym same)) table) (λ partitions _.
+    steps (restarts_at basics.format basics.nodes table) _ (array_faults field.Restart (restart_faults (format_in table) (nodes_in table)) table) (array_faults field.Load load_faults table ++ unknown_faults table) (first_of-array field.Restart _ (restart_faults (format_in table) (nodes_in table)) (λ value. first_of-restart basics.format basics.nodes value ∙ ap (λ n. first_of (restart_faults n basics.nodes value)) (sym format) ∙ ap (λ n. first_of (restart_faults (format_in table) n value)) (sym same)) table) (λ restarts _.
     steps (loads_at table) _ (array_faults field.Load load_faults table) (unknown_faults table) (first_of-array field.Load _ load_faults first_of-load table) (λ loads _.
     made _ _ ∙ ap (λ n. result_err (unknown_checked n table)) (sym format) ∙ first_of-unknown table))))) where
       arrays : List (Option Fault)
       arrays =
           array_faults field.Partition (partition_faults (nodes_in table)) table
-          ++ (array_faults field.Restart (restart_faults (nodes_in table)) table
+          ++ (array_faults field.Restart (restart_faults (format_in table) (nodes_in table)) table
           ++ (array_faults field.Load load_faults table
           ++ unknown_faults table))
 

@@ -1,8 +1,8 @@
 -- What the check of a document gives is what the document says.
-use Rattle.std.proofs.Common.{◌≡◌, ℕ, ◌+◌, ◌-◌, ◌⊎◌, inl, inr, pos, Bool, true, false, nat_le, cond, List, [], ◌∷◌, length, map, Option, None, Some, Result, Ok, Err, IfOk, refl, sym, ap, subst}
+use Rattle.std.proofs.Common.{◌≡◌, ℕ, ◌+◌, ◌-◌, ◌⊎◌, inl, inr, pos, Bool, true, false, nat_le, cond, List, [], ◌∷◌, length, map, Option, None, Some, Result, Ok, Err, IfOk, refl, sym, ap, ◌∙◌, subst}
 use Rattle.std.specs.List.{AllZip}
 use Rattle.toml.specs.Data as toml
-use Rattle.toml.specs.Data.{Data, integer, string, Items, Members, get_member}
+use Rattle.toml.specs.Data.{Data, integer, string, boolean, Items, Members, get_member}
 use Rattle.bench_types.specs.declared.exchanges.Budget.{Budget}
 use Rattle.bench_types.specs.declared.faults.Fault.{Fault}
 use Rattle.bench_types.specs.declared.faults.Fault.TheVariants.{BudgetTooSmall}
@@ -17,9 +17,9 @@ use Rattle.scenario.specs.declared.elements.Load.{Load}
 use Rattle.scenario.specs.declared.parts.Basics.{Basics}
 use Rattle.scenario.specs.declared.parts.Conduct.{Conduct}
 use Rattle.scenario.specs.Checked.{checked, unknown_checked}
-use Rattle.scenario.specs.Elements.{list_of, array_of, few, elements_of, each, ascending, apart_at, partition_of, restart_of, load_of, partitions_at, restarts_at, loads_at, elements_have_only, only_elements, partition_fields, restart_fields, load_fields}
-use Rattle.scenario.specs.Fields.{◌>>=◌, value_at, number_of, number_at, present, text_of, only, only_fields, has_only}
-use Rattle.scenario.specs.Order.{HasNumber, HasBudget, HasWord, SaysPartition, SaysRestart, SaysLoad, Says}
+use Rattle.scenario.specs.Elements.{list_of, array_of, few, elements_of, each, ascending, apart_at, forget_at, partition_of, restart_of, load_of, partitions_at, restarts_at, loads_at, elements_have_only, only_elements, partition_fields, restart_fields, load_fields}
+use Rattle.scenario.specs.Fields.{◌>>=◌, value_at, number_of, number_at, name_of, present, text_of, flag_of, flag_at, only, only_fields, has_only}
+use Rattle.scenario.specs.Order.{HasNumber, HasFlag, HasBudget, HasWord, SaysPartition, SaysRestart, SaysLoad, Says}
 use Rattle.scenario.specs.Parts.{size_checked, basics_at, conduct_at}
 use Rattle.scenario.specs.Budgets.{is_in_entries, entries_at, is_too_small, bytes_of, bytes_at, budget_at}
 use Rattle.scenario.specs.Settings.{Settings}
@@ -97,18 +97,29 @@ partition_says nodes (toml.table members) p all =
     }))))
 partition_says nodes _ p all = absurd cc
 
-restart_says : (nodes : ℕ) (value : Data) (r : Restart) → restart_of nodes value ≡ Ok r → SaysRestart value r
-restart_says nodes (toml.table members) r all =
+-- true or false that was read stands in the document, or nothing where it is false
+flag_found : (f : Field) (flag : Bool) (table : Members) → flag_at f table ≡ Ok flag → HasFlag table f flag
+flag_found f flag table e = either (get_member (name_of f) table) refl e where
+  either : (o : Option Data) → get_member (name_of f) table ≡ o → flag_of f o ≡ Ok flag → HasFlag table f flag
+  either None is e = inr (is, sym (same_ok false flag e))
+  either (Some (boolean b)) is e = inl (is ∙ ap (λ b. Some (boolean b)) (same_ok b flag e))
+  either (Some _) is e = absurd cc
+
+restart_says : (format nodes : ℕ) (value : Data) (r : Restart) → restart_of format nodes value ≡ Ok r → SaysRestart format value r
+restart_says format nodes (toml.table members) r all =
     passed (number_at field.RestartNode 0 (nodes - 1) members) _ r all (λ node is_node e.
     passed (number_at field.RestartRound 1 MOST_ROUNDS members) _ r e (λ round is_round e.
     passed (number_at field.RestartDown 0 MOST_ROUNDS members) _ r e (λ down is_down e.
-    subst (SaysRestart (toml.table members)) (same_ok _ r e) (record {
+    passed (forget_at format members) _ r e (λ forget is_forget e.
+    subst (SaysRestart format (toml.table members)) (same_ok _ r e) (record {
       is_table = refl;
       node = number_found field.RestartNode _ _ _ _ is_node;
       round = number_found field.RestartRound _ _ _ _ is_round;
       down = number_found field.RestartDown _ _ _ _ is_down;
-    }))))
-restart_says nodes _ r all = absurd cc
+      forget = λ has. flag_found field.RestartForget forget members (rw has at is_forget);
+      keeps = λ has. sym (same_ok false forget (rw has at is_forget));
+    })))))
+restart_says format nodes _ r all = absurd cc
 
 load_says : (value : Data) (l : Load) → load_of value ≡ Ok l → SaysLoad value l
 load_says (toml.table members) l all =
@@ -200,12 +211,12 @@ Says-checked table s all =
     passed (basics_at table) _ s all (λ basics is_basics e.
     passed (conduct_at basics.format table) _ s e (λ conduct is_conduct e.
     passed (partitions_at basics.nodes table) _ s e (λ partitions is_partitions e.
-    passed (restarts_at basics.nodes table) _ s e (λ restarts is_restarts e.
+    passed (restarts_at basics.format basics.nodes table) _ s e (λ restarts is_restarts e.
     passed (loads_at table) _ s e (λ loads is_loads e.
     passed (unknown_checked basics.format table) _ s e (λ u is_known e.
     passed (only_fields name.Top (top_fields basics.format) table) _ u is_known (λ _ is_top known.
     passed (only_elements name.Partition field.Partition partition_fields table) _ u known (λ _ is_partition known.
-    passed (only_elements name.Restart field.Restart restart_fields table) _ u known (λ _ is_restart is_load.
+    passed (only_elements name.Restart field.Restart (restart_fields basics.format) table) _ u known (λ _ is_restart is_load.
     let said = basics_say table basics is_basics in
     let ruled = conduct_says basics.format table conduct is_conduct in
     subst (Says table) (same_ok _ s e) (record {
@@ -222,11 +233,11 @@ Says-checked table s all =
       loss_ppm = ruled.loss_ppm;
       writes = ruled.writes;
       partitions = elements_found field.Partition SaysPartition (partition_of basics.nodes) (partition_says basics.nodes) partitions _ is_partitions;
-      restarts = elements_found field.Restart SaysRestart (restart_of basics.nodes) (restart_says basics.nodes) restarts _ is_restarts;
+      restarts = elements_found field.Restart (SaysRestart basics.format) (restart_of basics.format basics.nodes) (restart_says basics.format basics.nodes) restarts _ is_restarts;
       loads = elements_found field.Load SaysLoad load_of load_says loads _ is_loads;
       others = only_known name.Top (has_only (top_fields basics.format) table) _ is_top;
       others_of_partitions = only_known name.Partition (elements_have_only field.Partition partition_fields table) _ is_partition;
-      others_of_restarts = only_known name.Restart (elements_have_only field.Restart restart_fields table) _ is_restart;
+      others_of_restarts = only_known name.Restart (elements_have_only field.Restart (restart_fields basics.format) table) _ is_restart;
       others_of_loads = only_known name.Load (elements_have_only field.Load load_fields table) _ is_load;
     }))))))))))
 

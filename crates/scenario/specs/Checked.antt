@@ -22,7 +22,7 @@ abbrev pub unknown_checked : ℕ → Members → Result (Unit {0}) Fault
 unknown_checked format table = do
   _ ← only_fields name.Top (top_fields format) table
   _ ← only_elements name.Partition field.Partition partition_fields table
-  _ ← only_elements name.Restart field.Restart restart_fields table
+  _ ← only_elements name.Restart field.Restart (restart_fields format) table
   only_elements name.Load field.Load load_fields table
 
 -- the check of a document
@@ -31,7 +31,7 @@ checked table = do
   basics ← basics_at table
   conduct ← conduct_at basics.format table
   partitions ← partitions_at basics.nodes table
-  restarts ← restarts_at basics.nodes table
+  restarts ← restarts_at basics.format basics.nodes table
   loads ← loads_at table
   _ ← unknown_checked basics.format table
   Ok (record {

@@ -1,6 +1,6 @@
 -- The arrays of a document, whose elements are tables, and the fields of each. An array that is
 -- absent has no elements. Source: this project.
-use Rattle.std.specs.Prelude.{ℕ, ◌+◌, ◌-◌, Bool, true, List, [], ◌∷◌, length, Option, None, Some, Result, Ok, Err, nat_le, if◌then◌else◌}
+use Rattle.std.specs.Prelude.{ℕ, ◌+◌, ◌-◌, Bool, true, false, ◌==◌, List, [], ◌∷◌, length, Option, None, Some, Result, Ok, Err, nat_le, if◌then◌else◌}
 use Rattle.std.specs.List.{list_all}
 use Rattle.toml.specs.Data as toml
 use Rattle.toml.specs.Data.{Data, Items, no_items, item, Members, get_member}
@@ -13,7 +13,7 @@ use Rattle.bench_types.specs.declared.limits.TheConstants.{MOST_ROUNDS, MOST_WRI
 use Rattle.scenario.specs.declared.elements.Partition.{Partition}
 use Rattle.scenario.specs.declared.elements.Restart.{Restart}
 use Rattle.scenario.specs.declared.elements.Load.{Load}
-use Rattle.scenario.specs.Fields.{◌>>=◌, name_of, value_at, number_of, number_at, has_only, only}
+use Rattle.scenario.specs.Fields.{◌>>=◌, name_of, value_at, number_of, number_at, flag_at, has_only, only}
 
 -- the items of an array, as a list
 abbrev pub list_of : Items → List Data
@@ -64,13 +64,23 @@ partition_of nodes value = do
   apart ← apart_at nodes table
   Ok (record { from = from; to = to; apart = apart })
 
-abbrev pub restart_of : ℕ → Data → Result Restart Fault
-restart_of nodes value = do
+-- a format in which nodes have generations
+abbrev pub has_generations : ℕ → Bool
+has_generations format = format == 2
+
+-- whether a restart forgets: only a format with generations says so
+abbrev pub forget_at : ℕ → Members → Result Bool Fault
+forget_at format table = if has_generations format then flag_at field.RestartForget table else Ok false
+
+-- a restart of a format, among so many nodes
+abbrev pub restart_of : ℕ → ℕ → Data → Result Restart Fault
+restart_of format nodes value = do
   table ← table_of field.Restart value
   node ← number_at field.RestartNode 0 (nodes - 1) table
   round ← number_at field.RestartRound 1 MOST_ROUNDS table
   down ← number_at field.RestartDown 0 MOST_ROUNDS table
-  Ok (record { node = node; round = round; down = down })
+  forget ← forget_at format table
+  Ok (record { node = node; round = round; down = down; forget = forget })
 
 abbrev pub load_of : Data → Result Load Fault
 load_of value = do
@@ -87,18 +97,20 @@ array_at f check table = elements_at f table >>= each check
 abbrev pub partitions_at : ℕ → Members → Result (List Partition) Fault
 partitions_at nodes = array_at field.Partition (partition_of nodes)
 
-abbrev pub restarts_at : ℕ → Members → Result (List Restart) Fault
-restarts_at nodes = array_at field.Restart (restart_of nodes)
+abbrev pub restarts_at : ℕ → ℕ → Members → Result (List Restart) Fault
+restarts_at format nodes = array_at field.Restart (restart_of format nodes)
 
 abbrev pub loads_at : Members → Result (List Load) Fault
 loads_at = array_at field.Load load_of
 
--- all fields of an element, in order
+-- all fields of an element, in order; those of a restart in a format
 abbrev pub partition_fields : List Field
 partition_fields = field.PartitionFrom ∷ field.PartitionTo ∷ field.PartitionApart ∷ []
 
-abbrev pub restart_fields : List Field
-restart_fields = field.RestartNode ∷ field.RestartRound ∷ field.RestartDown ∷ []
+abbrev pub restart_fields : ℕ → List Field
+restart_fields format =
+    field.RestartNode ∷ field.RestartRound ∷ field.RestartDown
+    ∷ (if has_generations format then field.RestartForget ∷ [] else [])
 
 abbrev pub load_fields : List Field
 load_fields = field.LoadFrom ∷ field.LoadTo ∷ field.LoadWrites ∷ []

@@ -1,9 +1,10 @@
 -- What a field of a table holds, or the fault that reading it comes to: a field that is absent is
--- missing, a value of another type than the field's is of the wrong type, and one of the type that
--- the field does not take is out of range. Source: this project.
+-- missing, but for one of true or false, which is then false; a value of another type than the field's
+-- is of the wrong type, and one of the type that the field does not take is out of range. Source: this
+-- project.
 use Rattle.std.specs.Prelude.{ℕ, ℤ, pos, negsuc, Bool, true, false, ◌&&◌, List, Option, None, Some, Result, Ok, Err, codes, bytes_eq, nat_le, if◌then◌else◌}
 use Rattle.std.specs.List.{list_any}
-use Rattle.toml.specs.Data.{Data, integer, string, Members, no_members, member, get_member}
+use Rattle.toml.specs.Data.{Data, integer, string, boolean, Members, no_members, member, get_member}
 use Rattle.bench_types.specs.declared.faults.Fault.{Fault}
 use Rattle.bench_types.specs.declared.faults.Fault.TheVariants.{Missing, WrongType, OutOfRange, UnknownField}
 use Rattle.bench_types.specs.declared.fields.Field.{Field}
@@ -40,6 +41,7 @@ name_of field.PartitionApart = codes "apart"
 name_of field.RestartNode = codes "node"
 name_of field.RestartRound = codes "round"
 name_of field.RestartDown = codes "down"
+name_of field.RestartForget = codes "forget"
 name_of field.LoadFrom = codes "from"
 name_of field.LoadTo = codes "to"
 name_of field.LoadWrites = codes "writes"
@@ -73,6 +75,16 @@ text_of f _ = Err (WrongType f)
 -- the value of a field that takes text
 abbrev pub text_at : Field → Members → Result (List ℕ) Fault
 text_at f table = value_at f table >>= text_of f
+
+-- true or false, and false where there is nothing
+abbrev pub flag_of : Field → Option Data → Result Bool Fault
+flag_of f None = Ok false
+flag_of f (Some (boolean flag)) = Ok flag
+flag_of f (Some _) = Err (WrongType f)
+
+-- the value of a field that is true or false, and false where it is absent
+abbrev pub flag_at : Field → Members → Result Bool Fault
+flag_at f table = flag_of f (get_member (name_of f) table)
 
 -- the key is that of one of the fields
 abbrev pub is_among : List Field → List ℕ → Bool

@@ -1,11 +1,11 @@
 -- What the check of a text comes to, said of all checks at once and of the document as it stands:
 -- the answer is the fault of the first check that fails, and where none fails, each field's value is
 -- the one that the document has at its key. Source: this project.
-use Rattle.std.specs.Prelude.{◌≡◌, ℕ, ◌+◌, ◌-◌, ◌⊎◌, pos, true, List, [], ◌∷◌, ◌++◌, map, Option, None, Some, Result, Ok, Err}
+use Rattle.std.specs.Prelude.{◌≡◌, ℕ, ◌+◌, ◌-◌, ◌⊎◌, pos, Bool, true, false, List, [], ◌∷◌, ◌++◌, map, Option, None, Some, Result, Ok, Err}
 use Rattle.std.specs.List.{AllZip, flat_map}
 use Rattle.std.specs.Result.{result_err, result_unwrap_or}
 use Rattle.toml.specs.Data as toml
-use Rattle.toml.specs.Data.{Data, integer, string, Items, Members, get_member}
+use Rattle.toml.specs.Data.{Data, integer, string, boolean, Items, Members, get_member}
 use Rattle.bench_types.specs.declared.exchanges.Budget.{Budget}
 use Rattle.bench_types.specs.declared.exchanges.Budget.TheVariants.{Entries, Bytes}
 use Rattle.bench_types.specs.declared.faults.Fault.{Fault}
@@ -19,7 +19,7 @@ use Rattle.scenario.specs.declared.elements.Restart.{Restart}
 use Rattle.scenario.specs.declared.elements.Load.{Load}
 use Rattle.scenario.specs.Budgets.{budget_at}
 use Rattle.scenario.specs.Parts.{size_checked}
-use Rattle.scenario.specs.Elements.{list_of, array_of, table_of, values_at, elements_at, elements_have_only, only_elements, partition_fields, restart_fields, load_fields}
+use Rattle.scenario.specs.Elements.{has_generations, list_of, array_of, table_of, forget_at, values_at, elements_at, elements_have_only, only_elements, partition_fields, restart_fields, load_fields}
 use Rattle.scenario.specs.Fields.{◌>>=◌, name_of, value_at, number_of, number_at, has_only, only_fields}
 use Rattle.scenario.specs.Settings.{Settings}
 use Rattle.scenario.specs.Top.{format_at, nodes_at, keys_at, rounds_at, seed_at, mode_at, peers_at, rotation_at, choice_at, loss_ppm_at, writes_at, top_fields}
@@ -62,14 +62,15 @@ partition_faults nodes value =
     ∷ result_err (value_at field.PartitionApart table >>= array_of field.PartitionApart)
     ∷ ascending_faults field.PartitionApart 0 (nodes - 1) (values_at field.PartitionApart table)
 
--- each check of a restart among so many nodes, in order
-abbrev pub restart_faults : ℕ → Data → List (Option Fault)
-restart_faults nodes value =
+-- each check of a restart of a format among so many nodes, in order
+abbrev pub restart_faults : ℕ → ℕ → Data → List (Option Fault)
+restart_faults format nodes value =
     let table = members_of value in
     result_err (table_of field.Restart value)
     ∷ result_err (number_at field.RestartNode 0 (nodes - 1) table)
     ∷ result_err (number_at field.RestartRound 1 MOST_ROUNDS table)
     ∷ result_err (number_at field.RestartDown 0 MOST_ROUNDS table)
+    ∷ result_err (forget_at format table)
     ∷ []
 
 -- each check of a load, in order
@@ -99,7 +100,7 @@ abbrev pub unknown_faults : Members → List (Option Fault)
 unknown_faults table =
     result_err (only_fields name.Top (top_fields (format_in table)) table)
     ∷ result_err (only_elements name.Partition field.Partition partition_fields table)
-    ∷ result_err (only_elements name.Restart field.Restart restart_fields table)
+    ∷ result_err (only_elements name.Restart field.Restart (restart_fields (format_in table)) table)
     ∷ result_err (only_elements name.Load field.Load load_fields table)
     ∷ []
 
@@ -120,7 +121,7 @@ faults table =
     ∷ result_err (loss_ppm_at table)
     ∷ result_err (writes_at table)
     ∷ (array_faults field.Partition (partition_faults (nodes_in table)) table
-    ++ (array_faults field.Restart (restart_faults (nodes_in table)) table
+    ++ (array_faults field.Restart (restart_faults (format_in table) (nodes_in table)) table
     ++ (array_faults field.Load load_faults table
     ++ unknown_faults table)))
 
@@ -137,6 +138,11 @@ first_fault (Some table) = first_of (faults table)
 -- the document has this number at the field's key
 abbrev pub HasNumber : Members → Field → ℕ → Type 0
 HasNumber table f n = get_member (name_of f) table ≡ Some (integer (pos n))
+
+-- the document has this at the field's key, or nothing where it is false
+abbrev pub HasFlag : Members → Field → Bool → Type 0
+HasFlag table f flag =
+    (get_member (name_of f) table ≡ Some (boolean flag)) ⊎ ((get_member (name_of f) table ≡ None) × (flag ≡ false))
 
 -- the document has the budget's number at the key of its field
 abbrev pub HasBudget : Members → Budget → Type 0
@@ -167,12 +173,14 @@ pub record SaysPartition (value : Data) (p : Partition) : Type 0 where
   pub to : HasNumber (members_of value) field.PartitionTo p.to
   pub apart : HasNumbers (members_of value) field.PartitionApart p.apart
 
--- the restart is what the value says
-pub record SaysRestart (value : Data) (r : Restart) : Type 0 where
+-- the restart is what the value says in a format; without generations none forgets
+pub record SaysRestart (format : ℕ) (value : Data) (r : Restart) : Type 0 where
   pub is_table : value ≡ toml.table (members_of value)
   pub node : HasNumber (members_of value) field.RestartNode r.node
   pub round : HasNumber (members_of value) field.RestartRound r.round
   pub down : HasNumber (members_of value) field.RestartDown r.down
+  pub forget : has_generations format ≡ true → HasFlag (members_of value) field.RestartForget r.forget
+  pub keeps : has_generations format ≡ false → r.forget ≡ false
 
 -- the load is what the value says
 pub record SaysLoad (value : Data) (l : Load) : Type 0 where
@@ -196,9 +204,9 @@ pub record Says (table : Members) (s : Settings) : Type 0 where
   pub loss_ppm : HasNumber table field.LossPpm s.loss_ppm
   pub writes : HasNumber table field.Writes s.writes
   pub partitions : HasElements table field.Partition SaysPartition s.partitions
-  pub restarts : HasElements table field.Restart SaysRestart s.restarts
+  pub restarts : HasElements table field.Restart (SaysRestart s.format) s.restarts
   pub loads : HasElements table field.Load SaysLoad s.loads
   pub others : has_only (top_fields s.format) table ≡ true
   pub others_of_partitions : elements_have_only field.Partition partition_fields table ≡ true
-  pub others_of_restarts : elements_have_only field.Restart restart_fields table ≡ true
+  pub others_of_restarts : elements_have_only field.Restart (restart_fields s.format) table ≡ true
   pub others_of_loads : elements_have_only field.Load load_fields table ≡ true

@@ -1,5 +1,5 @@
 -- What a scenario says, and the limits that each accepted one keeps. Source: this project.
-use Rattle.std.specs.Prelude.{◌≡◌, ℕ, ◌*◌, ◌<◌, ◌≤◌, List, length, All}
+use Rattle.std.specs.Prelude.{◌≡◌, ℕ, ◌*◌, ◌<◌, ◌≤◌, true, List, length, All}
 use Rattle.std.specs.List.Sorted.{IsStrictlyIncreasing}
 use Rattle.bench_types.specs.declared.exchanges.Budget.{Budget}
 use Rattle.bench_types.specs.declared.exchanges.Budget.TheVariants.{Entries, Bytes}
@@ -50,11 +50,12 @@ pub record IsLawfulPartition (nodes : ℕ) (p : Partition) : Type 0 where
   pub ascending : IsStrictlyIncreasing p.apart
   pub apart : All (λ n. n < nodes) p.apart
 
--- the limits of a restart among so many nodes
-pub record IsLawfulRestart (nodes : ℕ) (r : Restart) : Type 0 where
+-- the limits of a restart among so many nodes: it forgets in format 2 alone
+pub record IsLawfulRestart (format nodes : ℕ) (r : Restart) : Type 0 where
   pub node : r.node < nodes
   pub round : IsWithin 1 MOST_ROUNDS r.round
   pub down : r.down ≤ MOST_ROUNDS
+  pub forget : r.forget ≡ true → format ≡ 2
 
 -- the limits of a load
 pub record IsLawfulLoad (l : Load) : Type 0 where
@@ -79,5 +80,5 @@ pub record IsLawfulScenario (s : Settings) : Type 0 where
   pub loss_ppm : s.loss_ppm ≤ MOST_LOSS
   pub writes : s.writes ≤ MOST_WRITES
   pub partitions : AreLawful (IsLawfulPartition s.nodes) s.partitions
-  pub restarts : AreLawful (IsLawfulRestart s.nodes) s.restarts
+  pub restarts : AreLawful (IsLawfulRestart s.format s.nodes) s.restarts
   pub loads : AreLawful IsLawfulLoad s.loads

@@ -17,14 +17,14 @@ pub(crate) trait Element: Drop {
     ghost use Rattle.bench_types.specs.declared.faults.Fault.{Fault};
     ghost use Rattle.toml.specs.Data.{Data};
 
-    ghost checked: { ℕ → Data → Result Self Fault };
+    ghost checked: { ℕ → ℕ → Data → Result Self Fault };
 
-    /// The element that the value says, in a scenario of so many nodes.
-    fn of(alloc: Global, value: &Value, nodes: u32) -> Result<Self, Fault>
+    /// The element that the value says, in a scenario of the format and of so many nodes.
+    fn of(alloc: Global, value: &Value, format: u32, nodes: u32) -> Result<Self, Fault>
         requires { 2 ≤ nodes }
-        ensures ok { IfOk result (λ element. checked nodes (view value.now) ≡ Ok element) }
+        ensures ok { IfOk result (λ element. checked format nodes (view value.now) ≡ Ok element) }
         ensures refused { IfErr result (λ fault.
-            fault ≢ Fault.OutOfMemory → checked nodes (view value.now) ≡ Err fault) };
+            fault ≢ Fault.OutOfMemory → checked format nodes (view value.now) ≡ Err fault) };
 }
 
 pub(crate) fn array_of(value: &Value, field: Field) -> Result<&[Value], Fault>
@@ -71,18 +71,19 @@ pub(crate) fn array_at<T: Element>(
     alloc: Global,
     table: &Table,
     field: Field,
+    format: u32,
     nodes: u32,
 ) -> Result<Vec<T>, Fault>
     requires { 2 ≤ nodes }
     ensures ok { IfOk result (λ elements.
-        array_at field (T.checked nodes) (table_view table.now) ≡ Ok elements.items) }
+        array_at field (T.checked format nodes) (table_view table.now) ≡ Ok elements.items) }
     ensures refused { IfErr result (λ fault. fault ≢ Fault.OutOfMemory →
-        array_at field (T.checked nodes) (table_view table.now) ≡ Err fault) }
+        array_at field (T.checked format nodes) (table_view table.now) ≡ Err fault) }
 {
     let values = elements_at(table, field)?;
     let mut elements = Vec::new(alloc);
     for value in values {
-        elements.push(T::of(alloc, value, nodes)?)?;
+        elements.push(T::of(alloc, value, format, nodes)?)?;
     }
     Ok(elements)
 }

@@ -21,13 +21,16 @@ impl Model for Partition {
     ghost view = { λ p. record { from = p.from; to = p.to; apart = p.apart.items } };
 }
 
-/// A node that restarts at the beginning of a round and loses its copies of all other nodes.
+/// A node that restarts at the beginning of a round and loses its copies of all other nodes. One that forgets loses its
+/// own entries too and begins its next generation.
 #[derive(Clone, Copy, Debug, PartialEq, Eq)]
 pub struct Restart {
     pub node: u32,
     pub round: u32,
     /// For how many rounds the node is down, from `round` on.
     pub down: u32,
+    /// Whether the node forgets its own entries; in format 1 it never does.
+    pub forget: bool,
 }
 
 /// How many writes each node makes in each of some rounds.

@@ -3,7 +3,7 @@
 ghost use Rattle.std.specs.Prelude.{◌≡◌, ◌≤◌, IfOk, IfErr, option_map};
 ghost use Rattle.toml.specs.Data.{get_member};
 ghost use Rattle.toml.specs.View.{view, table_view};
-ghost use Rattle.scenario.specs.Fields.{name_of, value_at, number_of, number_at, text_at, has_only, is_among, only_fields};
+ghost use Rattle.scenario.specs.Fields.{name_of, value_at, number_of, number_at, text_at, flag_at, has_only, is_among, only_fields};
 
 use bench_types::{Fault, Field, TableName};
 use toml::{Table, Value};
@@ -35,6 +35,7 @@ fn name_of(field: Field) -> &'static str
         Field::RestartNode => "node",
         Field::RestartRound => "round",
         Field::RestartDown => "down",
+        Field::RestartForget => "forget",
     }
 }
 
@@ -101,6 +102,17 @@ pub(crate) fn text_at(table: &Table, field: Field) -> Result<&str, Fault>
     match found(table, field) {
         None => Err(Fault::Missing(field)),
         Some(Value::String(text)) => Ok(text.as_str()),
+        Some(_) => Err(Fault::WrongType(field)),
+    }
+}
+
+/// A field that is true or false, and false where it is absent.
+pub(crate) fn flag_at(table: &Table, field: Field) -> Result<bool, Fault>
+    ensures { result ≡ flag_at field (table_view table.now) }
+{
+    match found(table, field) {
+        None => Ok(false),
+        Some(Value::Boolean(flag)) => Ok(*flag),
         Some(_) => Err(Fault::WrongType(field)),
     }
 }

@@ -12,7 +12,7 @@ use crate::choices::{Choice, Peers, Rotation};
 use crate::elements::{Load, Partition, Restart};
 use crate::fields::only_fields;
 use crate::parts::{Basics, Conduct, basics_at, conduct_at};
-use crate::tables::{loads_at, partitions_at, restarts_at};
+use crate::tables::{loads_at, partitions_at, restart_fields, restarts_at};
 use bench_types::limits::{
     LEAST_KEYS, LEAST_NODES, MOST_ENTRIES, MOST_KEYS, MOST_LOSS, MOST_NODES, MOST_ROUNDS,
     MOST_SEED, MOST_WRITES,
@@ -27,8 +27,6 @@ const PARTITION_FIELDS: [Field; 3] = [
     Field::PartitionTo,
     Field::PartitionApart,
 ];
-
-const RESTART_FIELDS: [Field; 3] = [Field::RestartNode, Field::RestartRound, Field::RestartDown];
 
 const LOAD_FIELDS: [Field; 3] = [Field::LoadFrom, Field::LoadTo, Field::LoadWrites];
 
@@ -98,7 +96,12 @@ fn check_unknown(table: &Table, format: u32) -> Result<(), Fault>
         Field::Partition,
         &PARTITION_FIELDS,
     )?;
-    only_elements(table, TableName::Restart, Field::Restart, &RESTART_FIELDS)?;
+    only_elements(
+        table,
+        TableName::Restart,
+        Field::Restart,
+        restart_fields(format),
+    )?;
     only_elements(table, TableName::Load, Field::Load, &LOAD_FIELDS)
 }
 
@@ -126,9 +129,9 @@ impl Scenario {
             loss_ppm,
             writes,
         } = conduct_at(table, format)?;
-        let partitions = partitions_at(alloc, table, nodes)?;
-        let restarts = restarts_at(alloc, table, nodes)?;
-        let loads = loads_at(alloc, table, nodes)?;
+        let partitions = partitions_at(alloc, table, format, nodes)?;
+        let restarts = restarts_at(alloc, table, format, nodes)?;
+        let loads = loads_at(alloc, table, format, nodes)?;
         check_unknown(table, format)?;
         Ok(Scenario {
             format,
@@ -256,7 +259,7 @@ impl Scenario {
     /// The restarts, in the order of the text.
     pub fn restarts(&self) -> &[Restart]
         ensures value { result.now ≡ self.now.restarts }
-        ensures limits { AreLawful (IsLawfulRestart self.now.nodes) result.now }
+        ensures limits { AreLawful (IsLawfulRestart self.now.format self.now.nodes) result.now }
     {
         &self.restarts
     }

@@ -2,24 +2,31 @@
 
 ghost use Rattle.std.specs.Prelude.{◌≡◌, ◌≢◌, ◌≤◌, IfOk, IfErr};
 ghost use Rattle.toml.specs.View.{table_view};
-ghost use Rattle.scenario.specs.Elements.{apart_at, partitions_at, restarts_at, loads_at};
+ghost use Rattle.scenario.specs.Elements.{has_generations, restart_fields, apart_at, forget_at, partitions_at, restarts_at, loads_at};
 ghost use Rattle.scenario.specs.Fields.{number_at};
 ghost use Rattle.scenario.specs.Settings.{AreLawful, IsLawfulPartition, IsLawfulRestart, IsLawfulLoad};
 
 use crate::arrays::{Element, array_at, array_of, table_of};
 use crate::elements::{Load, Partition, Restart};
-use crate::fields::{number_at, number_of, value_at};
+use crate::fields::{flag_at, number_at, number_of, value_at};
 use bench_types::limits::{MOST_ROUNDS, MOST_WRITES};
 use bench_types::{Fault, Field};
 use std::alloc::Global;
 use toml::{Table, Value};
 
+const RESTART_FIELDS: [Field; 4] = [
+    Field::RestartNode,
+    Field::RestartRound,
+    Field::RestartDown,
+    Field::RestartForget,
+];
+
 impl Element for Partition {
     ghost use Rattle.scenario.specs.Elements.{partition_of};
 
-    ghost checked = { partition_of };
+    ghost checked = { λ _. partition_of };
 
-    fn of(alloc: Global, value: &Value, nodes: u32) -> Result<Partition, Fault> {
+    fn of(alloc: Global, value: &Value, _format: u32, nodes: u32) -> Result<Partition, Fault> {
         let table = table_of(value, Field::Partition)?;
         let from = number_at(table, Field::PartitionFrom, 1, MOST_ROUNDS)?;
         let to = last_round_at(table, Field::PartitionTo, from)?;
@@ -33,21 +40,27 @@ impl Element for Restart {
 
     ghost checked = { restart_of };
 
-    fn of(_alloc: Global, value: &Value, nodes: u32) -> Result<Restart, Fault> {
+    fn of(_alloc: Global, value: &Value, format: u32, nodes: u32) -> Result<Restart, Fault> {
         let table = table_of(value, Field::Restart)?;
         let node = number_at(table, Field::RestartNode, 0, nodes - 1)?;
         let round = number_at(table, Field::RestartRound, 1, MOST_ROUNDS)?;
         let down = number_at(table, Field::RestartDown, 0, MOST_ROUNDS)?;
-        Ok(Restart { node, round, down })
+        let forget = forget_at(table, format)?;
+        Ok(Restart {
+            node,
+            round,
+            down,
+            forget,
+        })
     }
 }
 
 impl Element for Load {
     ghost use Rattle.scenario.specs.Elements.{load_of};
 
-    ghost checked = { λ _. load_of };
+    ghost checked = { λ _ _. load_of };
 
-    fn of(_alloc: Global, value: &Value, _nodes: u32) -> Result<Load, Fault> {
+    fn of(_alloc: Global, value: &Value, _format: u32, _nodes: u32) -> Result<Load, Fault> {
         let table = table_of(value, Field::Load)?;
         let from = number_at(table, Field::LoadFrom, 1, MOST_ROUNDS)?;
         let to = last_round_at(table, Field::LoadTo, from)?;
@@ -62,6 +75,35 @@ fn last_round_at(table: &Table, field: Field, from: u32) -> Result<u32, Fault>
     ensures within { IfOk result (λ to. (from ≤ to) × (to ≤ MOST_ROUNDS)) }
 {
     number_at(table, field, from, MOST_ROUNDS)
+}
+
+// Whether nodes have generations in a format.
+fn has_generations(format: u32) -> bool
+    ensures { result ≡ has_generations format }
+{
+    format == 2
+}
+
+// Whether a restart forgets: only a format with generations says so.
+fn forget_at(table: &Table, format: u32) -> Result<bool, Fault>
+    ensures { result ≡ forget_at format (table_view table.now) }
+{
+    if has_generations(format) {
+        flag_at(table, Field::RestartForget)
+    } else {
+        Ok(false)
+    }
+}
+
+/// The fields that a restart has in a format, in the order of their checks.
+pub(crate) fn restart_fields(format: u32) -> &'static [Field]
+    ensures { result.now ≡ restart_fields format }
+{
+    if has_generations(format) {
+        &RESTART_FIELDS
+    } else {
+        &RESTART_FIELDS[..3]
+    }
 }
 
 // The nodes of one side of a partition, among so many.
@@ -87,6 +129,7 @@ fn apart_at(alloc: Global, table: &Table, nodes: u32) -> Result<Vec<u32>, Fault>
 pub(crate) fn partitions_at(
     alloc: Global,
     table: &Table,
+    format: u32,
     nodes: u32,
 ) -> Result<Vec<Partition>, Fault>
     requires { 2 ≤ nodes }
@@ -97,24 +140,34 @@ pub(crate) fn partitions_at(
     ensures refused { IfErr result (λ fault.
         fault ≢ Fault.OutOfMemory → partitions_at nodes (table_view table.now) ≡ Err fault) }
 {
-    array_at(alloc, table, Field::Partition, nodes)
+    array_at(alloc, table, Field::Partition, format, nodes)
 }
 
 /// The restarts of a text, in order.
-pub(crate) fn restarts_at(alloc: Global, table: &Table, nodes: u32) -> Result<Vec<Restart>, Fault>
+pub(crate) fn restarts_at(
+    alloc: Global,
+    table: &Table,
+    format: u32,
+    nodes: u32,
+) -> Result<Vec<Restart>, Fault>
     requires { 2 ≤ nodes }
     ensures ok { IfOk result (λ restarts.
-        restarts_at nodes (table_view table.now) ≡ Ok restarts.items) }
+        restarts_at format nodes (table_view table.now) ≡ Ok restarts.items) }
     ensures lawful { IfOk result (λ restarts.
-        AreLawful (IsLawfulRestart nodes) restarts.items) }
+        AreLawful (IsLawfulRestart format nodes) restarts.items) }
     ensures refused { IfErr result (λ fault.
-        fault ≢ Fault.OutOfMemory → restarts_at nodes (table_view table.now) ≡ Err fault) }
+        fault ≢ Fault.OutOfMemory → restarts_at format nodes (table_view table.now) ≡ Err fault) }
 {
-    array_at(alloc, table, Field::Restart, nodes)
+    array_at(alloc, table, Field::Restart, format, nodes)
 }
 
 /// The loads of a text, in order.
-pub(crate) fn loads_at(alloc: Global, table: &Table, nodes: u32) -> Result<Vec<Load>, Fault>
+pub(crate) fn loads_at(
+    alloc: Global,
+    table: &Table,
+    format: u32,
+    nodes: u32,
+) -> Result<Vec<Load>, Fault>
     requires { 2 ≤ nodes }
     ensures ok { IfOk result (λ loads.
         loads_at (table_view table.now) ≡ Ok loads.items) }
@@ -123,5 +176,5 @@ pub(crate) fn loads_at(alloc: Global, table: &Table, nodes: u32) -> Result<Vec<L
     ensures refused { IfErr result (λ fault.
         fault ≢ Fault.OutOfMemory → loads_at (table_view table.now) ≡ Err fault) }
 {
-    array_at(alloc, table, Field::Load, nodes)
+    array_at(alloc, table, Field::Load, format, nodes)
 }

@@ -1,6 +1,5 @@
 pub mod Writing
 pub mod Begun
-pub mod Restarting
 pub mod Standing
 pub mod Lags
 pub mod Playing

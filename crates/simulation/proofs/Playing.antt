@@ -8,8 +8,8 @@ use Rattle.node_table.specs.Table.{Table}
 use Rattle.node_table.specs.NodeTableView.{NodeTableView}
 use Rattle.cluster.specs.Clusters.{KeepOwnParts}
 use Rattle.cluster.specs.Folds.{Folded, fold_of}
-use Rattle.cluster.specs.Tables.{tables_in, AreTablesInOrder, IsCluster}
-use Rattle.cluster.proofs.FoldLaws.{fold_counts_tables, fold_counts_records, fold_keeps_own}
+use Rattle.cluster.specs.Tables.{tables_in, AreTablesInOrder, AreProper, IsCluster}
+use Rattle.cluster.proofs.FoldLaws.{fold_counts_tables, fold_counts_records, fold_keeps_own, fold_proper}
 use Rattle.cluster.proofs.Tables.{length-tables_in, cluster_of}
 use Rattle.round_plan.specs.Plan.{RoundListView, IsRoundPlan, round_list_of}
 use Rattle.scenario.specs.Settings.{Settings}
@@ -47,11 +47,14 @@ module _ (s : Settings) (round : ℕ) (list : RoundListView) (plan : IsRoundPlan
     same_count : length new ≡ length old
     same_count = ap (λ (f : Folded). length f.tables) (sym exchanged) ∙ fold_counts_tables rules list.exchanges (record { tables = old; records = [] })
 
+    kept_proper : AreProper new
+    kept_proper = subst (λ (f : Folded). AreProper f.tables) exchanged (fold_proper rules s.nodes s.keys list.exchanges old planned (stand_in_order s round old lists standing) (λ n lt. (standing.owners n (omega (arith, lt, standing.table_count))).proper))
+
     own_kept : KeepOwnParts old new
     own_kept = subst (λ (f : Folded). KeepOwnParts old f.tables) exchanged (fold_keeps_own rules s.nodes s.keys list.exchanges old planned (stand_in_order s round old lists standing))
 
     pub standing_exchanged : StandAfterRound s round new lists
-    standing_exchanged = standing_kept s round old new lists same_count own_kept standing
+    standing_exchanged = standing_kept s round old new lists same_count own_kept kept_proper standing
 
   -- from the tables before the round
   module _ (before : List Table) (begun_is : old ≡ begun s round before) (rules_are : rules ≡ rules_of s) where

@@ -1,35 +1,40 @@
 -- What holds of the tables along every run.
-use Rattle.std.proofs.Common.{◌≡◌, ℕ, zero, suc, ◌+◌, ◌-◌, ◌<◌, ◌≤◌, Bool, true, false, if◌then◌else◌, List, ◌++◌, length, All, inl, inr, refl, sym, ap, ◌∙◌, subst, arith}
+use Rattle.std.proofs.Common.{◌≡◌, ℕ, zero, suc, ◌+◌, ◌-◌, ◌<◌, ◌≤◌, true, false, if◌then◌else◌, List, ◌++◌, length, All, inl, inr, refl, sym, ap, ◌∙◌, subst, arith}
 use Rattle.std.proofs.Math.Seq.{take-length}
-use Rattle.std.proofs.lemmas.Bool.{cases_lt}
+use Rattle.std.proofs.lemmas.Bool.{cases_lt, both_ways}
 use Rattle.std.proofs.lemmas.List.{get_or_past}
 use Rattle.std.proofs.lemmas.List.FromFn.{length-map-range_with_len}
 use Rattle.bench_types.specs.declared.entries.Entry.{Entry}
+use Rattle.bench_types.specs.declared.entries.Mark.{Mark}
 use Rattle.bench_types.specs.declared.exchanges.Exchange.{Exchange}
 use Rattle.bench_types.specs.Entry.{AreNextAfter}
-use Rattle.node_table.specs.Table.{Table, empty_table, entry_at, greatest_version, with_own_writes, without_others, version_at, IsProper}
-use Rattle.node_table.proofs.Laws.{entry_at-empty_table, proper-empty_table}
-use Rattle.node_table.proofs.Versions.{greatest_version-empty_table, greatest_version-without_others_own}
-use Rattle.round_plan.specs.Outages.{restarts_now}
+use Rattle.node_table.specs.Table.{Table, empty_table, entry_at, greatest_version, with_own_writes, without_others, without_all, IsProper}
+use Rattle.node_table.proofs.Laws.{entry_at-empty_table}
+use Rattle.node_table.proofs.MarkLaws.{greatest_mark-empty_table, greatest_mark-without_all, greatest_mark-without_others_own}
+use Rattle.round_plan.specs.Generations.{generation_upto}
+use Rattle.round_plan.specs.Outages.{forgets_now, restarts_now}
 use Rattle.round_plan.specs.Plan.{round_list_of}
-use Rattle.round_plan.specs.Writes.{count_upto, own_writes, writes_upto}
-use Rattle.round_plan.proofs.Growth.{keys-own_writes, next-own_writes, length-writes_upto, writes_upto-grown}
+use Rattle.round_plan.specs.Writes.{count_upto, count_before, own_writes, written_upto}
+use Rattle.round_plan.proofs.Generations.{generation_upto-same, generation_upto-next, restarts-forgets}
+use Rattle.round_plan.proofs.Growth.{count_before-grown, count_upto-grown, keys-own_writes, next-own_writes, written_upto-grown}
 use Rattle.round_plan.proofs.Planned.{planned_list}
 use Rattle.scenario.specs.Settings.{Settings}
 use Rattle.bench_types.specs.Exchange.{IsPlanned}
-use Rattle.cluster.specs.Clusters.{NoVersionsFall}
+use Rattle.cluster.specs.Clusters.{NoMarksFall}
 use Rattle.exchange.specs.Copies.{IsLastOf}
 use Rattle.cluster.specs.Tables.{table_of_node, AreTablesInOrder, AreProper}
 use Rattle.cluster.specs.Folds.{fold_of, tables_before}
-use Rattle.exchange.specs.Laws.{NoVersionFalls}
-use Rattle.cluster.proofs.BeginLaws.{IsBegun, begun_same, begun_restart, begun_then, begun_writes, counted_writes, written_rises, empty_copies, empty_no_gap, begun_copies, begun_no_gap}
+use Rattle.exchange.specs.Laws.{NoMarkFalls}
+use Rattle.exchange.proofs.ExchangeLaws.{marks_stay, marks_then}
+use Rattle.cluster.proofs.BeginLaws.{IsBegun, begun_same, begun_forget, begun_restart, begun_then, begun_writes, counted_writes, generation-written, written_rises, empty_copies, empty_no_gap, begun_copies, begun_no_gap}
 use Rattle.cluster.proofs.Tables.{table_of_node-made}
 use Rattle.cluster.proofs.FoldLaws.{before_copies, before_no_gap, before_rises, before_keeps_own}
-use Rattle.simulation.specs.Rounds.{opening_tables, restarted_table, restarted, written_table, begun, rules_of, round_of, tables_after}
-use Rattle.simulation.specs.Soundness.{writes_by, AreSound, OnlyRestartsForget, tables_within, IsSoundRun}
-use Rattle.simulation.proofs.Begun.{count_upto-before}
+use Rattle.simulation.specs.Rounds.{opening_tables, restarted, written_table, after_restart, begun, rules_of, round_of, tables_after}
+use Rattle.simulation.specs.Soundness.{writes_by, AreSound, OnlyRestartsLowerMarks, tables_within, IsSoundRun}
+use Rattle.simulation.proofs.Begun.{begun_at}
+use Rattle.simulation.proofs.Standing.{opening_proper}
 
--- each owner's greatest version is how many writes it has made
+-- each owner's greatest version is how many writes of its generation it has made
 abbrev AreCounted : Settings → ℕ → List Table → Type 0
 AreCounted s round ts = (n : ℕ) → n < s.nodes → greatest_version (table_of_node ts n) n ≡ count_upto s n round
 
@@ -37,6 +42,14 @@ AreCounted s round ts = (n : ℕ) → n < s.nodes → greatest_version (table_of
 record IsHeld (s : Settings) (round : ℕ) (ts : List Table) : Type 0 where
   sound : AreSound s round ts
   counted : AreCounted s round ts
+  generations : (n : ℕ) → n < s.nodes → (table_of_node ts n).generation ≡ generation_upto s n round
+
+-- what the restarts of a round make of a node's table and of how many writes of its generation it has made
+record IsRestartedFrom (s : Settings) (round n : ℕ) (writes : List Entry) (t r : Table) : Type 0 where
+  begun : IsBegun writes t writes r
+  keys : r.keys ≡ t.keys
+  counted : greatest_version r r.node ≡ count_before s n round
+  generation : r.generation ≡ generation_upto s n round
 
 module _ (s : Settings) (some : 2 ≤ s.nodes) (most : s.nodes ≤ 4096) (some_key : 1 ≤ s.keys) (few_keys : s.keys ≤ 64) where
   opening_at : (n : ℕ) → n < s.nodes → table_of_node (opening_tables s) n ≡ empty_table n s.nodes s.keys
@@ -48,10 +61,8 @@ module _ (s : Settings) (some : 2 ≤ s.nodes) (most : s.nodes ≤ 4096) (some_k
     tables = λ n lt. rw (opening_at n lt) (record { node = refl; nodes = refl; keys = refl });
   }
 
-  opening_proper : AreProper (opening_tables s)
-  opening_proper n lt =
-      let below : n < s.nodes = omega (arith, lt, opening_in_order.size) in
-      subst IsProper (sym (opening_at n below)) (proper-empty_table n s.nodes s.keys below most some_key few_keys)
+  all_proper : AreProper (opening_tables s)
+  all_proper = opening_proper s most some_key few_keys
 
   nothing_held : (n owner key : ℕ) → n < s.nodes → entry_at (table_of_node (opening_tables s) n) owner key ≡ Rattle.std.specs.Prelude.None
   nothing_held n owner key lt = ap (λ (t : Table). entry_at t owner key) (opening_at n lt) ∙ entry_at-empty_table n s.nodes s.keys owner key
@@ -59,33 +70,20 @@ module _ (s : Settings) (some : 2 ≤ s.nodes) (most : s.nodes ≤ 4096) (some_k
   opening_held : IsHeld s 0 (opening_tables s)
   opening_held = record {
     sound = record {
-      copies = empty_copies s.nodes s.keys (opening_tables s) opening_in_order opening_proper nothing_held;
-      no_gap = λ _. empty_no_gap s.nodes s.keys (opening_tables s) opening_in_order opening_proper nothing_held;
+      copies = empty_copies s.nodes s.keys (opening_tables s) opening_in_order all_proper nothing_held;
+      no_gap = λ _. empty_no_gap s.nodes s.keys (opening_tables s) opening_in_order all_proper nothing_held;
     };
-    counted = λ n lt. ap (λ (t : Table). greatest_version t n) (opening_at n lt) ∙ greatest_version-empty_table n s.nodes s.keys n;
+    counted = λ n lt. ap (λ (t : Table). greatest_version t n) (opening_at n lt) ∙ ap (λ (m : Mark). m.version) (greatest_mark-empty_table n s.nodes s.keys n);
+    generations = λ n lt. ap (λ (t : Table). t.generation) (opening_at n lt);
   }
 
   -- the begin of a round
   module _ (round : ℕ) (first : 1 ≤ round) (ts : List Table) (held : IsHeld s (round - 1) ts) where
-    abbrev count : ℕ → ℕ
-    count n = count_upto s n (round - 1)
-
     abbrev writes : ℕ → List Entry
-    writes n = own_writes s n round (count n)
+    writes n = own_writes s n round (count_before s n round)
 
-    restarted_at : (n : ℕ) → n < s.nodes → table_of_node (restarted s round ts) n ≡ restarted_table s round ts n
-    restarted_at n lt = table_of_node-made (restarted_table s round ts) s.nodes n lt
-
-    begun_at : (n : ℕ) → n < s.nodes → table_of_node (begun s round ts) n ≡ with_own_writes (restarted_table s round ts n) (writes n)
-    begun_at n lt =
-        table_of_node-made (written_table s round (restarted s round ts)) s.nodes n lt
-        ∙ ap (λ t. with_own_writes t (writes n)) (restarted_at n lt)
-
-    grown : (n : ℕ) → writes_upto s n round ≡ writes_upto s n (round - 1) ++ writes n
-    grown n = writes_upto-grown s n round (count n) first (length-writes_upto s n (round - 1))
-
-    next : (n : ℕ) → AreNextAfter (length (writes_upto s n (round - 1))) (writes n)
-    next n = subst (λ m. AreNextAfter m (writes n)) (sym (length-writes_upto s n (round - 1))) (next-own_writes s n round (count n))
+    grown : (n : ℕ) → written_upto s n round ≡ written_upto s n (round - 1) ++ writes n
+    grown n = written_upto-grown s n round (count_before s n round) first refl
 
     module _ (n : ℕ) (lt : n < s.nodes) where
       abbrev t : Table
@@ -101,50 +99,82 @@ module _ (s : Settings) (some : 2 ≤ s.nodes) (most : s.nodes ≤ 4096) (some_k
       t_proper = held.sound.copies.proper n (omega (arith, lt, held.sound.copies.tables.size))
 
       abbrev old : List Entry
-      old = writes_upto s n (round - 1)
+      old = written_upto s n (round - 1)
 
-      last : IsLastOf old (λ key. entry_at t t.node key)
-      last = subst (λ m. IsLastOf old (λ key. entry_at t m key)) (sym node_is) (held.sound.copies.last n lt)
+      last : IsLastOf t.generation old (λ key. entry_at t t.node key)
+      last = subst (λ m. IsLastOf t.generation old (λ key. entry_at t m key)) (sym node_is) (held.sound.copies.last n lt)
 
-      greatest_is : greatest_version t t.node ≡ length old
-      greatest_is = ap (greatest_version t) node_is ∙ held.counted n lt ∙ sym (length-writes_upto s n (round - 1))
+      counted_before : greatest_version t t.node ≡ count_upto s n (round - 1)
+      counted_before = ap (greatest_version t) node_is ∙ held.counted n lt
 
-      -- the restart
-      restart_or_not : (b : Bool) → IsBegun old t old (if b then without_others t else t) × ((if b then without_others t else t).keys ≡ t.keys) × (greatest_version (if b then without_others t else t) (if b then without_others t else t).node ≡ greatest_version t t.node)
-      restart_or_not true = (begun_restart old t t_proper last, refl, greatest_version-without_others_own t)
-      restart_or_not false = (begun_same old t t_proper last, refl, refl)
-
+      -- the restarts
       abbrev r : Table
-      r = restarted_table s round ts n
+      r = after_restart s round n t
 
-      first_begun : IsBegun old t old r
-      first_begun = (restart_or_not (restarts_now s n round)).0
+      as_before : forgets_now s n round ≡ false → count_upto s n (round - 1) ≡ count_before s n round
+      as_before stays = sym (count_before-grown s n round first ∙ ap (λ b. if b then 0 else count_upto s n (round - 1)) stays)
+
+      stays_in : forgets_now s n round ≡ false → t.generation ≡ generation_upto s n round
+      stays_in stays = held.generations n lt ∙ sym (generation_upto-same s n round first stays)
+
+      restarted_from : IsRestartedFrom s round n old t r
+      restarted_from = elim (forgets_now s n round) as (λ b. forgets_now s n round ≡ b → IsRestartedFrom s round n old t (if b then without_all t else (if restarts_now s n round then without_others t else t))) [
+        | true ↦ λ forgets. record {
+          begun = begun_forget old t t_proper last;
+          keys = refl;
+          counted = ap (λ (m : Mark). m.version) (greatest_mark-without_all t t.node) ∙ sym (count_before-grown s n round first ∙ ap (λ b. if b then 0 else count_upto s n (round - 1)) forgets);
+          generation = ap (λ g. g + 1) (held.generations n lt) ∙ sym (generation_upto-next s n round first forgets);
+        }
+        | false ↦ λ stays. elim (restarts_now s n round) as (λ b. IsRestartedFrom s round n old t (if b then without_others t else t)) [
+          | true ↦ record {
+            begun = begun_restart old t t_proper last;
+            keys = refl;
+            counted = ap (λ (m : Mark). m.version) (greatest_mark-without_others_own t) ∙ counted_before ∙ as_before stays;
+            generation = stays_in stays;
+          }
+          | false ↦ record {
+            begun = begun_same old t t_proper last;
+            keys = refl;
+            counted = counted_before ∙ as_before stays;
+            generation = stays_in stays;
+          }
+        ]
+      ] refl
 
       keys_below : All (λ e. e.key < r.keys) (writes n)
-      keys_below = subst (λ k. All (λ (e : Entry). e.key < k) (writes n)) (sym ((restart_or_not (restarts_now s n round)).1 ∙ keys_are)) (keys-own_writes s n round (count n) some_key)
+      keys_below = subst (λ k. All (λ (e : Entry). e.key < k) (writes n)) (sym (restarted_from.keys ∙ keys_are)) (keys-own_writes s n round (count_before s n round) some_key)
 
-      greatest_r : greatest_version r r.node ≡ length old
-      greatest_r = (restart_or_not (restarts_now s n round)).2 ∙ greatest_is
+      next : AreNextAfter r.generation (count_before s n round) (writes n)
+      next = subst (λ g. AreNextAfter g (count_before s n round) (writes n)) (sym restarted_from.generation) (next-own_writes s n round (count_before s n round))
 
-      node_begun : IsBegun old t (writes_upto s n round) (table_of_node (begun s round ts) n)
+      node_begun : IsBegun old t (written_upto s n round) (table_of_node (begun s round ts) n)
       node_begun =
-          subst (IsBegun old t (writes_upto s n round)) (sym (begun_at n lt))
+          subst (IsBegun old t (written_upto s n round)) (sym (begun_at s round ts n lt))
           (subst (λ l. IsBegun old t l (with_own_writes r (writes n))) (sym (grown n))
-          (begun_then old old (old ++ writes n) t r (with_own_writes r (writes n)) first_begun (begun_writes (writes n) old r (length old) first_begun.proper first_begun.last greatest_r (next n) keys_below)))
+          (begun_then old old (old ++ writes n) t r (with_own_writes r (writes n)) restarted_from.begun (begun_writes (writes n) old r (count_before s n round) restarted_from.begun.proper restarted_from.begun.last restarted_from.counted next keys_below)))
 
       node_counted : greatest_version (table_of_node (begun s round ts) n) n ≡ count_upto s n round
       node_counted =
-          ap (λ (u : Table). greatest_version u n) (begun_at n lt)
-          ∙ ap (greatest_version (with_own_writes r (writes n))) (sym (first_begun.node ∙ node_is))
-          ∙ counted_writes (writes n) r keys_below
-          ∙ ap (λ m. m + length (writes n)) (greatest_r ∙ length-writes_upto s n (round - 1))
-          ∙ sym (count_upto-before s n round first)
+          ap (λ (u : Table). greatest_version u n) (begun_at s round ts n lt)
+          ∙ ap (greatest_version (with_own_writes r (writes n))) (sym (restarted_from.begun.node ∙ node_is))
+          ∙ counted_writes (writes n) r restarted_from.begun.proper keys_below
+          ∙ ap (λ m. m + length (writes n)) restarted_from.counted
+          ∙ sym (count_upto-grown s n round first)
 
-      node_rises : restarts_now s n round ≡ false → NoVersionFalls t (table_of_node (begun s round ts) n)
-      node_rises stays = subst (NoVersionFalls t) (sym (begun_at n lt ∙ ap (λ u. with_own_writes u (writes n)) same)) (written_rises (writes n) t t_proper (subst (λ (u : Table). All (λ (e : Entry). e.key < u.keys) (writes n)) same keys_below))
+      node_generation : (table_of_node (begun s round ts) n).generation ≡ generation_upto s n round
+      node_generation = ap (λ (u : Table). u.generation) (begun_at s round ts n lt) ∙ generation-written (writes n) r ∙ restarted_from.generation
+
+      node_rises : restarts_now s n round ≡ false → NoMarkFalls t (table_of_node (begun s round ts) n)
+      node_rises stays = subst (NoMarkFalls t) (sym (begun_at s round ts n lt ∙ ap (λ u. with_own_writes u (writes n)) same)) (written_rises (writes n) t t_proper (subst (λ (u : Table). All (λ (e : Entry). e.key < u.keys) (writes n)) same keys_below))
         where
+          remembers : forgets_now s n round ≡ false
+          remembers = elim (forgets_now s n round) as (λ b. forgets_now s n round ≡ b → b ≡ false) [
+            | true ↦ λ forgets. absurd (both_ways (restarts_now s n round) stays (restarts-forgets s n round forgets))
+            | false ↦ λ _. refl
+          ] refl
+
           same : r ≡ t
-          same = ap (λ b. if b then without_others t else t) stays
+          same = ap (λ b. if b then without_all t else (if restarts_now s n round then without_others t else t)) remembers ∙ ap (λ b. if b then without_others t else t) stays
 
     begun_size : length (begun s round ts) ≡ s.nodes
     begun_size = length-map-range_with_len (written_table s round (restarted s round ts)) 0 s.nodes
@@ -159,12 +189,13 @@ module _ (s : Settings) (some : 2 ≤ s.nodes) (most : s.nodes ≤ 4096) (some_k
         no_gap = λ scuttle. begun_no_gap (writes_by s (round - 1)) (writes_by s round) s.nodes s.keys ts (begun s round ts) held.sound.copies size node_begun (held.sound.no_gap scuttle);
       };
       counted = node_counted;
+      generations = node_generation;
     }
 
-    begun_rises : OnlyRestartsForget s round ts (begun s round ts)
+    begun_rises : OnlyRestartsLowerMarks s round ts (begun s round ts)
     begun_rises n stays = elim (cases_lt n s.nodes) [
       | inl lt ↦ node_rises n lt stays
-      | inr past ↦ λ owner key. omega (arith, ap (λ (t : Table). version_at t owner key) (get_or_past ts n (empty_table 0 0 0) (omega (arith, past, held.sound.copies.tables.size)) ∙ sym (get_or_past (begun s round ts) n (empty_table 0 0 0) (omega (arith, past, begun_size)))))
+      | inr past ↦ subst (NoMarkFalls (table_of_node ts n)) (get_or_past ts n (empty_table 0 0 0) (omega (arith, past, held.sound.copies.tables.size)) ∙ sym (get_or_past (begun s round ts) n (empty_table 0 0 0) (omega (arith, past, begun_size)))) (marks_stay (table_of_node ts n))
     ]
 
     -- and its exchanges
@@ -183,11 +214,12 @@ module _ (s : Settings) (some : 2 ≤ s.nodes) (most : s.nodes ≤ 4096) (some_k
       counted = λ n lt.
           let own = before_keeps_own (rules_of s) s.nodes s.keys exchanges (begun s round ts) among begun_held.sound.copies.tables i n in
           let node = (begun_held.sound.copies.tables.tables n lt).node in
-          subst (λ m. greatest_version (table_of_node (tables_before (rules_of s) (begun s round ts) exchanges i) n) m ≡ greatest_version (table_of_node (begun s round ts) n) m) node own.greatest ∙ begun_held.counted n lt;
+          subst (λ m. greatest_version (table_of_node (tables_before (rules_of s) (begun s round ts) exchanges i) n) m ≡ greatest_version (table_of_node (begun s round ts) n) m) node (ap (λ (m : Mark). m.version) own.greatest) ∙ begun_held.counted n lt;
+      generations = λ n lt. (before_keeps_own (rules_of s) s.nodes s.keys exchanges (begun s round ts) among begun_held.sound.copies.tables i n).generation ∙ begun_held.generations n lt;
     }
 
-    within_rises : (i j : ℕ) → i ≤ j → NoVersionsFall (tables_before (rules_of s) (begun s round ts) exchanges i) (tables_before (rules_of s) (begun s round ts) exchanges j)
-    within_rises = before_rises (rules_of s) s.nodes s.keys exchanges (begun s round ts) among begun_held.sound.copies.tables
+    within_rises : (i j : ℕ) → i ≤ j → NoMarksFall (tables_before (rules_of s) (begun s round ts) exchanges i) (tables_before (rules_of s) (begun s round ts) exchanges j)
+    within_rises = before_rises (rules_of s) s.nodes s.keys exchanges (begun s round ts) among begun_held.sound.copies.tables begun_held.sound.copies.proper
 
     all_done : tables_before (rules_of s) (begun s round ts) exchanges (length exchanges) ≡ (round_of s round ts).tables
     all_done = ap (λ es. (fold_of (rules_of s) (begun s round ts) es).tables) (take-length exchanges)
@@ -226,11 +258,14 @@ module _ (s : Settings) (some : 2 ≤ s.nodes) (most : s.nodes ≤ 4096) (some_k
     ends = ends_at;
   }
 
-  -- from round to round a version goes down only by a restart
-  pub round_rises : (round : ℕ) → OnlyRestartsForget s (round + 1) (tables_after s round) (tables_after s (round + 1))
-  round_rises round n stays owner key =
+  -- from round to round a mark goes down only by a restart
+  pub round_rises : (round : ℕ) → OnlyRestartsLowerMarks s (round + 1) (tables_after s round) (tables_after s (round + 1))
+  round_rises round n stays =
       let first : 1 ≤ round + 1 = omega arith in
       let before : round + 1 - 1 ≡ round = omega arith in
-      let begun = begun_rises (round + 1) first (tables_after s (round + 1 - 1)) (after_held (round + 1 - 1)) n stays owner key in
-      let after = within_rises (round + 1) first (tables_after s (round + 1 - 1)) (after_held (round + 1 - 1)) 0 (length (round_list_of s (round + 1)).exchanges) (omega arith) n owner key in
-      omega (arith, begun, after, ap (λ m. version_at (table_of_node (tables_after s m) n) owner key) before, ap (λ ts. version_at (table_of_node ts n) owner key) (ends_at (round + 1) first))
+      let ts = tables_after s (round + 1 - 1) in
+      let begun = begun_rises (round + 1) first ts (after_held (round + 1 - 1)) n stays in
+      let after = within_rises (round + 1) first ts (after_held (round + 1 - 1)) 0 (length (round_list_of s (round + 1)).exchanges) (omega arith) n in
+      subst (λ m. NoMarkFalls (table_of_node (tables_after s m) n) (table_of_node (tables_after s (round + 1)) n)) before
+      (subst (λ us. NoMarkFalls (table_of_node ts n) (table_of_node us n)) (ends_at (round + 1) first)
+      (marks_then (table_of_node ts n) (table_of_node (tables_within s (round + 1) 0) n) (table_of_node (tables_within s (round + 1) (length (round_list_of s (round + 1)).exchanges)) n) begun after))

@@ -1,10 +1,21 @@
--- What holds of all nodes at the beginning, and still holds after exchanges.
-use Rattle.std.proofs.Common.{◌≡◌, ℕ, All, List, [], length, refl, sym, ap, ◌∙◌, subst, arith}
+-- What holds of all nodes at the beginning, and still holds after exchanges, restarts and writes.
+use Rattle.std.proofs.Common.{◌≡◌, ℕ, ◌+◌, ◌-◌, ◌<◌, ◌≤◌, true, false, if◌then◌else◌, All, List, [], ◌∷◌, ◌++◌, length, map, refl, sym, ap, ◌∙◌, subst, arith, length-append}
 use Rattle.std.specs.List.{range_with_len}
-use Rattle.std.proofs.lemmas.List.{get_or_default}
+use Rattle.std.proofs.lemmas.List.{get_or_default, length-map, map-append}
 use Rattle.std.proofs.lemmas.List.FromFn.{length-map-range_with_len}
-use Rattle.node_table.specs.Table.{Table, empty_table, greatest_version, entry_at}
-use Rattle.node_table.proofs.Versions.{greatest_version-empty_table}
+use Rattle.bench_types.specs.declared.entries.Entry.{Entry}
+use Rattle.bench_types.specs.declared.entries.Mark.{Mark}
+use Rattle.bench_types.specs.declared.limits.TheConstants.{LEAST_KEYS, MOST_NODES, MOST_KEYS}
+use Rattle.node_table.specs.Table.{Table, empty_table, entry_at, greatest_mark, with_own_write, with_own_writes, without_others, without_all, IsProper}
+use Rattle.node_table.proofs.Laws.{entry_at-without_all, entry_at-without_others_own}
+use Rattle.node_table.proofs.MarkLaws.{greatest_mark-empty_table, greatest_mark-without_all, greatest_mark-without_others_own}
+use Rattle.node_table.proofs.ProperLaws.{proper-empty_table, proper-without_all, proper-without_others}
+use Rattle.round_plan.specs.declared.owners.OwnWrite.{OwnWrite}
+use Rattle.round_plan.specs.Generations.{generation_upto}
+use Rattle.round_plan.specs.Outages.{forgets_now}
+use Rattle.round_plan.specs.Writes.{born_in, count_before, own_writes, writes_before, writes_upto}
+use Rattle.round_plan.proofs.Generations.{generation_upto-same, generation_upto-next}
+use Rattle.round_plan.proofs.Growth.{length-writes_before, writes_before-grown, writes_upto-grown}
 use Rattle.scenario.specs.Settings.{Settings}
 use Rattle.staleness.specs.declared.lists.Write.{Write}
 use Rattle.staleness.specs.Cluster.{write_of_entry}
@@ -13,46 +24,144 @@ use Rattle.staleness.specs.Writes.{AreBornBy}
 use Rattle.staleness.proofs.OwnParts.{own_part-empty}
 use Rattle.exchange.specs.Owns.{KeepsOwn}
 use Rattle.simulation.specs.Rounds.{opening_tables}
-use Rattle.simulation.specs.Standing.{IsOwner, StandAfterRound}
-use Rattle.cluster.specs.Tables.{table_of_node}
+use Rattle.simulation.specs.Standing.{IsOwnerOf, IsOwner, IsWritten, HasRestarted, StandAfterRound}
+use Rattle.cluster.specs.Tables.{table_of_node, AreProper}
 use Rattle.cluster.specs.Clusters.{KeepOwnParts}
+use Rattle.cluster.proofs.BeginLaws.{generation-written}
 use Rattle.cluster.proofs.Tables.{table_of_node-made, still_table_of}
 
-owner_opening : (s : Settings) (n : ℕ) (t : Table) (ws : List Write) → t ≡ empty_table n s.nodes s.keys → ws ≡ [] → IsOwner s 0 n t ws
-owner_opening s n t ws table list = subst (λ u. IsOwner s 0 n u ws) (sym table) (subst (IsOwner s 0 n (empty_table n s.nodes s.keys)) (sym list) (record {
+-- own writes leave whose table it is, and its bounds
+node-with_own_writes : (t : Table) (es : List Entry) → (with_own_writes t es).node ≡ t.node
+node-with_own_writes t [] = refl
+node-with_own_writes t (e ∷ es) = node-with_own_writes (with_own_write t e.key e.value e.born) es
+
+nodes-with_own_writes : (t : Table) (es : List Entry) → (with_own_writes t es).nodes ≡ t.nodes
+nodes-with_own_writes t [] = refl
+nodes-with_own_writes t (e ∷ es) = nodes-with_own_writes (with_own_write t e.key e.value e.born) es
+
+keys-with_own_writes : (t : Table) (es : List Entry) → (with_own_writes t es).keys ≡ t.keys
+keys-with_own_writes t [] = refl
+keys-with_own_writes t (e ∷ es) = keys-with_own_writes (with_own_write t e.key e.value e.born) es
+
+owner_opening : (s : Settings) (n : ℕ) (t : Table) (ws : List Write) → IsProper t → t ≡ empty_table n s.nodes s.keys → ws ≡ [] → IsOwner s 0 n t ws
+owner_opening s n t ws proper table list = subst (λ u. IsOwner s 0 n u ws) (sym table) (subst (IsOwner s 0 n (empty_table n s.nodes s.keys)) (sym list) (record {
   table = record { node = refl; nodes = refl; keys = refl };
-  count = refl;
+  proper = subst IsProper table proper;
+  generation = refl;
   writes = refl;
   few = omega arith;
-  greatest = greatest_version-empty_table n s.nodes s.keys n;
+  greatest = ap (λ (m : Mark). m.version) (greatest_mark-empty_table n s.nodes s.keys n);
   own_part = own_part-empty n s.nodes s.keys;
   born = λ k d lt. absurd (omega arith);
 }))
 
-pub standing_opening : (s : Settings) (ts : List Table) (lists : List (List Write)) → ts ≡ opening_tables s → length lists ≡ s.nodes → ((n : ℕ) → writes_at lists n ≡ []) → StandAfterRound s 0 ts lists
-standing_opening s ts lists opening count none = record {
-  table_count = ap length opening ∙ length-map-range_with_len (λ n. empty_table n s.nodes s.keys) 0 s.nodes;
+pub standing_opening : (s : Settings) (ts : List Table) (lists : List (List Write)) → AreProper ts → ts ≡ opening_tables s → length lists ≡ s.nodes → ((n : ℕ) → writes_at lists n ≡ []) → StandAfterRound s 0 ts lists
+standing_opening s ts lists proper opening count none = record {
+  table_count = size;
   list_count = count;
-  owners = λ n lt. owner_opening s n (table_of_node ts n) (writes_at lists n) (ap (λ us. table_of_node us n) opening ∙ table_of_node-made (λ m. empty_table m s.nodes s.keys) s.nodes n lt) (none n);
+  owners = λ n lt. owner_opening s n (table_of_node ts n) (writes_at lists n) (proper n (omega (arith, lt, size))) (ap (λ us. table_of_node us n) opening ∙ table_of_node-made (λ m. empty_table m s.nodes s.keys) s.nodes n lt) (none n);
 }
+  where
+    size : length ts ≡ s.nodes
+    size = ap length opening ∙ length-map-range_with_len (λ n. empty_table n s.nodes s.keys) 0 s.nodes
 
-owner_kept : (s : Settings) (round n : ℕ) (t u : Table) (ws : List Write) → KeepsOwn t u → IsOwner s round n t ws → IsOwner s round n u ws
-owner_kept s round n t u ws own is = record {
+-- the opening tables are proper
+pub opening_proper : (s : Settings) → s.nodes ≤ MOST_NODES → LEAST_KEYS ≤ s.keys → s.keys ≤ MOST_KEYS → AreProper (opening_tables s)
+opening_proper s most some_key few_keys n lt =
+    let below : n < s.nodes = omega (arith, lt, length-map-range_with_len (λ m. empty_table m s.nodes s.keys) 0 s.nodes) in
+    subst IsProper (sym (table_of_node-made (λ m. empty_table m s.nodes s.keys) s.nodes n below)) (proper-empty_table n s.nodes s.keys below most some_key few_keys)
+
+owner_kept : (s : Settings) (n generation : ℕ) (writes : List Entry) (round : ℕ) (t u : Table) (ws : List Write) → KeepsOwn t u → IsProper u → IsOwnerOf s n generation writes round t ws → IsOwnerOf s n generation writes round u ws
+owner_kept s n generation writes round t u ws own proper is = record {
   table = still_table_of own is.table;
-  count = is.count;
+  proper = proper;
+  generation = own.generation ∙ is.generation;
   writes = is.writes;
   few = is.few;
-  greatest = ap (greatest_version u) own.node ∙ own.greatest ∙ is.greatest;
+  greatest = ap (λ (m : Mark). m.version) (ap (greatest_mark u) own.node ∙ own.greatest) ∙ is.greatest;
   own_part = λ key. ap (Rattle.std.specs.Option.option_map write_of_entry) (ap (λ o. entry_at u o key) own.node ∙ own.own_part key) ∙ is.own_part key;
   born = is.born;
 }
 
-pub standing_kept : (s : Settings) (round : ℕ) (old new : List Table) (lists : List (List Write)) → length new ≡ length old → KeepOwnParts old new → StandAfterRound s round old lists → StandAfterRound s round new lists
-standing_kept s round old new lists size own is = record {
+pub standing_kept : (s : Settings) (round : ℕ) (old new : List Table) (lists : List (List Write)) → length new ≡ length old → KeepOwnParts old new → AreProper new → StandAfterRound s round old lists → StandAfterRound s round new lists
+standing_kept s round old new lists size own proper is = record {
   table_count = size ∙ is.table_count;
   list_count = is.list_count;
-  owners = λ n lt. owner_kept s round n (table_of_node old n) (table_of_node new n) (writes_at lists n) (own n) (is.owners n lt);
+  owners = λ n lt. owner_kept s n (generation_upto s n round) (writes_upto s n round) round (table_of_node old n) (table_of_node new n) (writes_at lists n) (own n) (proper n (omega (arith, lt, size, is.table_count))) (is.owners n lt);
 }
+
+-- after its restarts a node has its own part, but where it forgets
+owner_forgot : (s : Settings) (n generation : ℕ) (writes : List Entry) (round : ℕ) (t : Table) (ws : List Write) → IsOwnerOf s n generation writes round t ws → IsOwnerOf s n (generation + 1) [] round (without_all t) []
+owner_forgot s n generation writes round t ws is = record {
+  table = record { node = is.table.node; nodes = is.table.nodes; keys = is.table.keys };
+  proper = proper-without_all t is.proper;
+  generation = ap (λ g. g + 1) is.generation;
+  writes = refl;
+  few = omega arith;
+  greatest = ap (λ (m : Mark). m.version) (greatest_mark-without_all t t.node);
+  own_part = λ key. ap (Rattle.std.specs.Option.option_map write_of_entry) (entry_at-without_all t t.node key);
+  born = λ k d lt. absurd (omega arith);
+}
+
+keeps_own_forgotten : (t : Table) → KeepsOwn t (without_others t)
+keeps_own_forgotten t = record {
+  node = refl;
+  nodes = refl;
+  keys = refl;
+  generation = refl;
+  own_part = λ key. entry_at-without_others_own t key;
+  greatest = greatest_mark-without_others_own t;
+}
+
+module _ (s : Settings) (round n : ℕ) (first : 1 ≤ round) (t : Table) (ws : List Write) (is : IsOwner s (round - 1) n t ws) where
+  before_is : forgets_now s n round ≡ false → writes_upto s n (round - 1) ≡ writes_before s n round
+  before_is stays = sym (writes_before-grown s n round first ∙ ap (λ b. if b then [] else writes_upto s n (round - 1)) stays)
+
+  of_round : (u : Table) → forgets_now s n round ≡ false → IsOwnerOf s n (generation_upto s n (round - 1)) (writes_upto s n (round - 1)) (round - 1) u ws → HasRestarted s round n u ws
+  of_round u stays own =
+      subst (λ g. IsOwnerOf s n g (writes_before s n round) (round - 1) u ws) (sym (generation_upto-same s n round first stays))
+      (subst (λ es. IsOwnerOf s n (generation_upto s n (round - 1)) es (round - 1) u ws) (before_is stays) own)
+
+  pub restarted_forgot : forgets_now s n round ≡ true → HasRestarted s round n (without_all t) []
+  restarted_forgot forgets =
+      subst (λ g. IsOwnerOf s n g (writes_before s n round) (round - 1) (without_all t) []) (sym (generation_upto-next s n round first forgets))
+      (subst (λ es. IsOwnerOf s n (generation_upto s n (round - 1) + 1) es (round - 1) (without_all t) []) (sym (writes_before-grown s n round first ∙ ap (λ b. if b then [] else writes_upto s n (round - 1)) forgets))
+      (owner_forgot s n (generation_upto s n (round - 1)) (writes_upto s n (round - 1)) (round - 1) t ws is))
+
+  pub restarted_kept : forgets_now s n round ≡ false → HasRestarted s round n (without_others t) ws
+  restarted_kept stays = of_round (without_others t) stays (owner_kept s n (generation_upto s n (round - 1)) (writes_upto s n (round - 1)) (round - 1) t (without_others t) ws (keeps_own_forgotten t) (proper-without_others t is.proper) is)
+
+  pub restarted_same : forgets_now s n round ≡ false → HasRestarted s round n t ws
+  restarted_same stays = of_round t stays is
+
+-- and after its writes it is the round's
+pub owner_written : (s : Settings) (round n : ℕ) (t u : Table) (ws ws' : List Write) (writes : List OwnWrite) → 1 ≤ round → length writes ≤ 8 → HasRestarted s round n t ws → IsWritten round writes t u ws ws' → map (born_in round (generation_upto s n round)) writes ≡ own_writes s n round (length ws) → IsOwner s round n u ws' × (u ≡ with_own_writes t (own_writes s n round (count_before s n round)))
+owner_written s round n t u ws ws' writes first small is written made = (
+  record {
+    table = record {
+      node = ap (λ (v : Table). v.node) written.table ∙ node-with_own_writes t entries ∙ is.table.node;
+      nodes = ap (λ (v : Table). v.nodes) written.table ∙ nodes-with_own_writes t entries ∙ is.table.nodes;
+      keys = ap (λ (v : Table). v.keys) written.table ∙ keys-with_own_writes t entries ∙ is.table.keys;
+    };
+    proper = written.proper;
+    generation = ap (λ (v : Table). v.generation) written.table ∙ generation-written entries t ∙ is.generation;
+    writes = written.list ∙ (λ i. is.writes i ++ map write_of_entry (now i)) ∙ sym (map-append write_of_entry (writes_before s n round) (own_writes s n round (count_before s n round))) ∙ ap (map write_of_entry) (sym (writes_upto-grown s n round (count_before s n round) first (length-writes_before s n round)));
+    few = omega (arith, ap length written.list, length-append ws (map write_of_entry entries), length-map entries write_of_entry, length-map writes (born_in round t.generation), small, is.few, first);
+    greatest = written.greatest;
+    own_part = written.own_part;
+    born = written.born;
+  },
+  written.table ∙ ap (with_own_writes t) now,
+)
+  where
+    entries : List Entry
+    entries = map (born_in round t.generation) writes
+
+    counted : length ws ≡ count_before s n round
+    counted = ap length is.writes ∙ length-map (writes_before s n round) write_of_entry ∙ length-writes_before s n round
+
+    now : entries ≡ own_writes s n round (count_before s n round)
+    now = ap (λ g. map (born_in round g) writes) is.generation ∙ made ∙ ap (own_writes s n round) counted
 
 -- no list has a write that was born after the round
 pub all_born : (s : Settings) (round : ℕ) (ts : List Table) (lists : List (List Write)) → StandAfterRound s round ts lists → All (AreBornBy round) lists

@@ -6,7 +6,7 @@ use Rattle.simulation.specs.declared.sims.Cluster.{Cluster}
 use Rattle.simulation.specs.RoundView.{RoundView}
 use Rattle.cluster.specs.Tables.{tables_in}
 use Rattle.simulation.specs.Rounds.{tables_after, round_of, records_in}
-use Rattle.simulation.specs.Soundness.{AreSound, OnlyRestartsForget}
+use Rattle.simulation.specs.Soundness.{AreSound, OnlyRestartsLowerMarks}
 use Rattle.simulation.specs.Standing.{StandAfterRound}
 use Rattle.simulation.specs.Simulation.{IsSimulation, PlaysNext, HasPlayed, simulation_of, tables_held}
 use Rattle.simulation.specs.Outcomes.{played_with}
@@ -46,8 +46,8 @@ module _ (s : Settings) (cluster : Option Cluster) (old new : Cluster) (done : �
     tables = after;
     standing = standing;
     sound = subst (AreSound s (done + 1)) (sym after) ((sound_run s lawful.nodes.0 lawful.nodes.1 lawful.keys.0 lawful.keys.1).after (done + 1));
-    kept = subst (λ ts. OnlyRestartsForget s (done + 1) ts (tables_in new.tables.items)) (sym before_held)
-        (subst (OnlyRestartsForget s (done + 1) (tables_after s done)) (sym after) (round_rises s lawful.nodes.0 lawful.nodes.1 lawful.keys.0 lawful.keys.1 done));
+    kept = subst (λ ts. OnlyRestartsLowerMarks s (done + 1) ts (tables_in new.tables.items)) (sym before_held)
+        (subst (OnlyRestartsLowerMarks s (done + 1) (tables_after s done)) (sym after) (round_rises s lawful.nodes.0 lawful.nodes.1 lawful.keys.0 lawful.keys.1 done));
     played = played ∙ (λ i. played_with (done + 1) (round_list_of s (done + 1)) (records i) (figures_are s (done + 1) (tables_in new.tables.items) new.lists.items standing after i));
   }
     where

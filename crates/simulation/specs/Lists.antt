@@ -1,5 +1,5 @@
--- The lists of all owners: the n-th write of a node stands at place n, from 1, with its key, version and round.
--- Source: this project.
+-- The lists of all owners: the n-th write of a node's generation stands at place n, from 1, with its key, version and
+-- round. Source: this project.
 use Rattle.std.specs.Prelude.{ℕ, List, map}
 use Rattle.std.specs.List.{range_with_len}
 use Rattle.round_plan.specs.Writes.{writes_upto}

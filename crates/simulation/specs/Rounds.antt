@@ -1,14 +1,15 @@
 -- The rounds of a run. In round 0 all tables are empty. A round begins with its restarts, each of which empties a
--- node's copies of all others and leaves its own entries; then come the writes of the nodes that are up, by node and
--- then in their order; then the exchanges of the round's list, one after another. Source: this project.
+-- node's copies of all others and leaves its own entries, but where the node forgets, and so begins its next generation
+-- with nothing; then come the writes of the nodes that are up, by node and then in their order; then the exchanges of
+-- the round's list, one after another. Source: this project.
 use Rattle.std.specs.Prelude.{ℕ, zero, suc, ◌-◌, if◌then◌else◌, List, map}
 use Rattle.std.specs.List.{range_with_len}
 use Rattle.bench_types.specs.declared.exchanges.Record.{Record}
 use Rattle.bench_types.specs.declared.exchanges.Rules.{Rules}
-use Rattle.node_table.specs.Table.{Table, empty_table, with_own_writes, without_others}
-use Rattle.round_plan.specs.Outages.{restarts_now}
+use Rattle.node_table.specs.Table.{Table, empty_table, with_own_writes, without_others, without_all}
+use Rattle.round_plan.specs.Outages.{forgets_now, restarts_now}
 use Rattle.round_plan.specs.Plan.{round_list_of}
-use Rattle.round_plan.specs.Writes.{count_upto, own_writes}
+use Rattle.round_plan.specs.Writes.{count_before, own_writes}
 use Rattle.scenario.specs.Settings.{Settings}
 use Rattle.cluster.specs.Tables.{table_of_node}
 use Rattle.cluster.specs.Folds.{Folded, fold_of}
@@ -16,21 +17,29 @@ use Rattle.cluster.specs.Folds.{Folded, fold_of}
 abbrev pub opening_tables : Settings → List Table
 opening_tables s = map (λ n. empty_table n s.nodes s.keys) (range_with_len 0 s.nodes)
 
--- the table of a node after the restarts of a round
+-- the table of a node after its restarts of a round
+abbrev pub after_restart : Settings → ℕ → ℕ → Table → Table
+after_restart s round n t =
+    if forgets_now s n round then without_all t
+    else (if restarts_now s n round then without_others t else t)
+
 abbrev pub restarted_table : Settings → ℕ → List Table → ℕ → Table
-restarted_table s round ts n = if restarts_now s n round then without_others (table_of_node ts n) else table_of_node ts n
+restarted_table s round ts n = after_restart s round n (table_of_node ts n)
 
 abbrev pub restarted : Settings → ℕ → List Table → List Table
 restarted s round ts = map (restarted_table s round ts) (range_with_len 0 s.nodes)
 
 -- the table of a node after its writes of a round
 abbrev pub written_table : Settings → ℕ → List Table → ℕ → Table
-written_table s round ts n = with_own_writes (table_of_node ts n) (own_writes s n round (count_upto s n (round - 1)))
+written_table s round ts n = with_own_writes (table_of_node ts n) (own_writes s n round (count_before s n round))
 
 abbrev pub written : Settings → ℕ → List Table → List Table
 written s round ts = map (written_table s round ts) (range_with_len 0 s.nodes)
 
--- what a round begins with
+-- what a round begins with: for one node, and for all
+abbrev pub begun_table : Settings → ℕ → ℕ → Table → Table
+begun_table s round n t = with_own_writes (after_restart s round n t) (own_writes s n round (count_before s n round))
+
 abbrev pub begun : Settings → ℕ → List Table → List Table
 begun s round ts = written s round (restarted s round ts)
 

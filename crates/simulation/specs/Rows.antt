@@ -33,4 +33,5 @@ row_of round plan records figures = record {
   cut = cut_total records;
   stale = figures.stale;
   greatest = figures.greatest;
+  leftover = figures.leftover;
 }

@@ -16,7 +16,7 @@ use Rattle.cluster.specs.Tables.{tables_in}
 use Rattle.pool.specs.Runs.{IsPoolFault}
 use Rattle.simulation.specs.Rounds.{tables_after}
 use Rattle.simulation.specs.Outcomes.{played_of, IsPlayedFrom}
-use Rattle.simulation.specs.Soundness.{AreSound, OnlyRestartsForget}
+use Rattle.simulation.specs.Soundness.{AreSound, OnlyRestartsLowerMarks}
 use Rattle.simulation.specs.Standing.{StandAfterRound}
 
 pub record SimView : Type 0 where
@@ -79,7 +79,7 @@ pub record PlaysNext (old new : SimView) (round : RoundView) : Type 0 where
   pub standing : StandAfterRound new.settings new.rounds_done (tables_in new.tables) new.lists
   pub played : round ≡ played_of new.settings new.rounds_done
   pub sound : AreSound new.settings new.rounds_done (tables_in new.tables)
-  pub kept : OnlyRestartsForget new.settings new.rounds_done (tables_in old.tables) (tables_in new.tables)
+  pub kept : OnlyRestartsLowerMarks new.settings new.rounds_done (tables_in old.tables) (tables_in new.tables)
 
 -- a round is left, and none has failed
 abbrev pub MayStep : SimView → Type 0

@@ -1,22 +1,21 @@
 //! All nodes' tables and the lists of what their owners wrote, and how a round changes them.
 
-ghost use Rattle.std.specs.Prelude.{◌≡◌, ℕ, ◌+◌, ◌-◌, ◌^◌, ◌<◌, ◌≤◌, ◌++◌, [], All, length, map, IfOk, OnOk, IsOkUnless};
+ghost use Rattle.std.specs.Prelude.{◌≡◌, ℕ, ◌+◌, ◌-◌, ◌^◌, ◌<◌, ◌≤◌, [], All, length, map, IfOk, OnOk, IsOkUnless};
 ghost use Rattle.bench_types.specs.declared.faults.Fault.TheVariants.{OutOfMemory};
 ghost use Rattle.bench_types.specs.Entry.{AreNextAfter};
-ghost use Rattle.node_table.specs.Table.{greatest_version, with_own_writes};
+ghost use Rattle.node_table.specs.Table.{greatest_version, IsProper};
 ghost use Rattle.staleness.specs.Figures.{writes_at};
-ghost use Rattle.staleness.specs.Cluster.{write_of_entry, OwnPartIsLastWrites};
+ghost use Rattle.staleness.specs.Cluster.{OwnPartIsLastWrites};
 ghost use Rattle.staleness.specs.Writes.{AreBornBy};
 ghost use Rattle.round_plan.specs.Writes.{born_in};
-ghost use Rattle.cluster.specs.Tables.{tables_in};
-ghost use Rattle.cluster.specs.Clusters.{KeepOwnParts};
-ghost use Rattle.simulation.specs.Rounds.{opening_tables, restarted, written, begun};
-ghost use Rattle.simulation.specs.Standing.{StandAfterRound};
+ghost use Rattle.cluster.specs.Tables.{tables_in, AreProper};
+ghost use Rattle.simulation.specs.Rounds.{opening_tables, after_restart, begun_table, begun};
+ghost use Rattle.simulation.specs.Standing.{IsOwner, IsWritten, HasRestarted, StandAfterRound};
 
 use bench_types::Fault;
 use bench_types::limits::MOST_ROUNDS;
 use node_table::NodeTable;
-use round_plan::{OwnWrite, restarts_now, writes_of};
+use round_plan::{OwnWrite, forgets_now, restarts_now, writes_of};
 use scenario::Scenario;
 use staleness::OwnerList;
 use std::alloc::Global;
@@ -24,6 +23,7 @@ use std::alloc::Global;
 /// The empty tables of all nodes, in order.
 pub(crate) fn empty_tables(alloc: Global, scenario: &Scenario) -> Result<Vec<NodeTable>, Fault>
     ensures tables { IfOk result (λ v. tables_in v.items ≡ opening_tables scenario.now) }
+    ensures proper { IfOk result (λ v. AreProper (tables_in v.items)) }
     ensures only { IsOkUnless result OutOfMemory }
 {
     let nodes = scenario.nodes();
@@ -48,7 +48,7 @@ pub(crate) fn empty_lists(alloc: Global, scenario: &Scenario) -> Result<Vec<Owne
     Ok(lists)
 }
 
-/// What a round begins with: its restarts, and then its writes, by node.
+/// What a round begins with: its restarts and its writes, by node.
 pub(crate) fn begin_round(
     scenario: &Scenario,
     tables: &mut [NodeTable],
@@ -62,45 +62,49 @@ pub(crate) fn begin_round(
     ensures tables { OnOk result (tables_in tables.new ≡ begun scenario.now round (tables_in tables.old)) }
     ensures only { IsOkUnless result OutOfMemory }
 {
-    restart_all(scenario, tables, round);
-    write_all(scenario, tables, lists, round)
-}
-
-// The restarts of a round: each empties a node's copies of all others.
-fn restart_all(scenario: &Scenario, tables: &mut [NodeTable], round: u32)
-    requires first { 1 ≤ round }
-    requires last { round ≤ MOST_ROUNDS }
-    requires one_each { length tables.old ≡ scenario.now.nodes }
-    ensures tables { tables_in tables.new ≡ restarted scenario.now round (tables_in tables.old) }
-    ensures own { KeepOwnParts (tables_in tables.old) (tables_in tables.new) }
-{
     for node in 0..scenario.nodes() {
-        if restarts_now(scenario, node, round) {
-            tables[node as usize].forget_others();
-        }
+        let at = node as usize;
+        begin_node(scenario, node, &mut tables[at], &mut lists[at], round)?;
     }
+    Ok(())
 }
 
-// The writes of a round, by node.
-fn write_all(
+// What a node begins a round with: its restarts, and then its writes. No other node's table matters to it.
+fn begin_node(
     scenario: &Scenario,
-    tables: &mut [NodeTable],
-    lists: &mut [OwnerList],
+    node: u32,
+    table: &mut NodeTable,
+    list: &mut OwnerList,
     round: u32,
 ) -> Result<(), Fault>
     requires first { 1 ≤ round }
     requires last { round ≤ MOST_ROUNDS }
-    requires standing { StandAfterRound scenario.now (round - 1) (tables_in tables.old) lists.old }
-    ensures standing { OnOk result (StandAfterRound scenario.now round (tables_in tables.new) lists.new) }
-    ensures tables { OnOk result (tables_in tables.new ≡ written scenario.now round (tables_in tables.old)) }
+    requires node { node < scenario.now.nodes }
+    requires owner { IsOwner scenario.now (round - 1) node table.old.table list.old }
+    ensures owner { OnOk result (IsOwner scenario.now round node table.new.table list.new) }
+    ensures table { OnOk result (table.new.table ≡ begun_table scenario.now round node table.old.table) }
     ensures only { IsOkUnless result OutOfMemory }
 {
-    for node in 0..scenario.nodes() {
-        let at = node as usize;
-        let writes = writes_of(scenario, node, round, lists[at].len());
-        write_own(&mut tables[at], &mut lists[at], writes.as_slice(), round)?;
+    restart(scenario, node, table, list, round);
+    let writes = writes_of(scenario, node, round, list.len());
+    write_own(table, list, writes.as_slice(), round)
+}
+
+// The restarts of a node in a round: they empty its copies of all others, or where it forgets its whole table.
+fn restart(scenario: &Scenario, node: u32, table: &mut NodeTable, list: &mut OwnerList, round: u32)
+    requires first { 1 ≤ round }
+    requires last { round ≤ MOST_ROUNDS }
+    requires node { node < scenario.now.nodes }
+    requires owner { IsOwner scenario.now (round - 1) node table.old.table list.old }
+    ensures owner { HasRestarted scenario.now round node table.new.table list.new }
+    ensures table { table.new.table ≡ after_restart scenario.now round node table.old.table }
+{
+    if forgets_now(scenario, node, round) {
+        table.forget_all();
+        list.forget();
+    } else if restarts_now(scenario, node, round) {
+        table.forget_others();
     }
-    Ok(())
 }
 
 // The writes of one node in a round, in order.
@@ -110,17 +114,15 @@ fn write_own(
     writes: &[OwnWrite],
     round: u32,
 ) -> Result<(), Fault>
+    requires proper { IsProper table.old.table }
     requires keys { All (λ w. w.key < table.old.table.keys) writes.now }
-    requires next { AreNextAfter (length list.old) (map (born_in round) writes.now) }
+    requires next { AreNextAfter table.old.table.generation (length list.old)
+        (map (born_in round table.old.table.generation) writes.now) }
     requires fits { length list.old + length writes.now + 1 < 2 ^ 32 }
     requires greatest { greatest_version table.old.table table.old.table.node ≡ length list.old }
     requires own_part { OwnPartIsLastWrites table.old.table list.old }
     requires born { AreBornBy round list.old }
-    ensures table { OnOk result (table.new.table ≡ with_own_writes table.old.table (map (born_in round) writes.now)) }
-    ensures list { OnOk result (list.new ≡ list.old ++ map write_of_entry (map (born_in round) writes.now)) }
-    ensures greatest { OnOk result (greatest_version table.new.table table.new.table.node ≡ length list.new) }
-    ensures own_part { OnOk result (OwnPartIsLastWrites table.new.table list.new) }
-    ensures born { OnOk result (AreBornBy round list.new) }
+    ensures written { OnOk result (IsWritten round writes.now table.old.table table.new.table list.old list.new) }
     ensures only { IsOkUnless result OutOfMemory }
 {
     for write in writes {

@@ -86,6 +86,7 @@ fn row_of(round: u32, list: &RoundList, records: &[Record], figures: Figures) ->
         cut: cut_total(records),
         stale: figures.stale,
         greatest: figures.greatest,
+        leftover: figures.leftover,
     }
 }
 

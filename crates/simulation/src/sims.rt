@@ -158,6 +158,14 @@ impl Sim {
         scenario
     }
 
+    /// The format of the scenario's text, and so of its report.
+    pub fn format(&self) -> u32
+        ensures value { result ≡ self.now.settings.format }
+        ensures limits { (1 ≤ result) × (result ≤ 2) }
+    {
+        self.scenario.format()
+    }
+
     /// How many rounds there are in all.
     pub fn rounds(&self) -> u32
         ensures { result ≡ self.now.settings.rounds }

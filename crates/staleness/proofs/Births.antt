@@ -6,7 +6,8 @@ use Rattle.std.proofs.lemmas.List.Elements.{All-head, All-tail}
 use Rattle.staleness.specs.declared.lists.Write.{Write}
 use Rattle.staleness.specs.Writes.{IsNumbered, is_missed, first_missed, last_write, last_born, in_order_from, born_in_order}
 use Rattle.staleness.specs.Linked.{version_or_zero}
-use Rattle.staleness.specs.Figures.{staleness_of, stale_count, rounds_behind}
+use Rattle.staleness.specs.Copies.{version_staleness}
+use Rattle.staleness.specs.Figures.{stale_count, rounds_behind}
 use Rattle.staleness.proofs.Last.{fresh}
 use Rattle.staleness.proofs.Linking.{last_placed, missed_some}
 
@@ -79,11 +80,11 @@ falls_from round born key version greater (w ∷ ws) in_order le =
     ] refl
 
 -- the staleness of a copy falls as its version rises
-pub staleness_falls : (round : ℕ) (ws : List Write) (key version greater : ℕ) → born_in_order ws ≡ true → version ≤ greater → rounds_behind (staleness_of round ws key greater) ≤ rounds_behind (staleness_of round ws key version)
+pub staleness_falls : (round : ℕ) (ws : List Write) (key version greater : ℕ) → born_in_order ws ≡ true → version ≤ greater → rounds_behind (version_staleness round ws key greater) ≤ rounds_behind (version_staleness round ws key version)
 staleness_falls round ws key version greater in_order le = falls_from round 0 key version greater ws in_order le
 
 -- a version is stale just where it is below that of the last write
-pub not_stale : (round : ℕ) (ws : List Write) (key version : ℕ) → IsNumbered ws → version_or_zero (last_write ws key) ≤ version → staleness_of round ws key version ≡ None
+pub not_stale : (round : ℕ) (ws : List Write) (key version : ℕ) → IsNumbered ws → version_or_zero (last_write ws key) ≤ version → version_staleness round ws key version ≡ None
 not_stale round ws key version numbered current = ap (option_map (λ (w : Write). round - w.born + 1)) (fresh ws key version numbered last)
   where
     last : Rattle.std.specs.Prelude.IfSome (last_write ws key) (λ w. w.version ≤ version)
@@ -92,7 +93,7 @@ not_stale round ws key version numbered current = ap (option_map (λ (w : Write)
       | Some w ↦ λ le. le
     ] current
 
-pub is_stale : (round : ℕ) (ws : List Write) (key version : ℕ) → IsNumbered ws → version < version_or_zero (last_write ws key) → stale_count (staleness_of round ws key version) ≡ 1
+pub is_stale : (round : ℕ) (ws : List Write) (key version : ℕ) → IsNumbered ws → version < version_or_zero (last_write ws key) → stale_count (version_staleness round ws key version) ≡ 1
 is_stale round ws key version numbered below = elim (first_missed ws key version) as (λ o. first_missed ws key version ≡ o → stale_count (option_map (λ (w : Write). round - w.born + 1) o) ≡ 1) [
   | Some w ↦ λ _. refl
   | None ↦ λ none. absurd (some none)

@@ -9,8 +9,8 @@ use Rattle.node_table.specs.Table.{Table}
 use Rattle.cluster.specs.Tables.{table_of_node, IsCluster}
 use Rattle.staleness.specs.declared.lists.Write.{Write}
 use Rattle.staleness.specs.Figures.{sum_below, most_below, staleness_at, stale_count, rounds_behind, figures_of}
-use Rattle.staleness.specs.Copies.{owner_figures, part_figures}
-use Rattle.staleness.specs.Cluster.{IsCounted, AreCounted, found_at}
+use Rattle.staleness.specs.Copies.{owner_lag, node_leftover, part_figures}
+use Rattle.staleness.specs.Cluster.{AreFewTriples, IsCounted, AreCounted, found_at}
 use Rattle.staleness.proofs.Places.{one_more}
 use Rattle.staleness.proofs.Sums.{sum_below-same, most_below-same, sum_below-swap, most_below-swap, sum_below-parts, most_below-parts}
 
@@ -25,14 +25,14 @@ module _ (round : ℕ) (tables : List Table) (lists : List (List Write)) (cluste
   abbrev rounds : ℕ → ℕ → ℕ → ℕ
   rounds p r k = rounds_behind (staleness_at round tables lists p r k)
 
-  pub stale_by_owner : sum_below (length tables) (λ r. (owner_figures round tables lists r).stale) ≡ sum_below (length tables) (λ p. sum_below (length tables) (λ r. sum_below (table_of_node tables p).keys (stale p r)))
+  pub stale_by_owner : sum_below (length tables) (λ r. (owner_lag round tables lists r).stale) ≡ sum_below (length tables) (λ p. sum_below (length tables) (λ r. sum_below (table_of_node tables p).keys (stale p r)))
   stale_by_owner =
       sum_below-same (λ r. sum_below keys (λ k. sum_below (length tables) (λ p. stale p r k))) (λ r. sum_below (length tables) (λ p. sum_below keys (stale p r))) (length tables) (λ r lt. sym (sum_below-swap (λ p k. stale p r k) (length tables) keys))
       ∙ sum_below-swap (λ r p. sum_below keys (stale p r)) (length tables) (length tables)
       ∙ sum_below-same (λ p. sum_below (length tables) (λ r. sum_below keys (stale p r))) (λ p. sum_below (length tables) (λ r. sum_below (table_of_node tables p).keys (stale p r))) (length tables)
       (λ p lt. ap (λ n. sum_below (length tables) (λ r. sum_below n (stale p r))) (sym (cluster.tables p lt).keys))
 
-  pub most_by_owner : most_below (length tables) (λ r. (owner_figures round tables lists r).greatest) ≡ most_below (length tables) (λ p. most_below (length tables) (λ r. most_below (table_of_node tables p).keys (rounds p r)))
+  pub most_by_owner : most_below (length tables) (λ r. (owner_lag round tables lists r).greatest) ≡ most_below (length tables) (λ p. most_below (length tables) (λ r. most_below (table_of_node tables p).keys (rounds p r)))
   most_by_owner =
       most_below-same (λ r. most_below keys (λ k. most_below (length tables) (λ p. rounds p r k))) (λ r. most_below (length tables) (λ p. most_below keys (rounds p r))) (length tables) (λ r lt. sym (most_below-swap (λ p k. rounds p r k) (length tables) keys))
       ∙ most_below-swap (λ r p. most_below keys (rounds p r)) (length tables) (length tables)
@@ -56,32 +56,38 @@ module _ (round : ℕ) (tables : List Table) (lists : List (List Write)) (size c
   pub as_many : length parts ≡ count
   as_many = AllZip-long (IsCounted round tables lists size) (range_with_len 0 count) parts each ∙ length-range_with_len 0 count
 
-  pub bounded : All (λ (f : Figures). f.stale ≤ 4096 * 4096 * 64) parts
-  bounded k d lt = (counted k d (omega (arith, as_many))).bound
+  pub bounded : All AreFewTriples parts
+  bounded k d lt = (counted k d (omega (arith, as_many))).few
 
   found : (k : ℕ) → k < count → found_at parts k ≡ part_figures round tables lists size k
-  found k lt = (counted k (record { stale = 0; greatest = 0 }) lt).figures
+  found k lt = (counted k (record { stale = 0; greatest = 0; leftover = 0 }) lt).figures
 
   -- so do their sum and the greatest of them
-  pub figures_of_all : IsCluster (length tables) tables → length tables ≤ count * size → (total : Figures) → total.stale ≡ sum_below (length parts) (λ i. (found_at parts i).stale) → total.greatest ≡ most_below (length parts) (λ i. (found_at parts i).greatest) → total ≡ figures_of round tables lists
+  pub figures_of_all : IsCluster (length tables) tables → length tables ≤ count * size → (total : Figures) → total.stale ≡ sum_below (length parts) (λ i. (found_at parts i).stale) → total.greatest ≡ most_below (length parts) (λ i. (found_at parts i).greatest) → total.leftover ≡ sum_below (length parts) (λ i. (found_at parts i).leftover) → total ≡ figures_of round tables lists
   unfolding figures_of
-  figures_of_all cluster all total stale_is greatest_is =
+  figures_of_all cluster all total stale_is greatest_is leftover_is =
       let whole : min (count * size) (length tables) ≡ length tables = omega arith in
       let stale_all : total.stale ≡ (figures_of round tables lists).stale =
       stale_is
       ∙ ap (λ n. sum_below n (λ i. (found_at parts i).stale)) as_many
       ∙ sum_below-same (λ i. (found_at parts i).stale) (λ i. (part_figures round tables lists size i).stale) count (λ k lt. ap (λ (f : Figures). f.stale) (found k lt))
-      ∙ sum_below-parts (λ r. (owner_figures round tables lists r).stale) (length tables) size count
-      ∙ ap (λ n. sum_below n (λ r. (owner_figures round tables lists r).stale)) whole
+      ∙ sum_below-parts (λ r. (owner_lag round tables lists r).stale) (length tables) size count
+      ∙ ap (λ n. sum_below n (λ r. (owner_lag round tables lists r).stale)) whole
       ∙ stale_by_owner round tables lists cluster in
       let greatest_all : total.greatest ≡ (figures_of round tables lists).greatest =
       greatest_is
       ∙ ap (λ n. most_below n (λ i. (found_at parts i).greatest)) as_many
       ∙ most_below-same (λ i. (found_at parts i).greatest) (λ i. (part_figures round tables lists size i).greatest) count (λ k lt. ap (λ (f : Figures). f.greatest) (found k lt))
-      ∙ most_below-parts (λ r. (owner_figures round tables lists r).greatest) (length tables) size count
-      ∙ ap (λ n. most_below n (λ r. (owner_figures round tables lists r).greatest)) whole
+      ∙ most_below-parts (λ r. (owner_lag round tables lists r).greatest) (length tables) size count
+      ∙ ap (λ n. most_below n (λ r. (owner_lag round tables lists r).greatest)) whole
       ∙ most_by_owner round tables lists cluster in
-      λ i. record { stale = stale_all i; greatest = greatest_all i }
+      let leftover_all : total.leftover ≡ (figures_of round tables lists).leftover =
+      leftover_is
+      ∙ ap (λ n. sum_below n (λ i. (found_at parts i).leftover)) as_many
+      ∙ sum_below-same (λ i. (found_at parts i).leftover) (λ i. (part_figures round tables lists size i).leftover) count (λ k lt. ap (λ (f : Figures). f.leftover) (found k lt))
+      ∙ sum_below-parts (node_leftover tables) (length tables) size count
+      ∙ ap (λ n. sum_below n (node_leftover tables)) whole in
+      λ i. record { stale = stale_all i; greatest = greatest_all i; leftover = leftover_all i }
 
 -- so many parts of a size are enough
 pub enough : (n size : ℕ) → 1 ≤ size → n ≤ (n / size + 1) * size

@@ -5,6 +5,8 @@ pub mod Births
 pub mod Walking
 pub mod Sums
 pub mod Rows
+pub mod Known
+pub mod Leftover
 pub mod Seen
 pub mod Places
 pub mod OwnParts

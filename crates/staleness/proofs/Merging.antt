@@ -7,37 +7,37 @@ use Rattle.std.specs.declared.alloc.Global.{Global}
 use Rattle.std.proofs.Math.Nat.{div-mul-le_self, mul-le-mul_right}
 use Rattle.std.proofs.lemmas.List.FromFn.{length-range_with_len}
 use Rattle.std.proofs.lemmas.Slice.Zip.{AllZip-long}
-use Rattle.bench_types.specs.declared.entries.Entry.{Entry}
 use Rattle.node_table.specs.Table.{Table, entry_at}
 use Rattle.cluster.specs.Tables.{table_of_node}
 use Rattle.staleness.specs.declared.copies.Copies.{Copies}
 use Rattle.staleness.specs.declared.lists.Write.{Write}
-use Rattle.staleness.specs.Copies.{no_copies, with_entry, seen_in, current_of, copies_of, copies_from, merged, HaveRoom, AreSeen}
+use Rattle.staleness.specs.Figures.{generation_at}
+use Rattle.staleness.specs.Copies.{no_copies, version_known, with_held, seen_in, current_of, copies_of, copies_from, merged, HaveRoom, AreSeen}
 use Rattle.staleness.specs.Cluster.{IsSeenInPart, AreSeenInParts}
 use Rattle.staleness.proofs.Counting.{at_place}
 use Rattle.staleness.proofs.Places.{within, one_more, place_of}
 use Rattle.staleness.proofs.Seen.{few_seen}
 
 -- a table leaves the owner's current version as it is
-entry_current : (c : Copies) (o : Option Entry) → (with_entry c o).current ≡ c.current
-entry_current c None = refl
-entry_current c (Some e) = refl
+held_current : (c : Copies) (o : Option ℕ) → (with_held c o).current ≡ c.current
+held_current c None = refl
+held_current c (Some v) = refl
 
-seen_current : (t : Table) (r k : ℕ) (c : Copies) → (seen_in t r k c).current ≡ c.current
-seen_current t r k c = elim (eqb t.node r) as (λ b. (if b then c else with_entry c (entry_at t r k)).current ≡ c.current) [
+seen_current : (g : ℕ) (t : Table) (r k : ℕ) (c : Copies) → (seen_in g t r k c).current ≡ c.current
+seen_current g t r k c = elim (eqb t.node r) as (λ b. (if b then c else with_held c (version_known g (entry_at t r k))).current ≡ c.current) [
   | true ↦ refl
-  | false ↦ entry_current c (entry_at t r k)
+  | false ↦ held_current c (version_known g (entry_at t r k))
 ]
 
 -- and the least version at most what it was
-entry_least : (c : Copies) (o : Option Entry) → (with_entry c o).least ≤ c.least
-entry_least c None = omega arith
-entry_least c (Some e) = omega arith
+held_least : (c : Copies) (o : Option ℕ) → (with_held c o).least ≤ c.least
+held_least c None = omega arith
+held_least c (Some v) = omega arith
 
-seen_least : (t : Table) (r k : ℕ) (c : Copies) → (seen_in t r k c).least ≤ c.least
-seen_least t r k c = elim (eqb t.node r) as (λ b. (if b then c else with_entry c (entry_at t r k)).least ≤ c.least) [
+seen_least : (g : ℕ) (t : Table) (r k : ℕ) (c : Copies) → (seen_in g t r k c).least ≤ c.least
+seen_least g t r k c = elim (eqb t.node r) as (λ b. (if b then c else with_held c (version_known g (entry_at t r k))).least ≤ c.least) [
   | true ↦ omega arith
-  | false ↦ entry_least c (entry_at t r k)
+  | false ↦ held_least c (version_known g (entry_at t r k))
 ]
 
 -- where nothing was gone over, the others' stands
@@ -49,36 +49,39 @@ merged_none c current le =
     λ i. record { current = c.current; least = least i; held = held i; fresh = fresh i }
 
 -- a table may be gone over before or after
-merged_entry : (c d : Copies) (o : Option Entry) → d.current ≡ c.current → merged c (with_entry d o) ≡ with_entry (merged c d) o
-merged_entry c d None same = refl
-merged_entry c d (Some e) same =
-    let least : min c.least (min d.least e.version) ≡ min (min c.least d.least) e.version = omega arith in
+merged_held : (c d : Copies) (o : Option ℕ) → d.current ≡ c.current → merged c (with_held d o) ≡ with_held (merged c d) o
+merged_held c d None same = refl
+merged_held c d (Some v) same =
+    let least : min c.least (min d.least v) ≡ min (min c.least d.least) v = omega arith in
     let held : c.held + (d.held + 1) ≡ c.held + d.held + 1 = omega arith in
-    let one : ◌≡◌ {A = ℕ} (if leb d.current e.version then 1 else 0) (if leb c.current e.version then 1 else 0) = ap (λ m. if leb m e.version then 1 else 0) same in
-    let fresh : c.fresh + (d.fresh + (if leb d.current e.version then 1 else 0)) ≡ c.fresh + d.fresh + (if leb c.current e.version then 1 else 0) = omega (arith, one) in
+    let one : ◌≡◌ {A = ℕ} (if leb d.current v then 1 else 0) (if leb c.current v then 1 else 0) = ap (λ m. if leb m v then 1 else 0) same in
+    let fresh : c.fresh + (d.fresh + (if leb d.current v then 1 else 0)) ≡ c.fresh + d.fresh + (if leb c.current v then 1 else 0) = omega (arith, one) in
     λ i. record { current = c.current; least = least i; held = held i; fresh = fresh i }
 
-merged_seen : (t : Table) (r k : ℕ) (c d : Copies) → d.current ≡ c.current → merged c (seen_in t r k d) ≡ seen_in t r k (merged c d)
-merged_seen t r k c d same = elim (eqb t.node r) as (λ b. merged c (if b then d else with_entry d (entry_at t r k)) ≡ (if b then merged c d else with_entry (merged c d) (entry_at t r k))) [
+merged_seen : (g : ℕ) (t : Table) (r k : ℕ) (c d : Copies) → d.current ≡ c.current → merged c (seen_in g t r k d) ≡ seen_in g t r k (merged c d)
+merged_seen g t r k c d same = elim (eqb t.node r) as (λ b. merged c (if b then d else with_held d (version_known g (entry_at t r k))) ≡ (if b then merged c d else with_held (merged c d) (version_known g (entry_at t r k)))) [
   | true ↦ refl
-  | false ↦ merged_entry c d (entry_at t r k) same
+  | false ↦ merged_held c d (version_known g (entry_at t r k)) same
 ]
 
 module _ (tables : List Table) (lists : List (List Write)) (r k : ℕ) where
   abbrev none : Copies
   none = no_copies (current_of lists r k)
 
+  abbrev generation : ℕ
+  generation = generation_at tables r
+
   current_from : (from p : ℕ) → (copies_from tables r k from p none).current ≡ none.current
   current_from from zero = refl
-  current_from from (suc p) = seen_current (table_of_node tables (from + p)) r k (copies_from tables r k from p none) ∙ current_from from p
+  current_from from (suc p) = seen_current generation (table_of_node tables (from + p)) r k (copies_from tables r k from p none) ∙ current_from from p
 
   current_so_far : (p : ℕ) → (copies_of tables lists r k p).current ≡ none.current
   current_so_far zero = refl
-  current_so_far (suc p) = seen_current (table_of_node tables p) r k (copies_of tables lists r k p) ∙ current_so_far p
+  current_so_far (suc p) = seen_current generation (table_of_node tables p) r k (copies_of tables lists r k p) ∙ current_so_far p
 
   least_so_far : (p : ℕ) → (copies_of tables lists r k p).least ≤ 4294967295
   least_so_far zero = omega arith
-  least_so_far (suc p) = omega (arith, seen_least (table_of_node tables p) r k (copies_of tables lists r k p), least_so_far p)
+  least_so_far (suc p) = omega (arith, seen_least generation (table_of_node tables p) r k (copies_of tables lists r k p), least_so_far p)
 
   -- the first tables, and so many behind them
   pub merged_behind : (a b : ℕ) → merged (copies_of tables lists r k a) (copies_from tables r k a b none) ≡ copies_of tables lists r k (a + b)
@@ -87,8 +90,8 @@ module _ (tables : List Table) (lists : List (List Write)) (r k : ℕ) where
       merged_none (copies_of tables lists r k a) (current_of lists r k) (least_so_far a) ∙ ap (copies_of tables lists r k) same
   merged_behind a (suc b) =
       let same : suc (a + b) ≡ a + suc b = omega arith in
-      merged_seen (table_of_node tables (a + b)) r k (copies_of tables lists r k a) (copies_from tables r k a b none) (current_from a b ∙ sym (current_so_far a))
-      ∙ ap (seen_in (table_of_node tables (a + b)) r k) (merged_behind a b)
+      merged_seen generation (table_of_node tables (a + b)) r k (copies_of tables lists r k a) (copies_from tables r k a b none) (current_from a b ∙ sym (current_so_far a))
+      ∙ ap (seen_in generation (table_of_node tables (a + b)) r k) (merged_behind a b)
       ∙ ap (copies_of tables lists r k) same
 
 -- so many more tables hold no more
@@ -96,9 +99,9 @@ pub record AreNoMore (p : ℕ) (c : Copies) : Type 0 where
   pub held : c.held ≤ p
   pub fresh : c.fresh ≤ c.held
 
-no_more_with : (p : ℕ) (c : Copies) (o : Option Entry) → AreNoMore p c → AreNoMore (suc p) (with_entry c o)
+no_more_with : (p : ℕ) (c : Copies) (o : Option ℕ) → AreNoMore p c → AreNoMore (suc p) (with_held c o)
 no_more_with p c None few = record { held = omega (arith, few.held); fresh = few.fresh }
-no_more_with p c (Some e) few = record { held = omega (arith, few.held); fresh = omega (arith, few.fresh, at_most (leb c.current e.version)) }
+no_more_with p c (Some v) few = record { held = omega (arith, few.held); fresh = omega (arith, few.fresh, at_most (leb c.current v)) }
   where
     at_most : (b : Bool) → (if b then 1 else 0) ≤ 1
     at_most true = omega arith
@@ -108,11 +111,12 @@ pub few_from : (tables : List Table) (r k from p current : ℕ) → AreNoMore p 
 few_from tables r k from zero current = record { held = omega arith; fresh = omega arith }
 few_from tables r k from (suc p) current =
     let t = table_of_node tables (from + p) in
+    let g = generation_at tables r in
     let c = copies_from tables r k from p (no_copies current) in
     let before = few_from tables r k from p current in
-    elim (eqb t.node r) as (λ b. AreNoMore (suc p) (if b then c else with_entry c (entry_at t r k))) [
+    elim (eqb t.node r) as (λ b. AreNoMore (suc p) (if b then c else with_held c (version_known g (entry_at t r k)))) [
       | true ↦ record { held = omega (arith, before.held); fresh = before.fresh }
-      | false ↦ no_more_with p c (entry_at t r k) before
+      | false ↦ no_more_with p c (version_known g (entry_at t r k)) before
     ]
 
 -- a part's number is one of the parts'

@@ -1,18 +1,16 @@
 -- A node's own part stays the last writes of its list, through its own writes and what it receives. For callers that
 -- keep tables and lists side by side.
-use Rattle.std.proofs.Common.{◌≡◌, ◌≢◌, ℕ, ◌+◌, ◌≤◌, Bool, true, false, cond, eqb, List, [], ◌∷◌, ◌++◌, length, fold, Some, All, inl, inr, option_map, if◌then◌else◌, refl, sym, ap, ◌∙◌, arith}
+use Rattle.std.proofs.Common.{◌≡◌, ◌≢◌, ℕ, ◌+◌, ◌≤◌, Bool, true, false, cond, eqb, List, [], ◌∷◌, ◌++◌, length, Some, All, option_map, if◌then◌else◌, refl, sym, ap, ◌∙◌, arith}
 use Rattle.std.specs.Ordering.{nat_cmp, ordering_then, is_eq, eq_by_cmp}
-use Rattle.std.specs.FinMap.{get, get-empty, get-insert}
-use Rattle.std.proofs.lemmas.Bool.{eq-eqb}
-use Rattle.std.proofs.lemmas.List.Elements.{All-head, All-tail}
+use Rattle.std.specs.FinMap.{get-empty, get-insert}
 use Rattle.bench_types.specs.declared.entries.Item.{Item}
-use Rattle.bench_types.specs.Entry.{newer}
-use Rattle.node_table.specs.Table.{Place, place_cmp, Held, Table, empty_table, entry_at, greatest_version, held_with, applied, own_write, with_own_write}
+use Rattle.node_table.specs.Table.{place_cmp, Table, empty_table, entry_at, greatest_version, applied, own_write, with_own_write, without_others, without_all}
 use Rattle.node_table.proofs.Order.{place_total}
+use Rattle.node_table.proofs.Laws.{frame-applied, entry_at-applied_other, entry_at-without_others_own, entry_at-without_all}
 use Rattle.staleness.specs.declared.lists.Write.{Write}
 use Rattle.staleness.specs.Writes.{next_write, is_write_of, AreBornBy}
 use Rattle.staleness.specs.Cluster.{write_of_entry, OwnPartIsLastWrites}
-use Rattle.node_table.proofs.Comparing.{nat_cmp-equal, nat_cmp-less, nat_cmp-greater}
+use Rattle.node_table.proofs.Comparing.{nat_cmp-equal}
 use Rattle.staleness.proofs.Last.{same_key, with_version, last_write-push}
 
 -- nothing is held, and nothing was written
@@ -39,21 +37,18 @@ own_part-written t ws key value born own counted q =
     mapped false = refl
 
 -- what others wrote has no part in it
-other_owner : (owner k : ℕ) (place : Place) → place.0 ≢ owner → eq_by_cmp place_cmp (owner, k) place ≡ false
-other_owner owner k place other = elim (Rattle.std.proofs.lemmas.Bool.cases_lt owner place.0) [
-  | inl lt ↦ ap (λ r. is_eq (ordering_then r (nat_cmp k place.1))) (nat_cmp-less owner place.0 lt)
-  | inr le ↦ ap (λ r. is_eq (ordering_then r (nat_cmp k place.1))) (nat_cmp-greater owner place.0 (omega arith))
-]
-
-received : (owner key : ℕ) (held : Held) (items : List Item) → All (λ i. i.owner ≢ owner) items → get (fold held_with held items) (owner, key) ≡ get held (owner, key)
-received owner key held [] others = refl
-received owner key held (i ∷ is) others =
-    received owner key (held_with held i) is (All-tail (λ (j : Item). j.owner ≢ owner) i is others)
-    ∙ get-insert place_total held (i.owner, i.entry.key) (newer (get held (i.owner, i.entry.key)) i.entry) (owner, key)
-    ∙ ap (λ b. cond b (Some (newer (get held (i.owner, i.entry.key)) i.entry)) (get held (owner, key))) (other_owner owner key (i.owner, i.entry.key) (All-head (λ (j : Item). j.owner ≢ owner) i is others))
-
 pub own_part-applied : (t : Table) (ws : List Write) (items : List Item) → All (λ i. i.owner ≢ t.node) items → OwnPartIsLastWrites t ws → OwnPartIsLastWrites (applied t items) ws
-own_part-applied t ws items others own key = ap (option_map write_of_entry) (received t.node key t.held items others) ∙ own key
+own_part-applied t ws items others own key =
+    ap (λ n. option_map write_of_entry (entry_at (applied t items) n key)) (frame-applied t items).node
+    ∙ ap (option_map write_of_entry) (entry_at-applied_other t items t.node key others)
+    ∙ own key
+
+-- a restart leaves it, or both begin with nothing
+pub own_part-restarted : (t : Table) (ws : List Write) → OwnPartIsLastWrites t ws → OwnPartIsLastWrites (without_others t) ws
+own_part-restarted t ws own key = ap (option_map write_of_entry) (entry_at-without_others_own t key) ∙ own key
+
+pub own_part-forgotten : (t : Table) → OwnPartIsLastWrites (without_all t) []
+own_part-forgotten t key = ap (option_map write_of_entry) (entry_at-without_all t t.node key)
 
 -- what is born by a round is born by a later one
 pub born-later : (round later : ℕ) (ws : List Write) → round ≤ later → AreBornBy round ws → AreBornBy later ws

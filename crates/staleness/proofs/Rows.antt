@@ -9,6 +9,7 @@ use Rattle.std.proofs.lemmas.List.{get_or_default}
 use Rattle.std.proofs.lemmas.List.Folds.{list_any_at, list_any_none}
 use Rattle.std.proofs.lemmas.Option.{same_Some}
 use Rattle.bench_types.specs.declared.entries.Entry.{Entry}
+use Rattle.bench_types.specs.Mark.{absent}
 use Rattle.node_table.specs.Table.{Table, entry_at, IsProper}
 use Rattle.node_table.specs.Rows.{AreAbove, entry_cmp}
 use Rattle.node_table.proofs.Comparing.{nat_cmp-equal}
@@ -17,7 +18,7 @@ use Rattle.staleness.specs.Copies.{has_key}
 contains_at : {X : Type 0} (xs : List X) (i : ℕ) (d : X) → i < length xs → Contains xs (get_or xs i d)
 contains_at xs i d lt = (i, lt, get_or_default xs i (get_or xs i d) d lt)
 
-module _ (t : Table) (owner : ℕ) (proper : IsProper t) (row : List Entry) (are : AreAbove t owner 0 row) where
+module _ (t : Table) (owner : ℕ) (proper : IsProper t) (row : List Entry) (are : AreAbove t owner absent row) where
   -- what stands in the row is held
   pub row_at : (i : ℕ) (d : Entry) → i < length row → entry_at t owner (get_or row i d).key ≡ Some (get_or row i d)
   row_at i d lt = (are.held (get_or row i d) (contains_at row i d lt)).0
@@ -37,7 +38,7 @@ module _ (t : Table) (owner : ℕ) (proper : IsProper t) (row : List Entry) (are
   row_held key = elim (entry_at t owner key) as (λ o. entry_at t owner key ≡ o → has_key row key ≡ is_some o) [
     | Some e ↦ λ is.
         let in_place = proper.in_place owner key e is in
-        let there = are.all key e is (omega (arith, in_place.written)) in
+        let there = are.all key e is (record { generation = omega arith; version = λ _. omega (arith, in_place.written) }) in
         list_any_at (λ x. eqb x.key key) row there.0 e there.1 (ap (λ x. eqb x.key key) there.2 ∙ eq-eqb e.key key in_place.keyed)
     | None ↦ λ is. list_any_none (λ x. eqb x.key key) row (λ k d lt. ne_eqb (get_or row k d).key key (λ same.
         let held : entry_at t owner key ≡ Some (get_or row k d) = ap (entry_at t owner) (sym same) ∙ row_at k d lt in

@@ -31,7 +31,7 @@ stale_count-le None = omega arith
 stale_count-le (Some n) = omega arith
 
 -- the order of two sums bears on nothing
-sum_below-add : (f g : ℕ → ℕ) (n : ℕ) → sum_below n (λ k. f k + g k) ≡ sum_below n f + sum_below n g
+pub sum_below-add : (f g : ℕ → ℕ) (n : ℕ) → sum_below n (λ k. f k + g k) ≡ sum_below n f + sum_below n g
 sum_below-add f g zero = refl
 sum_below-add f g (suc n) = omega (arith, sum_below-add f g n)
 

@@ -1,5 +1,6 @@
 -- What the tables and the lists of all nodes keep between rounds. Only the owner writes its own state, so its own part
--- of its table is, for each key, the last write with that key. Source: the LADIS 2008 paper and this project.
+-- of its table is, for each key, the last write with that key in its list, which is of its generation. Source: the
+-- LADIS 2008 paper and this project.
 use Rattle.std.specs.Prelude.{◌≡◌, ℕ, ◌*◌, ◌≤◌, List, length, option_map, All, slice_index_or, IfOk, Result, Vec}
 use Rattle.std.specs.declared.alloc.AllocError.{AllocError}
 use Rattle.std.specs.declared.alloc.Global.{Global}
@@ -29,14 +30,19 @@ pub record AreCountable (round : ℕ) (tables : List Table) (lists : List (List 
   pub round_limit : round ≤ 100000
   pub born : All (AreBornBy round) lists
 
--- what is counted of a part of so many owners
+-- figures that stay below a bound
+pub record AreFewTriples (counted : Figures) : Type 0 where
+  pub stale : counted.stale ≤ 4096 * 4096 * 64
+  pub leftover : counted.leftover ≤ 4096 * 4096 * 64
+
+-- what is counted of a part of so many owners, and in as many tables
 pub record IsCounted (round : ℕ) (tables : List Table) (lists : List (List Write)) (size part : ℕ) (counted : Figures) : Type 0 where
   pub figures : counted ≡ part_figures round tables lists size part
-  pub bound : counted.stale ≤ 4096 * 4096 * 64
+  pub few : AreFewTriples counted
 
 -- what was found of a part
 abbrev pub found_at : List Figures → ℕ → Figures
-found_at parts i = slice_index_or parts i (record { stale = 0; greatest = 0 })
+found_at parts i = slice_index_or parts i (record { stale = 0; greatest = 0; leftover = 0 })
 
 -- and so of each part, in order
 abbrev pub AreCounted : ℕ → List Table → List (List Write) → ℕ → ℕ → List Figures → Type 0

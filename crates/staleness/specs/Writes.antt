@@ -1,7 +1,10 @@
--- The writes of an owner, in order. Only the owner writes its own state, and its n-th write has version n, from 1.
--- Source: the LADIS 2008 paper; the numbers and `born`, the round of a write, are this project's.
+-- The writes of an owner in a generation, in order. Only the owner writes its own state, and its n-th write of a
+-- generation has version n, from 1. Source: the LADIS 2008 paper; generations, the numbers and `born`, the round of a
+-- write, are this project's.
 use Rattle.std.specs.Prelude.{◌≡◌, ℕ, ◌<◌, ◌≤◌, ◌==◌, ◌&&◌, nat_lt, nat_le, List, [], ◌∷◌, length, reverse, find, slice_index_or, All, Bool, true, Option}
+use Rattle.bench_types.specs.declared.entries.Mark.{Mark}
 use Rattle.bench_types.specs.Entry.{next_version}
+use Rattle.bench_types.specs.Mark.{is_before}
 use Rattle.staleness.specs.declared.lists.Write.{Write}
 
 -- the write that comes next
@@ -27,6 +30,11 @@ is_missed key version w = w.key == key && nat_lt version w.version
 -- the least write of a key above a version: the writes stand by version, so it is the first
 abbrev pub first_missed : List Write → ℕ → ℕ → Option Write
 first_missed writes key version = find (is_missed key version) writes
+
+-- the least write of a key above a mark, where all are of one generation
+abbrev pub first_above : ℕ → List Write → ℕ → Mark → Option Write
+first_above generation writes key mark =
+    find (λ w. w.key == key && is_before mark (record { generation = generation; version = w.version })) writes
 
 -- none was made after this round
 abbrev pub AreBornBy : ℕ → List Write → Type 0

@@ -1,14 +1,14 @@
 //! What a pass over the tables sees of the copies of all owners, key by key.
 
-ghost use Rattle.std.specs.Prelude.{◌≡◌, ℕ, ◌+◌, ◌*◌, ◌^◌, ◌<◌, ◌≤◌, None, All, IfOk, IfSome, OnOk, length, slice_index_or, vec_len};
+ghost use Rattle.std.specs.Prelude.{◌≡◌, ℕ, ◌+◌, ◌*◌, ◌^◌, ◌<◌, ◌≤◌, None, All, IfOk, IfSome, OnOk, length, slice_index, slice_index_or, vec_len};
 ghost use Rattle.bench_types.specs.declared.limits.TheConstants.{MOST_NODES, MOST_KEYS};
-ghost use Rattle.node_table.specs.Table.{entry_at};
+ghost use Rattle.node_table.specs.Table.{entry_at, generation_held, IsProper};
 ghost use Rattle.cluster.specs.Tables.{tables_in, table_of_node};
 ghost use Rattle.staleness.specs.Cluster.{MayBegin};
 ghost use Rattle.staleness.specs.Latest.{write_of, KeysRise, IsFrontForKey};
 ghost use Rattle.staleness.specs.declared.lists.Write.{Write};
 ghost use Rattle.staleness.specs.declared.copies.Copies.{Copies};
-ghost use Rattle.staleness.specs.Copies.{with_version, with_entry, seen_in, no_copies, current_of, copies_from, merged, HasRoom, HaveRoom, KeepOutside, AreSeen, AreSeenOnce, AreAdded};
+ghost use Rattle.staleness.specs.Copies.{generations_in, least_known, at_least, version_known, with_version, with_held, seen_in, no_copies, current_of, copies_from, merged, HasRoom, HaveRoom, KeepOutside, AreSeen, AreSeenOnce, AreAdded};
 
 use crate::lists::{OwnerList, Write};
 use node_table::NodeTable;
@@ -39,36 +39,108 @@ fn with_version(copies: Copies, version: u32) -> Copies
     }
 }
 
-// Goes over a table's row of an owner, whose copies stand from a place on.
-fn see_row(copies: &mut [Copies], start: usize, table: &NodeTable, owner: u32)
+/// The generations of all nodes, in order.
+pub(crate) fn generations_of(alloc: Global, tables: &[NodeTable]) -> Result<Vec<u32>, AllocError>
+    ensures { IfOk result (λ v. v.items ≡ generations_in (tables_in tables.now)) }
+{
+    let mut generations = Vec::with_capacity(alloc, tables.len())?;
+    for table in tables {
+        generations.push(table.generation())?;
+    }
+    Ok(generations)
+}
+
+/// The generation of a copy, in a list of all copies' that is empty where all are 0.
+pub(crate) fn generation_in(generations: &[u32], owner: u32) -> u32
+    ensures { result ≡ slice_index generations.now owner }
+{
+    match generations.get(owner as usize) {
+        Some(generation) => *generation,
+        None => 0,
+    }
+}
+
+/// The version that entries of a copy count for at least in their owner's generation: all versions where they are of
+/// a newer one, and none where they are of an older one.
+pub(crate) fn least_known(generation: u32, copied: u32) -> Option<u32>
+    ensures { result ≡ least_known generation copied }
+{
+    if copied < generation {
+        None
+    } else if generation < copied {
+        Some(u32::MAX)
+    } else {
+        Some(0)
+    }
+}
+
+// Goes over a table's row of an owner, whose copies stand from a place on. Each counts for a version at least.
+fn see_row(copies: &mut [Copies], start: usize, table: &NodeTable, owner: u32, least: u32)
     requires owner { owner < table.now.table.nodes }
     requires within { start + table.now.table.keys ≤ length copies.old }
     requires room { (key : ℕ) (d : Copies)
         → key < table.now.table.keys → HasRoom (slice_index_or copies.old (start + key) d) }
     ensures size { length copies.new ≡ length copies.old }
     ensures seen { (key : ℕ) (d : Copies) → key < table.now.table.keys → slice_index_or copies.new (start + key) d
-        ≡ with_entry (slice_index_or copies.old (start + key) d) (entry_at table.now.table owner key) }
+        ≡ with_held (slice_index_or copies.old (start + key) d)
+        (at_least least (entry_at table.now.table owner key)) }
     ensures others { KeepOutside copies.old copies.new start table.now.table.keys }
 {
     for entry in table.row(owner) {
         let at = start + entry.key as usize;
-        copies[at] = with_version(copies[at], entry.version);
+        copies[at] = with_version(copies[at], entry.version.max(least));
     }
 }
 
-// Goes over a table's rows of all owners but its own.
-fn see_table(copies: &mut [Copies], table: &NodeTable)
+// The same, by the generations of the copy and of its owner.
+fn see_copy(
+    copies: &mut [Copies],
+    start: usize,
+    table: &NodeTable,
+    owner: u32,
+    generation: u32,
+    copied: u32,
+)
+    requires proper { IsProper table.now.table }
+    requires owner { owner < table.now.table.nodes }
+    requires copied { copied ≡ generation_held table.now.table owner }
+    requires within { start + table.now.table.keys ≤ length copies.old }
+    requires room { (key : ℕ) (d : Copies)
+        → key < table.now.table.keys → HasRoom (slice_index_or copies.old (start + key) d) }
+    ensures size { length copies.new ≡ length copies.old }
+    ensures seen { (key : ℕ) (d : Copies) → key < table.now.table.keys → slice_index_or copies.new (start + key) d
+        ≡ with_held (slice_index_or copies.old (start + key) d)
+        (version_known generation (entry_at table.now.table owner key)) }
+    ensures others { KeepOutside copies.old copies.new start table.now.table.keys }
+{
+    if let Some(least) = least_known(generation, copied) {
+        see_row(copies, start, table, owner, least);
+    }
+}
+
+// Goes over a table's rows of all owners but its own, which are in these generations.
+fn see_table(copies: &mut [Copies], table: &NodeTable, generations: &[u32])
+    requires generations { length generations.now ≡ table.now.table.nodes }
     requires size { length copies.old ≡ table.now.table.nodes * table.now.table.keys }
     requires room { (owner key : ℕ) (d : Copies) → owner < table.now.table.nodes → key < table.now.table.keys
         → HasRoom (slice_index_or copies.old (owner * table.now.table.keys + key) d) }
     ensures { AreSeenOnce table.now.table.nodes table.now.table.keys
-        (λ owner key c. seen_in table.now.table owner key c) copies.old copies.new }
+        (λ owner key c. seen_in (slice_index generations.now owner) table.now.table owner key c)
+        copies.old copies.new }
 {
     let keys = table.keys() as usize;
     let holder = table.node();
+    let copied = table.generations();
     for owner in 0..table.nodes() {
         if owner != holder {
-            see_row(copies, owner as usize * keys, table, owner);
+            see_copy(
+                copies,
+                owner as usize * keys,
+                table,
+                owner,
+                generations[owner as usize],
+                generation_in(copied, owner),
+            );
         }
     }
 }
@@ -135,18 +207,21 @@ pub(crate) fn no_copies(
 pub(crate) fn copies_from(
     alloc: Global,
     tables: &[NodeTable],
+    generations: &[u32],
     none: &[Copies],
     from: usize,
     count: usize,
 ) -> Result<Vec<Copies>, AllocError>
+    requires generations { generations.now ≡ generations_in (tables_in tables.now) }
     requires begins { MayBegin (tables_in tables.now) none.now }
     requires within { from + count ≤ length tables.now }
-    ensures { IfOk result (λ v. AreSeenOnce (length (tables_in tables.now)) (table_of_node (tables_in tables.now) 0).keys
+    ensures { IfOk result
+        (λ v. AreSeenOnce (length (tables_in tables.now)) (table_of_node (tables_in tables.now) 0).keys
         (λ owner key c. copies_from (tables_in tables.now) owner key from count c) none.now v.items) }
 {
     let mut copies = Vec::from_slice(alloc, none)?;
     for at in 0..count {
-        see_table(&mut copies, &tables[from + at]);
+        see_table(&mut copies, &tables[from + at], generations);
     }
     Ok(copies)
 }

@@ -16,7 +16,7 @@ use std::marker::Model;
 #[derive(Clone, Copy, Debug, PartialEq, Eq)]
 pub struct Write {
     pub key: u32,
-    /// The n-th write of an owner has version n, from 1.
+    /// The n-th write of an owner's generation has version n, from 1.
     pub version: u32,
     /// The round in which the owner made it.
     pub born: u32,
@@ -31,7 +31,7 @@ struct Link {
     next: u32,
 }
 
-/// All writes of one owner so far, each linked to the next one of its key.
+/// All writes of one owner in its generation so far, each linked to the next one of its key.
 #[derive(Drop)]
 pub struct OwnerList {
     links: Vec<Link>,
@@ -87,6 +87,16 @@ impl OwnerList {
         self.in_order = self.in_order && comes_in_order(&self.links, born);
         append(&mut self.links, before, write);
         Ok(())
+    }
+
+    /// The owner begins its next generation with nothing. The list keeps its room.
+    pub fn forget(&mut self)
+        ensures { self.new ≡ [] }
+    {
+        self.links.clear();
+        self.firsts.clear();
+        self.latest.clear();
+        self.in_order = true;
     }
 
     /// How many writes there are.

@@ -5,7 +5,7 @@ use Rattle.bench_types.specs.declared.entries.Entry.{Entry}
 use Rattle.bench_types.specs.declared.limits.TheConstants.{MOST_NODES}
 use Rattle.node_table.specs.declared.layouts.Row.{Row}
 use Rattle.node_table.proofs.Laid.{slots-le}
-use Rattle.node_table.proofs.Opened.{laid_open, placed_open}
+use Rattle.node_table.proofs.Opened.{laid_open, renewed_open}
 use Rattle.node_table.proofs.layouts.open.Goals as goal
 
 pub overflow_cast-start : goal.overflow_cast-start
@@ -38,4 +38,4 @@ returns-clause-ok c =
     let len : c.args.slots.now.len ≡ length c.args.slots.now.items = omega (arith, c.args.slots.now.ok.0) in
     let lt : c.args.owner < length c.args.rows.now.items = omega (arith, c.requires.owner, c.args.rows.now.ok.0) in
     let now = grown c.args.slots.now.items _ c.len-start.result c.args.slots.now.len c.args.keys c.args.entry start len c.in_ok-resize.ensures.items in
-    rw (now, start) (placed_open _ c.args.keys c.args.slots.now.items c.args.rows.now.items c.args.owner (get_or c.args.rows.now.items c.args.owner none) c.args.entry c.requires.laid lt (λ d. get_or_default c.args.rows.now.items c.args.owner d none lt) (c.requires.empty none) c.requires.key c.requires.written)
+    rw (now, start) (renewed_open _ c.args.keys c.args.slots.now.items c.args.rows.now.items c.args.owner (get_or c.args.rows.now.items c.args.owner none) c.args.entry c.requires.laid lt (λ d. get_or_default c.args.rows.now.items c.args.owner d none lt) (c.requires.empty none) c.requires.key c.requires.written)

@@ -17,7 +17,7 @@ returns-else-row-eq0-clause-laid c =
     let put = subst (λ xs. IsPut c.args.keys c.args.entry (row_of xs r) (row_of c.put_among.new.slots c.put_among.result)) c.deref_mut.ensures.value c.put_among.ensures.put in
     let others = subst (λ xs. KeepOutside xs c.put_among.new.slots r.start c.args.keys) c.deref_mut.ensures.value c.put_among.ensures.others in
     subst (λ xs. AreLaid c.args.rows.now.len c.args.keys xs (set rows c.args.owner c.put_among.result)) (sym now)
-    (laid_put c.args.rows.now.len c.args.keys slots c.put_among.new.slots rows c.args.owner r c.put_among.result c.args.entry c.requires.laid lt (λ d. sym (get_or_read rows c.args.owner r lt c.index-row.ensures d)) (omega (arith, c.if-row-eq0.false)) c.put_among.ensures.start c.put_among.ensures.within put same others)
+    (laid_put c.args.rows.now.len c.args.keys slots c.put_among.new.slots rows c.args.owner r c.put_among.result c.requires.laid lt (λ d. sym (get_or_read rows c.args.owner r lt c.index-row.ensures d)) (omega (arith, c.if-row-eq0.false)) c.put_among.ensures.start c.put_among.ensures.within put.row put.some same others)
 
 pub returns-else-row-eq0-clause-ok : goal.returns-else-row-eq0-clause-ok
 returns-else-row-eq0-clause-ok c =
@@ -30,4 +30,4 @@ returns-else-row-eq0-clause-ok c =
     let put = subst (λ xs. IsPut c.args.keys c.args.entry (row_of xs r) (row_of c.put_among.new.slots c.put_among.result)) c.deref_mut.ensures.value c.put_among.ensures.put in
     let others = subst (λ xs. KeepOutside xs c.put_among.new.slots r.start c.args.keys) c.deref_mut.ensures.value c.put_among.ensures.others in
     subst (λ xs. IsPlaced c.args.keys c.args.owner c.args.entry slots xs rows (set rows c.args.owner c.put_among.result)) (sym now)
-    (placed_put c.args.rows.now.len c.args.keys slots c.put_among.new.slots rows c.args.owner r c.put_among.result c.args.entry c.requires.laid lt (λ d. sym (get_or_read rows c.args.owner r lt c.index-row.ensures d)) (omega (arith, c.if-row-eq0.false)) c.put_among.ensures.start c.put_among.ensures.within put same others)
+    (placed_put c.args.rows.now.len c.args.keys slots c.put_among.new.slots rows c.args.owner r c.put_among.result c.requires.laid lt (λ d. sym (get_or_read rows c.args.owner r lt c.index-row.ensures d)) (omega (arith, c.if-row-eq0.false)) c.put_among.ensures.start c.put_among.ensures.within put.row put.some same others c.args.entry put)

@@ -1,11 +1,21 @@
-use Rattle.report.specs.Line.{line_of}
+use Rattle.std.proofs.Common.{OnOk, IfErr, subst}
 use Rattle.report.specs.Compare.{compare_header_line}
+use Rattle.report.specs.Line.{line_of}
+use Rattle.report.specs.Output.{IsWritten, IsWriteFault}
+use Rattle.report.specs.Report.{names}
+use Rattle.report.proofs.ColumnFacts.{line_texts, first_text}
 use Rattle.report.proofs.comparisons.compare_header.Goals as goal
 
 pub returns-clause-written : goal.returns-clause-written
-unfolding compare_header_line line_of
-returns-clause-written g c = c.write_line.ensures.written
+unfolding compare_header_line
+returns-clause-written g c =
+    let texts = line_texts c.deref.result.now c.push_names.new.cells.items _ _ (names c.args.format) c.deref.ensures.value c.in_ok-push_names.ensures.names
+    (first_text _ _ _ c.in_ok-push.ensures.items c.new-names.ensures.items) in
+    subst (λ ts. OnOk c.write_line.result (IsWritten g.W.Sink c.args.writer.now c.write_line.new.writer (line_of ts))) texts c.write_line.ensures.written
 
 pub returns-clause-fault : goal.returns-clause-fault
-unfolding compare_header_line line_of
-returns-clause-fault g c = c.write_line.ensures.fault
+unfolding compare_header_line
+returns-clause-fault g c =
+    let texts = line_texts c.deref.result.now c.push_names.new.cells.items _ _ (names c.args.format) c.deref.ensures.value c.in_ok-push_names.ensures.names
+    (first_text _ _ _ c.in_ok-push.ensures.items c.new-names.ensures.items) in
+    subst (λ ts. IfErr c.write_line.result (IsWriteFault g.W.Sink c.args.writer.now c.write_line.new.writer (line_of ts))) texts c.write_line.ensures.fault

@@ -1,5 +1,6 @@
-use Rattle.std.proofs.Common.{◌≡◌, ◌+◌, ◌<◌, ◌∷◌, ◌++◌, [], length, map, take, get_or, ap, sym, ◌∙◌, subst, arith}
+use Rattle.std.proofs.Common.{◌≡◌, ◌+◌, ◌<◌, ◌∷◌, ◌++◌, [], length, map, take, get_or, ap, refl, sym, ◌∙◌, subst, arith}
 use Rattle.std.proofs.lemmas.List.{get_or-map, length-map, length-take-le, map-append, take_more}
+use Rattle.bench_types.specs.declared.entries.Entry.{Entry}
 use Rattle.bench_types.specs.Entry.{next_version}
 use Rattle.round_plan.specs.declared.owners.OwnWrite.{OwnWrite}
 use Rattle.round_plan.specs.Writes.{born_in}
@@ -17,12 +18,15 @@ loop-write-preserved c =
     let w = get_or writes i no_write in
     let lt = c.loop-write-test.true in
     let so_far = c.loop-write.invariant in
-    let done = map (born_in round) (take i writes) in
-    let count : length done ≡ i = length-map (take i writes) (born_in round) ∙ length-take-le i writes (omega arith) in
+    let generation = c.args.table.now.table.generation in
+    let as_entry : OwnWrite → Entry = born_in round generation in
+    let done = map as_entry (take i writes) in
+    let count : length done ≡ i = length-map (take i writes) as_entry ∙ length-take-le i writes (omega arith) in
+    let next = c.requires.next i (as_entry no_write) (omega (arith, lt, length-map writes as_entry)) in
     let version : w.version ≡ next_version (length c.loop-write.list) =
-    omega (arith, ap (λ e. e.version) (get_or-map (born_in round) writes i no_write (born_in round no_write) lt), c.requires.next i (born_in round no_write) (omega (arith, lt, length-map writes (born_in round))), so_far.count, count) in
-    let longer : map (born_in round) (take (i + 1) writes) ≡ done ++ born_in round w ∷ [] =
-    ap (map (born_in round)) (take_more writes i no_write lt) ∙ map-append (born_in round) (take i writes) (w ∷ []) in
+    omega (arith, ap (λ e. e.version) (get_or-map as_entry writes i no_write (as_entry no_write) lt), next.1, so_far.count, count) in
+    let longer : map as_entry (take (i + 1) writes) ≡ done ++ as_entry w ∷ [] =
+    ap (map as_entry) (take_more writes i no_write lt) ∙ map-append as_entry (take i writes) (w ∷ []) in
     subst (IsWriting round c.args.table.now.table c.write_own.new.self.table c.args.list.now c.push.new.self) (sym longer)
-    (writing_more round c.args.table.now.table c.loop-write.table.table c.write_own.new.self.table c.args.list.now c.loop-write.list c.push.new.self done (born_in round w) so_far version (omega arith)
+    (writing_more round c.args.table.now.table c.loop-write.table.table c.write_own.new.self.table c.args.list.now c.loop-write.list c.push.new.self done (as_entry w) so_far (refl, version) (omega arith)
     (subst (λ k. w.key < k) (sym so_far.keys) (c.requires.keys i no_write lt)) c.in_ok-write_own.ensures.ok c.in_ok-push.ensures.ok)

@@ -4,9 +4,20 @@ use Rattle.node_table.specs.Table.{Table}
 use Rattle.cluster.specs.Tables.{tables_in, table_of_node}
 use Rattle.cluster.proofs.Tables.{table_indexed, length-tables_in}
 use Rattle.staleness.specs.Copies.{seen_in, copies_from, HasRoom, AreSeenOnce}
+use Rattle.staleness.specs.Figures.{generation_at}
+use Rattle.staleness.proofs.Known.{as_many_generations, generation_found}
 use Rattle.staleness.proofs.Merging.{few_from}
 use Rattle.staleness.proofs.Places.{within}
 use Rattle.staleness.proofs.copies.copies_from.Goals as goal
+
+pub see_table-requires-clause-generations : goal.see_table-requires-clause-generations
+see_table-requires-clause-generations c =
+    let p = c.args.from + c.loop-at.at in
+    let counted = length-tables_in c.args.tables.now in
+    let lt : p < length c.args.tables.now = omega (arith, c.loop-at-test.true, c.requires.within) in
+    let table_is = table_indexed c.args.tables.now p c.index-tables-from.result lt c.index-tables-from.is in
+    let here = c.requires.begins.cluster.tables p (omega (arith, lt, counted)) in
+    as_many_generations (tables_in c.args.tables.now) c.args.generations.now c.requires.generations ∙ sym (ap (λ (t : Table). t.nodes) table_is ∙ here.nodes)
 
 pub see_table-requires-clause-size : goal.see_table-requires-clause-size
 see_table-requires-clause-size c =
@@ -76,7 +87,8 @@ loop-at-preserved c =
           let start = get_or none place d in
           ap (λ n. get_or new (owner * n + key) d) (sym keys)
           ∙ c.see_table.ensures.at owner key d (omega (arith, among, nodes)) (omega (arith, under, keys))
-          ∙ ap (seen_in table owner key) (ap (λ xs. get_or xs (owner * table.keys + key) d) c.deref_mut.ensures.value ∙ ap (λ n. get_or before.items (owner * n + key) d) keys ∙ so_far.at owner key d among under)
-          ∙ ap (λ (t : Table). seen_in t owner key (copies_from tables owner key from at start)) table_is
+          ∙ ap (λ g. seen_in g table owner key (get_or c.deref_mut.result.now (owner * table.keys + key) d)) (generation_found tables c.args.generations.now c.requires.generations owner 0 among)
+          ∙ ap (seen_in (generation_at tables owner) table owner key) (ap (λ xs. get_or xs (owner * table.keys + key) d) c.deref_mut.ensures.value ∙ ap (λ n. get_or before.items (owner * n + key) d) keys ∙ so_far.at owner key d among under)
+          ∙ ap (λ (t : Table). seen_in (generation_at tables owner) t owner key (copies_from tables owner key from at start)) table_is
           ∙ sym (ap (λ m. copies_from tables owner key from m start) (add-one at));
     })

@@ -1,7 +1,8 @@
 use Rattle.std.proofs.Common.{◌≡◌, ◌≢◌, ℕ, ◌+◌, ◌*◌, ◌<◌, ◌≤◌, true, false, ltb, length, get_or, ◌⊎◌, if◌then◌else◌, inl, inr, sym, ap, ◌∙◌, subst, arith, lt-ltb, le-ltb, eq-eqb, ne_eqb}
+use Rattle.std.specs.Prelude.{slice_index}
 use Rattle.std.proofs.lemmas.Bool.{cases_eq, cases_lt}
 use Rattle.node_table.specs.Table.{entry_at}
-use Rattle.staleness.specs.Copies.{with_entry, seen_in}
+use Rattle.staleness.specs.Copies.{version_known, with_held, seen_in}
 use Rattle.staleness.proofs.Places.{apart}
 use Rattle.staleness.proofs.copies.see_table.Goals as goal
 use Rattle.staleness.proofs.copies.see_table.Goals.{then-owner-holder, else-owner-holder}
@@ -22,32 +23,34 @@ loop-owner-preserved c =
     let copies = c.loop-owner.copies in
     let so_far = c.loop-owner.invariant in
     let owner = at in
+    let generations = c.args.generations.now in
+    let generation = slice_index generations at in
     let within : at < t.nodes = omega (arith, c.loop-owner-test.true, c.nodes-owner-end.ensures.value) in
     let now_below : ltb at (at + 1) ≡ true = lt-ltb at (at + 1) (omega arith) in
     let not_yet : ltb at at ≡ false = le-ltb at at (omega arith) in
     elim c.if-owner-holder.branch [
       | then-owner-holder w ↦
-          let new = w.see_row.new.copies in
+          let new = w.see_copy.new.copies in
           let start : at * c.keys-keys.result ≡ at * keys = ap (λ n. at * n) c.keys-keys.ensures.value in
           let ne : t.node ≢ owner = λ same. w.if-owner-holder.true (sym same ∙ sym c.node-holder.ensures.value) in
           record {
-            size = ap length w.copies-is ∙ w.see_row.ensures.size ∙ so_far.size;
+            size = ap length w.copies-is ∙ w.see_copy.ensures.size ∙ so_far.size;
             at = λ a key d lt below. ap (λ xs. get_or xs (a * keys + key) d) w.copies-is ∙ elim (cases_eq a at) [
               | inl here ↦
                   let old_here = get_or old (at * keys + key) d in
                   ap (λ n. get_or new (n * keys + key) d) here
                   ∙ ap (λ n. get_or new (n + key) d) (sym start)
-                  ∙ w.see_row.ensures.seen key d below
-                  ∙ ap (λ n. with_entry (get_or copies (n + key) d) (entry_at t owner key)) start
-                  ∙ ap (λ x. with_entry x (entry_at t owner key)) (so_far.at at key d within below ∙ ap (λ b. if b then seen_in t owner key old_here else old_here) not_yet)
-                  ∙ sym (ap (λ b. if b then old_here else with_entry old_here (entry_at t owner key)) (ne_eqb t.node owner ne))
-                  ∙ sym (ap (λ b. if b then seen_in t owner key old_here else old_here) now_below)
-                  ∙ sym (ap (λ n. if ltb n (at + 1) then seen_in t n key (get_or old (n * keys + key) d) else get_or old (n * keys + key) d) here)
+                  ∙ w.see_copy.ensures.seen key d below
+                  ∙ ap (λ n. with_held (get_or copies (n + key) d) (version_known generation (entry_at t owner key))) start
+                  ∙ ap (λ x. with_held x (version_known generation (entry_at t owner key))) (so_far.at at key d within below ∙ ap (λ b. if b then seen_in generation t owner key old_here else old_here) not_yet)
+                  ∙ sym (ap (λ b. if b then old_here else with_held old_here (version_known generation (entry_at t owner key))) (ne_eqb t.node owner ne))
+                  ∙ sym (ap (λ b. if b then seen_in generation t owner key old_here else old_here) now_below)
+                  ∙ sym (ap (λ n. if ltb n (at + 1) then seen_in (slice_index generations n) t n key (get_or old (n * keys + key) d) else get_or old (n * keys + key) d) here)
               | inr other ↦
                   let old_there = get_or old (a * keys + key) d in
-                  w.see_row.ensures.others (a * keys + key) d (subst (λ n. (a * keys + key < n) ⊎ (n + keys ≤ a * keys + key)) (sym start) (apart a at key keys below other))
+                  w.see_copy.ensures.others (a * keys + key) d (subst (λ n. (a * keys + key < n) ⊎ (n + keys ≤ a * keys + key)) (sym start) (apart a at key keys below other))
                   ∙ so_far.at a key d lt below
-                  ∙ sym (ap (λ b. if b then seen_in t a key old_there else old_there) (not_next a at other))
+                  ∙ sym (ap (λ b. if b then seen_in (slice_index generations a) t a key old_there else old_there) (not_next a at other))
             ];
           }
       | else-owner-holder w ↦
@@ -57,14 +60,14 @@ loop-owner-preserved c =
             at = λ a key d lt below. ap (λ xs. get_or xs (a * keys + key) d) w.copies-is ∙ so_far.at a key d lt below ∙ elim (cases_eq a at) [
               | inl here ↦
                   let old_here = get_or old (at * keys + key) d in
-                  ap (λ n. if ltb n at then seen_in t n key (get_or old (n * keys + key) d) else get_or old (n * keys + key) d) here
-                  ∙ ap (λ b. if b then seen_in t owner key old_here else old_here) not_yet
-                  ∙ sym (ap (λ b. if b then old_here else with_entry old_here (entry_at t owner key)) (eq-eqb t.node owner same))
-                  ∙ sym (ap (λ b. if b then seen_in t owner key old_here else old_here) now_below)
-                  ∙ sym (ap (λ n. if ltb n (at + 1) then seen_in t n key (get_or old (n * keys + key) d) else get_or old (n * keys + key) d) here)
+                  ap (λ n. if ltb n at then seen_in (slice_index generations n) t n key (get_or old (n * keys + key) d) else get_or old (n * keys + key) d) here
+                  ∙ ap (λ b. if b then seen_in generation t owner key old_here else old_here) not_yet
+                  ∙ sym (ap (λ b. if b then old_here else with_held old_here (version_known generation (entry_at t owner key))) (eq-eqb t.node owner same))
+                  ∙ sym (ap (λ b. if b then seen_in generation t owner key old_here else old_here) now_below)
+                  ∙ sym (ap (λ n. if ltb n (at + 1) then seen_in (slice_index generations n) t n key (get_or old (n * keys + key) d) else get_or old (n * keys + key) d) here)
               | inr other ↦
                   let old_there = get_or old (a * keys + key) d in
-                  sym (ap (λ b. if b then seen_in t a key old_there else old_there) (not_next a at other))
+                  sym (ap (λ b. if b then seen_in (slice_index generations a) t a key old_there else old_there) (not_next a at other))
             ];
           }
     ]

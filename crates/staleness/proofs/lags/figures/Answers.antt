@@ -11,7 +11,7 @@ joined_all-requires-clause-few g c =
     let size = c.nodes_of_a_thread-size.result in
     omega (
       arith,
-      ap length c.deref-2.ensures.value,
+      ap length c.deref-4.ensures.value,
       as_many c.args.round (tables_in c.args.tables.now) c.args.lists.now size (n / size + 1) _ c.in_ok-parts.ensures,
       div-le_self n size,
       c.nodes_of_a_thread-size.ensures.few,
@@ -21,7 +21,7 @@ pub joined_all-requires-clause-bound : goal.joined_all-requires-clause-bound
 joined_all-requires-clause-bound g c =
     let n = length c.args.tables.now in
     let size = c.nodes_of_a_thread-size.result in
-    rw c.deref-2.ensures.value (bounded c.args.round (tables_in c.args.tables.now) c.args.lists.now size (n / size + 1) _ c.in_ok-parts.ensures)
+    rw c.deref-4.ensures.value (bounded c.args.round (tables_in c.args.tables.now) c.args.lists.now size (n / size + 1) _ c.in_ok-parts.ensures)
 
 pub returns-clause-figures : goal.returns-clause-figures
 returns-clause-figures g c =
@@ -31,4 +31,4 @@ returns-clause-figures g c =
     let counted = length-tables_in c.args.tables.now in
     let whole : IsCluster (length tables) tables = subst (λ m. IsCluster m tables) (sym counted) c.requires.cluster in
     figures_of_all c.args.round tables c.args.lists.now size (n / size + 1) _ c.in_ok-parts.ensures whole (omega (arith, counted, enough n size c.nodes_of_a_thread-size.ensures.some)) c.joined_all.result
-    (rw c.deref-2.ensures.value at c.joined_all.ensures.stale) (rw c.deref-2.ensures.value at c.joined_all.ensures.greatest)
+    (rw c.deref-4.ensures.value at c.joined_all.ensures.stale) (rw c.deref-4.ensures.value at c.joined_all.ensures.greatest) (rw c.deref-4.ensures.value at c.joined_all.ensures.leftover)

@@ -12,7 +12,7 @@ collect-requires-clause-ready g c κs within =
     let ends = c.into_par_iter.ensures in
     let last = length c.args.tables.now / c.args.size in
     let inside = nat_range-All (λ i. i ≤ last) 0 (last + 1) (λ i low high. omega arith) in
-    rw (c.map.ensures.base, c.map.ensures.f, c.with_min_len.ensures.base, ends.0, ends.1) (λ k d lt. ((c.requires.countable, c.requires.some, inside k d lt, c.requires.copies), λ y p. tt))
+    rw (c.map.ensures.base, c.map.ensures.f, c.with_min_len.ensures.base, ends.0, ends.1) (λ k d lt. ((c.requires.generations, c.requires.countable, c.requires.some, inside k d lt, c.requires.copies), λ y p. tt))
 
 pub returns : goal.returns
 returns g c =

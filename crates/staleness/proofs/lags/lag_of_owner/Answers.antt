@@ -1,8 +1,8 @@
 use Rattle.std.proofs.Common.{◌+◌, max, length, ap, ◌∙◌, arith, add-one}
-use Rattle.bench_types.specs.declared.rows.Figures.{Figures}
+use Rattle.staleness.specs.declared.lags.Lag.{Lag}
 use Rattle.cluster.specs.Tables.{tables_in}
 use Rattle.staleness.specs.Figures.{sum_below, most_below, staleness_at, stale_count}
-use Rattle.staleness.specs.Copies.{key_figures}
+use Rattle.staleness.specs.Copies.{key_lag}
 use Rattle.staleness.proofs.Sums.{sum_below-le, stale_count-le}
 use Rattle.staleness.proofs.lags.lag_of_owner.Goals as goal
 
@@ -12,7 +12,7 @@ joined-total-requires c =
     omega (
       arith,
       c.loop-key.invariant.few,
-      ap (λ (f : Figures). f.stale) c.lag_of_key.ensures,
+      ap (λ (f : Lag). f.stale) c.lag_of_key.ensures,
       sum_below-le (λ p. stale_count (staleness_at c.args.round tables c.args.lists.now p c.args.owner c.loop-key.key)) (length tables) 1 (λ p lt. stale_count-le (staleness_at c.args.round tables c.args.lists.now p c.args.owner c.loop-key.key)),
       c.requires.countable.few,
       c.keys-key-end.ensures.value,
@@ -30,10 +30,10 @@ loop-key-preserved c =
         arith,
         c.loop-key.invariant.few,
         c.joined-total.ensures.stale,
-        ap (λ (f : Figures). f.stale) more,
+        ap (λ (f : Lag). f.stale) more,
         sum_below-le (λ p. stale_count (staleness_at c.args.round tables c.args.lists.now p c.args.owner key)) (length tables) 1 (λ p lt. stale_count-le (staleness_at c.args.round tables c.args.lists.now p c.args.owner key)),
         c.requires.countable.few,
       );
-      stale_is = rw (add-one key) (c.joined-total.ensures.stale ∙ ap (λ n. n + c.lag_of_key.result.stale) c.loop-key.invariant.stale_is ∙ ap (λ (f : Figures). sum_below key (λ k. (key_figures c.args.round tables c.args.lists.now c.args.owner k).stale) + f.stale) more);
-      greatest_is = rw (add-one key) (c.joined-total.ensures.greatest ∙ ap (λ n. max n c.lag_of_key.result.greatest) c.loop-key.invariant.greatest_is ∙ ap (λ (f : Figures). max (most_below key (λ k. (key_figures c.args.round tables c.args.lists.now c.args.owner k).greatest)) f.greatest) more);
+      stale_is = rw (add-one key) (c.joined-total.ensures.stale ∙ ap (λ n. n + c.lag_of_key.result.stale) c.loop-key.invariant.stale_is ∙ ap (λ (f : Lag). sum_below key (λ k. (key_lag c.args.round tables c.args.lists.now c.args.owner k).stale) + f.stale) more);
+      greatest_is = rw (add-one key) (c.joined-total.ensures.greatest ∙ ap (λ n. max n c.lag_of_key.result.greatest) c.loop-key.invariant.greatest_is ∙ ap (λ (f : Lag). max (most_below key (λ k. (key_lag c.args.round tables c.args.lists.now c.args.owner k).greatest)) f.greatest) more);
     }

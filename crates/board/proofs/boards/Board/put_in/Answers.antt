@@ -8,11 +8,25 @@ use Rattle.board.specs.Plays.{view, Sat}
 use Rattle.dependencies.specs.Sharing.{exchange_at}
 use Rattle.board.proofs.Moving.{retakes}
 use Rattle.board.proofs.Finishing.{finishes}
-use Rattle.board.proofs.Calls.{word_zero, word_within, both_out, finished_of}
+use Rattle.board.proofs.Calls.{word_zero, word_within, second_out, both_out, finished_of}
 use Rattle.board.proofs.boards.Board.put_in.Goals as goal
 
 pub load-requires : goal.load-requires
 load-requires c = (c.requires.id, word_within c.args.self.now c.args.hold.index c.requires.within, retakes (plan_of c.args.self.now) _ _ c.args.raw.now.me c.args.raw.now.me.0.seat _ c.args.hold.index refl c.requires.parts c.requires.hold.held c.requires.rests)
+
+-- the initiator's slot is the next to be filled
+pub exchange-requires-2 : goal.exchange-requires-2
+exchange-requires-2 c =
+    let plan = plan_of c.args.self.now in
+    let i = c.args.hold.index in
+    let v = c.args.raw.now.me.0.seat in
+    let found = c.exchange-exchange.ensures.value ∙ ap (λ l. exchange_at l.exchanges i) c.args.self.now.planned.1 in
+    let loaded : c.load.new.seat.me ≡ (view plan (without_held v i) (i ∷ []) [], (responder_of plan i, None) ∷ (initiator_of plan i, None) ∷ []) =
+    c.load.ensures.2 i refl ∙ ap (λ (p : BoardPlan). (view p (without_held v i) (i ∷ []) [], (responder_of p i, None) ∷ (initiator_of p i, None) ∷ [])) (ap (λ (x : Sat). x.0.plan) c.requires.rests) in (
+      search rules,
+      second_out (view plan (without_held v i) (i ∷ []) []) (initiator_of plan i) (responder_of plan i) c.exchange-exchange.result.initiator c.exchange-exchange.result.responder None None (Some c.args.hold.responder) c.load.new.seat.me c.exchange.new.seat.me c.turn.new.self.me
+          loaded (ap (λ e. e.initiator) found) (ap (λ e. e.responder) found) c.exchange.ensures.3 c.turn.ensures.2,
+    )
 
 pub fetch_add-requires : goal.fetch_add-requires
 fetch_add-requires c =

@@ -33,12 +33,11 @@ returns-then-blocks-gt0-clause-layout c =
     let are_marked = subst (λ xs. AreMarked added xs marked) c.deref_mut.ensures.value c.mark_new-blocks.ensures.marked in
     let are_unmarked = subst (λ xs. AreUnmarked l.rows.items added xs after) lent (subst (λ rows. AreUnmarked rows added c.deref_mut-then-blocks-gt0.result.now after) c.deref.ensures.value c.unmark.ensures) in
     record {
-      node_below = c.requires.node_below;
-      nodes_limit = c.requires.nodes_limit;
-      some_key = c.requires.some_key;
-      keys_limit = c.requires.keys_limit;
+      proper = c.requires.proper;
       laid = c.requires.laid;
       greatest = subst (AreGreatest (table_in l)) (sym after_is) (greatest_again l c.requires added marked after are_marked are_unmarked len len');
+      generations = c.requires.generations;
+      room = c.requires.room;
       counted = c.requires.counted;
     }
 

@@ -1,65 +1,95 @@
-use Rattle.std.proofs.Common.{◌≡◌, ℕ, ◌<◌, List, length, set, replicate, sym, ap, ◌∙◌, subst, arith}
+use Rattle.std.proofs.Common.{◌≡◌, ℕ, ◌<◌, ◌≤◌, List, length, get_or, set, take, replicate, sym, ap, ◌∙◌, subst, arith}
 use Rattle.std.proofs.lemmas.List.{get_or_read}
 use Rattle.bench_types.specs.declared.entries.Entry.{Entry}
 use Rattle.node_table.specs.declared.layouts.Row.{Row}
 use Rattle.node_table.specs.declared.layouts.Layout.{Layout}
-use Rattle.node_table.specs.Table.{Table, without_others}
-use Rattle.node_table.specs.Rows.{AreGreatest}
-use Rattle.node_table.specs.Layouts.{row_of, rows_of, row_at, row_len, held_in, table_in, block_len, IsInSlots, AreLaid, IsLayout}
-use Rattle.std.specs.Prelude.{sum_by, take}
+use Rattle.node_table.specs.Table.{Table, without_others, greatest_version, IsProper}
+use Rattle.node_table.specs.Rows.{AreGenerations, AreGreatest}
+use Rattle.node_table.specs.Layouts.{row_of, rows_of, row_at, held_in, table_in, block_len, total, IsInSlots, AreLaid, AreOthersKept, IsLayout}
+use Rattle.node_table.proofs.ProperLaws.{proper-without_others}
 use Rattle.node_table.proofs.Laid.{row_at-get_or, len-le-keys}
-use Rattle.node_table.proofs.Forgotten.{empty_row, one_row, laid_one, counted_one, row_at-one_own, row_at-one_other, table_one, greatest_one}
+use Rattle.node_table.proofs.Forgotten.{empty_row, one_row, laid_one, counted_one, row_at-one_own, row_at-one_other, table_one, greatest_one, generations_none, generations_one}
 use Rattle.node_table.proofs.layouts.Layout.forget_others.Goals as goal
 
--- what a layout becomes of which its node's row was moved to the front
-module _ (l : Layout) (r : Row) (slots' : List Entry) (rows' : List Row) (sound : IsLayout l) (own : (d : Row) → Rattle.std.proofs.Common.get_or l.rows.items l.node d ≡ r) (front : take r.len slots' ≡ row_of l.slots.items r) (len : length slots' ≡ block_len l.keys r) (rows : rows' ≡ one_row l.nodes l.node r.len) where
-  below : l.node < length l.rows.items
-  below = omega (arith, sound.laid.as_many, sound.node_below)
+-- the table of a layout with other slots and rows
+abbrev table_of : Layout → List Entry → List Row → Table
+table_of l slots rows = record { node = l.node; nodes = l.nodes; keys = l.keys; generation = l.generation; held = held_in (rows_of slots rows) }
 
-  lies : IsInSlots l.keys l.slots.items r
-  lies = subst (IsInSlots l.keys l.slots.items) (own r) (sound.laid.each l.node r below)
+-- what is left of a layout of which its node's row was moved to the front
+record IsLeft (l : Layout) (slots : List Entry) (rows : List Row) (versions : List ℕ) (count : ℕ) : Type 0 where
+  table : table_of l slots rows ≡ without_others (table_in l)
+  laid : AreLaid l.nodes l.keys slots rows
+  greatest : AreGreatest (table_of l slots rows) versions
+  counted : count ≡ total rows
 
-  laid_front : AreLaid l.nodes l.keys slots' rows'
-  laid_front = subst (AreLaid l.nodes l.keys slots') (sym rows) (laid_one l.nodes l.keys l.node r l.slots.items slots' sound.node_below lies (len-le-keys l.keys l.slots.items r lies) front len)
+left : (l : Layout) (r : Row) (slots : List Entry) (rows : List Row) (versions : List ℕ) (version : ℕ) → IsLayout l → r ≡ get_or l.rows.items l.node r → version ≡ get_or l.greatest.items l.node version → take r.len slots ≡ row_of l.slots.items r → length slots ≡ block_len l.keys r → rows ≡ replicate l.rows.len empty_row → versions ≡ replicate {A = ℕ} l.greatest.len 0 → IsLeft l slots (set rows l.node (record { start = 0; len = r.len })) (set versions l.node version) r.len
+left l r slots rows versions version sound read read' front len cleared zeros = record {
+  table = table_is;
+  laid = subst (AreLaid l.nodes l.keys slots) (sym rows_are) (laid_one l.nodes l.keys l.node r l.slots.items slots sound.proper.node_below lies fits front len);
+  greatest = subst (λ (t : Table). AreGreatest t (set versions l.node version)) (sym table_is) (subst (AreGreatest (without_others (table_in l))) (sym versions_are) (greatest_one (table_in l) version sound.proper.node_below version_is));
+  counted = counted_one l.nodes l.keys l.node r l.slots.items slots sound.proper.node_below lies fits front len ∙ ap total (sym rows_are);
+}
+  where
+    below : l.node < length l.rows.items
+    below = omega (arith, sound.laid.as_many, sound.proper.node_below)
 
-  counted_front : r.len ≡ sum_by row_len rows'
-  counted_front = counted_one l.nodes l.keys l.node r l.slots.items slots' sound.node_below lies (len-le-keys l.keys l.slots.items r lies) front len ∙ ap (sum_by row_len) (sym rows)
+    own : (d : Row) → get_or l.rows.items l.node d ≡ r
+    own d = sym (get_or_read l.rows.items l.node r below read d)
 
-  table_front : ◌≡◌ {A = Table} (record { node = l.node; nodes = l.nodes; keys = l.keys; held = held_in (rows_of slots' rows') }) (without_others (table_in l))
-  table_front = table_one l slots' rows'
-      (ap (λ xs. row_at slots' xs l.node) rows ∙ row_at-one_own l.nodes l.keys l.node r l.slots.items slots' sound.node_below lies (len-le-keys l.keys l.slots.items r lies) front len ∙ ap (row_of l.slots.items) (sym (own r)) ∙ sym (row_at-get_or l.slots.items l.rows.items l.node r below))
-      (λ k other. ap (λ xs. row_at slots' xs k) rows ∙ row_at-one_other l.nodes l.keys l.node r l.slots.items slots' sound.node_below lies (len-le-keys l.keys l.slots.items r lies) front len k other)
+    lies : IsInSlots l.keys l.slots.items r
+    lies = subst (IsInSlots l.keys l.slots.items) (own r) (sound.laid.each l.node r below)
 
-pub returns-clause-layout : goal.returns-clause-layout
-returns-clause-layout c =
+    fits : r.len ≤ l.keys
+    fits = len-le-keys l.keys l.slots.items r lies
+
+    rows_are : set rows l.node (record { start = 0; len = r.len }) ≡ one_row l.nodes l.node r.len
+    rows_are = let len_is : l.rows.len ≡ l.nodes = omega (arith, l.rows.ok.0, sound.laid.as_many) in
+        ap (λ xs. set xs l.node (record { start = 0; len = r.len })) (cleared ∙ ap (λ n. replicate n empty_row) len_is)
+
+    versions_are : set versions l.node version ≡ set (replicate {A = ℕ} l.nodes 0) l.node version
+    versions_are = let len_is : l.greatest.len ≡ l.nodes = omega (arith, l.greatest.ok.0, sound.greatest.count) in
+        ap (λ xs. set xs l.node version) (zeros ∙ ap (λ n. replicate {A = ℕ} n 0) len_is)
+
+    version_is : version ≡ greatest_version (table_in l) l.node
+    version_is = get_or_read l.greatest.items l.node version (omega (arith, sound.greatest.count, sound.proper.node_below)) read' 0 ∙ sound.greatest.greatest l.node sound.proper.node_below
+
+    table_is : table_of l slots (set rows l.node (record { start = 0; len = r.len })) ≡ without_others (table_in l)
+    table_is = table_one l slots (set rows l.node (record { start = 0; len = r.len }))
+        (ap (λ xs. row_at slots xs l.node) rows_are ∙ row_at-one_own l.nodes l.keys l.node r l.slots.items slots sound.proper.node_below lies fits front len ∙ ap (row_of l.slots.items) (sym (own r)) ∙ sym (row_at-get_or l.slots.items l.rows.items l.node r below))
+        (λ k other. ap (λ xs. row_at slots xs k) rows_are ∙ row_at-one_other l.nodes l.keys l.node r l.slots.items slots sound.proper.node_below lies fits front len k other)
+
+pub returns-then-generation-gt0-clause-layout : goal.returns-then-generation-gt0-clause-layout
+returns-then-generation-gt0-clause-layout c =
     let l = c.args.self.now in
-    let r : Row = c.index-row.result.now in
-    let rows_len : l.rows.len ≡ l.nodes = omega (arith, l.rows.ok.0, c.requires.laid.as_many) in
-    let greatest_len : l.greatest.len ≡ l.nodes = omega (arith, l.greatest.ok.0, c.requires.greatest.count) in
-    let below : l.node < length l.rows.items = omega (arith, c.requires.laid.as_many, c.requires.node_below) in
-    let own : (d : Row) → Rattle.std.proofs.Common.get_or l.rows.items l.node d ≡ r = λ d. sym (get_or_read l.rows.items l.node r below c.index-row.ensures d) in
-    let len : length c.move_to_front.new.slots.items ≡ block_len l.keys r = omega (arith, c.move_to_front.ensures.len, c.move_to_front.new.slots.ok.0) in
-    let rows : set c.fill.new.self.items l.node (record { start = 0; len = r.len }) ≡ one_row l.nodes l.node r.len = ap (λ xs. set xs l.node (record { start = 0; len = r.len })) (c.fill.ensures.items (λ y e. e) ∙ ap (λ n. replicate n empty_row) rows_len) in
-    let versions : set c.fill-2.new.self.items l.node c.index-greatest.result.now ≡ set (replicate {A = ℕ} l.nodes 0) l.node c.index-greatest.result.now = ap (λ xs. set xs l.node c.index-greatest.result.now) (c.fill-2.ensures.items (λ y e. e) ∙ ap (λ n. replicate {A = ℕ} n 0) greatest_len) in
-    let greatest = get_or_read l.greatest.items l.node c.index-greatest.result.now (omega (arith, c.requires.greatest.count, c.requires.node_below)) c.index-greatest.ensures 0 ∙ c.requires.greatest.greatest l.node c.requires.node_below in
+    let is_left = left l c.index-row.result.now c.move_to_front.new.slots.items c.fill.new.self.items c.fill-2.new.self.items c.index-greatest.result.now c.requires c.index-row.ensures c.index-greatest.ensures c.move_to_front.ensures.row (omega (arith, c.move_to_front.ensures.len, c.move_to_front.new.slots.ok.0)) (c.fill.ensures.items (λ y e. e)) (c.fill-2.ensures.items (λ y e. e)) in
+    let after = c.set_generation.new.generations in
+    let others = subst (λ xs. AreOthersKept l.node xs after.items) c.clear.ensures.items c.set_generation.ensures.others in
     record {
-      node_below = c.requires.node_below;
-      nodes_limit = c.requires.nodes_limit;
-      some_key = c.requires.some_key;
-      keys_limit = c.requires.keys_limit;
-      laid = laid_front l r c.move_to_front.new.slots.items _ c.requires own c.move_to_front.ensures.row len rows;
-      greatest = subst (λ (t : Table). AreGreatest t (set c.fill-2.new.self.items l.node c.index-greatest.result.now)) (sym (table_front l r c.move_to_front.new.slots.items _ c.requires own c.move_to_front.ensures.row len rows))
-          (subst (AreGreatest (without_others (table_in l))) (sym versions) (greatest_one (table_in l) c.index-greatest.result.now c.requires.node_below greatest));
-      counted = counted_front l r c.move_to_front.new.slots.items _ c.requires own c.move_to_front.ensures.row len rows;
+      proper = subst IsProper (sym is_left.table) (proper-without_others (table_in l) c.requires.proper);
+      laid = is_left.laid;
+      greatest = is_left.greatest;
+      generations = subst (λ (t : Table). AreGenerations t after.items) (sym is_left.table) (generations_one (table_in l) after.items (omega (arith, c.set_generation.ensures.count, after.ok.0)) (c.set_generation.ensures.own ∙ c.generation_of-generation.ensures) others);
+      room = omega (arith, c.requires.room, c.clear.ensures.capacity, c.set_generation.ensures.capacity);
+      counted = is_left.counted;
     }
 
-pub returns-clause-table : goal.returns-clause-table
-returns-clause-table c =
+pub returns-then-generation-gt0-clause-table : goal.returns-then-generation-gt0-clause-table
+returns-then-generation-gt0-clause-table c =
+    (left c.args.self.now c.index-row.result.now c.move_to_front.new.slots.items c.fill.new.self.items c.fill-2.new.self.items c.index-greatest.result.now c.requires c.index-row.ensures c.index-greatest.ensures c.move_to_front.ensures.row (omega (arith, c.move_to_front.ensures.len, c.move_to_front.new.slots.ok.0)) (c.fill.ensures.items (λ y e. e)) (c.fill-2.ensures.items (λ y e. e))).table
+
+pub returns-else-generation-gt0-clause-layout : goal.returns-else-generation-gt0-clause-layout
+returns-else-generation-gt0-clause-layout c =
     let l = c.args.self.now in
-    let r : Row = c.index-row.result.now in
-    let rows_len : l.rows.len ≡ l.nodes = omega (arith, l.rows.ok.0, c.requires.laid.as_many) in
-    let below : l.node < length l.rows.items = omega (arith, c.requires.laid.as_many, c.requires.node_below) in
-    let own : (d : Row) → Rattle.std.proofs.Common.get_or l.rows.items l.node d ≡ r = λ d. sym (get_or_read l.rows.items l.node r below c.index-row.ensures d) in
-    let len : length c.move_to_front.new.slots.items ≡ block_len l.keys r = omega (arith, c.move_to_front.ensures.len, c.move_to_front.new.slots.ok.0) in
-    let rows : set c.fill.new.self.items l.node (record { start = 0; len = r.len }) ≡ one_row l.nodes l.node r.len = ap (λ xs. set xs l.node (record { start = 0; len = r.len })) (c.fill.ensures.items (λ y e. e) ∙ ap (λ n. replicate n empty_row) rows_len) in
-    table_front l r c.move_to_front.new.slots.items _ c.requires own c.move_to_front.ensures.row len rows
+    let is_left = left l c.index-row.result.now c.move_to_front.new.slots.items c.fill.new.self.items c.fill-2.new.self.items c.index-greatest.result.now c.requires c.index-row.ensures c.index-greatest.ensures c.move_to_front.ensures.row (omega (arith, c.move_to_front.ensures.len, c.move_to_front.new.slots.ok.0)) (c.fill.ensures.items (λ y e. e)) (c.fill-2.ensures.items (λ y e. e)) in
+    record {
+      proper = subst IsProper (sym is_left.table) (proper-without_others (table_in l) c.requires.proper);
+      laid = is_left.laid;
+      greatest = is_left.greatest;
+      generations = subst (λ (t : Table). AreGenerations t c.clear.new.self.items) (sym is_left.table) (generations_none (table_in l) c.clear.new.self.items (omega (arith, c.generation_of-generation.ensures, c.if-generation-gt0.false)) c.clear.ensures.items);
+      room = omega (arith, c.requires.room, c.clear.ensures.capacity);
+      counted = is_left.counted;
+    }
+
+pub returns-else-generation-gt0-clause-table : goal.returns-else-generation-gt0-clause-table
+returns-else-generation-gt0-clause-table c =
+    (left c.args.self.now c.index-row.result.now c.move_to_front.new.slots.items c.fill.new.self.items c.fill-2.new.self.items c.index-greatest.result.now c.requires c.index-row.ensures c.index-greatest.ensures c.move_to_front.ensures.row (omega (arith, c.move_to_front.ensures.len, c.move_to_front.new.slots.ok.0)) (c.fill.ensures.items (λ y e. e)) (c.fill-2.ensures.items (λ y e. e))).table

@@ -3,10 +3,10 @@ use Rattle.std.specs.Prelude.{nat_lt}
 use Rattle.std.proofs.lemmas.Bool.{lt-ltb}
 use Rattle.std.proofs.lemmas.List.{get_or_read}
 use Rattle.bench_types.specs.declared.entries.Entry.{Entry}
-use Rattle.bench_types.specs.Entry.{version_of}
-use Rattle.node_table.specs.Table.{version_at}
+use Rattle.bench_types.specs.Mark.{mark_held}
+use Rattle.node_table.specs.Table.{mark_at}
 use Rattle.node_table.specs.Layouts.{table_in, entry_in}
-use Rattle.node_table.proofs.Versions.{version_at-le-greatest_version}
+use Rattle.node_table.proofs.Taking.{version-le-greatest}
 use Rattle.node_table.proofs.InLayout.{entry_at-in}
 use Rattle.node_table.proofs.layouts.Layout.is_newer.Goals as goal
 
@@ -15,18 +15,18 @@ returns-then-index-item c =
     let l = c.args.self.now in
     let item = c.args.item in
     let greatest = get_or_read l.greatest.items item.owner c.index.result.now (omega (arith, c.requires.layout.greatest.count, c.requires.in_place.owner_below)) c.index.ensures 0 ∙ c.requires.layout.greatest.greatest item.owner c.requires.in_place.owner_below in
-    sym (lt-ltb (version_at (table_in l) item.owner item.entry.key) item.entry.version (omega (arith, greatest, c.if-index-item.true, version_at-le-greatest_version (table_in l) item.owner item.entry.key c.requires.in_place.key_below)))
+    sym (lt-ltb (mark_at (table_in l) item.owner item.entry.key).version item.entry.version (omega (arith, greatest, c.if-index-item.true, version-le-greatest (table_in l) item.owner item.entry.key c.requires.layout.proper c.requires.in_place.key_below)))
 
 pub returns-in-Some : goal.returns-in-Some
 returns-in-Some c =
     let l = c.args.self.now in
     let item = c.args.item in
     let at = entry_at-in l item.owner item.entry.key ∙ ap (λ es. entry_in es item.entry.key) (sym c.row.ensures) in
-    ap (λ (o : Option Entry). nat_lt (version_of o) item.entry.version) (c.in-Some.ensures ∙ sym at)
+    ap (λ (o : Option Entry). nat_lt (mark_held o).version item.entry.version) (c.in-Some.ensures ∙ sym at)
 
 pub returns-in-None : goal.returns-in-None
 returns-in-None c =
     let l = c.args.self.now in
     let item = c.args.item in
     let at = entry_at-in l item.owner item.entry.key ∙ ap (λ es. entry_in es item.entry.key) (sym c.row.ensures) in
-    sym (ap (λ (o : Option Entry). nat_lt (version_of o) item.entry.version) (at ∙ sym c.in-None.ensures) ∙ lt-ltb 0 item.entry.version (omega (arith, c.requires.in_place.written)))
+    sym (ap (λ (o : Option Entry). nat_lt (mark_held o).version item.entry.version) (at ∙ sym c.in-None.ensures) ∙ lt-ltb 0 item.entry.version (omega (arith, c.requires.in_place.written)))

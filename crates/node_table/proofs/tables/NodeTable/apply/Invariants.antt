@@ -9,6 +9,7 @@ abbrev pub invariant-loop-item : goal.invariant-loop-item
 invariant-loop-item l = record {
   layout : IsLayout l.self-inside.layout;
   table : applied (table_in l.self-inside.layout) (drop l.item-index l.added) ≡ applied l.fn.self.table l.added;
+  node : l.self-inside.layout.node ≡ l.fn.self.table.node;
   nodes : l.self-inside.layout.nodes ≡ l.fn.self.table.nodes;
   keys : l.self-inside.layout.keys ≡ l.fn.self.table.keys;
   room : vec_len l.self-inside.layout.slots + blocks_for (table_in l.self-inside.layout) (drop l.item-index l.added) * l.self-inside.layout.keys ≤ vec_capacity l.self-inside.layout.slots;

@@ -1,7 +1,7 @@
 use Rattle.std.proofs.Common.{sym, ap, ◌∙◌}
-use Rattle.node_table.specs.Table.{greatest_version}
+use Rattle.node_table.specs.Table.{greatest_mark}
 use Rattle.node_table.proofs.InLayout.{greatest_past}
 use Rattle.node_table.proofs.tables.NodeTable.greatest.Goals as goal
 
 pub returns-else-owner-self : goal.returns-else-owner-self
-returns-else-owner-self c = sym (greatest_past c.self.inside.layout c.self.invariant c.args.owner c.if-owner-self.false) ∙ ap (λ k. greatest_version k.table c.args.owner) c.self.view_is
+returns-else-owner-self c = sym (greatest_past c.self.inside.layout c.self.invariant c.args.owner c.if-owner-self.false) ∙ ap (λ k. greatest_mark k.table c.args.owner) c.self.view_is

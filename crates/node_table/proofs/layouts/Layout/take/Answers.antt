@@ -1,0 +1,19 @@
+use Rattle.std.proofs.Common.{sym, ◌∙◌, arith}
+use Rattle.std.proofs.lemmas.Bool.{ltb-false}
+use Rattle.node_table.specs.Table.{mark_at}
+use Rattle.node_table.specs.Layouts.{table_in}
+use Rattle.node_table.proofs.Laws.{taken-older}
+use Rattle.node_table.proofs.Taking.{taken_kept}
+use Rattle.node_table.proofs.layouts.Layout.take.Goals as goal
+use Rattle.node_table.proofs.layouts.Layout.take.Goals.{else-held-item-2-via-then-held-item-2+else-is_newer, else-held-item-2-via-else-held-item-2}
+
+pub returns-else-held-item-2-clause-ok : goal.returns-else-held-item-2-clause-ok
+returns-else-held-item-2-clause-ok c =
+    let t = table_in c.args.self.now in
+    let item = c.args.item in
+    sym (elim c.else-held-item-2.branch [
+      | else-held-item-2-via-then-held-item-2+else-is_newer w ↦
+          taken_kept t item c.requires.layout.proper (omega (arith, c.generation_of-held.ensures, w.if-held-item-2.true)) c.requires.in_place.written
+          (ltb-false (mark_at t item.owner item.entry.key).version item.entry.version (sym w.is_newer.ensures ∙ w.if-is_newer.false))
+      | else-held-item-2-via-else-held-item-2 w ↦ taken-older t item (omega (arith, c.generation_of-held.ensures, c.if-held-item.false, w.if-held-item-2.false))
+    ])

@@ -1,0 +1,5 @@
+use Rattle.reconcile.proofs.Lacked.{candidates-lacked}
+use Rattle.reconcile.proofs.laws.candidates_are_lacked.Goals as goal
+
+pub returns : goal.returns
+returns c mode from to i = candidates-lacked mode from to i

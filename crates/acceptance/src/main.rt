@@ -7,11 +7,12 @@
 //! | `small` | runs that can be followed by hand |
 //! | `lawful` | scenarios of many shapes, whose texts an independent program worked out |
 //! | `bytes` | the same of format 2, with budgets in bytes, with their comparisons |
+//! | `forgetful` | the same of format 2, with nodes that forget |
 //! | `examples` | the scenarios of the repository's `examples/` |
 //! | `refused` | texts that are refused, each with the fault that `stdout` has |
 //! | `changed` | tables of changes to the scenario `small/two_nodes.toml` |
 //!
-//! Beside a scenario `NAME.toml` of the first four stand the texts that it must give, byte for byte:
+//! Beside a scenario `NAME.toml` of the first five stand the texts that it must give, byte for byte:
 //! `NAME.report.csv`, and where they are wanted `NAME.trace.csv` and `NAME.comparison.csv`. It must give
 //! them for every number of workers.
 #![tactic(auto)]

@@ -79,7 +79,7 @@ fn table_of(
 {
     let mut table = NodeTable::new(alloc, node, nodes, keys)?;
     for key in 0..keys {
-        assert!(rt; table.greatest(node) < MOST_KEYS);
+        assert!(rt; table.greatest(node).version < MOST_KEYS);
         table.write_own(key, 7, 1)?;
     }
     Ok(table)

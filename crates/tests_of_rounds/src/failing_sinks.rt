@@ -95,7 +95,7 @@ fn expect_held(
 fn headers_to_sinks_that_fail(rt: HostRuntime) {
     for calls in 0..60 {
         let mut report = Fragile::new(&rt, calls);
-        let answer = report_header(rt.alloc(), &mut report);
+        let answer = report_header(rt.alloc(), &mut report, 1);
         expect_held(&rt, &report, answer, REPORT_HEADER, calls);
     }
 }
@@ -104,7 +104,7 @@ fn headers_to_sinks_that_fail(rt: HostRuntime) {
 fn rows_to_sinks_that_fail(rt: HostRuntime) {
     for calls in 0..18 {
         let mut report = Fragile::new(&rt, calls);
-        let answer = write_report_row(rt.alloc(), &mut report, &TWO_NODES);
+        let answer = write_report_row(rt.alloc(), &mut report, 1, &TWO_NODES);
         expect_held(&rt, &report, answer, TWO_NODES_LINE, calls);
     }
 }

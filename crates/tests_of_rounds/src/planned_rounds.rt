@@ -2,10 +2,11 @@
 
 use crate::comparing::{expect, expect_at};
 use crate::exchange_lists::{CROSSING, between, list_of, try_list_of};
-use crate::small_scenarios::{PLAIN, RING, expect_counts, listed, scenario_of};
+use crate::small_scenarios::{PLAIN, RING, RING_IN_BYTES, expect_counts, listed, scenario_of};
 use bench_types::limits::MOST_ROUNDS;
 use round_plan::{
-    OwnWrite, RoundList, Writes, is_up, peer, restarts_now, separated, writes_in, writes_of,
+    OwnWrite, RoundList, Writes, forgets_now, is_up, peer, restarts_now, separated, writes_in,
+    writes_of,
 };
 use scenario::Scenario;
 use std::alloc::AllocGlobal;
@@ -64,6 +65,49 @@ const APART: &[(u32, bool, (u32, u32))] = &[(1, true, (0, 2)), (2, false, (2, 0)
 // By the node and the round, whether it restarts.
 const RESTARTS: &[(u32, u32, bool)] = &[(1, 2, true), (0, 2, false), (1, 3, false)];
 
+// Restarts of four nodes, some of which forget.
+const FORGETTING: &str = "restart = [\n\
+    { node = 1, round = 2, down = 0, forget = true },\n\
+    { node = 1, round = 2, down = 0 },\n\
+    { node = 2, round = 2, down = 1, forget = false },\n\
+    { node = 3, round = 1, down = 2 },\n\
+    { node = 3, round = 2, down = 0, forget = true },\n\
+    { node = 1, round = 3, down = 0 },\n\
+    { node = 1, round = 4, down = 0, forget = true },\n\
+    { node = 1, round = 4, down = 0, forget = true }]\n";
+
+// By the node and the round, whether it is up, restarts and forgets.
+const FORGOTTEN: &[(u32, u32, [bool; 3])] = &[
+    (1, 1, [true, false, false]),
+    (1, 2, [true, true, true]),
+    (1, 3, [true, true, false]),
+    (1, 4, [true, true, true]),
+    (2, 2, [false, true, false]),
+    (3, 1, [false, true, false]),
+    (3, 2, [false, true, true]),
+    (3, 3, [true, false, false]),
+    (0, 2, [true, false, false]),
+];
+
+// The first writes of a generation.
+const FIRST_WRITES: [OwnWrite; 3] = [
+    OwnWrite {
+        key: 0,
+        value: 0,
+        version: 1,
+    },
+    OwnWrite {
+        key: 1,
+        value: 0,
+        version: 2,
+    },
+    OwnWrite {
+        key: 0,
+        value: 1,
+        version: 3,
+    },
+];
+
 fn expect_peer(rt: &impl Abort, scenario: &Scenario, node: u32, round: u32, wanted: u32) {
     assert!(rt; node < scenario.nodes());
     assert!(rt; round >= 1 && round <= MOST_ROUNDS);
@@ -77,6 +121,16 @@ fn expect_node(rt: &impl Abort, scenario: &Scenario, node: u32, round: u32, want
     let is_up = is_up(scenario, node, round);
     let restarts = restarts_now(scenario, node, round);
     expect_at(rt, (is_up, restarts), wanted, (node, round));
+}
+
+// Whether a node is up, restarts and forgets.
+fn expect_forgets(rt: &impl Abort, scenario: &Scenario, node: u32, round: u32, wanted: [bool; 3]) {
+    assert!(rt; node < scenario.nodes());
+    assert!(rt; round >= 1 && round <= MOST_ROUNDS);
+    let is_up = is_up(scenario, node, round);
+    let restarts = restarts_now(scenario, node, round);
+    let forgets = forgets_now(scenario, node, round);
+    expect_at(rt, [is_up, restarts, forgets], wanted, (node, round));
 }
 
 fn expect_writes_in(rt: &impl Abort, scenario: &Scenario, round: u32, wanted: u32) {
@@ -204,4 +258,22 @@ fn restart_without_downtime(rt: HostRuntime) {
     for (node, round, restarts) in RESTARTS {
         expect_node(&rt, &scenario, *node, *round, (true, *restarts));
     }
+}
+
+#[test]
+fn nodes_that_forget(rt: HostRuntime) {
+    let parts = &[RING_IN_BYTES, "nodes = 4\n", PLAIN, FORGETTING];
+    let scenario = scenario_of(&rt, parts);
+    for (node, round, wanted) in FORGOTTEN {
+        expect_forgets(&rt, &scenario, *node, *round, *wanted);
+    }
+}
+
+#[test]
+fn writes_of_the_next_generation(rt: HostRuntime) {
+    let parts = &[RING_IN_BYTES, "nodes = 4\n", PLAIN, FORGETTING];
+    let scenario = scenario_of(&rt, parts);
+    expect(&rt, scenario.nodes(), 4);
+    let writes = writes_of(&scenario, 1, 2, 0);
+    expect(&rt, writes.as_slice(), &FIRST_WRITES);
 }

@@ -52,7 +52,7 @@ fn four_tables(rt: &impl Abort, alloc: Global) -> Result<Vec<NodeTable>, Fault>
     let mut tables = Vec::new(alloc);
     for node in 0..4 {
         let mut table = NodeTable::new(alloc, node, 4, 1)?;
-        assert_eq!(rt; table.greatest(node), 0);
+        assert_eq!(rt; table.greatest(node).version, 0);
         table.write_own(0, 7, 1)?;
         assert_eq!(rt; table.node(), node);
         tables.push(table)?;
@@ -91,6 +91,7 @@ fn whole(digest: u32, entries: u32) -> Record {
 fn own_entry(owner: u32) -> Item {
     let entry = Entry {
         key: 0,
+        generation: 0,
         version: 1,
         value: 7,
         born: 1,

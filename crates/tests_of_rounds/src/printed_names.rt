@@ -50,7 +50,7 @@ const LINES: [(Fault, &str); 20] = [
     ),
 ];
 
-const FIELDS: [(Field, &str); 25] = [
+const FIELDS: [(Field, &str); 26] = [
     (Field::Format, "format"),
     (Field::Nodes, "nodes"),
     (Field::Keys, "keys"),
@@ -73,6 +73,7 @@ const FIELDS: [(Field, &str); 25] = [
     (Field::RestartNode, "restart.node"),
     (Field::RestartRound, "restart.round"),
     (Field::RestartDown, "restart.down"),
+    (Field::RestartForget, "restart.forget"),
     (Field::LoadFrom, "load.from"),
     (Field::LoadTo, "load.to"),
     (Field::LoadWrites, "load.writes"),

@@ -12,6 +12,10 @@ use std::thread::Threads;
 pub(crate) const RING: &str = "format = 1\nrounds = 4\nmode = 'scuttle-breadth'\nbudget = 1\n\
     peers = 'ring'\nrotation = 'none'\nchoice = 'cycle'\n";
 
+/// The same in format 2.
+pub(crate) const RING_IN_BYTES: &str = "format = 2\nrounds = 4\nmode = 'scuttle-breadth'\n\
+    budget_bytes = 1023\npeers = 'ring'\nrotation = 'none'\nchoice = 'cycle'\n";
+
 /// Nodes that choose by their words.
 pub(crate) const RANDOM: &str = "format = 1\nrounds = 4\nmode = 'scuttle-breadth'\nbudget = 1\n\
     peers = 'random'\nrotation = 'random'\nchoice = 'random'\n";

@@ -26,6 +26,7 @@ pub(crate) const TWO_NODES: Row = Row {
     cut: 0,
     stale: 0,
     greatest: 0,
+    leftover: 7,
 };
 
 pub(crate) const TWO_NODES_LINE: &[u8] = b"1,2,0,0,2,0,0,0\n";
@@ -62,12 +63,20 @@ pub(crate) fn two_nodes_records() -> [Record; 2] {
 }
 
 // Compares the row of a report, behind its header or alone, with this text.
-fn expect_report(rt: &(impl Abort + AllocGlobal), with_header: bool, row: &Row, text: &[u8]) {
+fn expect_report(
+    rt: &(impl Abort + AllocGlobal),
+    format: u32,
+    with_header: bool,
+    row: &Row,
+    text: &[u8],
+) {
+    assert!(rt; format == 1 || format == 2);
     let mut report = Push::new(Vec::new(rt.alloc()));
     if with_header {
-        expect(rt, report_header(rt.alloc(), &mut report), Ok(()));
+        expect(rt, report_header(rt.alloc(), &mut report, format), Ok(()));
     }
-    expect(rt, write_report_row(rt.alloc(), &mut report, row), Ok(()));
+    let answer = write_report_row(rt.alloc(), &mut report, format, row);
+    expect(rt, answer, Ok(()));
     expect(rt, report.into_inner().as_slice(), text);
 }
 
@@ -84,7 +93,10 @@ fn expect_trace(rt: &(impl Abort + AllocGlobal), round: u32, records: &[Record; 
 #[test]
 fn two_nodes(rt: HostRuntime) {
     let text = b"round,exchanges,unreached,lost,entries,cut,stale,greatest\n1,2,0,0,2,0,0,0\n";
-    expect_report(&rt, true, &TWO_NODES, text);
+    expect_report(&rt, 1, true, &TWO_NODES, text);
+    let text =
+        b"round,exchanges,unreached,lost,entries,cut,stale,greatest,leftover\n1,2,0,0,2,0,0,0,7\n";
+    expect_report(&rt, 2, true, &TWO_NODES, text);
 }
 
 #[test]
@@ -98,10 +110,14 @@ fn greatest_numbers(rt: HostRuntime) {
         cut: u64::MAX - 1,
         stale: u64::MAX - 2,
         greatest: u32::MAX - 3,
+        leftover: u64::MAX - 4,
     };
-    let text =
-        b"100000,4294967295,4294967294,4294967293,18446744073709551615,18446744073709551614,18446744073709551613,4294967292\n";
-    expect_report(&rt, false, &row, text);
+    let text = b"100000,4294967295,4294967294,4294967293,18446744073709551615,18446744073709551614,\
+        18446744073709551613,4294967292\n";
+    expect_report(&rt, 1, false, &row, text);
+    let text = b"100000,4294967295,4294967294,4294967293,18446744073709551615,18446744073709551614,\
+        18446744073709551613,4294967292,18446744073709551611\n";
+    expect_report(&rt, 2, false, &row, text);
 }
 
 #[test]
@@ -130,21 +146,37 @@ fn lost_messages_of_one_exchange(rt: HostRuntime) {
     expect_trace(&rt, 100_000, &[second, third], text);
 }
 
+// Compares the comparison of two nodes with this text.
+fn expect_comparison(rt: &(impl Abort + AllocGlobal), format: u32, text: &[u8]) {
+    assert!(rt; format == 1 || format == 2);
+    let mut comparison = Push::new(Vec::new(rt.alloc()));
+    let answer = compare_header(rt.alloc(), &mut comparison, format);
+    expect(rt, answer, Ok(()));
+    for mode in MODES {
+        let answer = write_compare_row(rt.alloc(), &mut comparison, format, *mode, &TWO_NODES);
+        expect_at(rt, answer, Ok(()), *mode);
+    }
+    expect(rt, comparison.into_inner().as_slice(), text);
+}
+
 #[test]
 fn comparison_of_two_nodes(rt: HostRuntime) {
-    let mut comparison = Push::new(Vec::new(rt.alloc()));
-    expect(&rt, compare_header(rt.alloc(), &mut comparison), Ok(()));
-    for mode in MODES {
-        let answer = write_compare_row(rt.alloc(), &mut comparison, *mode, &TWO_NODES);
-        expect_at(&rt, answer, Ok(()), *mode);
-    }
-    expect(
+    expect_comparison(
         &rt,
-        comparison.into_inner().as_slice(),
+        1,
         b"mode,round,exchanges,unreached,lost,entries,cut,stale,greatest\n\
         scuttle-breadth,1,2,0,0,2,0,0,0\n\
         scuttle-depth,1,2,0,0,2,0,0,0\n\
         precise-oldest,1,2,0,0,2,0,0,0\n\
         precise-newest,1,2,0,0,2,0,0,0\n",
+    );
+    expect_comparison(
+        &rt,
+        2,
+        b"mode,round,exchanges,unreached,lost,entries,cut,stale,greatest,leftover\n\
+        scuttle-breadth,1,2,0,0,2,0,0,0,7\n\
+        scuttle-depth,1,2,0,0,2,0,0,0,7\n\
+        precise-oldest,1,2,0,0,2,0,0,0,7\n\
+        precise-newest,1,2,0,0,2,0,0,0,7\n",
     );
 }

@@ -2,7 +2,7 @@
 
 use crate::texts::{TWO_NODES, changed};
 use bench::{FreeGate, Round, Sim};
-use bench_types::{Exchange, Fate, Fault, Figures, Record, Row};
+use bench_types::{Exchange, Fate, Fault, Figures, Mark, Record, Row};
 use node_table::NodeTable;
 use scenario::read;
 use std::alloc::Global;
@@ -66,11 +66,13 @@ fn expect_row(rt: &impl Abort, round: &Round) {
         cut: 0,
         stale: 0,
         greatest: 0,
+        leftover: 0,
     };
     assert_eq!(rt; round.row(), row);
     let figures = Figures {
         stale: 0,
         greatest: 0,
+        leftover: 0,
     };
     assert_eq!(rt; round.figures(), figures);
 }
@@ -111,7 +113,7 @@ fn steps_behind_the_last_round(rt: HostRuntime) -> Result<(), Fault> {
 fn expect_missed(rt: &impl Abort, table: &NodeTable, missed: u32) {
     let node = table.node();
     for owner in 0..table.nodes() {
-        let lacks = table.greatest(owner) == 0;
+        let lacks = table.greatest(owner) == Mark::ABSENT;
         assert_eq!(rt; lacks, owner == missed, "owner {owner} at node {node}");
     }
 }

@@ -132,11 +132,13 @@ const RESTARTS: [Restart; 2] = [
         node: 4,
         round: 7,
         down: 2,
+        forget: false,
     },
     Restart {
         node: 4,
         round: 7,
         down: 0,
+        forget: false,
     },
 ];
 
@@ -159,6 +161,46 @@ fn values_of_the_elements(rt: HostRuntime) -> Result<(), Fault> {
         assert_eq!(rt; scenario.restarts(), RESTARTS.as_slice());
         assert_eq!(rt; scenario.loads(), LOADS.as_slice());
     }
+    Ok(())
+}
+
+// In format 2, a restart that forgets and one that says nothing of it.
+const FORGETTING: &str = "\
+[[restart]]
+node = 1
+round = 3
+down = 1
+forget = true
+[[restart]]
+node = 0
+round = 3
+down = 0
+";
+
+const FORGETTING_RESTARTS: [Restart; 2] = [
+    Restart {
+        node: 1,
+        round: 3,
+        down: 1,
+        forget: true,
+    },
+    Restart {
+        node: 0,
+        round: 3,
+        down: 0,
+        forget: false,
+    },
+];
+
+#[test]
+fn restarts_that_forget(rt: HostRuntime) -> Result<(), Fault> {
+    let changes = [
+        ("format = 1", "format = 2"),
+        ("budget = 1", "budget_bytes = 1023"),
+    ];
+    let text = changed(rt.alloc(), &changes, FORGETTING)?;
+    let scenario = read(rt.alloc(), text.as_bytes())?;
+    assert_eq!(rt; scenario.restarts(), FORGETTING_RESTARTS.as_slice());
     Ok(())
 }
 

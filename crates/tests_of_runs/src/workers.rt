@@ -22,8 +22,8 @@ fn expect_same_round(rt: &impl Abort, round: &Round, alone: &Round) {
 
 fn expect_same_table(rt: &impl Abort, table: &NodeTable, alone: &NodeTable) {
     assert_eq!(rt;
-        (table.node(), table.count()),
-        (alone.node(), alone.count())
+        (table.node(), table.generation(), table.count()),
+        (alone.node(), alone.generation(), alone.count())
     );
     for owner in 0..table.nodes() {
         for key in 0..table.keys() {
@@ -109,6 +109,23 @@ fn a_node_down_for_two_rounds_with_workers(rt: HostRuntime) -> Result<(), Fault>
     expect_same_with_any(&rt, text.as_str())
 }
 
+// Nodes that forget, one of them twice in one round and while it is down.
+const FORGETTING: &str = "restart = [\
+    { node = 1, round = 2, down = 2, forget = true }, { node = 1, round = 3, down = 0, forget = true },\
+    { node = 1, round = 3, down = 0, forget = true }, { node = 2, round = 3, down = 0, forget = true }]\n";
+
+#[test]
+fn nodes_that_forget_with_workers(rt: HostRuntime) -> Result<(), Fault> {
+    let lines = [
+        ("format = 1", "format = 2"),
+        ("nodes = 2", "nodes = 4"),
+        ("rounds = 1", "rounds = 5"),
+        ("budget = 1", "budget_bytes = 1023"),
+    ];
+    let text = changed(rt.alloc(), &lines, FORGETTING)?;
+    expect_same_with_any(&rt, text.as_str())
+}
+
 const BOTH_DOWN: &str =
     "restart = [{ node = 0, round = 1, down = 1 }, { node = 1, round = 1, down = 1 }]\n";
 
@@ -126,6 +143,7 @@ fn all_nodes_down_with_workers(rt: HostRuntime) -> Result<(), Fault> {
         cut: 0,
         stale: 0,
         greatest: 0,
+        leftover: 0,
     };
     assert_eq!(rt; sim.step(&rt, MOST_WORKERS, &FreeGate)?.row(), row);
     expect_same(&rt, text.as_str(), MOST_WORKERS)

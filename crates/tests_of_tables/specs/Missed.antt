@@ -1,7 +1,7 @@
 -- Four writes of one owner, by hand: the keys 5 and 3 in round 2, and the key 5 in the rounds 4 and 7.
 use Rattle.std.specs.Prelude.{ℕ, ◌++◌, ◌∷◌, [], List, Option, option_map}
 use Rattle.staleness.specs.declared.lists.Write.{Write}
-use Rattle.staleness.specs.Writes.{next_write, first_missed}
+use Rattle.staleness.specs.Writes.{next_write, first_missed, first_above}
 
 -- one write more
 abbrev pub pushed : List Write → ℕ → ℕ → List Write
@@ -13,3 +13,9 @@ four_writes = pushed (pushed (pushed (pushed [] 5 2) 3 2) 5 4) 5 7
 -- the version and the round of the first of them that someone who holds this version of the key has missed
 abbrev pub missed : ℕ → ℕ → Option (ℕ × ℕ)
 missed key held = option_map (λ w. (w.version, w.born)) (first_missed four_writes key held)
+
+-- and where they are of this generation, of the first above a mark
+abbrev pub missed_in : ℕ → ℕ → ℕ → ℕ → Option (ℕ × ℕ)
+missed_in current key generation version =
+    option_map (λ w. (w.version, w.born))
+    (first_above current four_writes key (record { generation = generation; version = version }))

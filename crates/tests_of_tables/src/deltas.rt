@@ -1,8 +1,10 @@
 //! Deltas by hand: what is sent of one table in each mode, and of many tables against a program that
 //! places each candidate by counting those that come before it.
 
-use crate::fixtures::{expect_items, expect_number, item, lawful, new_table, next, take};
-use crate::model::{NODES, Turn, count_before, is_sent, small_table};
+use crate::fixtures::{
+    expect_items, expect_mark, expect_number, item, lawful, new_table, next, take,
+};
+use crate::model::{NODES, Turn, count_before, is_sent, lacked, list_of, small_table};
 use bench_types::{Budget, Item, Mode};
 use node_table::NodeTable;
 use reconcile::{Delta, Digest, delta};
@@ -31,8 +33,14 @@ fn sender(rt: &impl Abort, alloc: Global) -> NodeTable {
     table
 }
 
-// What one table's node sends in answer to the digest of the other's.
-fn answer(rt: &impl Abort, alloc: Global, from: &NodeTable, to: &NodeTable, turn: Turn) -> Delta {
+/// What one table's node sends in answer to the digest of the other's.
+pub(crate) fn answer(
+    rt: &impl Abort,
+    alloc: Global,
+    from: &NodeTable,
+    to: &NodeTable,
+    turn: Turn,
+) -> Delta {
     assert!(rt; from.nodes() == to.nodes() && from.keys() == to.keys());
     assert!(rt; to.node() < from.nodes() && turn.rotation < from.nodes());
     let (mode, rotation, budget) = (turn.mode, turn.rotation, lawful(rt, turn.budget));
@@ -71,8 +79,8 @@ fn expect_scuttle_digest(rt: &impl Abort, alloc: Global) {
     let digest = Digest::of(alloc, &from, Mode::ScuttleDepth).expect(rt, "memory");
     assert!(rt; from.nodes() == 4);
     expect_number(rt, "size", digest.size(), 2);
-    expect_number(rt, "greatest of 0", digest.greatest(0), 0);
-    expect_number(rt, "greatest of 1", digest.greatest(1), 5);
+    expect_mark(rt, "greatest of 0", digest.greatest(0), (0, 0));
+    expect_mark(rt, "greatest of 1", digest.greatest(1), (0, 5));
 }
 
 fn expect_precise_digest(rt: &impl Abort, alloc: Global) {
@@ -80,8 +88,8 @@ fn expect_precise_digest(rt: &impl Abort, alloc: Global) {
     let digest = Digest::of(alloc, &from, Mode::PreciseOldest).expect(rt, "memory");
     assert!(rt; from.nodes() == 4 && from.keys() == 2);
     expect_number(rt, "size", digest.size(), 3);
-    expect_number(rt, "version of 1 0", digest.version(1, 0), 3);
-    expect_number(rt, "version of 2 1", digest.version(2, 1), 0);
+    expect_mark(rt, "mark of 1 0", digest.version(1, 0), (0, 3));
+    expect_mark(rt, "mark of 2 1", digest.version(2, 1), (0, 0));
 }
 
 #[test]
@@ -161,33 +169,6 @@ fn precise_newest_leaves_a_gap(rt: HostRuntime) {
     expect_first(&rt, rt.alloc(), Mode::ScuttleDepth, [3, 0]);
 }
 
-// What the receiver may lack.
-fn lacked(
-    rt: &impl Abort,
-    alloc: Global,
-    from: &NodeTable,
-    to: &NodeTable,
-    mode: Mode,
-) -> Vec<Item> {
-    let mut found = Vec::new(alloc);
-    for owner in 0..from.nodes() {
-        for entry in from.row(owner) {
-            let known = match mode {
-                Mode::ScuttleBreadth | Mode::ScuttleDepth => to.greatest(owner),
-                Mode::PreciseOldest | Mode::PreciseNewest => version_of(to, owner, entry.key),
-            };
-            if entry.version > known && owner != to.node() {
-                let item = Item {
-                    owner,
-                    entry: *entry,
-                };
-                found.push(item).expect(rt, "memory");
-            }
-        }
-    }
-    found
-}
-
 // Compares the item that is sent at a place.
 fn expect_at(rt: &impl Abort, delta: &Delta, place: usize, item: Item, mode: Mode) {
     let sent = delta.items().get(place).copied();
@@ -225,7 +206,8 @@ const BUDGETS: [Budget; 10] = [
 
 // Compares the deltas of a mode at each rotation and with each budget.
 fn expect_deltas(rt: &impl Abort, alloc: Global, from: &NodeTable, to: &NodeTable, mode: Mode) {
-    let all = lacked(rt, alloc, from, to, mode);
+    let (sender, receiver) = (list_of(rt, alloc, from), list_of(rt, alloc, to));
+    let all = lacked(rt, alloc, &sender, &receiver, to.node(), mode);
     for rotation in 0..NODES {
         for budget in BUDGETS {
             let turn = Turn {

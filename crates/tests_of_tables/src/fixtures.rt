@@ -5,23 +5,28 @@ ghost use Rattle.bench_types.specs.Budget.{IsLawfulBudget};
 ghost use Rattle.node_table.specs.Table.{empty_table};
 ghost use Rattle.node_table.specs.View.{IsItemInPlace};
 
-use bench_types::{Budget, Entry, Fault, Item};
+use bench_types::{Budget, Entry, Fault, Item, Mark};
 use node_table::NodeTable;
 use std::alloc::Global;
 use std::process::Abort;
 
-// An entry and its owner, by owner, key, version, value and born.
+// An entry and its owner, by owner, key, generation, version, value and born. Where it is left out the
+// generation is 0.
 macro_rules! item {
-    ($owner:expr, $key:expr, $version:expr, $value:expr, $born:expr) => {
+    ($owner:expr, $key:expr, generation $generation:expr, $version:expr, $value:expr, $born:expr) => {
         bench_types::Item {
             owner: $owner,
             entry: bench_types::Entry {
                 key: $key,
+                generation: $generation,
                 version: $version,
                 value: $value,
                 born: $born,
             },
         }
+    };
+    ($owner:expr, $key:expr, $version:expr, $value:expr, $born:expr) => {
+        crate::fixtures::item!($owner, $key, generation 0, $version, $value, $born)
     };
 }
 
@@ -73,7 +78,7 @@ pub(crate) fn try_write(
     born: u32,
 ) -> Result<u32, Fault> {
     assert!(rt; key < table.keys());
-    assert!(rt; table.greatest(table.node()) < u32::MAX);
+    assert!(rt; table.greatest(table.node()).version < u32::MAX);
     table.write_own(key, value, born)
 }
 
@@ -85,6 +90,14 @@ pub(crate) fn write(rt: &impl Abort, table: &mut NodeTable, entry: Entry) {
         Err(_) => try_write(rt, table, entry.key, entry.value, entry.born).expect(rt, "memory"),
     };
     expect_number(rt, "version", version, entry.version);
+}
+
+/// The node forgets so often.
+pub(crate) fn forget(rt: &impl Abort, table: &mut NodeTable, times: u32) {
+    for _ in 0..times {
+        assert!(rt; table.generation() < u32::MAX);
+        table.forget_all();
+    }
 }
 
 /// The next of a row of numbers that look random.
@@ -99,6 +112,11 @@ pub(crate) fn next(state: &mut u64, below: u32) -> u32 {
 /// Compares a number.
 pub(crate) fn expect_number(rt: &impl Abort, name: &str, found: u32, wanted: u32) {
     assert_eq!(rt; found, wanted, "{name}");
+}
+
+/// Compares a mark, by its generation and its version.
+pub(crate) fn expect_mark(rt: &impl Abort, name: &str, found: Mark, wanted: (u32, u32)) {
+    assert_eq!(rt; (found.generation, found.version), wanted, "{name}");
 }
 
 /// The empty table of a node, at the second try where memory is refused once.

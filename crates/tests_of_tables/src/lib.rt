@@ -1,5 +1,6 @@
-//! Tests of the crates that work on nodes' tables, and nothing else: tables by hand, the deltas and
-//! exchanges between them, how far their copies lag, and the records of exchanges in list order.
+//! Tests of the crates that work on nodes' tables, and nothing else: tables by hand, also of nodes that
+//! forgot, the deltas and exchanges between them, how far their copies lag, and the records of exchanges
+//! in list order.
 #![tactic(auto)]
 
 #[cfg(test)]
@@ -8,6 +9,8 @@ mod deltas;
 mod exchanges;
 #[cfg(test)]
 mod fixtures;
+#[cfg(test)]
+mod generations;
 #[cfg(test)]
 mod lags;
 #[cfg(test)]

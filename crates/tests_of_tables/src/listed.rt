@@ -2,84 +2,13 @@
 
 use crate::exchanges::{Plan, expect_sent};
 use crate::fixtures::next;
-use crate::model::{NODES, Turn, is_sent, small_table};
+use crate::model::{NODES, Turn, expect_listed, is_sent, lacked, list_of, merge, small_table};
 use bench_types::{Budget, Fate, Item, Mode};
 use node_table::NodeTable;
 use std::alloc::Global;
 use std::process::Abort;
 
-// What a node holds, as a list.
-fn list_of(rt: &impl Abort, alloc: Global, table: &NodeTable) -> Vec<Item> {
-    let mut held = Vec::new(alloc);
-    for owner in 0..table.nodes() {
-        for key in 0..table.keys() {
-            if let Some(entry) = table.get(owner, key) {
-                held.push(Item { owner, entry }).expect(rt, "memory");
-            }
-        }
-    }
-    held
-}
-
-// Whether two items are of one owner and key.
-fn share_a_place(one: Item, other: Item) -> bool {
-    one.owner == other.owner && one.entry.key == other.entry.key
-}
-
-// Where the item of a place stands, or the length of the list.
-fn place_of(held: &[Item], item: Item) -> usize {
-    for (at, other) in held.iter().enumerate() {
-        if share_a_place(*other, item) {
-            return at;
-        }
-    }
-    held.len()
-}
-
-// An item comes in, and the newer of the two is kept.
-fn merge(rt: &impl Abort, held: &mut Vec<Item>, item: Item) {
-    let at = place_of(held, item);
-    if at >= held.len() {
-        held.push(item).expect(rt, "memory");
-    } else if held[at].entry.version < item.entry.version {
-        held[at] = item;
-    }
-}
-
-// The version up to which a receiver knows what stands at an item's place.
-fn known(held: &[Item], item: Item, mode: Mode) -> u32 {
-    let mut version = 0;
-    for other in held {
-        let counts = match mode {
-            Mode::ScuttleBreadth | Mode::ScuttleDepth => other.owner == item.owner,
-            Mode::PreciseOldest | Mode::PreciseNewest => share_a_place(*other, item),
-        };
-        if counts {
-            version = other.entry.version.max(version);
-        }
-    }
-    version
-}
-
-// What the sender holds and the receiver may lack.
-fn lacked(
-    rt: &impl Abort,
-    alloc: Global,
-    from: &[Item],
-    to: &[Item],
-    receiver: u32,
-    mode: Mode,
-) -> Vec<Item> {
-    let mut found = Vec::new(alloc);
-    for item in from {
-        if item.owner != receiver && known(to, *item, mode) < item.entry.version {
-            found.push(*item).expect(rt, "memory");
-        }
-    }
-    found
-}
-
-// What is sent of them, and how many are cut.
+// What is sent of some candidates, and how many are cut.
 #[derive(Drop)]
 struct Sent {
     items: Vec<Item>,
@@ -138,15 +67,6 @@ fn counted(fate: Fate, sizes: [u32; 2], back: &Sent, forth: &Sent) -> [u32; 6] {
             forth.cut,
         ],
     }
-}
-
-// Compares what a table holds with a list.
-fn expect_listed(rt: &impl Abort, table: &NodeTable, held: &[Item]) {
-    for item in held {
-        let found = table.get(item.owner, item.entry.key);
-        assert_eq!(rt; found, Some(item.entry));
-    }
-    assert!(rt; table.count() as usize == held.len());
 }
 
 // Compares a table after an exchange with its list, to which the items of a message come where it

@@ -1,9 +1,11 @@
 //! Tables by hand: what they hold is worked out from the rules, and for long lists by a plain model.
 
 use crate::fixtures::{
-    expect_held, expect_number, expect_same, item, new_table, next, take, try_write, write,
+    expect_held, expect_mark, expect_number, expect_same, item, new_table, next, take, try_write,
+    write,
 };
-use bench_types::{Entry, Item};
+use crate::model::{expect_listed, merge};
+use bench_types::{Entry, Item, Mark};
 use node_table::NodeTable;
 use std::alloc::Global;
 use std::process::Abort;
@@ -11,8 +13,6 @@ use std::process::Abort;
 const NODES: u32 = 4;
 
 const KEYS: u32 = 3;
-
-const PLACES: usize = 12;
 
 // Compares what is held of a key.
 fn expect_entry(rt: &impl Abort, table: &NodeTable, owner: u32, key: u32, wanted: Option<Entry>) {
@@ -34,7 +34,7 @@ fn forgetting_others(rt: HostRuntime) {
     let copy = table.try_clone().expect(&rt, "memory");
     table.forget_others();
     expect_held(&rt, "held", &table, &[OWN]);
-    expect_number(&rt, "greatest", table.greatest(1), 0);
+    expect_mark(&rt, "greatest", table.greatest(1), (0, 0));
     write(&rt, &mut table, SECOND.entry);
     expect_held(&rt, "held", &table, &[SECOND]);
     expect_copy(&rt, &copy);
@@ -76,7 +76,7 @@ fn several_items_of_one_place(rt: HostRuntime) {
     take(&rt, &mut table, &FIRST_TAKEN);
     take(&rt, &mut table, &TAKEN);
     expect_held(&rt, "held", &table, &LEFT);
-    expect_number(&rt, "greatest", table.greatest(3), 4);
+    expect_mark(&rt, "greatest", table.greatest(3), (0, 4));
     expect_entry(&rt, &table, 1, 1, None);
 }
 
@@ -109,7 +109,11 @@ fn expect_above(rt: &impl Abort, table: &NodeTable, version: u32, row: (&[u32], 
     assert!(rt; table.nodes() > 1);
     let (versions, keys) = row;
     let front = versions.iter().filter(|held| **held <= version).count();
-    let above = table.above(1, version);
+    let mark = Mark {
+        generation: 0,
+        version,
+    };
+    let above = table.above(1, mark);
     for (index, entry) in above.iter().enumerate() {
         let at = front.saturating_add(index);
         assert_eq!(rt;
@@ -199,39 +203,18 @@ fn a_refusal_leaves_the_table(rt: HostRuntime) {
     expect_held(&rt, "held", &table, &WRITTEN_AND_ADDED);
 }
 
-// What a place of the model keeps.
-fn keep(model: &mut [Option<Entry>], item: Item) {
-    let place = item.owner as usize * KEYS as usize + item.entry.key as usize;
-    if place < model.len() {
-        match model[place] {
-            Some(held) if held.version >= item.entry.version => {}
-            _ => model[place] = Some(item.entry),
-        }
-    }
-}
-
 // A list of up to 19 items of other owners than node 1.
 fn random_list(rt: &impl Abort, alloc: Global, state: &mut u64) -> Vec<Item> {
     let mut list = Vec::new(alloc);
     for value in 0..next(state, 20) {
         let owner = [0, 2, 3][next(state, 3) as usize % 3];
         let key = next(state, KEYS);
+        let generation = next(state, 3);
         let version = next(state, 4).saturating_add(1);
-        let item = item!(owner, key, version, value, 1);
+        let item = item!(owner, key, generation generation, version, value, 1);
         list.push(item).expect(rt, "memory");
     }
     list
-}
-
-// Compares each place with the model's, and how many are held.
-fn expect_model(rt: &impl Abort, table: &NodeTable, model: &[Option<Entry>; PLACES]) {
-    for owner in 0..NODES {
-        for key in 0..KEYS {
-            let place = owner as usize * KEYS as usize + key as usize;
-            expect_entry(rt, table, owner, key, model[place]);
-        }
-    }
-    assert!(rt; table.count() as usize == model.iter().flatten().count());
 }
 
 #[test]
@@ -239,14 +222,14 @@ fn long_lists_against_a_plain_model(rt: HostRuntime) {
     let mut state = 1;
     for _round in 0..200 {
         let mut table = new_table(&rt, rt.alloc(), 1, NODES, KEYS);
-        let mut model: [Option<Entry>; PLACES] = [None; PLACES];
+        let mut model = Vec::new(rt.alloc());
         for _list in 0..3 {
             let list = random_list(&rt, rt.alloc(), &mut state);
             take(&rt, &mut table, &list);
             for item in &list {
-                keep(&mut model, *item);
+                merge(&rt, &mut model, *item);
             }
         }
-        expect_model(&rt, &table, &model);
+        expect_listed(&rt, &table, &model);
     }
 }

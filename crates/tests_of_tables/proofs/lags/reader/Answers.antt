@@ -1,15 +1,21 @@
-use Rattle.std.proofs.Common.{◌≢◌, All, ap, ◌∙◌, sym, subst, rules}
+use Rattle.std.proofs.Common.{◌≡◌, List, sym, subst, ◌∙◌}
 use Rattle.bench_types.specs.declared.entries.Item.{Item}
 use Rattle.node_table.specs.Table.{Table, applied}
-use Rattle.staleness.specs.Cluster.{OwnPartIsLastWrites}
-use Rattle.staleness.proofs.OwnParts.{own_part-applied}
+use Rattle.node_table.proofs.Laws.{KeepsFrame, frame-applied}
 use Rattle.tests_of_tables.proofs.lags.reader.Goals as goal
 
-pub returns-clause-own_part : goal.returns-clause-own_part
-returns-clause-own_part g c =
-    let before = c.writer-table.result.0.table in
-    let list = c.writer-table.result.1 in
-    let held = c.args.held.now in
-    let others : All (λ i. i.owner ≢ before.node) held = subst (λ n. All (λ (i : Item). i.owner ≢ n) held) (sym c.writer-table.ensures.node) (c.may_take.ensures.others (search rules)) in
-    let taken = c.apply.ensures ∙ ap (λ (t : Table). applied t held) c.reserve_for.ensures.same in
-    subst (λ (t : Table). OwnPartIsLastWrites t list) (sym taken) (own_part-applied before list held others c.writer-table.ensures.own_part)
+-- a table makes room for items, and takes them
+kept : (before room after : Table) (held : List Item) → room ≡ before → after ≡ applied room held → KeepsFrame before after
+kept before room after held same is = subst (KeepsFrame before) (sym is) (subst (λ t. KeepsFrame before (applied t held)) (sym same) (frame-applied before held))
+
+pub returns-clause-node : goal.returns-clause-node
+returns-clause-node g c =
+    (kept c.forgetter-table.result.0.table c.reserve_for.new.self.table c.apply.new.self.table c.args.held.now c.reserve_for.ensures.same c.apply.ensures).node ∙ c.forgetter-table.ensures.node
+
+pub returns-clause-nodes : goal.returns-clause-nodes
+returns-clause-nodes g c =
+    (kept c.forgetter-table.result.0.table c.reserve_for.new.self.table c.apply.new.self.table c.args.held.now c.reserve_for.ensures.same c.apply.ensures).nodes ∙ c.forgetter-table.ensures.nodes
+
+pub returns-clause-keys : goal.returns-clause-keys
+returns-clause-keys g c =
+    (kept c.forgetter-table.result.0.table c.reserve_for.new.self.table c.apply.new.self.table c.args.held.now c.reserve_for.ensures.same c.apply.ensures).keys ∙ c.forgetter-table.ensures.keys

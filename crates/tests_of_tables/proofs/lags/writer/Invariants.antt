@@ -1,6 +1,5 @@
 use Rattle.std.proofs.Common.{◌≡◌}
 use Rattle.staleness.specs.Writes.{AreBornBy}
-use Rattle.staleness.specs.Cluster.{OwnPartIsLastWrites}
 use Rattle.tests_of_tables.proofs.lags.writer.Given as goal
 
 abbrev pub invariant-loop-key : goal.invariant-loop-key
@@ -8,6 +7,5 @@ invariant-loop-key g l = record {
   node : l.table.table.node ≡ l.node;
   nodes : l.table.table.nodes ≡ 2;
   keys : l.table.table.keys ≡ l.keys;
-  own_part : OwnPartIsLastWrites l.table.table l.list;
   born : AreBornBy l.round l.list;
 }

@@ -1,0 +1,11 @@
+use Rattle.std.proofs.Common.{◌≡◌}
+use Rattle.staleness.specs.Writes.{AreBornBy}
+use Rattle.tests_of_tables.proofs.lags.forgetter.Given as goal
+
+abbrev pub invariant-loop : goal.invariant-loop
+invariant-loop g l = record {
+  node : l.table.table.node ≡ l.node;
+  nodes : l.table.table.nodes ≡ 2;
+  keys : l.table.table.keys ≡ l.keys;
+  born : AreBornBy l.round l.list;
+}

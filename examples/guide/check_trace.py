@@ -16,13 +16,13 @@ def refuse(why):
     sys.exit(2)
 
 
-def rows(path, last):
-    """The rows of a CSV file whose last column has this name."""
+def rows(path, column):
+    """The rows of a CSV file that has this column."""
     try:
         with open(path, newline="") as file:
             lines = csv.DictReader(file)
-            if (lines.fieldnames or [""])[-1] != last:
-                refuse(f"{path} has no column {last} at the end.")
+            if column not in (lines.fieldnames or []):
+                refuse(f"{path} has no column {column}.")
             return list(lines)
     except (OSError, UnicodeDecodeError, csv.Error):
         refuse(f"{path} can't be read.")

@@ -1,14 +1,20 @@
 #!/bin/sh
-# restarts.sh NODES EACH FROM TO DOWN
+# restarts.sh NODES EACH FROM TO DOWN [forget]
 # Prints a scenario's restarts: in each of the rounds FROM to TO the next EACH nodes restart, by ascending number, and
-# are down for DOWN rounds. A scenario takes at most 1000.
+# are down for DOWN rounds. With the word forget they lose their own state too, which needs format 2. A scenario takes
+# at most 1000.
 
 refuse() {
     echo "restarts.sh: $1" >&2
     exit 2
 }
 
-[ $# -eq 5 ] || refuse "usage: restarts.sh NODES EACH FROM TO DOWN"
+forget=
+if [ $# -eq 6 ] && [ "$6" = forget ]; then
+    forget='forget = true\n'
+    set -- "$1" "$2" "$3" "$4" "$5"
+fi
+[ $# -eq 5 ] || refuse "usage: restarts.sh NODES EACH FROM TO DOWN [forget]"
 for word; do
     echo "$word" | grep -Eqx '0|[1-9][0-9]{0,5}' || refuse "'$word' isn't a whole number."
 done
@@ -17,8 +23,8 @@ done
 count=$(($2 * ($4 - $3 + 1)))
 [ "$count" -le 1000 ] || refuse "that makes $count restarts, where a scenario takes 1000: run half of it."
 
-awk -v nodes="$1" -v each="$2" -v from="$3" -v to="$4" -v down="$5" 'BEGIN {
+awk -v nodes="$1" -v each="$2" -v from="$3" -v to="$4" -v down="$5" -v forget="$forget" 'BEGIN {
     for (round = from; round <= to; round++)
         for (i = 0; i < each; i++)
-            printf "[[restart]]\nnode = %d\nround = %d\ndown = %d\n", node++ % nodes, round, down
+            printf "[[restart]]\nnode = %d\nround = %d\ndown = %d\n%s", node++ % nodes, round, down, forget
 }'

@@ -88,7 +88,8 @@ def main(words):
         print("# Which key is written is left to chance; keys in turn give entries of nearly one size.")
     else:
         print("# All entries count alike: that sizes differ is left out.")
-    print("# Left out: latency, more than one peer a round, generations, failure detectors, nodes that join or leave.")
+    generations = "" if in_bytes else " generations,"
+    print(f"# Left out: latency, more than one peer a round,{generations} failure detectors, nodes that join or leave.")
     print("# Not asked for: restarts (restarts.sh), partitions (apart.sh), rounds with other writes.")
     fields = {"format": 2 if in_bytes else 1, **top, "mode": f'"{it["mode"]}"', field: budget, "peers": '"random"',
               "rotation": '"random"', "choice": '"random"' if in_bytes else '"cycle"', "loss_ppm": loss,

@@ -7,7 +7,11 @@
 //! |---|---|
 //! | `field = value` | takes the place of the line of this field, or is added |
 //! | `field` | takes the line of this field away |
-//! | `N times piece` | adds the piece so often, with `\n` for a line's end and `{}` for 0, 1 and so on |
+//! | `N times piece` | adds the piece so often, with `{}` for 0, 1 and so on |
+//! | `old becomes new` | puts the new piece in each place of the old one |
+//!
+//! In all of these `\n` stands for a line's end, `\r` for a carriage return, `\0` for a byte of 0 and
+//! `\u{feff}` for a byte order mark.
 
 use crate::outcomes::{check_line, run_line};
 use std::alloc::{AllocError, AllocGlobal, Global};
@@ -54,47 +58,93 @@ fn outcome<R: Files + Threads + Wait + AllocGlobal + Sync>(
     }
 }
 
+#[derive(Clone, Copy)]
+enum Change<'a> {
+    Line { field: &'a str, line: &'a str },
+    Without { field: &'a str },
+    Times { count: &'a str, piece: &'a str },
+    Becomes { old: &'a str, new: &'a str },
+}
+
+impl<'a> Change<'a> {
+    fn of(change: &'a str) -> Change<'a> {
+        if let Some((count, piece)) = change.split_once(" times ") {
+            Change::Times { count, piece }
+        } else if let Some((old, new)) = change.split_once(" becomes ") {
+            Change::Becomes { old, new }
+        } else if let Some((field, _)) = change.split_once(" = ") {
+            Change::Line {
+                field,
+                line: change,
+            }
+        } else {
+            Change::Without { field: change }
+        }
+    }
+
+    // Whether it takes the line of this field away.
+    fn takes(self, taken: &str) -> bool {
+        match self {
+            Change::Line { field, .. } | Change::Without { field } => field == taken,
+            Change::Times { .. } | Change::Becomes { .. } => false,
+        }
+    }
+}
+
 // The text with these changes.
 fn changed(alloc: Global, text: &str, changes: &str) -> Result<String, AllocError> {
     let mut changed = String::new(alloc);
     for line in text.lines() {
-        if !is_changed(line, changes) {
+        if !is_taken(line, changes) {
             changed.push_str(line)?;
             changed.push_str("\n")?;
         }
     }
     for change in changes.split("; ") {
-        add(alloc, &mut changed, change)?;
+        changed = with_change(alloc, changed, Change::of(change))?;
     }
     Ok(changed)
 }
 
-fn is_changed(line: &str, changes: &str) -> bool {
+// Whether one of the changes takes this line away.
+fn is_taken(line: &str, changes: &str) -> bool {
+    let Some((field, _)) = line.split_once(" = ") else {
+        return false;
+    };
     for change in changes.split("; ") {
-        if field_of(change) == field_of(line) {
+        if Change::of(change).takes(field) {
             return true;
         }
     }
     false
 }
 
-fn field_of(line: &str) -> &str {
-    match line.split_once(" = ") {
-        Some((field, _)) => field,
-        None => line,
+fn with_change(alloc: Global, mut text: String, change: Change) -> Result<String, AllocError> {
+    match change {
+        Change::Line { line, .. } => {
+            text.push_str(piece_of(alloc, line)?.as_str())?;
+            text.push_str("\n")?;
+        }
+        Change::Without { .. } => {}
+        Change::Times { count, piece } => {
+            let piece = piece_of(alloc, piece)?;
+            for place in 0..count.parse::<u32>().unwrap_or(0) {
+                let place = format!(in alloc; "{place}")?;
+                text.push_str(piece.replace(alloc, "{}", place.as_str())?.as_str())?;
+            }
+        }
+        Change::Becomes { old, new } => {
+            let (old, new) = (piece_of(alloc, old)?, piece_of(alloc, new)?);
+            text = text.replace(alloc, old.as_str(), new.as_str())?;
+        }
     }
+    Ok(text)
 }
 
-fn add(alloc: Global, text: &mut String, change: &str) -> Result<(), AllocError> {
-    if let Some((count, piece)) = change.split_once(" times ") {
-        let piece = piece.replace(alloc, "\\n", "\n")?;
-        for place in 0..count.parse::<u32>().unwrap_or(0) {
-            let place = format!(in alloc; "{place}")?;
-            text.push_str(piece.replace(alloc, "{}", place.as_str())?.as_str())?;
-        }
-    } else if change.contains(" = ") {
-        text.push_str(change)?;
-        text.push_str("\n")?;
-    }
-    Ok(())
+// The bytes that some words stand for.
+fn piece_of(alloc: Global, words: &str) -> Result<String, AllocError> {
+    let mut piece = words.replace(alloc, "\\n", "\n")?;
+    piece = piece.replace(alloc, "\\r", "\r")?;
+    piece = piece.replace(alloc, "\\0", "\0")?;
+    piece.replace(alloc, "\\u{feff}", "\u{feff}")
 }

@@ -11,6 +11,7 @@
 //! | `examples` | the scenarios of the repository's `examples/` |
 //! | `refused` | texts that are refused, each with the fault that `stdout` has |
 //! | `changed` | tables of changes to the scenario `small/two_nodes.toml` |
+//! | `texts` | texts of which nearly all are refused, with the faults that an independent program has |
 //!
 //! Beside a scenario `NAME.toml` of the first five stand the texts that it must give, byte for byte:
 //! `NAME.report.csv`, and where they are wanted `NAME.trace.csv` and `NAME.comparison.csv`. It must give
@@ -20,6 +21,7 @@
 mod changes;
 mod outcomes;
 mod stored;
+mod texts;
 
 use changes::table_line;
 use outcomes::{refusal, run_line};
@@ -28,6 +30,7 @@ use std::rt::Files;
 use std::sync::Wait;
 use std::thread::Threads;
 use std::{fs, io};
+use texts::texts_line;
 
 fn main(rt: HostRuntime) -> io::Result<()> {
     let cases = fs::read_to_string(&rt, "cases.txt")?;
@@ -44,6 +47,9 @@ fn line_of<R: Files + Threads + Wait + AllocGlobal + Sync>(
 ) -> io::Result<String> {
     if case.starts_with("changed/") {
         return table_line(rt, case);
+    }
+    if case.starts_with("texts/") {
+        return texts_line(rt, case);
     }
     let text = fs::read(rt, format!(in rt.alloc(); "{case}.toml")?)?;
     if case.starts_with("refused/") {

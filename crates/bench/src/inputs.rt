@@ -11,7 +11,8 @@ use std::alloc::Global;
 const CHUNK: usize = 8192;
 
 /// Reads until the source gives no byte. It pulls at most one byte more than a scenario's text may
-/// have, and where the source gives that byte the input is too long, whatever would follow.
+/// have, and where the source gives that byte the input is too long (`TooLong`), whatever would follow. Other
+/// errors are lack of memory (`OutOfMemory`) and what the source answers (`ReadFailed`).
 pub fn read_all<R: Source>(alloc: Global, reader: &mut R) -> Result<Vec<u8>, Fault>
     ensures whole { IfOk result (λ text. IsReadWhole R.Source reader.old reader.new text.items) }
     ensures fault { IfErr result (IsReadingFault R.Source reader.old reader.new) }

@@ -22,7 +22,8 @@ use std::thread::Threads;
 ///
 /// What is written is the same for every number of workers. With one, the exchanges of a round are done one
 /// after another; with more, so many threads do them in each round, and where one can't be started the fault
-/// is `NoThread`.
+/// is `NoThread`. Other errors are those of `check_input`, lack of memory in a round (`OutOfMemory`), and what
+/// a writer answers (`WriteFailed`).
 pub fn run<H: Threads + Wait + Sync, R: Source, W: Sink, X: Sink>(
     rt: &H,
     alloc: Global,
@@ -46,7 +47,8 @@ pub fn run<H: Threads + Wait + Sync, R: Source, W: Sink, X: Sink>(
     write_texts(rt, alloc, &mut sim, writer, trace, workers)
 }
 
-/// Reads a scenario whole and checks it.
+/// Reads a scenario whole and checks it. An error is that of `read_all`, or else the fault of the first check
+/// that fails.
 pub fn check_input<R: Source>(alloc: Global, reader: &mut R) -> Result<Scenario, Fault>
     ensures accepted { IfOk result (λ settings. IsRead R.Source reader.old reader.new (Ok settings)) }
     ensures fault { IfErr result (IsInputFault R.Source reader.old reader.new) }

@@ -6,10 +6,12 @@ use Rattle.atomic_table.specs.Table.{step, rest, turned, Step}
 use mathlib.Core.Option.{none}
 use Rattle.dependencies.specs.Neighbours.{predecessors, as_list, successors}
 use Rattle.board.specs.Weights.{only, times, Has}
-use Rattle.board.specs.SeatView.{SeatView, IsWhole, with_held, with_told, without_held, with_made, with_freed, freed_by, joined}
+use Rattle.board.specs.SeatView.{SeatView, IsWhole, with_held, with_told, without_held, with_made, freed_by, joined}
+use Rattle.board.specs.inner.Plays.{with_freed}
 use Rattle.board.specs.Plan.{BoardPlan, table_at, initiator_of, responder_of}
 use Rattle.board.specs.Rule.{Slot, TAKEN}
-use Rattle.board.specs.Plays.{Sat, view, resting, ClaimTells, TookOut, HasOut, claimed, released, releases_by, OwesTo, IsReleased, HasFinished, finished, Rests}
+use Rattle.board.specs.Seats.{Sat, view, resting, Rests}
+use Rattle.board.specs.inner.Plays.{ClaimTells, TookOut, HasOut, claimed, released, releases_by, OwesTo, IsReleased, HasFinished, finished}
 use Rattle.board.specs.Boards.{plan_of, exchanges_of, seat_view, IsSeatOf, IsHoldOf, AreMade, Claims, Among, IsPutBack}
 use Rattle.board.specs.declared.boards.Board.{Board}
 use Rattle.board.specs.declared.boards.Seat.{Seat}
@@ -116,7 +118,7 @@ head_value l k slot x r more e d = ap (λ (xs : List (ℕ × Slot)). (get_or xs 
 pub finished_of : (plan : BoardPlan) (v : SeatView) (i r : ℕ) (m n : Sat) (st : Step Slot) (more : List (ℕ × Slot)) → m ≡ (view plan (without_held v i) (i ∷ []) [], more) → finished st m r n → HasFinished plan v i n
 finished_of plan v i r m n st more e told =
     let t = subst (λ (x : Sat). finished st x r n) e told i refl in
-    record { seen = r / 2; is_stopped = Rattle.board.specs.Plays.is_odd r; seat = t.0; rises = omega (arith, t.1); stays = t.2 }
+    record { seen = r / 2; is_stopped = Rattle.board.specs.inner.Plays.is_odd r; seat = t.0; rises = omega (arith, t.1); stays = t.2 }
 
 -- a release
 module _ (plan : BoardPlan) (m n : Sat) (j r : ℕ) (st : Step Slot) (owes : OwesTo plan m j) (word : st.word ≡ j + 1) (told : released st m r n) where
@@ -251,5 +253,5 @@ pub put_back_seat : (board : Board) (old new : Seat) (i seen : ℕ) (is_stopped 
 put_back_seat board old new i seen is_stopped first second was holds same is =
     seat_kept board old new (freed_by (freed_by (with_made (without_held (seat_view old) i) i seen is_stopped) first) second) was same is refl (λ j. omega (arith, times-without i j (seat_view old).held holds))
 
-pub joined_me : (plan : BoardPlan) (m k : Sat) → m.0.plan ≡ plan → Rests m → ◌≡◌ {A = Sat} (Rattle.board.specs.Plays.both m.0 k.0, m.1) (resting plan (joined m.0.seat k.0.seat), [])
+pub joined_me : (plan : BoardPlan) (m k : Sat) → m.0.plan ≡ plan → Rests m → ◌≡◌ {A = Sat} (Rattle.board.specs.inner.Plays.both m.0 k.0, m.1) (resting plan (joined m.0.seat k.0.seat), [])
 joined_me plan m k planned rests = λ t. (record { plan = planned t; seat = joined m.0.seat k.0.seat; moving = rests.moving t; owes = rests.owes t }, rests.slots t)

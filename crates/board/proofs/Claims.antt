@@ -15,7 +15,8 @@ use Rattle.board.specs.Weights.{total, only, times}
 use Rattle.board.specs.SeatView.{SeatView, with_told}
 use Rattle.board.specs.Plan.{BoardPlan, initiator_of, responder_of}
 use Rattle.board.specs.Rule.{Slot, Home, TAKEN, word_of, made_in, held_in, running_in, freed_in, owed_to, finished_in, Orderly}
-use Rattle.board.specs.Plays.{Sat, view, resting, ClaimTells, TookOut, claimed}
+use Rattle.board.specs.Seats.{Sat, view, resting}
+use Rattle.board.specs.inner.Plays.{ClaimTells, TookOut, claimed}
 use Rattle.board.specs.declared.views.View.{View}
 use Rattle.board.proofs.Sums.{total-append, only-same, only-other, times-without, term_le}
 use Rattle.board.proofs.Parts.{order_claimed, words_claimed, freed_kept, tables_claimed}

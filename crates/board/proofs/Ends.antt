@@ -11,10 +11,12 @@ use Rattle.dependencies.specs.Sharing.{takes_part}
 use Rattle.dependencies.specs.Neighbours.{predecessors, pending_of}
 use Rattle.cluster.specs.Tables.{table_of_node}
 use Rattle.board.specs.Weights.{total, only, times, flag}
-use Rattle.board.specs.SeatView.{SeatView, IsWhole, spent_seat, split_left, split_right, joined}
+use Rattle.board.specs.SeatView.{SeatView, IsWhole, split_left, split_right, joined}
+use Rattle.board.specs.inner.Plays.{spent_seat}
 use Rattle.board.specs.Plan.{BoardPlan, IsBoardPlan, table_at}
 use Rattle.board.specs.Rule.{Slot, word_of, made_in, held_in, running_in, freed_in, owed_from, owed_to, from_only, to_only, finished_in, IsSpent, OwesForMade, Orderly}
-use Rattle.board.specs.Plays.{view, resting, opened_view, LookTells, is_odd}
+use Rattle.board.specs.Seats.{view, resting, LookTells}
+use Rattle.board.specs.inner.Plays.{opened_view, is_odd}
 use Rattle.board.specs.declared.views.View.{View}
 use Rattle.board.proofs.Sums.{total-append, total-set, term_le, terms_le}
 use Rattle.board.proofs.Parts.{order_kept, words_kept, freed_kept, tables_kept, table_quiet}
@@ -112,8 +114,8 @@ module _ (plan : BoardPlan) (id : ℕ) (v : SeatView) (some_parts : 2 ≤ v.part
     };
   }
 
-pub splits : (plan : BoardPlan) (id : ℕ) (m : View) (v : SeatView) → 2 ≤ v.parts → m ≡ resting plan v → Splits (Orderly plan) id m (Rattle.board.specs.Plays.left m) (Rattle.board.specs.Plays.right m)
-splits plan id m v some_parts e = subst (λ x. Splits (Orderly plan) id x (Rattle.board.specs.Plays.left x) (Rattle.board.specs.Plays.right x)) (sym e) (λ s o me. goes_split plan id v some_parts s o me)
+pub splits : (plan : BoardPlan) (id : ℕ) (m : View) (v : SeatView) → 2 ≤ v.parts → m ≡ resting plan v → Splits (Orderly plan) id m (Rattle.board.specs.inner.Plays.left m) (Rattle.board.specs.inner.Plays.right m)
+splits plan id m v some_parts e = subst (λ x. Splits (Orderly plan) id x (Rattle.board.specs.inner.Plays.left x) (Rattle.board.specs.inner.Plays.right x)) (sym e) (λ s o me. goes_split plan id v some_parts s o me)
 
 -- two seats between calls are made one
 module _ (plan blank : BoardPlan) (id other : ℕ) (v w : SeatView) (some_parts : 0 < v.parts) (s : State Slot View) (o : Orderly plan s) (me : get_elem? s.views id ≡ some (resting plan v)) (apart : ¬ (other ≡ id))
@@ -189,9 +191,9 @@ module _ (plan blank : BoardPlan) (id other : ℕ) (v w : SeatView) (some_parts 
   }
 
 pub joins : (plan blank : BoardPlan) (id other : ℕ) (m k : View) (v w : SeatView) → 0 < v.parts → m ≡ resting plan v → k ≡ resting plan w
-    → Joins (Orderly plan) id m other k (Rattle.board.specs.Plays.both m k) (resting blank spent_seat)
-joins plan blank id other m k v w some_parts e d = subst (λ x. Joins (Orderly plan) id x other k (Rattle.board.specs.Plays.both x k) (resting blank spent_seat)) (sym e)
-    (subst (λ x. Joins (Orderly plan) id (resting plan v) other x (Rattle.board.specs.Plays.both (resting plan v) x) (resting blank spent_seat)) (sym d)
+    → Joins (Orderly plan) id m other k (Rattle.board.specs.inner.Plays.both m k) (resting blank spent_seat)
+joins plan blank id other m k v w some_parts e d = subst (λ x. Joins (Orderly plan) id x other k (Rattle.board.specs.inner.Plays.both x k) (resting blank spent_seat)) (sym e)
+    (subst (λ x. Joins (Orderly plan) id (resting plan v) other x (Rattle.board.specs.inner.Plays.both (resting plan v) x) (resting blank spent_seat)) (sym d)
     (λ s o me apart at. goes_joined plan blank id other v w some_parts s o me apart at))
 
 -- the words and the slots of a new board

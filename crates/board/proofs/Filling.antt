@@ -8,7 +8,7 @@ use lib.ListN.{get_elem?}
 use Rattle.node_table.specs.NodeTableView.{NodeTableView}
 use Rattle.round_plan.specs.Plan.{RoundListView, IsRoundPlan}
 use Rattle.dependencies.specs.Neighbours.{pending_of}
-use Rattle.dependencies.specs.States.{in_place}
+use Rattle.dependencies.specs.inner.Slots.{in_place}
 use Rattle.cluster.specs.Tables.{tables_in, table_of_node, IsCluster}
 use Rattle.cluster.specs.Folds.{fold_of}
 use Rattle.cluster.proofs.Tables.{same_tables, length-tables_in}

@@ -14,10 +14,13 @@ use Rattle.dependencies.specs.Sharing.{takes_part}
 use Rattle.dependencies.specs.Neighbours.{predecessors, pending_of}
 use Rattle.dependencies.proofs.Moves.{initiator_left, responder_left}
 use Rattle.board.specs.Weights.{total, only, times, flag}
-use Rattle.board.specs.SeatView.{SeatView, IsWhole, with_made, with_freed, having_seen, having_stopped}
-use Rattle.board.specs.Plan.{BoardPlan, table_at, initiator_of, responder_of, exchanged_at, successor_list}
+use Rattle.board.specs.SeatView.{SeatView, IsWhole, with_made, having_seen, having_stopped}
+use Rattle.board.specs.inner.Plays.{with_freed}
+use Rattle.board.specs.Plan.{BoardPlan, table_at, initiator_of, responder_of, exchanged_at}
+use Rattle.board.specs.inner.Plays.{successor_list}
 use Rattle.board.specs.Rule.{Slot, Home, TAKEN, word_of, made_in, held_in, moving_in, running_in, freed_in, told_in, known_in, owed_from, owed_to, from_only, to_only, finished_in, HasTable, Orderly}
-use Rattle.board.specs.Plays.{Sat, view, resting, releases_by, is_odd, finished, released, looked, halted, shown}
+use Rattle.board.specs.Seats.{Sat, view, resting}
+use Rattle.board.specs.inner.Plays.{releases_by, is_odd, finished, released, looked, halted, shown}
 use Rattle.board.specs.declared.views.View.{View}
 use Rattle.board.proofs.Sums.{total_most, full_each, each_full, all_times, times_all, total-append, only-same, only-other, only-swap, term_le}
 use Rattle.board.proofs.Releases.{releases_meet, successor_within}

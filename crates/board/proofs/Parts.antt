@@ -10,7 +10,8 @@ use Rattle.dependencies.specs.Neighbours.{predecessors, pending_of}
 use Rattle.dependencies.proofs.Predecessors.{share_from}
 use Rattle.dependencies.proofs.Moves.{table_still}
 use Rattle.board.specs.Weights.{only, times}
-use Rattle.board.specs.Plan.{BoardPlan, table_at, successor_list}
+use Rattle.board.specs.Plan.{BoardPlan, table_at}
+use Rattle.board.specs.inner.Plays.{successor_list}
 use Rattle.board.specs.Rule.{IsInOrder, TAKEN, word_of, CountsPredecessors, NamesFreed, Home, HasTable, AreFinishedBelow, NoneIsClaimedFrom, HasTables}
 use Rattle.board.proofs.Sums.{only-same, only-other, total_sum, total_same}
 use Rattle.board.proofs.Releases.{releases_meet, predecessor_shares}

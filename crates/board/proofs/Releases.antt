@@ -9,7 +9,7 @@ use Rattle.dependencies.specs.Neighbours.{last_before, first_from, unless_same, 
 use Rattle.dependencies.proofs.Predecessors.{last_before-is, last_before-reaches}
 use Rattle.dependencies.proofs.Sharers.{part_cases, initiator_part, responder_part}
 use Rattle.board.specs.Weights.{only, times}
-use Rattle.board.specs.Plan.{successor_list}
+use Rattle.board.specs.inner.Plays.{successor_list}
 use Rattle.board.proofs.Sums.{only-same, only-other, only_at}
 
 -- what stands in one of two places, once where it stands in both

@@ -16,7 +16,8 @@ use Rattle.board.specs.Weights.{total, only, times, flag}
 use Rattle.board.specs.SeatView.{IsWhole}
 use Rattle.board.specs.Plan.{BoardPlan, IsBoardPlan, table_at}
 use Rattle.board.specs.Rule.{Slot, TAKEN, word_of, made_in, held_in, moving_in, running_in, owed_from, owed_to, from_only, to_only, finished_in, stops_called, HasTable, IsSpent, Orderly}
-use Rattle.board.specs.Plays.{is_odd, ClaimTells, LookTells, IsApart}
+use Rattle.board.specs.inner.Plays.{is_odd, ClaimTells}
+use Rattle.board.specs.Seats.{LookTells, IsApart}
 use Rattle.board.specs.declared.views.View.{View}
 use Rattle.board.proofs.Sums.{term_le, terms_le, positive_term, total_most, full_each, each_full, all_times, times_all, total_whole, only-same, only_at, lengths-upto, upto_most, upto_full}
 use Rattle.board.proofs.Parts.{apart}

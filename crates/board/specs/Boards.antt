@@ -12,7 +12,7 @@ use Rattle.board.specs.Weights.{times, Has}
 use Rattle.board.specs.SeatView.{SeatView, IsWhole, with_held, with_told, without_held, with_made, freed_by, having_seen, having_stopped}
 use Rattle.board.specs.Plan.{BoardPlan, table_at, initiator_of, responder_of, exchanged_at}
 use Rattle.board.specs.Keys.{key_plan}
-use Rattle.board.specs.Plays.{Rests, LookTells}
+use Rattle.board.specs.Seats.{Rests, LookTells}
 use Rattle.cluster.specs.Tables.{tables_in}
 use Rattle.cluster.specs.Folds.{fold_of}
 use Rattle.board.specs.declared.boards.Board.{Board}

@@ -1,6 +1,6 @@
 -- What the board's rule comes to: at each moment the board stands where a lawful schedule leads. And what a caller does
 -- with a hold: it may carry out the exchange, and puts back what that leaves. Source: this project.
-use Rattle.std.specs.Prelude.{◌≡◌, ℕ, ◌<◌, true, false, nat_lt, List, length, Some}
+use Rattle.std.specs.Prelude.{◌≡◌, ℕ, ◌<◌, true, false, nat_lt, List, ◌++◌, length, Some}
 use mathlib.Core.Option.{some}
 use lib.ListN.{get_elem?}
 use Rattle.bench_types.specs.declared.exchanges.Exchange.{Exchange}
@@ -16,7 +16,8 @@ use Rattle.dependencies.specs.Schedules.{is_finished, is_running, IsLawful}
 use Rattle.dependencies.specs.States.{state_of}
 use Rattle.atomic_table.specs.Table.{State}
 use Rattle.board.specs.Weights.{Has}
-use Rattle.board.specs.SeatView.{SeatView}
+use Rattle.board.specs.SeatView.{SeatView, IsWhole}
+use Rattle.board.specs.Seats.{resting}
 use Rattle.board.specs.Plan.{BoardPlan}
 use Rattle.board.specs.Rule.{Slot, made_in, running_in, Orderly}
 use Rattle.board.specs.Boards.{IsHoldOf, MayPutBack}
@@ -35,6 +36,15 @@ pub record IsScheduled (plan : BoardPlan) (s : State Slot View) : Type 0 where
 
 abbrev pub EachKeepsASchedule : Type 0
 EachKeepsASchedule = (plan : BoardPlan) (s : State Slot View) → Orderly plan s → IsScheduled plan s
+
+-- a whole seat was told of nothing but what it has made or holds, and knows of nothing but what it has made
+pub record KnowsItsOwn (v : SeatView) : Type 0 where
+  pub told : (i : ℕ) → Has v.told i → Has (v.made ++ v.held) i
+  pub known : (i : ℕ) → Has v.known i → Has v.made i
+
+abbrev pub EachWholeSeatKnowsItsOwn : Type 0
+EachWholeSeatKnowsItsOwn = (plan : BoardPlan) (s : State Slot View) (k : ℕ) (v : SeatView) → Orderly plan s
+    → get_elem? s.views k ≡ some (resting plan v) → IsWhole v → KnowsItsOwn v
 
 -- the tables that an exchange may be carried out on: those of its two nodes, with as many owners and keys each, and its
 -- rotation is one of the owners

@@ -3,9 +3,10 @@ pub mod SeatView
 pub mod Plan
 pub mod Rule
 pub mod Laws
-pub mod Plays
+pub mod Seats
 pub mod Keys
 pub mod Boards
+pub mod inner
 pub use Rattle.exchange.specs.Exchanged
 pub use Rattle.cluster.specs.Tables
 pub use Rattle.cluster.specs.Folds

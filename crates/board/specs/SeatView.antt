@@ -1,6 +1,5 @@
 -- What contracts see of a seat, with which one thread uses a board. Source: this project.
-use Rattle.std.specs.Prelude.{◌≡◌, refl, ℕ, ◌+◌, ◌-◌, Bool, true, false, ◌==◌, ◌||◌, if◌then◌else◌, nat_le, Option, List, [], ◌∷◌, ◌++◌}
-use Rattle.std.specs.Coded.{Coded, code_by, coded×, coded_ℕ, coded_bool, coded_list}
+use Rattle.std.specs.Prelude.{◌≡◌, ℕ, ◌+◌, ◌-◌, Bool, true, false, ◌==◌, ◌||◌, if◌then◌else◌, nat_le, Option, List, [], ◌∷◌, ◌++◌}
 use Rattle.dependencies.specs.Neighbours.{as_list}
 
 pub record SeatView : Type 0 where
@@ -33,10 +32,6 @@ IsWhole v = v.parts ≡ ALL_PARTS
 abbrev pub first_seat : SeatView
 first_seat = record { made = []; held = []; freed = []; told = []; known = []; seen = 0; is_stopped = false; is_halted = false; parts = ALL_PARTS }
 
--- a seat that has been joined to another
-abbrev pub spent_seat : SeatView
-spent_seat = record { made = []; held = []; freed = []; told = []; known = []; seen = 0; is_stopped = false; is_halted = false; parts = 0 }
-
 -- a split moves one part to a new seat, which knows what was put back as far as this one knows
 abbrev pub split_left : SeatView → SeatView
 split_left v = record { made = v.made; held = v.held; freed = v.freed; told = v.told; known = v.known; seen = v.seen; is_stopped = v.is_stopped; is_halted = v.is_halted; parts = v.parts - 1 }
@@ -62,17 +57,6 @@ abbrev pub without : ℕ → List ℕ → List ℕ
 without i [] = []
 without i (x ∷ xs) = if x == i then xs else x ∷ without i xs
 
-abbrev indices : Coded (List ℕ)
-indices = coded_list coded_ℕ
-
-abbrev pub seat_code : Coded SeatView
-seat_code =
-    code_by (List ℕ × (List ℕ × (List ℕ × (List ℕ × (List ℕ × (ℕ × (Bool × (Bool × ℕ))))))))
-    (coded× indices (coded× indices (coded× indices (coded× indices (coded× indices (coded× coded_ℕ (coded× coded_bool (coded× coded_bool coded_ℕ))))))))
-    (λ v. (v.made, (v.held, (v.freed, (v.told, (v.known, (v.seen, (v.is_stopped, (v.is_halted, v.parts)))))))))
-    (λ p. record { made = p.0; held = p.1.0; freed = p.1.1.0; told = p.1.1.1.0; known = p.1.1.1.1.0; seen = p.1.1.1.1.1.0; is_stopped = p.1.1.1.1.1.1.0; is_halted = p.1.1.1.1.1.1.1.0; parts = p.1.1.1.1.1.1.1.1 })
-    (λ _. refl)
-
 -- What a call makes of a seat.
 
 abbrev pub with_held : SeatView → ℕ → SeatView
@@ -87,9 +71,6 @@ without_held v i = record v { held = without i v.held }
 -- an exchange is put back, and so many were finished before it, as the count says
 abbrev pub with_made : SeatView → ℕ → ℕ → Bool → SeatView
 with_made v i finished is_stopped = record v { made = v.made ++ i ∷ []; seen = finished + 1; is_stopped = is_stopped }
-
-abbrev pub with_freed : SeatView → ℕ → SeatView
-with_freed v i = record v { freed = v.freed ++ i ∷ [] }
 
 -- an exchange is made ready, if any
 abbrev pub freed_by : SeatView → Option ℕ → SeatView

@@ -2,7 +2,7 @@
 ghost use Rattle.std.specs.Prelude.{List, ◌≡◌, ◌+◌, ◌/◌, ◌<◌, ◌≤◌, None, Some, [], length, map, reverse, IfSome, IfErr, IfOk, IsOkUnless, vec_capacity};
 ghost use Rattle.bench_types.specs.declared.faults.Fault.TheVariants.{OutOfMemory};
 ghost use Rattle.round_plan.specs.Plan.{IsRoundPlan};
-ghost use Rattle.dependencies.specs.States.{in_place};
+ghost use Rattle.dependencies.specs.inner.Slots.{in_place};
 ghost use Rattle.std.specs.Mem.Slots.{slots_items, slots_len, IsFull};
 ghost use Rattle.node_table.specs.NodeTableView.{NodeTableView};
 ghost use Rattle.bench_types.specs.declared.faults.Fault.TheVariants.{Unfinished};
@@ -10,10 +10,11 @@ ghost use Rattle.cluster.specs.Tables.{tables_in, IsCluster};
 ghost use Rattle.board.specs.SeatView.{IsWhole, first_seat, split_left, split_right, joined, with_held};
 ghost use Rattle.board.specs.Plan.{IsBoardPlan};
 ghost use Rattle.board.specs.Keys.{key_plan};
-ghost use Rattle.board.specs.Plays.{resting, IsApart, HasOut, OwesNext, IsReleased, HasFinished, first_words_of};
+ghost use Rattle.board.specs.Seats.{resting, IsApart};
+ghost use Rattle.board.specs.inner.Plays.{HasOut, OwesNext, IsReleased, HasFinished, first_words_of};
 
 use crate::plays::{
-    Both, Empty, Finish, Halt, Key, Look, Order, Part, Release, Retake, Show, Take,
+    BoardKey, Both, Empty, Finish, Halt, Look, Order, Part, Release, Retake, Show, Take,
 };
 use crate::views::View;
 use atomic_table::{Closed, Refused, Table};
@@ -77,7 +78,7 @@ pub struct Progress {
 /// The tables of all nodes, which threads take out two at a time and put back.
 #[derive(Drop)]
 pub struct Board {
-    table: Table<Option<NodeTable>, View, Key, Order, Global>,
+    table: Table<Option<NodeTable>, View, BoardKey, Order, Global>,
     deps: Deps,
     // Room for all tables, for `close`.
     room: Vec<NodeTable>,
@@ -104,7 +105,7 @@ impl Board {
         ensures seat { IfOk result (λ made. IsSeatOf made.1 made.0 × (seat_view made.1 ≡ first_seat)) }
         ensures only { IsOkUnless result OutOfMemory }
     {
-        let key = Key {
+        let key = BoardKey {
             rules,
             list: Snapshot::of(&deps),
             tables: Snapshot::of(&tables),
@@ -269,8 +270,8 @@ impl Board {
         self.table.shared.load::<Show>(&mut seat.raw, 0);
     }
 
-    /// The tables of all nodes, in order, where all exchanges are put back. Else they are given up. Takes
-    /// no memory. Costs a step for each node.
+    /// The tables of all nodes, in order, where all exchanges are put back. Else they are given up
+    /// (`Unfinished`). Takes no memory. Costs a step for each node.
     pub fn close(self, seat: Seat) -> Result<Vec<NodeTable>, Fault>
         requires seat { IsSeatOf seat self }
         ensures tables { IfOk result (λ tables. AreLeft (plan_of self) tables.items) }

@@ -1,11 +1,17 @@
 //! What holds of every board at each moment, and of every hold. The calls do nothing.
 
-ghost use Rattle.board.specs.Laws.{EachKeepsASchedule, EachHoldMayBeExchanged, EachMayBePutBack};
+ghost use Rattle.board.specs.Laws.{EachKeepsASchedule, EachWholeSeatKnowsItsOwn, EachHoldMayBeExchanged, EachMayBePutBack};
 
 /// At each moment what seats have put back and what they hold are the finished and the running exchanges
 /// of some lawful schedule, and the table of a node of which none runs is the one of its state.
 pub fn every_board_keeps_a_schedule()
     ensures { EachKeepsASchedule }
+{}
+
+/// A seat that has all parts was told that exchanges are taken only of such as it has put back or holds, and
+/// what it knows to be put back it has put back itself.
+pub fn every_whole_seat_knows_its_own()
+    ensures { EachWholeSeatKnowsItsOwn }
 {}
 
 /// The exchange of a hold may be carried out on its tables.

@@ -1,8 +1,10 @@
 //! What a seat knows, holds and owes, as the proofs see it.
 ghost use Rattle.std.specs.Prelude.{ℕ, List};
 ghost use Rattle.std.specs.Borrow.{ftrue};
-ghost use Rattle.board.specs.Plan.{BoardPlan, plan_code};
-ghost use Rattle.board.specs.SeatView.{SeatView, seat_code};
+ghost use Rattle.board.specs.Plan.{BoardPlan};
+ghost use Rattle.board.specs.inner.Codes.{plan_code};
+ghost use Rattle.board.specs.SeatView.{SeatView};
+ghost use Rattle.board.specs.inner.Codes.{seat_code};
 
 use std::marker::Model;
 

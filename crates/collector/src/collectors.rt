@@ -26,7 +26,7 @@ pub struct Collector {
 impl Model for Collector {
     ghost use Rattle.std.specs.Prelude.{List, Option};
     ghost use Rattle.bench_types.specs.declared.exchanges.Record.{Record};
-    ghost use Rattle.collector.specs.Kept.{IsCollector};
+    ghost use Rattle.collector.specs.inner.Kept.{IsCollector};
 
     ghost Value = { List (Option Record) };
 

@@ -26,7 +26,7 @@ pub fn run_process<H: Env + AllocGlobal + Files + Input + Print + Threads + Wait
             let _ = write_text(err, b"error: a word is not UTF-8\n");
             return REFUSED;
         }
-        Err(_) => return status_of(alloc, Err(Fault::OutOfMemory), err),
+        Err(_) => return status_of(Err(Fault::OutOfMemory), err),
     };
     let mut reader = Pull::new(rt.reader());
     let mut out = Push::new(io::writer(rt));

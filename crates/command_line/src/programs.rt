@@ -6,11 +6,13 @@ ghost use Rattle.command_line.specs.Statuses.{status_of, HelpIsWritten, HelpIsFa
 ghost use Rattle.command_line.specs.Jobs.{IsDone, IsStoppedByFault};
 
 use crate::jobs::perform;
+use arrayvec::ArrayString;
 use bench_types::{Discard, Fault, Push, Sink, Source};
 use command_words::{NoJob, job_of};
 use report::write_text;
 use std::alloc::Global;
 use std::convert::AsStr;
+use std::fmt::Write;
 use std::rt::Files;
 use std::sync::Wait;
 use std::thread::Threads;
@@ -43,27 +45,27 @@ pub fn main_with<H: Threads + Wait + Sync + Files, S: AsStr, R: Source, W: Sink,
     match job_of(alloc, words) {
         Ok(job) => {
             let done = perform(rt, alloc, job, reader, out);
-            status_of(alloc, done, err)
+            status_of(done, err)
         }
-        Err(reason) => answer_words(alloc, reason, out, err),
+        Err(reason) => answer_words(reason, out, err),
     }
 }
 
 // The status after a job, or after help. The line of a fault goes to `err`.
-pub(crate) fn status_of<E: Sink>(alloc: Global, done: Result<(), Fault>, err: &mut E) -> u8
+pub(crate) fn status_of<E: Sink>(done: Result<(), Fault>, err: &mut E) -> u8
     ensures { result ≡ status_of done }
 {
     match done {
         Ok(()) => DONE,
         Err(fault) => {
-            explain(alloc, fault, err);
+            explain(fault, err);
             FAULT
         }
     }
 }
 
 // The status where the words ask for help or are refused, or memory ran out.
-fn answer_words<W: Sink, E: Sink>(alloc: Global, reason: NoJob, out: &mut W, err: &mut E) -> u8
+fn answer_words<W: Sink, E: Sink>(reason: NoJob, out: &mut W, err: &mut E) -> u8
     ensures status { result ≤ 2 }
     ensures done { result ≡ 0 → HelpIsWritten W.Sink out.old out.new }
     ensures fault { result ≡ 1 → (fault : Fault) × HelpIsFaulty W.Sink out.old out.new fault }
@@ -72,13 +74,13 @@ fn answer_words<W: Sink, E: Sink>(alloc: Global, reason: NoJob, out: &mut W, err
     match reason {
         NoJob::Help(text) => {
             let done = print(&text, out);
-            status_of(alloc, done, err)
+            status_of(done, err)
         }
         NoJob::Refused(text) => {
             let _ = write_text(err, text.as_bytes());
             REFUSED
         }
-        NoJob::OutOfMemory => status_of(alloc, Err(Fault::OutOfMemory), err),
+        NoJob::OutOfMemory => status_of(Err(Fault::OutOfMemory), err),
     }
 }
 
@@ -90,9 +92,13 @@ fn print<W: Sink>(help: &str, out: &mut W) -> Result<(), Fault>
     write_text(out, help.as_bytes())
 }
 
-// Says what the fault is, if that can be said.
-fn explain<E: Sink>(alloc: Global, fault: Fault, err: &mut E) {
-    if let Ok(line) = format!(in alloc; "{fault}\n") {
-        let _ = write_text(err, line.as_bytes());
+// The most bytes of a fault's line; the longest is some 50.
+const MOST_LINE: usize = 96;
+
+// Says what the fault is. It takes no memory, so it can say that there is none.
+fn explain<E: Sink>(fault: Fault, err: &mut E) {
+    let mut line = ArrayString::<MOST_LINE>::new();
+    if writeln!(line, "{fault}").is_ok() {
+        let _ = write_text(err, line.as_str().as_bytes());
     }
 }

@@ -1,10 +1,10 @@
 pub mod Sharing
 pub mod Schedules
 pub mod Neighbours
-pub mod Dependencies
 pub mod States
 pub mod ListOrder
 pub mod Laws
+pub mod inner
 pub use Rattle.exchange.specs.Exchanged
 pub use Rattle.cluster.specs.Tables
 pub use Rattle.cluster.specs.Folds

@@ -1,6 +1,6 @@
 -- The predecessors of an exchange are the last earlier exchanges of its two nodes, and its successors the next later
 -- ones. Where both nodes have the same one it counts once. Source: this project.
-use Rattle.std.specs.Prelude.{ℕ, Bool, zero, suc, ◌+◌, ◌-◌, ◌==◌, if◌then◌else◌, List, [], ◌∷◌, ◌++◌, length, map, Option, None, Some}
+use Rattle.std.specs.Prelude.{ℕ, Bool, zero, suc, ◌+◌, ◌-◌, ◌==◌, if◌then◌else◌, List, [], ◌∷◌, ◌++◌, length, Option, None, Some}
 use Rattle.std.specs.List.{range_with_len, find, filter}
 use Rattle.bench_types.specs.declared.exchanges.Exchange.{Exchange}
 use Rattle.dependencies.specs.declared.deps.After.{After}
@@ -49,10 +49,3 @@ is_first_ready es i = pending_of es i == 0
 
 abbrev pub first_ready_of : List Exchange → List ℕ
 first_ready_of es = filter (is_first_ready es) (range_with_len 0 (length es))
-
--- the predecessors and the successors of each exchange, in list order
-abbrev pub all_predecessors : List Exchange → List Before
-all_predecessors es = map (predecessors_of es) (range_with_len 0 (length es))
-
-abbrev pub all_successors : List Exchange → List After
-all_successors es = map (successors es) (range_with_len 0 (length es))

@@ -5,7 +5,6 @@ use Rattle.bench_types.specs.declared.exchanges.Exchange.{Exchange}
 use Rattle.bench_types.specs.declared.exchanges.Record.{Record}
 use Rattle.bench_types.specs.declared.exchanges.Rules.{Rules}
 use Rattle.node_table.specs.Table.{Table}
-use Rattle.node_table.specs.NodeTableView.{NodeTableView}
 use Rattle.exchange.specs.Exchanged.{exchanged}
 use Rattle.dependencies.specs.declared.events.Event.{Event}
 use Rattle.dependencies.specs.declared.events.Event.TheVariants.{Start, Finish}
@@ -30,10 +29,6 @@ abbrev pub both_of : Option Table → Option Table → Option Taken
 both_of (Some p) (Some q) = Some (record { initiator = p; responder = q })
 both_of (Some p) None = None
 both_of None q = None
-
--- a table in its place, kept with its room
-abbrev pub in_place : NodeTableView → Option NodeTableView
-in_place kept = Some kept
 
 -- all tables are in their places, and nothing has begun
 abbrev pub opened : List Table → State

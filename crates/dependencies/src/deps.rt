@@ -7,8 +7,9 @@ ghost use Rattle.bench_types.specs.Exchange.{IsPlanned};
 ghost use Rattle.round_plan.specs.Plan.{IsRoundPlan};
 ghost use Rattle.round_plan.specs.declared.lists.TheConstants.{MOST_EXCHANGES};
 ghost use Rattle.dependencies.specs.Sharing.{exchange_at};
-ghost use Rattle.dependencies.specs.Dependencies.{AreFirstReady};
-ghost use Rattle.dependencies.specs.Neighbours.{predecessors_of, successors, all_predecessors, all_successors, as_list, unless_same, pending_of, first_ready_of};
+ghost use Rattle.dependencies.specs.inner.Dependencies.{AreFirstReady};
+ghost use Rattle.dependencies.specs.Neighbours.{predecessors_of, successors, as_list, unless_same, pending_of, first_ready_of};
+ghost use Rattle.dependencies.specs.inner.Dependencies.{all_predecessors, all_successors};
 
 use bench_types::{Exchange, Fault};
 use round_plan::RoundList;
@@ -46,7 +47,7 @@ pub struct Deps {
 
 impl Model for Deps {
     ghost use Rattle.round_plan.specs.Plan.{RoundListView, plan_of};
-    ghost use Rattle.dependencies.specs.Dependencies.{AreKept};
+    ghost use Rattle.dependencies.specs.inner.Dependencies.{AreKept};
 
     ghost Value = { RoundListView };
 
@@ -58,7 +59,7 @@ impl Model for Deps {
 
 impl Deps {
     /// The dependencies of a round's list, of which a copy is kept. Costs a step for each node and a
-    /// few for each exchange.
+    /// few for each exchange. An error is lack of memory (`OutOfMemory`).
     pub fn new(alloc: Global, list: &RoundList) -> Result<Deps, Fault>
         ensures value { IfOk result (λ deps. deps ≡ list.now) }
         ensures only { IsOkUnless result OutOfMemory }

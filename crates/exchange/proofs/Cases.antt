@@ -9,7 +9,8 @@ use Rattle.bench_types.specs.Mode.{told_by}
 use Rattle.node_table.specs.Table.{Table, applied}
 use Rattle.reconcile.specs.Digests.{DigestView, IsDigestOf, digest_size}
 use Rattle.reconcile.specs.Deltas.{DeltaView, delta_between}
-use Rattle.exchange.specs.Exchanged.{Exchanged, exchanged, fate_of, last_fate, after_message, initiator_after, responder_after, sent_until}
+use Rattle.exchange.specs.Exchanged.{Exchanged, exchanged, fate_of, last_fate, initiator_after, responder_after, sent_until}
+use Rattle.exchange.specs.inner.Messages.{after_message}
 
 -- where the third message was sent, the second came
 initiator_after-last : (lost : Bool) (p : Table) (back : DeltaView) → initiator_after (last_fate lost) p back ≡ applied p back.items

@@ -3,7 +3,7 @@
 -- exchange. Where the first message is lost nothing further is sent; where the second is, neither side changes
 -- and the third isn't sent; where the third is, only p changes. The fate is that of the first lost message.
 -- The record counts what was sent. Source: the LADIS 2008 paper; losses and records are this project's.
-use Rattle.std.specs.Prelude.{◌≡◌, ℕ, Bool, length, if◌then◌else◌}
+use Rattle.std.specs.Prelude.{◌≡◌, ◌≤◌, ℕ, Bool, length, if◌then◌else◌}
 use Rattle.bench_types.specs.declared.exchanges.Exchange.{Exchange}
 use Rattle.bench_types.specs.declared.exchanges.Fate.{Fate}
 use Rattle.bench_types.specs.declared.exchanges.Fate.TheVariants as fate
@@ -12,8 +12,8 @@ use Rattle.bench_types.specs.declared.exchanges.Rules.{Rules}
 use Rattle.bench_types.specs.Mode.{told_by}
 use Rattle.node_table.specs.Table.{Table, applied}
 use Rattle.node_table.specs.NodeTableView.{NodeTableView}
-use Rattle.reconcile.specs.Digests.{DigestView, digest_size}
-use Rattle.reconcile.specs.Deltas.{DeltaView, delta_between, IsDeltaToReceiver}
+use Rattle.reconcile.specs.Digests.{digest_size}
+use Rattle.reconcile.specs.Deltas.{DeltaView, delta_between}
 
 -- both tables after an exchange, and its record
 pub record Exchanged : Type 0 where
@@ -28,20 +28,12 @@ last_fate lost = if lost then fate.Lost3 else fate.Ok
 abbrev pub fate_of : Exchange → Fate
 fate_of e = if e.lost1 then fate.Lost1 else (if e.lost2 then fate.Lost2 else last_fate e.lost3)
 
--- the delta that answers a receiver's digest in an exchange
-abbrev pub IsAnswer : Rules → Exchange → Table → ℕ → DigestView → DeltaView → Type 0
-IsAnswer rules e from receiver told = IsDeltaToReceiver rules.mode e.rotation rules.budget from receiver told
-
 -- what was sent up to the first lost message
 abbrev pub sent_until : Fate → ℕ → ℕ → DeltaView → DeltaView → Record
 sent_until fate.Lost1 d1 d2 b f = record { digest1 = d1; digest2 = 0; back = 0; forth = 0; back_cut = 0; forth_cut = 0; fate = fate.Lost1 }
 sent_until fate.Lost2 d1 d2 b f = record { digest1 = d1; digest2 = d2; back = length b.items; forth = 0; back_cut = b.cut; forth_cut = 0; fate = fate.Lost2 }
 sent_until fate.Lost3 d1 d2 b f = record { digest1 = d1; digest2 = d2; back = length b.items; forth = length f.items; back_cut = b.cut; forth_cut = f.cut; fate = fate.Lost3 }
 sent_until fate.Ok d1 d2 b f = record { digest1 = d1; digest2 = d2; back = length b.items; forth = length f.items; back_cut = b.cut; forth_cut = f.cut; fate = fate.Ok }
-
--- the table of a delta's receiver after the message that has it
-abbrev pub after_message : Bool → Table → DeltaView → Table
-after_message lost t delta = if lost then t else applied t delta.items
 
 -- the initiator changes where the second message came
 abbrev pub initiator_after : Fate → Table → DeltaView → Table
@@ -73,6 +65,10 @@ abbrev pub IsExchanged : Rules → Exchange → NodeTableView → NodeTableView 
 IsExchanged rules e p q p' q' r =
     exchanged rules e p.table q.table ≡ record { initiator = p'.table; responder = q'.table; sent = r }
 
+-- a table is as it was, and so is its room, or there is more of it
+abbrev pub StaysWithRoom : NodeTableView → NodeTableView → Type 0
+StaysWithRoom old new = (new.table ≡ old.table) × (old.spare ≤ new.spare)
+
 -- they became p' and q', and neither table changed
 abbrev pub BothTablesStay : NodeTableView → NodeTableView → NodeTableView → NodeTableView → Type 0
-BothTablesStay p q p' q' = (p'.table ≡ p.table) × (q'.table ≡ q.table)
+BothTablesStay p q p' q' = StaysWithRoom p p' × StaysWithRoom q q'

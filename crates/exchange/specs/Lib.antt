@@ -1,7 +1,7 @@
 pub mod Exchanged
-pub mod Owns
 pub mod Laws
 pub mod Copies
+pub mod inner
 pub use Rattle.reconcile.specs.Candidates
 pub use Rattle.reconcile.specs.Order
 pub use Rattle.reconcile.specs.Picks

@@ -9,7 +9,8 @@ ghost use Rattle.node_table.specs.NodeTableView.{MayReceive};
 ghost use Rattle.node_table.specs.Table.{applied};
 ghost use Rattle.reconcile.specs.Digests.{IsDigestOf, IsOfKind};
 ghost use Rattle.reconcile.specs.Deltas.{DeltaView, MayTake};
-ghost use Rattle.exchange.specs.Exchanged.{IsAnswer, IsExchanged, BothTablesStay, after_message, last_fate, sent_until};
+ghost use Rattle.exchange.specs.inner.Messages.{IsAnswer, after_message};
+ghost use Rattle.exchange.specs.Exchanged.{IsExchanged, BothTablesStay, last_fate, sent_until};
 
 use bench_types::{Exchange, Fate, Fault, Record, Rules};
 use node_table::NodeTable;

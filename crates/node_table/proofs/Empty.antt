@@ -10,8 +10,8 @@ use Rattle.bench_types.specs.declared.entries.Entry.{Entry}
 use Rattle.node_table.specs.declared.layouts.Row.{Row}
 use Rattle.node_table.specs.declared.layouts.Layout.{Layout}
 use Rattle.node_table.specs.Table.{place_cmp, Table, entry_at, greatest_mark, IsProper}
-use Rattle.node_table.specs.Rows.{AreGenerations, AreGreatest}
-use Rattle.node_table.specs.Layouts.{row_of, rows_of, row_at, held_in, row_len, block_len, entry_in, table_in, IsInSlots, AreLaid, IsLayout}
+use Rattle.node_table.specs.Entries.{AreGenerations, AreGreatest}
+use Rattle.node_table.specs.inner.Layouts.{row_of, rows_of, row_at, held_in, row_len, block_len, entry_in, table_in, IsInSlots, AreLaid, IsLayout}
 use Rattle.node_table.proofs.Laws.{same_table}
 use Rattle.node_table.proofs.Laid.{row_at-get_or, row_at-past}
 use Rattle.node_table.proofs.Greatest.{greatest_mark-none}

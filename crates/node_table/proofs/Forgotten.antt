@@ -10,8 +10,8 @@ use Rattle.node_table.specs.declared.layouts.Row.{Row}
 use Rattle.node_table.specs.declared.layouts.Layout.{Layout}
 use Rattle.bench_types.specs.declared.entries.Mark.{Mark}
 use Rattle.node_table.specs.Table.{Table, without_others, entry_at, generation_held, greatest_version}
-use Rattle.node_table.specs.Rows.{AreGenerations, AreGreatest}
-use Rattle.node_table.specs.Layouts.{row_of, rows_of, row_at, row_len, held_in, block_len, entry_in, table_in, IsRow, IsInSlots, AreApart, AreLaid, AreOthersKept}
+use Rattle.node_table.specs.Entries.{AreGenerations, AreGreatest}
+use Rattle.node_table.specs.inner.Layouts.{row_of, rows_of, row_at, row_len, held_in, block_len, entry_in, table_in, IsRow, IsInSlots, AreApart, AreLaid, AreOthersKept}
 use Rattle.node_table.proofs.Laws.{same_table, entry_at-without_others_own, entry_at-without_others_other}
 use Rattle.node_table.proofs.MarkLaws.{greatest_mark-without_others_own, greatest_mark-without_others_other}
 use Rattle.node_table.proofs.Laid.{row_at-get_or, row_at-past, block_len-some}

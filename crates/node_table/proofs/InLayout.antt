@@ -13,8 +13,8 @@ use Rattle.bench_types.specs.Mark.{absent, mark_of, IsBefore, IsUpTo}
 use Rattle.node_table.specs.declared.layouts.Row.{Row}
 use Rattle.node_table.specs.declared.layouts.Layout.{Layout}
 use Rattle.node_table.specs.Table.{Table, entry_at, greatest_mark, generation_held, greatest_version, count_of, taken}
-use Rattle.node_table.specs.Rows.{StandsBefore, AreAbove}
-use Rattle.node_table.specs.Layouts.{row_of, rows_of, row_at, row_len, entry_in, held_in, table_in, with_entry, HaveTwoKeys, IsRow, IsInSlots, AreLaid, IsLayout, IsIndexOf, IsRankAbove, IsPlaced, IsRenewed}
+use Rattle.node_table.specs.Entries.{StandsBefore, AreAbove}
+use Rattle.node_table.specs.inner.Layouts.{row_of, rows_of, row_at, row_len, entry_in, held_in, table_in, with_entry, HaveTwoKeys, IsRow, IsInSlots, AreLaid, IsLayout, IsIndexOf, IsRankAbove, IsPlaced, IsRenewed}
 use Rattle.node_table.proofs.Greatest.{greatest_mark-none, place_less}
 use Rattle.node_table.proofs.Laws.{same_table, entry_at-taken_other, entry_at-taken_newer, frame-taken}
 use Rattle.node_table.proofs.InRow.{rank_place, absent_from_end}

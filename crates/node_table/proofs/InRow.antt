@@ -15,8 +15,8 @@ use Rattle.std.proofs.lemmas.Map.Steps.{length-le_from_distinct_below}
 use Rattle.std.proofs.lemmas.Map.Views.{Contains-from_any}
 use Rattle.bench_types.specs.declared.entries.Entry.{Entry}
 use Rattle.node_table.specs.Table.{Place}
-use Rattle.node_table.specs.Rows.{entry_cmp, StandsBefore}
-use Rattle.node_table.specs.Layouts.{entry_in, HaveTwoKeys, IsRow, IsIndexOf, IsRankOf, IsPut}
+use Rattle.node_table.specs.Entries.{entry_cmp, StandsBefore}
+use Rattle.node_table.specs.inner.Layouts.{entry_in, HaveTwoKeys, IsRow, IsIndexOf, IsRankOf, IsPut}
 use Rattle.node_table.proofs.Comparing.{nat_cmp-less}
 use Rattle.node_table.proofs.Order.{place_total, place_same, place_turned}
 

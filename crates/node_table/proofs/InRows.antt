@@ -10,7 +10,7 @@ use Rattle.std.proofs.lemmas.List.Elements.{All-head, All-tail}
 use Rattle.std.proofs.lemmas.List.Sums.{sum_by-cons}
 use Rattle.bench_types.specs.declared.entries.Entry.{Entry}
 use Rattle.node_table.specs.Table.{Place, place_cmp}
-use Rattle.node_table.specs.Layouts.{entry_in, placed, placed_from, held_in, HaveTwoKeys}
+use Rattle.node_table.specs.inner.Layouts.{entry_in, placed, placed_from, held_in, HaveTwoKeys}
 use Rattle.node_table.proofs.Order.{place_total, place_same}
 use Rattle.node_table.proofs.Laws.{tied-stands_at}
 

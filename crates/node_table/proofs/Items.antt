@@ -12,8 +12,8 @@ use Rattle.std.proofs.lemmas.List.Elements.{All-head, All-tail}
 use Rattle.bench_types.specs.declared.entries.Entry.{Entry}
 use Rattle.bench_types.specs.declared.entries.Item.{Item}
 use Rattle.node_table.specs.Table.{Place, place_cmp, Table, entry_at, item_of, items_of, IsProper}
-use Rattle.node_table.specs.View.{place_of, pair_of, pairs, IsRising}
-use Rattle.node_table.specs.Applied.{stands_at, items_at}
+use Rattle.node_table.specs.inner.Items.{place_of, pair_of, pairs, IsRising}
+use Rattle.node_table.specs.inner.Applied.{stands_at, items_at}
 use Rattle.node_table.proofs.Order.{place_total, place_turned}
 use Rattle.node_table.proofs.Comparing.{first, second, less}
 use Rattle.node_table.proofs.Rising.{rising_at}

@@ -8,7 +8,7 @@ use Rattle.std.proofs.lemmas.List.Elements.{All-head, All-tail}
 use Rattle.std.proofs.lemmas.List.Sums.{sum_by-cons, sum_by-set, sum_by-le}
 use Rattle.bench_types.specs.declared.entries.Entry.{Entry}
 use Rattle.node_table.specs.declared.layouts.Row.{Row}
-use Rattle.node_table.specs.Layouts.{row_of, rows_of, row_at, row_len, block_len, IsRow, IsInSlots, AreApart, AreLaid, IsPut, IsPlaced, IsRenewed, KeepOutside}
+use Rattle.node_table.specs.inner.Layouts.{row_of, rows_of, row_at, row_len, block_len, IsRow, IsInSlots, AreApart, AreLaid, IsPut, IsPlaced, IsRenewed, KeepOutside}
 use Rattle.node_table.proofs.InRow.{row_fits}
 
 pub length-row_of : (keys : ℕ) (slots : List Entry) (r : Row) → IsInSlots keys slots r → length (row_of slots r) ≡ r.len

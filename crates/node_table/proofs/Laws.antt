@@ -11,8 +11,8 @@ use Rattle.bench_types.specs.declared.entries.Item.{Item}
 use Rattle.bench_types.specs.Entry.{newer}
 use Rattle.bench_types.specs.Mark.{mark_of, is_before}
 use Rattle.node_table.specs.Table.{Place, place_cmp, Held, Table, empty_table, entry_at, generation_held, held_with, without_owner, held_beside, taken, applied, own_write, with_own_write, without_others, without_all}
-use Rattle.node_table.specs.View.{place_of}
-use Rattle.node_table.specs.Applied.{stands_at, items_at}
+use Rattle.node_table.specs.inner.Items.{place_of}
+use Rattle.node_table.specs.inner.Applied.{stands_at, items_at}
 use Rattle.node_table.proofs.Order.{place_total, place_same}
 use Rattle.node_table.proofs.Comparing.{equal}
 use Rattle.std.proofs.lemmas.Option.{same_Some}

@@ -8,11 +8,11 @@ use Rattle.bench_types.specs.Mark.{mark_held}
 use Rattle.node_table.specs.declared.layouts.Row.{Row}
 use Rattle.node_table.specs.declared.layouts.Layout.{Layout}
 use Rattle.node_table.specs.Table.{greatest_version}
-use Rattle.node_table.specs.Rows.{AreGreatest}
-use Rattle.node_table.specs.View.{no_item}
+use Rattle.node_table.specs.Entries.{AreGreatest}
+use Rattle.node_table.specs.inner.Items.{no_item}
 use Rattle.node_table.specs.NodeTableView.{blocks_below}
-use Rattle.node_table.specs.Layouts.{row_at, entry_in, table_in, IsRow, IsLayout}
-use Rattle.node_table.specs.Marks.{ComesWithin, AreMarked, AreUnmarked}
+use Rattle.node_table.specs.inner.Layouts.{row_at, entry_in, table_in, IsRow, IsLayout}
+use Rattle.node_table.specs.inner.Marks.{ComesWithin, AreMarked, AreUnmarked}
 use Rattle.node_table.proofs.Room.{blocks-upto, blocks-came_held, blocks-came_new}
 use Rattle.node_table.proofs.Taking.{version-le-greatest}
 use Rattle.node_table.proofs.Laid.{row_at-get_or, length-row_of}

@@ -5,7 +5,7 @@ use Rattle.std.proofs.lemmas.List.{length-replicate}
 use Rattle.std.proofs.lemmas.List.Elements.{All-cons, All-nil}
 use Rattle.bench_types.specs.declared.entries.Entry.{Entry}
 use Rattle.node_table.specs.declared.layouts.Row.{Row}
-use Rattle.node_table.specs.Layouts.{row_of, row_at, block_len, IsRow, IsInSlots, AreApart, AreLaid, IsPut, IsPlaced, IsRenewed}
+use Rattle.node_table.specs.inner.Layouts.{row_of, row_at, block_len, IsRow, IsInSlots, AreApart, AreLaid, IsPut, IsPlaced, IsRenewed}
 use Rattle.node_table.proofs.Blocks.{take-behind, take-new}
 use Rattle.node_table.proofs.Laid.{laid_after, renewed_after, block_len-some, block_len-none}
 

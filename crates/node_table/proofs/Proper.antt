@@ -6,7 +6,8 @@ use Rattle.std.proofs.lemmas.List.{get_or_default}
 use Rattle.bench_types.specs.declared.entries.Item.{Item}
 use Rattle.bench_types.specs.declared.limits.TheConstants.{MOST_NODES, MOST_KEYS}
 use Rattle.node_table.specs.Table.{Place, place_cmp, Table, items_of, IsProper}
-use Rattle.node_table.specs.View.{place_of, IsRising, IsItemInPlace, IsSound}
+use Rattle.node_table.specs.inner.Items.{place_of, IsRising, IsSound}
+use Rattle.node_table.specs.Table.{IsItemInPlace}
 use Rattle.node_table.proofs.Rising.{rising_at}
 use Rattle.node_table.proofs.Greatest.{place_less}
 use Rattle.node_table.proofs.Items.{rising-items_of, entry_at-items_of}

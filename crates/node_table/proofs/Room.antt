@@ -6,7 +6,7 @@ use Rattle.std.proofs.lemmas.Nat.{le-div, div-add-mod'}
 use Rattle.bench_types.specs.declared.entries.Item.{Item}
 use Rattle.bench_types.specs.declared.entries.Mark.{Mark}
 use Rattle.node_table.specs.Table.{Table, greatest_version, taken, IsProper}
-use Rattle.node_table.specs.View.{IsItemInPlace}
+use Rattle.node_table.specs.Table.{IsItemInPlace}
 use Rattle.node_table.specs.NodeTableView.{comes_in, needs_block, blocks_below, blocks_for}
 use Rattle.node_table.proofs.Laws.{frame-taken}
 use Rattle.node_table.proofs.MarkLaws.{greatest_mark-taken_other}

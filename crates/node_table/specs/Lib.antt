@@ -1,9 +1,5 @@
 pub mod Table
 pub mod NodeTableView
-pub mod View
-pub mod Runs
-pub mod Applied
-pub mod Rows
-pub mod Layouts
-pub mod Marks
+pub mod Entries
+pub mod inner
 pub use Rattle.bench_types.specs.Entry

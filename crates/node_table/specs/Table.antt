@@ -135,3 +135,6 @@ pub record IsProper (t : Table) : Type 0 where
   pub in_place : (owner key : ℕ) (e : Entry) → entry_at t owner key ≡ Some e → IsInPlace t.nodes t.keys owner key e
   pub copies : (owner key : ℕ) (e : Entry) → entry_at t owner key ≡ Some e → e.generation ≡ generation_held t owner
   pub own : (key : ℕ) (e : Entry) → entry_at t t.node key ≡ Some e → e.generation ≡ t.generation
+
+abbrev pub IsItemInPlace : ℕ → ℕ → Item → Type 0
+IsItemInPlace ns ks i = IsInPlace ns ks i.owner i.entry.key i.entry

@@ -6,11 +6,11 @@
 ghost use Rattle.std.specs.Prelude.{◌≡◌, ◌≢◌, ◌⊎◌, ◌+◌, ◌^◌, ◌<◌, ◌≤◌, [], ◌∷◌, IsOk, OnOk, OnErr, length, nat_lt, slice_index, take, vec_len, vec_capacity};
 ghost use Rattle.bench_types.specs.Mark.{mark_of};
 ghost use Rattle.node_table.specs.Table.{mark_at, generation_held, greatest_mark, taken, without_others, without_all};
-ghost use Rattle.node_table.specs.View.{IsItemInPlace};
-ghost use Rattle.node_table.specs.Rows.{AreAbove};
+ghost use Rattle.node_table.specs.Table.{IsItemInPlace};
+ghost use Rattle.node_table.specs.Entries.{AreAbove};
 ghost use Rattle.node_table.specs.NodeTableView.{blocks_below, blocks_for};
-ghost use Rattle.node_table.specs.Marks.{AreMarked, AreUnmarked};
-ghost use Rattle.node_table.specs.Layouts.{row_of, row_at, block_len, table_in, AreLaid, IsLayout, IsEmptyRow, IsInSlots, IsPlaced, AreOthersKept, IsRenewed, IsPut, KeepOutside, HasEntries, IsHeld, HasBlockLeft};
+ghost use Rattle.node_table.specs.inner.Marks.{AreMarked, AreUnmarked};
+ghost use Rattle.node_table.specs.inner.Layouts.{row_of, row_at, block_len, table_in, AreLaid, IsLayout, IsEmptyRow, IsInSlots, IsPlaced, AreOthersKept, IsRenewed, IsPut, KeepOutside, HasEntries, IsHeld, HasBlockLeft};
 
 use crate::rows::{find, put_in, rank_above};
 use bench_types::limits::{MOST_KEYS, MOST_NODES};

@@ -3,8 +3,8 @@
 
 ghost use Rattle.std.specs.Prelude.{◌≡◌, ◌≢◌, ◌+◌, ◌-◌, ◌<◌, ◌≤◌, All, filter, length, take, remove};
 ghost use Rattle.std.specs.Ordering.{is_lt};
-ghost use Rattle.node_table.specs.Rows.{entry_cmp};
-ghost use Rattle.node_table.specs.Layouts.{entry_in, has_other_key, IsRow, IsIndexOf, IsRankOf, IsRankAbove, IsPut};
+ghost use Rattle.node_table.specs.Entries.{entry_cmp};
+ghost use Rattle.node_table.specs.inner.Layouts.{entry_in, has_other_key, IsRow, IsIndexOf, IsRankOf, IsRankAbove, IsPut};
 
 use bench_types::Entry;
 

@@ -18,8 +18,9 @@ pub struct NodeTable {
 }
 
 impl Model for NodeTable {
-    ghost use Rattle.node_table.specs.NodeTableView.{NodeTableView, kept_code};
-    ghost use Rattle.node_table.specs.Layouts.{table_in, spare_of, IsLayout};
+    ghost use Rattle.node_table.specs.NodeTableView.{NodeTableView};
+    ghost use Rattle.node_table.specs.inner.Codes.{kept_code};
+    ghost use Rattle.node_table.specs.inner.Layouts.{table_in, spare_of, IsLayout};
 
     ghost Value = { NodeTableView };
 
@@ -33,12 +34,13 @@ impl Model for NodeTable {
 impl NodeTable {
     ghost use Rattle.node_table.specs.Table.{empty_table, entry_at, greatest_mark, greatest_version, count_of, with_own_write, applied, without_others, without_all, IsProper};
     ghost use Rattle.node_table.specs.NodeTableView.{blocks_for, HasRoom, MayApply, MayReceive};
-    ghost use Rattle.node_table.specs.View.{IsItemInPlace};
-    ghost use Rattle.node_table.specs.Rows.{AreAbove, AreGenerations, AreGreatest};
+    ghost use Rattle.node_table.specs.Table.{IsItemInPlace};
+    ghost use Rattle.node_table.specs.Entries.{AreAbove, AreGenerations, AreGreatest};
     ghost use Rattle.bench_types.specs.Mark.{absent};
 
     /// The empty table of a node, in its generation 0. It takes 16 bytes for each node, of which it
-    /// writes 12: the others are for the generations of copies, once one is above 0.
+    /// writes 12: the others are for the generations of copies, once one is above 0. An error is lack of
+    /// memory (`OutOfMemory`).
     pub fn new(alloc: Global, node: u32, nodes: u32, keys: u32) -> Result<NodeTable, Fault>
         requires node { node < nodes }
         requires nodes { nodes ≤ MOST_NODES }
@@ -95,7 +97,7 @@ impl NodeTable {
 
     /// The entries held of an owner, ascending by version and then by key. Nothing is copied or
     /// walked over.
-    pub fn row(&self, owner: u32) -> &[Entry]
+    pub fn entries_of(&self, owner: u32) -> &[Entry]
         requires { owner < self.now.table.nodes }
         ensures entries { AreAbove self.now.table owner absent result.now }
         ensures proper { IsProper self.now.table }
@@ -161,8 +163,8 @@ impl NodeTable {
     }
 
     /// The node writes one of its own keys, in its generation, and the answer is the version of that
-    /// write: one walk over the node's row, which closes it up. An error is lack of memory for the
-    /// first write of all, and then nothing was written and the room is no less. With room for one
+    /// write: one walk over the node's row, which closes it up. An error is lack of memory
+    /// (`OutOfMemory`) for the first write of all, and then nothing was written and the room is no less. With room for one
     /// owner there is none.
     pub fn write_own(&mut self, key: u32, value: u32, born: u32) -> Result<u32, Fault>
         requires key { key < self.old.table.keys }
@@ -191,7 +193,8 @@ impl NodeTable {
     /// Makes room for a list of items, so that `apply` takes no memory: a block of slots, one for
     /// each key, for each owner of whom nothing is held. What is held is copied where it has to move
     /// for that. Where there is room already nothing is done; after a refusal the room is no less. A
-    /// walk over the list, and another where it has such owners.
+    /// walk over the list, and another where it has such owners. An error is lack of memory
+    /// (`OutOfMemory`).
     pub fn reserve_for(&mut self, added: &[Item]) -> Result<(), Fault>
         ensures same { self.new.table ≡ self.old.table }
         ensures room { OnOk result (HasRoom self.new added.now) }
@@ -278,7 +281,7 @@ impl NodeTable {
     }
 
     /// A table with the same node, nodes, keys, generation and entries, but with room of its own. One walk over
-    /// the table.
+    /// the table. An error is lack of memory (`OutOfMemory`).
     pub fn try_clone(&self) -> Result<NodeTable, Fault>
         ensures equal { IfOk result (λ t. t.table ≡ self.now.table) }
         ensures only { IsOkUnless result OutOfMemory }

@@ -18,9 +18,10 @@ use Rattle.dependencies.specs.declared.events.Event.{Event}
 use Rattle.dependencies.specs.declared.events.Event.TheVariants.{Start, Finish}
 use Rattle.planner.specs.declared.plays.Pair.{Pair}
 use Rattle.dependencies.specs.Sharing.{exchange_at}
-use Rattle.dependencies.specs.States.{Taken, State, with_at, both_of, in_place, opened, put_back, after_event, state_of}
+use Rattle.dependencies.specs.States.{Taken, State, with_at, both_of, opened, put_back, after_event, state_of}
+use Rattle.dependencies.specs.inner.Slots.{in_place}
 use Rattle.dependencies.proofs.Maps.{with_at-same, with_at-other}
-use Rattle.planner.specs.Places.{without_room, taken_of, itself, both_or_none, IsPairOf, AreInPlace}
+use Rattle.planner.specs.inner.Places.{without_room, taken_of, itself, both_or_none, IsPairOf, AreInPlace}
 
 -- a list changed at one place, as a map
 pub seen-set : {A B : Type 0} (f : A → B) (xs : List A) (d : A) (place : ℕ) (x : A) → place < length xs → (n : ℕ) → with_at (λ m. f (get_or xs m d)) place (f x) n ≡ f (get_or (set xs place x) n d)

@@ -21,10 +21,12 @@ use Rattle.dependencies.specs.declared.events.Event.TheVariants.{Start, Finish}
 use Rattle.planner.specs.declared.plays.Places.{Places}
 use Rattle.dependencies.specs.Schedules.{IsLawful, AreFinished}
 use Rattle.planner.specs.Stages.{ScheduleView, not_started}
-use Rattle.dependencies.specs.States.{after_event, opened, state_of, in_place}
+use Rattle.dependencies.specs.States.{after_event, opened, state_of}
+use Rattle.dependencies.specs.inner.Slots.{in_place}
 use Rattle.dependencies.specs.ListOrder.{IsWhole}
-use Rattle.planner.specs.Places.{state_in, AreEmpty, HasPlaces, AreInPlace, StandIn}
-use Rattle.planner.specs.Plays.{IsPlayed, IsEventAt, IsRefusal, Follows, IsRefused}
+use Rattle.planner.specs.inner.Places.{state_in, AreEmpty, HasPlaces, AreInPlace, StandIn}
+use Rattle.planner.specs.Plays.{IsPlayed, IsEventAt, IsRefusal}
+use Rattle.planner.specs.inner.Plays.{Follows, IsRefused}
 use Rattle.dependencies.proofs.Lawful.{whole_in_list_order}
 use Rattle.planner.proofs.Places.{always_in_place, opened_in_place, opened_state, all_tables, all_records}
 use Rattle.planner.proofs.Stages.{IsAt, at_first, at_start, at_finish, can_start, not_running}

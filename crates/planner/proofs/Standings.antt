@@ -13,7 +13,8 @@ use Rattle.dependencies.specs.Sharing.{share_node}
 use Rattle.dependencies.specs.Schedules.{is_started, is_finished}
 use Rattle.dependencies.specs.Neighbours.{as_list, predecessors_of, predecessors}
 use Rattle.dependencies.specs.ListOrder.{AreClosed, schedule_of}
-use Rattle.planner.specs.Stages.{ScheduleView, IsSchedule, HasSchedule, CanStart, stage_in, with_stage, runs, is_over, none_or_over}
+use Rattle.planner.specs.Stages.{ScheduleView, IsSchedule, HasSchedule, CanStart, stage_in, with_stage, runs, is_over}
+use Rattle.planner.specs.inner.Stages.{none_or_over}
 use Rattle.dependencies.proofs.Predecessors.{predecessors_earlier, earlier_from_predecessors}
 use Rattle.dependencies.proofs.Sets.{schedule_from}
 

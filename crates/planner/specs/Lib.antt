@@ -1,6 +1,6 @@
 pub mod Stages
 pub mod Plays
-pub mod Places
+pub mod inner
 pub use Rattle.dependencies.specs.Sharing
 pub use Rattle.dependencies.specs.Neighbours
 pub use Rattle.dependencies.specs.Schedules

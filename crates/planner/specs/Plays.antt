@@ -1,5 +1,5 @@
 -- What playing a schedule comes to. Source: this project.
-use Rattle.std.specs.Prelude.{◌≡◌, ℕ, ◌<◌, ◌⊎◌, false, List, length, take, slice_get, Some}
+use Rattle.std.specs.Prelude.{◌≡◌, ℕ, ◌<◌, false, List, length, take, slice_get, Some}
 use Rattle.bench_types.specs.declared.exchanges.Exchange.{Exchange}
 use Rattle.bench_types.specs.declared.exchanges.Record.{Record}
 use Rattle.bench_types.specs.declared.exchanges.Rules.{Rules}
@@ -14,7 +14,6 @@ use Rattle.dependencies.specs.declared.events.Event.{Event}
 use Rattle.dependencies.specs.declared.events.Event.TheVariants.{Start, Finish}
 use Rattle.dependencies.specs.Schedules.{is_running, MayStart, IsLawful, AreFinished}
 use Rattle.dependencies.specs.States.{state_of}
-use Rattle.planner.specs.Stages.{ScheduleView, CanStart, IsRunning, Starts, Finishes}
 
 -- a whole schedule was carried out: these are the tables in their places at its end, and the records
 pub record IsPlayed (rules : Rules) (es : List Exchange) (events : List Event) (before after : List Table) (records : List Record) : Type 0 where
@@ -42,13 +41,3 @@ IsRefusal es events fault.NotAllowed = (k i : ℕ) × IsEventAt es events k (Sta
 IsRefusal es events fault.NotRunning = (k i : ℕ) × IsEventAt es events k (Finish i) × (is_running (take k events) i ≡ false)
 IsRefusal es events fault.Unfinished = IsLawful es events × (¬ AreFinished es events)
 IsRefusal es events f = f ≡ fault.OutOfMemory
-
--- an event is carried out on a schedule
-abbrev pub Follows : Event → ScheduleView → ScheduleView → Type 0
-Follows (Start i) old new = Starts i old new
-Follows (Finish i) old new = Finishes i old new
-
--- why it isn't: it isn't allowed, or memory ran out
-abbrev pub IsRefused : Event → ScheduleView → Fault → Type 0
-IsRefused (Start i) s f = (f ≡ fault.NotAllowed) × (¬ (CanStart s i))
-IsRefused (Finish i) s f = ((f ≡ fault.NotRunning) × (¬ (IsRunning s i))) ⊎ (f ≡ fault.OutOfMemory)

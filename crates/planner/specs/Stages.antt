@@ -1,5 +1,5 @@
 -- How far each exchange of a list is. Source: this project.
-use Rattle.std.specs.Prelude.{◌≡◌, ◌≢◌, ℕ, ◌<◌, Bool, true, false, if◌then◌else◌, List, Option, None, Some, length, map, slice_index_or, slice_set}
+use Rattle.std.specs.Prelude.{◌≡◌, ◌≢◌, ℕ, ◌<◌, Bool, true, false, if◌then◌else◌, List, length, map, slice_index_or, slice_set}
 use Rattle.bench_types.specs.declared.exchanges.Exchange.{Exchange}
 use Rattle.round_plan.specs.Plan.{RoundListView, IsRoundPlan}
 use Rattle.dependencies.specs.declared.events.Event.{Event}
@@ -81,8 +81,3 @@ pub record HasSchedule (s : ScheduleView) : Type 0 where
   pub events : List Event
   pub lawful : IsLawful s.plan.exchanges events
   pub stages : (i : ℕ) → i < length s.plan.exchanges → stage_in s.stages i ≡ stage_after events i
-
--- there is none, or it is done
-abbrev pub none_or_over : List Stage → Option ℕ → Bool
-none_or_over stages None = true
-none_or_over stages (Some i) = is_over (stage_in stages i)

@@ -6,10 +6,11 @@ ghost use Rattle.bench_types.specs.declared.faults.Fault.TheVariants.{OutOfMemor
 ghost use Rattle.bench_types.specs.Budget.{IsLawfulBudget};
 ghost use Rattle.dependencies.specs.declared.events.Event.TheVariants.{Start, Finish};
 ghost use Rattle.planner.specs.Stages.{not_started};
-ghost use Rattle.dependencies.specs.States.{in_place};
-ghost use Rattle.planner.specs.Places.{state_in, AreEmpty, HasPlaces, ShowsEvent, AreInPlace, StandIn, itself, both_or_none};
+ghost use Rattle.dependencies.specs.inner.Slots.{in_place};
+ghost use Rattle.planner.specs.inner.Places.{state_in, AreEmpty, HasPlaces, ShowsEvent, AreInPlace, StandIn, itself, both_or_none};
 ghost use Rattle.cluster.specs.Tables.{tables_in, IsCluster};
-ghost use Rattle.planner.specs.Plays.{ArePlayed, IsRefusal, Follows, IsRefused};
+ghost use Rattle.planner.specs.Plays.{ArePlayed, IsRefusal};
+ghost use Rattle.planner.specs.inner.Plays.{Follows, IsRefused};
 
 use crate::schedules::Schedule;
 use bench_types::{Fault, Record, Rules};
@@ -36,7 +37,9 @@ struct Places {
 
 /// Carries out a schedule: each start takes the tables of two nodes out, and each finish carries out
 /// the exchange and puts back what it leaves of them. The answer is the tables, by node, and the
-/// records, in list order. After a fault the tables are given up.
+/// records, in list order. An error is the first event that is refused (`NotAllowed`, `NotRunning`), an exchange
+/// that isn't finished at the end (`Unfinished`), or lack of memory (`OutOfMemory`). The tables are then
+/// given up.
 ///
 /// Beside the exchanges and the dependencies it costs a step for each node and each event and a few
 /// for each exchange. The tables are moved, never copied.

@@ -2,7 +2,8 @@
 
 ghost use Rattle.std.specs.Prelude.{◌≡◌, ◌<◌, ◌↔◌, ℕ, None, true, length, replicate, slice_get, count_by, IfOk, IfErr, OnOk, OnErr, IfSome, IsTrue, IsOkUnless};
 ghost use Rattle.bench_types.specs.declared.faults.Fault.TheVariants.{OutOfMemory, NotAllowed, NotRunning};
-ghost use Rattle.planner.specs.Stages.{not_started, runs, is_over, none_or_over};
+ghost use Rattle.planner.specs.Stages.{not_started, runs, is_over};
+ghost use Rattle.planner.specs.inner.Stages.{none_or_over};
 ghost use Rattle.planner.specs.Stages.{IsSchedule, CanStart, IsFree, IsNextReady, IsRunning, IsDone, Starts, Finishes, HasSchedule};
 
 use bench_types::Fault;
@@ -36,7 +37,7 @@ impl Model for Schedule {
 }
 
 impl Schedule {
-    /// A schedule of which nothing is started. Where memory runs out the dependencies come back.
+    /// A schedule of which nothing is started. Where memory runs out (`OutOfMemory`) the dependencies come back.
     /// Costs a step for each exchange of the list.
     pub fn new(alloc: Global, deps: Deps) -> Result<Schedule, (Fault, Deps)>
         ensures opens { IfOk result (λ s. s ≡ not_started deps) }
@@ -48,8 +49,8 @@ impl Schedule {
         }
     }
 
-    /// Starts an exchange. Refused where it isn't in the list, has been started, or an earlier exchange
-    /// that shares a node with it isn't finished.
+    /// Starts an exchange. Refused (`NotAllowed`) where it isn't in the list, has been started, or an earlier
+    /// exchange that shares a node with it isn't finished.
     pub fn start(&mut self, i: u32) -> Result<(), Fault>
         ensures ok { OnOk result (Starts i self.old self.new) }
         ensures err { OnErr result (¬ (CanStart self.old i) × (self.new ≡ self.old)) }
@@ -62,7 +63,7 @@ impl Schedule {
         Ok(())
     }
 
-    /// Finishes an exchange. Refused where it isn't running.
+    /// Finishes an exchange. Refused (`NotRunning`) where it isn't running.
     pub fn finish(&mut self, i: u32) -> Result<(), Fault>
         ensures ok { OnOk result (Finishes i self.old self.new) }
         ensures err { OnErr result (¬ (IsRunning self.old i) × (self.new ≡ self.old)) }

@@ -10,7 +10,7 @@ use Rattle.collector.specs.declared.collectors.Stamped.{Stamped}
 use Rattle.collector.specs.Outcomes.{Outcomes, no_outcomes, with_outcome, IsMissing}
 use Rattle.board.specs.Weights.{only, times}
 use Rattle.board.proofs.Sums.{total-append, only-same, only-other, upto, upto-sum, upto-none, upto-one}
-use Rattle.pool.specs.Gathering.{IsEachOnce, AreInListOrder}
+use Rattle.pool.specs.inner.Gathering.{IsEachOnce, AreInListOrder}
 
 abbrev pub indices : List Stamped → List ℕ
 indices stamps = map (λ s. s.index) stamps

@@ -1,4 +1,4 @@
--- A hold of a job's board: its exchange may be carried out, and what that leaves is put back.
+-- A hold of a shop's board: its exchange may be carried out, and what that leaves is put back.
 use Rattle.std.proofs.Common.{◌≡◌, ℕ, ◌<◌, List, length, Option, None, Some, IfSome, inl, inr, refl, sym, ap, ◌∙◌, subst, arith}
 use Rattle.bench_types.specs.declared.exchanges.Exchange.{Exchange}
 use Rattle.bench_types.specs.declared.exchanges.Record.{Record}
@@ -21,25 +21,25 @@ use Rattle.board.proofs.Meeting.{may_be_exchanged}
 use Rattle.board.proofs.Returning.{may_be_put_back}
 use Rattle.board.proofs.Releases.{successor_within}
 use Rattle.board.proofs.Sums.{total-append, only-same}
-use Rattle.pool.specs.Jobs.{IsJob}
-use Rattle.pool.specs.Reports.{AreOfList}
+use Rattle.pool.specs.inner.Workshops.{IsWorkshop}
+use Rattle.pool.specs.inner.Returns.{AreOfList}
 
-module _ (board : Board) (list : RoundListView) (rules : Rules) (job : IsJob board list rules) (es : List Exchange) (read : es ≡ list.exchanges) (hold : Hold) (found : IsHoldOf (plan_of board) hold.index hold) where
+module _ (board : Board) (list : RoundListView) (rules : Rules) (shop : IsWorkshop board list rules) (es : List Exchange) (read : es ≡ list.exchanges) (hold : Hold) (found : IsHoldOf (plan_of board) hold.index hold) where
   abbrev plan : BoardPlan
   plan = plan_of board
 
   same_exchange : exchange_at plan.list.exchanges hold.index ≡ exchange_at es hold.index
-  same_exchange = ap (λ (l : RoundListView). exchange_at l.exchanges hold.index) job.same_list ∙ ap (λ xs. exchange_at xs hold.index) (sym read)
+  same_exchange = ap (λ (l : RoundListView). exchange_at l.exchanges hold.index) shop.same_list ∙ ap (λ xs. exchange_at xs hold.index) (sym read)
 
   pub hold_meets : IsRoundPlan list → hold.index < length plan.list.exchanges → MayBeExchanged (exchange_at es hold.index) hold.initiator.table hold.responder.table
   hold_meets round within =
       subst (λ (e : Exchange). MayBeExchanged e hold.initiator.table hold.responder.table) same_exchange
-      (may_be_exchanged plan hold.index hold (subst IsRoundPlan (sym job.same_list) round) (subst (λ (l : RoundListView). IsCluster l.nodes plan.tables) (sym job.same_list) job.cluster) within found)
+      (may_be_exchanged plan hold.index hold (subst IsRoundPlan (sym shop.same_list) round) (subst (λ (l : RoundListView). IsCluster l.nodes plan.tables) (sym shop.same_list) shop.cluster) within found)
 
   module _ (p q : NodeTableView) (sent : Record) (done : IsExchanged rules (exchange_at es hold.index) hold.initiator hold.responder p q sent) where
     carried_out : IsCarriedOut plan hold (record { index = hold.index; initiator = p; responder = q }) sent
     carried_out =
-        subst (λ (r : Rules). IsExchanged r (exchange_at plan.list.exchanges hold.index) hold.initiator hold.responder p q sent) (sym job.same_rules)
+        subst (λ (r : Rules). IsExchanged r (exchange_at plan.list.exchanges hold.index) hold.initiator hold.responder p q sent) (sym shop.same_rules)
         (subst (λ (e : Exchange). IsExchanged rules e hold.initiator hold.responder p q sent) (sym same_exchange) done)
 
     pub hold_returns : (v : SeatView) → Has v.held hold.index → MayPutBack plan v (record { index = hold.index; initiator = p; responder = q })

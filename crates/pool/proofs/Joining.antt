@@ -11,13 +11,13 @@ use Rattle.board.specs.SeatView.{SeatView, joined}
 use Rattle.board.specs.Plan.{BoardPlan, exchanged_at}
 use Rattle.board.specs.declared.boards.Board.{Board}
 use Rattle.collector.specs.declared.collectors.Stamped.{Stamped}
-use Rattle.pool.specs.Reports.{AreRecordsOf, HasNoMoreToDo}
-use Rattle.pool.specs.Joined.{IsOfBoard, AreTogether, IsJoined}
+use Rattle.pool.specs.inner.Returns.{AreRecordsOf, HasNoMoreToDo}
+use Rattle.pool.specs.inner.Joined.{IsOfBoard, AreTogether, IsJoined}
 use Rattle.pool.specs.declared.threads.Back.{Back}
-use Rattle.pool.specs.declared.workers.Report.{Report}
+use Rattle.pool.specs.declared.workers.Returned.{Returned}
 
 -- the first of the handles that are left, and the rest
-pub first_of_board : (board : Board) (left rest : List (PromisedHandle Report Back)) (h : PromisedHandle Report Back) → All (IsOfBoard board) left → left ≡ h ∷ rest → IsOfBoard board h × All (IsOfBoard board) rest
+pub first_of_board : (board : Board) (left rest : List (PromisedHandle Returned Back)) (h : PromisedHandle Returned Back) → All (IsOfBoard board) left → left ≡ h ∷ rest → IsOfBoard board h × All (IsOfBoard board) rest
 first_of_board board left rest h all is =
     let both = subst (All (IsOfBoard board)) is all in
     (All-head (IsOfBoard board) h rest both, All-tail (IsOfBoard board) h rest both)
@@ -57,8 +57,8 @@ module _ (plan : BoardPlan) (workers : ℕ) (start old part : SeatView) where
       → IfOk more (λ stamps. AreRecordsOf plan part stamps.items × HasNoMoreToDo plan part)
       → IfOk both (AreTogether all more)
       → IfOk both (λ stamps. IsJoined plan workers start (joined old part) stamps.items)
-  joined_more k all more (Err fault) so_far report together = tt
-  joined_more k all more (Ok stamps) so_far report (one, other, first, second, items) =
+  joined_more k all more (Err fault) so_far returned together = tt
+  joined_more k all more (Ok stamps) so_far returned (one, other, first, second, items) =
       let before = subst (λ r. IfOk r (λ stamps. IsJoined plan k start old stamps.items)) first so_far in
-      let next = subst (λ r. IfOk r (λ stamps. AreRecordsOf plan part stamps.items × HasNoMoreToDo plan part)) second report in
+      let next = subst (λ r. IfOk r (λ stamps. AreRecordsOf plan part stamps.items × HasNoMoreToDo plan part)) second returned in
       subst (IsJoined plan workers start (joined old part)) (sym items) (joined_one k one.items other.items before next.0 next.1)

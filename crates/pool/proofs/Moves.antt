@@ -3,7 +3,7 @@ use Rattle.std.proofs.Common.{ℕ, List, [], ◌∷◌, ◌<◌, ◌++◌, lengt
 use lib.Seq.{take-append_seam, drop-append_seam}
 use Rattle.std.proofs.lemmas.List.Elements.{All-append, All-cons, All-take, All-drop}
 use Rattle.crossbeam_deque.specs.Tasks.{Pushes, Takes}
-use Rattle.pool.specs.Deques.{AllBelow}
+use Rattle.pool.specs.inner.Deques.{AllBelow}
 
 front_below : (limit : ℕ) (xs ys : List ℕ) → AllBelow limit (xs ++ ys) → AllBelow limit xs
 front_below limit xs ys below = subst (AllBelow limit) (take-append_seam xs ys) (All-take (λ i. i < limit) (length xs) (xs ++ ys) below)

@@ -23,9 +23,9 @@ use Rattle.board.specs.Plan.{BoardPlan, exchanged_at}
 use Rattle.board.specs.Boards.{AreLeft, HasMadeAll}
 use Rattle.collector.specs.declared.collectors.Stamped.{Stamped}
 use Rattle.pool.specs.Runs.{AreExchanged}
-use Rattle.pool.specs.Deques.{AllBelow}
-use Rattle.pool.specs.Reports.{AreRecordsOf}
-use Rattle.pool.specs.Gathering.{AreInListOrder}
+use Rattle.pool.specs.inner.Deques.{AllBelow}
+use Rattle.pool.specs.inner.Returns.{AreRecordsOf}
+use Rattle.pool.specs.inner.Gathering.{AreInListOrder}
 use Rattle.pool.proofs.Collecting.{stamp_of}
 
 all_filter : (P : ℕ → Type 0) (p : ℕ → Bool) (xs : List ℕ) → All P xs → All P (filter p xs)

@@ -6,7 +6,7 @@ use Rattle.board.specs.SeatView.{SeatView}
 use Rattle.board.specs.Plan.{BoardPlan, exchanged_at}
 use Rattle.board.specs.declared.boards.Freed.{Freed}
 use Rattle.collector.specs.declared.collectors.Stamped.{Stamped}
-use Rattle.pool.specs.Reports.{HasDone, AreRecordsOf}
+use Rattle.pool.specs.inner.Returns.{HasDone, AreRecordsOf}
 
 -- with one more, after a claim that leaves what was made
 pub one_more_record : (plan : BoardPlan) (old claimed new : SeatView) (stamps more : List Stamped) (i : ℕ) (stamped : Stamped) (freed : Freed) → claimed.made ≡ old.made → more ≡ stamps ++ stamped ∷ []

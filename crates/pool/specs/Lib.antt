@@ -1,11 +1,5 @@
 pub mod Runs
-pub mod Turns
-pub mod Gathering
-pub mod Joined
-pub mod Starts
-pub mod Reports
-pub mod Deques
-pub mod Jobs
+pub mod inner
 pub use Rattle.cluster.specs.Tables
 pub use Rattle.cluster.specs.Folds
 pub use Rattle.board.specs.Boards

@@ -3,7 +3,7 @@
 ghost use Rattle.std.specs.Prelude.{◌≡◌, ℕ, ◌<◌, ◌≤◌, IfOk, IfSome, IsOkUnless, vec_len};
 ghost use Rattle.bench_types.specs.declared.faults.Fault.TheVariants.{OutOfMemory};
 ghost use Rattle.crossbeam_deque.specs.Handles.{IsPassOf, stealer_deque, worker_flavor};
-ghost use Rattle.pool.specs.Deques.{AllBelow};
+ghost use Rattle.pool.specs.inner.Deques.{AllBelow};
 
 use bench_types::Fault;
 use crossbeam_deque::protocol::{Outcome, Protocol};

@@ -2,7 +2,7 @@
 
 ghost use Rattle.std.specs.Prelude.{map, IfOk, IsOkUnless};
 ghost use Rattle.bench_types.specs.declared.faults.Fault.TheVariants.{OutOfMemory};
-ghost use Rattle.pool.specs.Gathering.{IsEachOnce, AreInListOrder};
+ghost use Rattle.pool.specs.inner.Gathering.{IsEachOnce, AreInListOrder};
 
 use bench_types::{Fault, Record};
 use collector::{Collector, Stamped};

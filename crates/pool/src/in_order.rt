@@ -5,7 +5,7 @@ ghost use Rattle.bench_types.specs.declared.faults.Fault.TheVariants.{OutOfMemor
 ghost use Rattle.bench_types.specs.Budget.{IsLawfulBudget};
 ghost use Rattle.bench_types.specs.Exchange.{IsPlanned};
 ghost use Rattle.cluster.specs.Tables.{tables_in, IsCluster};
-ghost use Rattle.pool.specs.Turns.{IsExchanged};
+ghost use Rattle.pool.specs.inner.Turns.{IsExchanged};
 ghost use Rattle.pool.specs.Runs.{AreExchanged};
 
 use crate::gates::Gate;

@@ -1,20 +1,20 @@
 //! Several workers, each a thread of its own.
 
-ghost use Rattle.std.specs.Prelude.{◌≡◌, ◌+◌, ◌<◌, ◌≤◌, [], All, length, IfOk, IfErr, IsOkUnless, OnOk, vec_len, vec_capacity};
+ghost use Rattle.std.specs.Prelude.{◌≡◌, ◌+◌, ◌<◌, ◌≤◌, [], All, length, IfOk, IfErr, IsOk, IsOkUnless, OnOk, vec_len, vec_capacity};
 ghost use Rattle.bench_types.specs.declared.faults.Fault.TheVariants.{OutOfMemory, NoThread};
 ghost use Rattle.bench_types.specs.declared.limits.TheConstants.{MOST_WORKERS};
 ghost use Rattle.bench_types.specs.Budget.{IsLawfulBudget};
 ghost use Rattle.cluster.specs.Tables.{tables_in, IsCluster};
 ghost use Rattle.board.specs.Boards.{seat_view, IsSeatOf};
 ghost use Rattle.pool.specs.Runs.{AreExchanged, IsPoolFault};
-ghost use Rattle.pool.specs.Reports.{IsFreshSeat, IsReport};
-ghost use Rattle.pool.specs.Starts.{MayBegin};
-ghost use Rattle.pool.specs.Joined.{HasTakenIn, HasSeenAll, IsOfBoard, AreTogether};
+ghost use Rattle.pool.specs.inner.Returns.{IsFreshSeat, IsReturned};
+ghost use Rattle.pool.specs.inner.Starts.{MayBegin};
+ghost use Rattle.pool.specs.inner.Joined.{HasTakenIn, HasSeenAll, IsOfBoard, AreTogether};
 
 use crate::deques::{Limit, Tasks, deal};
 use crate::gates::Gate;
 use crate::gathering::in_list_order;
-use crate::workers::{Job, Report};
+use crate::workers::{Returned, Workshop};
 use bench_types::limits::MOST_WORKERS;
 use bench_types::{Fault, Record, Rules};
 use board::{Board, Seat};
@@ -28,15 +28,15 @@ use std::sync::Wait;
 use std::thread;
 use std::thread::{Promise, PromisedHandle, Scope, Threads};
 
-// What the thread of a worker promises: the report of a seat of one part.
+// What the thread of a worker promises: the returned of a seat of one part.
 #[derive(Drop)]
 pub(crate) struct Back(Snapshot<Board>);
 
-impl Promise<Report> for Back {
-    ghost kept_by = { λ back report. IsReport back.0.value 1 report };
+impl Promise<Returned> for Back {
+    ghost kept_by = { λ back returned. IsReturned back.0.value 1 returned };
 }
 
-type Handle = PromisedHandle<Report, Back>;
+type Handle = PromisedHandle<Returned, Back>;
 
 /// Carries out the exchanges of a list by so many workers, each in a thread. A type knows how long the list is.
 pub(crate) fn exchange_in_threads<L: Limit + Send + Sync, R: Threads + Wait + Sync, G: Gate + Sync>(
@@ -59,14 +59,14 @@ pub(crate) fn exchange_in_threads<L: Limit + Send + Sync, R: Threads + Wait + Sy
     let deps = Deps::new(alloc, list)?;
     let tasks = deal::<L>(alloc, workers, deps.first_ready())?;
     let (board, seat) = Board::new(alloc, deps, *rules, tables)?;
-    let job = Job {
+    let shop = Workshop {
         alloc,
         board: &board,
         list,
         rules,
         gate,
     };
-    let (seat, stamps) = run_workers(rt, &job, seat, tasks)?;
+    let (seat, stamps) = run_workers(rt, &shop, seat, tasks)?;
     let Ok(tables) = board.close(seat) else {
         unreachable!()
     };
@@ -77,24 +77,24 @@ pub(crate) fn exchange_in_threads<L: Limit + Send + Sync, R: Threads + Wait + Sy
 // Starts a thread for each worker and joins them all. Answers the whole seat, and the records of the workers.
 fn run_workers<L: Limit + Send + Sync, R: Threads + Wait + Sync, G: Gate + Sync>(
     rt: &R,
-    job: &Job<G>,
+    shop: &Workshop<G>,
     seat: Seat,
     tasks: Vec<Tasks<L>>,
 ) -> Result<(Seat, Vec<Stamped>), Fault>
-    requires limit { L.limit ≡ length job.now.list.now.exchanges }
-    requires begin { MayBegin job.now.board.now seat (vec_len tasks) }
-    ensures made { IfOk result (λ p. HasSeenAll job.now.board.now p.0 p.1.items) }
+    requires limit { L.limit ≡ length shop.now.list.now.exchanges }
+    requires begin { MayBegin shop.now.board.now seat (vec_len tasks) }
+    ensures made { IfOk result (λ p. HasSeenAll shop.now.board.now p.0 p.1.items) }
     ensures fault { IfErr result (IsPoolFault (vec_len tasks)) }
 {
     thread::scope(
         thread::scope_env(),
         rt,
         |scope| -> Result<(Seat, Vec<Stamped>), Fault>
-            requires limit { L.limit ≡ length job.now.list.now.exchanges }
-            requires begin { MayBegin job.now.board.now seat (vec_len tasks) }
-            ensures made { IfOk result (λ p. HasSeenAll job.entry.now.board.now p.0 p.1.items) }
+            requires limit { L.limit ≡ length shop.now.list.now.exchanges }
+            requires begin { MayBegin shop.now.board.now seat (vec_len tasks) }
+            ensures made { IfOk result (λ p. HasSeenAll shop.entry.now.board.now p.0 p.1.items) }
             ensures fault { IfErr result (IsPoolFault (vec_len tasks)) }
-        { run_in_scope(scope, rt, job, seat, tasks) },
+        { run_in_scope(scope, rt, shop, seat, tasks) },
     )
 }
 
@@ -102,58 +102,70 @@ fn run_workers<L: Limit + Send + Sync, R: Threads + Wait + Sync, G: Gate + Sync>
 fn run_in_scope<'s, 'e: 's, L: Limit + Send + Sync + 'e, R: Threads + Wait + Sync, G: Gate + Sync>(
     scope: &Scope<'s, &'e ()>,
     rt: &'e R,
-    job: &'e Job<'e, G>,
+    shop: &'e Workshop<'e, G>,
     mut seat: Seat,
     tasks: Vec<Tasks<L>>,
 ) -> Result<(Seat, Vec<Stamped>), Fault>
-    requires limit { L.limit ≡ length job.now.list.now.exchanges }
-    requires begin { MayBegin job.now.board.now seat (vec_len tasks) }
-    ensures made { IfOk result (λ p. HasSeenAll job.now.board.now p.0 p.1.items) }
+    requires limit { L.limit ≡ length shop.now.list.now.exchanges }
+    requires begin { MayBegin shop.now.board.now seat (vec_len tasks) }
+    ensures made { IfOk result (λ p. HasSeenAll shop.now.board.now p.0 p.1.items) }
     ensures fault { IfErr result (IsPoolFault (vec_len tasks)) }
 {
-    let mut handles = Vec::with_capacity(job.alloc, tasks.len())?;
-    let started = start_all(scope, rt, job, &mut seat, tasks, &mut handles);
+    let mut handles = Vec::with_capacity(shop.alloc, tasks.len())?;
+    let started = start_all(scope, rt, shop, &mut seat, tasks, &mut handles);
     if started.is_err() {
-        job.board.stop(&mut seat);
+        shop.board.stop(&mut seat);
     }
-    let joined = join_all(rt, job.alloc, job.board, &mut seat, handles);
-    started?;
-    let stamps = joined?;
+    let joined = join_all(rt, shop.alloc, shop.board, &mut seat, handles);
+    let stamps = outcome_of(started, joined)?;
     // A whole seat, so it learns that all exchanges are put back.
-    job.board.look(&mut seat);
+    shop.board.look(&mut seat);
     Ok((seat, stamps))
+}
+
+// What both came to. That a thread couldn't be started goes before what the others met.
+fn outcome_of(
+    started: Result<(), Fault>,
+    joined: Result<Vec<Stamped>, Fault>,
+) -> Result<Vec<Stamped>, Fault>
+    ensures unstarted { IfErr started (λ fault. result ≡ Err fault) }
+    ensures started { IfOk started (λ _. result ≡ joined) }
+    ensures both { IfOk result (λ stamps. IsOk started × (joined ≡ Ok stamps)) }
+{
+    started?;
+    joined
 }
 
 // Starts a thread for each worker, with a seat of its own.
 fn start_all<'s, 'e: 's, L: Limit + Send + Sync + 'e, R: Threads + Wait + Sync, G: Gate + Sync>(
     scope: &Scope<'s, &'e ()>,
     rt: &'e R,
-    job: &'e Job<'e, G>,
+    shop: &'e Workshop<'e, G>,
     seat: &mut Seat,
     tasks: Vec<Tasks<L>>,
     handles: &mut Vec<Handle>,
 ) -> Result<(), Fault>
-    requires limit { L.limit ≡ length job.now.list.now.exchanges }
-    requires seat { IsFreshSeat job.now.board.now seat.old }
+    requires limit { L.limit ≡ length shop.now.list.now.exchanges }
+    requires seat { IsFreshSeat shop.now.board.now seat.old }
     requires parts { vec_len tasks < (seat_view seat.old).parts }
     requires none { handles.old.items ≡ [] }
     requires room { vec_len tasks ≤ vec_capacity handles.old }
-    ensures seat { IsFreshSeat job.now.board.now seat.new }
+    ensures seat { IsFreshSeat shop.now.board.now seat.new }
     ensures parts { OnOk result ((seat_view seat.new).parts + vec_len handles.new ≡ (seat_view seat.old).parts) }
     ensures count { OnOk result (vec_len handles.new ≡ vec_len tasks) }
-    ensures promised { All (IsOfBoard job.now.board.now) handles.new.items }
+    ensures promised { All (IsOfBoard shop.now.board.now) handles.new.items }
     ensures only { IsOkUnless result NoThread }
 {
     for own in tasks {
-        let part = job.board.split(seat);
-        let back = Back(Snapshot::of(job.board));
+        let part = shop.board.split(seat);
+        let back = Back(Snapshot::of(shop.board));
         let started = scope.spawn_with(
             back,
-            move || -> Report
-                requires limit { L.limit ≡ length job.now.list.now.exchanges }
-                requires seat { IsFreshSeat job.now.board.now part }
-                ensures { IsReport job.entry.now.board.now (seat_view part).parts result }
-            { job.work(rt, part, own) },
+            move || -> Returned
+                requires limit { L.limit ≡ length shop.now.list.now.exchanges }
+                requires seat { IsFreshSeat shop.now.board.now part }
+                ensures { IsReturned shop.entry.now.board.now (seat_view part).parts result }
+            { shop.work(rt, part, own) },
         );
         match started {
             Ok(handle) => handles.push_reserved(handle),
@@ -181,7 +193,7 @@ fn join_all<R: Threads>(
 {
     let mut all = Ok(Vec::new(alloc));
     for handle in handles {
-        let Report {
+        let Returned {
             seat: part,
             outcome,
         } = handle.join(rt);

@@ -4,7 +4,7 @@ ghost use Rattle.std.specs.Prelude.{◌≡◌, ◌<◌, ◌↔◌, length, IfOk,
 ghost use Rattle.bench_types.specs.declared.faults.Fault.TheVariants.{OutOfMemory};
 ghost use Rattle.board.specs.Weights.{Has};
 ghost use Rattle.board.specs.Boards.{plan_of, seat_view, IsSeatOf, IsHoldOf};
-ghost use Rattle.pool.specs.Jobs.{IsJob};
+ghost use Rattle.pool.specs.inner.Workshops.{IsWorkshop};
 
 use crate::deques::{Limit, Tasks};
 use crate::gates::Gate;
@@ -19,25 +19,25 @@ use std::sync::Wait;
 
 /// What all workers of a list share.
 #[derive(Drop)]
-pub(crate) struct Job<'a, G> {
+pub(crate) struct Workshop<'a, G> {
     pub alloc: Global,
     pub board: &'a Board,
     pub list: &'a RoundList,
     pub rules: &'a Rules,
     pub gate: &'a G,
-    ghost planned: { IsJob board.now list.now rules.now },
+    ghost planned: { IsWorkshop board.now list.now rules.now },
 }
 
 /// What a worker comes back with: its seat, and the records of the exchanges that it has put back, or
 /// lack of memory.
 #[derive(Drop)]
-pub(crate) struct Report {
+pub(crate) struct Returned {
     pub seat: Seat,
     pub outcome: Result<Vec<Stamped>, Fault>,
 }
 
-impl<'a, G: Gate> Job<'a, G> {
-    ghost use Rattle.pool.specs.Reports.{HasDone, AreRecordsOf, IsFreshSeat, IsReport, SeesTheEnd, StaysAtWork};
+impl<'a, G: Gate> Workshop<'a, G> {
+    ghost use Rattle.pool.specs.inner.Returns.{HasDone, AreRecordsOf, IsFreshSeat, IsReturned, SeesTheEnd, StaysAtWork};
 
     /// Carries out exchanges of the list until it sees that all are finished or that a stop was called. On
     /// lack of memory it calls for a stop.
@@ -46,16 +46,16 @@ impl<'a, G: Gate> Job<'a, G> {
         rt: &R,
         mut seat: Seat,
         mut tasks: Tasks<L>,
-    ) -> Report
+    ) -> Returned
         requires limit { L.limit ≡ length self.now.list.now.exchanges }
         requires seat { IsFreshSeat self.now.board.now seat }
-        ensures { IsReport self.now.board.now (seat_view seat).parts result }
+        ensures { IsReturned self.now.board.now (seat_view seat).parts result }
     {
         let outcome = self.carry_out_all(rt, &mut seat, &mut tasks);
         if outcome.is_err() {
             self.board.stop(&mut seat);
         }
-        Report { seat, outcome }
+        Returned { seat, outcome }
     }
 
     // Answers the records of what was put back.

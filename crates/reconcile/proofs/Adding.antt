@@ -11,9 +11,9 @@ use Rattle.bench_types.specs.declared.exchanges.Budget.{Budget}
 use Rattle.bench_types.specs.declared.exchanges.Budget.TheVariants.{Entries, Bytes}
 use Rattle.bench_types.specs.declared.limits.TheConstants.{LEAST_ENTRY_SIZE}
 use Rattle.reconcile.specs.Deltas.{item_share}
-use Rattle.reconcile.specs.Newer.{item_with}
-use Rattle.reconcile.specs.Parcels.{AddsFitting}
-use Rattle.reconcile.specs.Picks.{fitting, left_after}
+use Rattle.reconcile.specs.inner.Newer.{item_with}
+use Rattle.reconcile.specs.inner.Parcels.{AddsFitting}
+use Rattle.reconcile.specs.inner.Parcels.{fitting, left_after}
 use Rattle.reconcile.specs.declared.parcels.Parcel.{Parcel}
 use Rattle.reconcile.proofs.Fitting.{fitting-all, left_after-all, fitting-append, left_after-append}
 

@@ -1,4 +1,4 @@
--- What is sent of the runs that were found, or of the candidates, is the answer to the digest.
+-- What is sent of the suffixes that were found, or of the candidates, is the answer to the digest.
 use Rattle.std.proofs.Common.{◌≡◌, ℕ, ◌-◌, ◌<◌, ◌≤◌, ◌^◌, not, ◌&&◌, eqb, Bool, List, length, sym, ap, ◌∙◌, arith, subst}
 use Rattle.std.specs.Prelude.{IsPermutation}
 use Rattle.std.proofs.lemmas.List.{length-map}
@@ -15,11 +15,11 @@ use Rattle.node_table.specs.Table.{Table, items_of, IsProper}
 use Rattle.reconcile.specs.Candidates.{IsScuttleMode, items_above}
 use Rattle.reconcile.specs.Deltas.{DeltaView, item_share, answer_of, AreWithin}
 use Rattle.reconcile.specs.Digests.{DigestView, told_mark}
-use Rattle.reconcile.specs.Keys.{item_in, items_in, AllSet, AreFirstItems, IsSentOf}
-use Rattle.reconcile.specs.Newer.{AreCandidates}
-use Rattle.reconcile.specs.Runs.{items_of_runs, IsTurned, layered, AreLayered}
+use Rattle.reconcile.specs.inner.Keys.{item_in, items_in, AllSet, AreFirstItems, IsSentOf}
+use Rattle.reconcile.specs.inner.Newer.{AreCandidates}
+use Rattle.reconcile.specs.inner.Suffixes.{items_of_suffixes, IsTurned, layered, AreLayered}
 use Rattle.reconcile.specs.declared.candidates.Candidate.{Candidate}
-use Rattle.reconcile.specs.declared.runs.Run.{Run}
+use Rattle.reconcile.specs.declared.suffixes.Suffix.{Suffix}
 use Rattle.reconcile.proofs.Fitting.{length-fitting-le, sum-fitting}
 use Rattle.reconcile.proofs.Layers.{layered-permutation, order_layers}
 use Rattle.reconcile.proofs.Newer.{candidates-permuted}
@@ -47,19 +47,19 @@ module _ (mode : Mode) (t : Table) (told : DigestView) (receiver rotation : ℕ)
   abbrev unknown : Item → Bool
   unknown i = not (eqb i.owner receiver) && is_before (told_mark told i) (mark_of i.entry)
 
-  module _ (old new : List Run) (are : AreCandidates t told receiver t.nodes (items_of_runs old)) (turned : IsTurned rotation old new) where
-    same : IsPermutation (items_above (told_mark told) receiver (items_of t)) (items_of_runs new)
-    same = IsPermutation-trans (items_above (told_mark told) receiver (items_of t)) (items_of_runs old) (items_of_runs new) (candidates-permuted t told receiver (items_of_runs old) proper are) (turned-permutation t.nodes rotation in_nodes old new turned)
+  module _ (old new : List Suffix) (are : AreCandidates t told receiver t.nodes (items_of_suffixes old)) (turned : IsTurned rotation old new) where
+    same : IsPermutation (items_above (told_mark told) receiver (items_of t)) (items_of_suffixes new)
+    same = IsPermutation-trans (items_above (told_mark told) receiver (items_of t)) (items_of_suffixes old) (items_of_suffixes new) (candidates-permuted t told receiver (items_of_suffixes old) proper are) (turned-permutation t.nodes rotation in_nodes old new turned)
 
-    pub few-turned : length (items_of_runs new) < 2 ^ 32
-    few-turned = length-candidates-lt t unknown (items_of_runs new) proper same
+    pub few-turned : length (items_of_suffixes new) < 2 ^ 32
+    few-turned = length-candidates-lt t unknown (items_of_suffixes new) proper same
 
-    pub answer-turned : IsScuttleMode mode → (budget : Budget) (items : List Item) → AreLayered (first_key mode (items_of_runs new)) budget (items_of_runs new) items → ◌≡◌ {A = DeltaView} (record { items = items; cut = length (items_of_runs new) - length items }) (answer_of mode rotation budget t receiver told)
+    pub answer-turned : IsScuttleMode mode → (budget : Budget) (items : List Item) → AreLayered (first_key mode (items_of_suffixes new)) budget (items_of_suffixes new) items → ◌≡◌ {A = DeltaView} (record { items = items; cut = length (items_of_suffixes new) - length items }) (answer_of mode rotation budget t receiver told)
     answer-turned scuttle budget items layers =
-        sorted_sent mode t unknown (items_of_runs new) (layered (first_key mode (items_of_runs new)) (items_of_runs new) layers.least layers.layers) items rotation budget proper in_nodes same
-        (layered-permutation (first_key mode (items_of_runs new)) layers.least (items_of_runs new) layers.layers layers.within)
-        (order_layers mode scuttle t.nodes rotation (items_of_runs new) few-turned layers.least layers.layers
-        (turned-pairs t.nodes rotation in_nodes old new turned are.rising (λ k d lt. (are.each _ (Contains-get_or (items_of_runs old) k d lt)).1)) layers.within)
+        sorted_sent mode t unknown (items_of_suffixes new) (layered (first_key mode (items_of_suffixes new)) (items_of_suffixes new) layers.least layers.layers) items rotation budget proper in_nodes same
+        (layered-permutation (first_key mode (items_of_suffixes new)) layers.least (items_of_suffixes new) layers.layers layers.within)
+        (order_layers mode scuttle t.nodes rotation (items_of_suffixes new) few-turned layers.least layers.layers
+        (turned-pairs t.nodes rotation in_nodes old new turned are.rising (λ k d lt. (are.each _ (Contains-get_or (items_of_suffixes old) k d lt)).1)) layers.within)
         layers.is
 
   module _ (found : List Candidate) (are : AreCandidates t told receiver t.nodes (items_in found)) where

@@ -13,7 +13,7 @@ use Rattle.bench_types.specs.declared.entries.Item.{Item}
 use Rattle.bench_types.specs.declared.exchanges.Mode.{Mode}
 use Rattle.bench_types.specs.declared.exchanges.Mode.TheVariants.{ScuttleBreadth, ScuttleDepth, PreciseOldest, PreciseNewest}
 use Rattle.node_table.specs.Table.{place_cmp}
-use Rattle.node_table.specs.View.{no_item, place_of, IsRising}
+use Rattle.node_table.specs.inner.Items.{no_item, place_of, IsRising}
 use Rattle.node_table.proofs.Order.{place_total}
 use Rattle.node_table.proofs.Rising.{rising_at, rising_tail}
 use Rattle.reconcile.specs.Order.{rotated, rank_among, owner_count, sending_order}

@@ -7,9 +7,9 @@ use Rattle.std.proofs.lemmas.List.Elements.{All-head, All-tail, Contains-get_or}
 use Rattle.bench_types.specs.declared.entries.Entry.{Entry}
 use Rattle.bench_types.specs.Mark.{absent, mark_held}
 use Rattle.node_table.specs.Table.{Table, entry_at, mark_at, generation_held, IsProper}
-use Rattle.node_table.specs.Rows.{AreAbove, AreGenerations}
+use Rattle.node_table.specs.Entries.{AreAbove, AreGenerations}
 use Rattle.reconcile.specs.Digests.{mark_with, version_index}
-use Rattle.reconcile.specs.Inside.{AreVersions, with_row}
+use Rattle.reconcile.specs.inner.Inside.{AreVersions, with_row}
 
 -- an owner's keys are counted behind those of the owners before it
 pub index-lt : (nodes keys owner key : ℕ) → owner < nodes → key < keys → version_index keys owner key < nodes * keys

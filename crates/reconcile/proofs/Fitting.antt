@@ -3,7 +3,7 @@ use Rattle.std.proofs.Common.{◌≡◌, ℕ, zero, suc, ◌-◌, ◌<◌, ◌�
 use Rattle.std.specs.List.{sum_by}
 use Rattle.std.proofs.lemmas.Bool.{leb-true, leb-false, le-leb, lt-leb}
 use Rattle.std.proofs.lemmas.List.Sums.{sum_by-cons}
-use Rattle.reconcile.specs.Picks.{fitting, left_after}
+use Rattle.reconcile.specs.inner.Parcels.{fitting, left_after}
 
 module _ {X : Type 0} (size : X → ℕ) where
   -- the first of a list fits, or nothing of it does

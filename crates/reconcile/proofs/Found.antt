@@ -1,4 +1,4 @@
--- Runs found owner by owner: their items are the candidates so far.
+-- Suffixes found owner by owner: their items are the candidates so far.
 use Rattle.std.proofs.Common.{◌≡◌, ◌≢◌, ℕ, ◌+◌, ◌<◌, List, [], ◌∷◌, ◌++◌, length, map, get_or, All, refl, sym, ap, ◌∙◌, subst, arith}
 use Rattle.std.specs.Prelude.{Contains}
 use Rattle.std.specs.List.{AllPairs}
@@ -9,22 +9,22 @@ use Rattle.bench_types.specs.declared.entries.Entry.{Entry}
 use Rattle.bench_types.specs.declared.entries.Mark.{Mark}
 use Rattle.bench_types.specs.Mark.{IsUpTo}
 use Rattle.node_table.specs.Table.{Table, greatest_mark, IsProper}
-use Rattle.node_table.specs.Rows.{StandsBefore, AreAbove, AreGenerations, AreGreatest}
+use Rattle.node_table.specs.Entries.{StandsBefore, AreAbove, AreGenerations, AreGreatest}
 use Rattle.reconcile.specs.Digests.{DigestView, Greatest, known_in, mark_told}
-use Rattle.reconcile.specs.Newer.{AreCandidates, item_with}
-use Rattle.reconcile.specs.Runs.{run_items, items_of_runs, OwnersRise, AreRuns}
-use Rattle.reconcile.specs.declared.runs.Run.{Run}
+use Rattle.reconcile.specs.inner.Newer.{AreCandidates, item_with}
+use Rattle.reconcile.specs.inner.Suffixes.{suffix_items, items_of_suffixes, OwnersRise, AreSuffixes}
+use Rattle.reconcile.specs.declared.suffixes.Suffix.{Suffix}
 use Rattle.reconcile.proofs.Members.{AllPairs-append}
 use Rattle.reconcile.proofs.Newer.{newer-above, newer_items-above, above-none, candidates-none, candidates-own, candidates-more}
 
--- the runs of the owners below a bound
-pub record AreFound (t : Table) (told : DigestView) (receiver bound : ℕ) (runs : List Run) : Type 0 where
-  pub all : AreCandidates t told receiver bound (items_of_runs runs)
-  pub rise : OwnersRise runs
-  pub are : AreRuns runs
-  pub below : All (λ (r : Run). r.owner < bound) runs
+-- the suffixes of the owners below a bound
+pub record AreFound (t : Table) (told : DigestView) (receiver bound : ℕ) (suffixes : List Suffix) : Type 0 where
+  pub all : AreCandidates t told receiver bound (items_of_suffixes suffixes)
+  pub rise : OwnersRise suffixes
+  pub are : AreSuffixes suffixes
+  pub below : All (λ (r : Suffix). r.owner < bound) suffixes
 
-abbrev InOrder : Run → Type 0
+abbrev InOrder : Suffix → Type 0
 InOrder r = AllPairs StandsBefore r.entries.now
 
 AllPairs-one : {X : Type 0} (R : X → X → Type 0) (x : X) → AllPairs R (x ∷ [])
@@ -57,49 +57,49 @@ module _ (t : Table) (told : DigestView) (receiver : ℕ) where
     all = candidates-none t told receiver;
     rise = λ i j d lt in_range. absurd (omega arith);
     are = record { apart = λ i j d lt in_range. absurd (omega arith); rising = All-nil InOrder };
-    below = All-nil (λ (r : Run). r.owner < 0);
+    below = All-nil (λ (r : Suffix). r.owner < 0);
   }
 
-  module _ (bound : ℕ) (runs : List Run) (so_far : AreFound t told receiver bound runs) where
-    wider : All (λ (r : Run). r.owner < bound + 1) runs
-    wider = All-weaker (λ (r : Run). r.owner < bound) (λ (r : Run). r.owner < bound + 1) (λ r lt. omega (arith, lt)) runs so_far.below
+  module _ (bound : ℕ) (suffixes : List Suffix) (so_far : AreFound t told receiver bound suffixes) where
+    wider : All (λ (r : Suffix). r.owner < bound + 1) suffixes
+    wider = All-weaker (λ (r : Suffix). r.owner < bound) (λ (r : Suffix). r.owner < bound + 1) (λ r lt. omega (arith, lt)) suffixes so_far.below
 
     -- the receiver has none
-    pub found-own : bound ≡ receiver → AreFound t told receiver (bound + 1) runs
-    found-own own = record { all = candidates-own t told receiver bound (items_of_runs runs) own so_far.all; rise = so_far.rise; are = so_far.are; below = wider }
+    pub found-own : bound ≡ receiver → AreFound t told receiver (bound + 1) suffixes
+    found-own own = record { all = candidates-own t told receiver bound (items_of_suffixes suffixes) own so_far.all; rise = so_far.rise; are = so_far.are; below = wider }
 
     module _ (mark : Mark) (entries : List Entry) (other : bound ≢ receiver) (same : (key : ℕ) → mark_told told bound key ≡ mark) (above : AreAbove t bound mark entries) where
-      more : AreCandidates t told receiver (bound + 1) (items_of_runs runs ++ map (item_with bound) entries)
-      more = subst (λ is. AreCandidates t told receiver (bound + 1) (items_of_runs runs ++ is)) (newer_items-above t told bound mark entries same above)
-          (candidates-more t told receiver bound (items_of_runs runs) entries other so_far.all (newer-above t told bound mark entries same above))
+      more : AreCandidates t told receiver (bound + 1) (items_of_suffixes suffixes ++ map (item_with bound) entries)
+      more = subst (λ is. AreCandidates t told receiver (bound + 1) (items_of_suffixes suffixes ++ is)) (newer_items-above t told bound mark entries same above)
+          (candidates-more t told receiver bound (items_of_suffixes suffixes) entries other so_far.all (newer-above t told bound mark entries same above))
 
-      -- an owner has a run
-      pub found-more : (r : Run) → r.owner ≡ bound → r.entries.now ≡ entries → AreFound t told receiver (bound + 1) (runs ++ r ∷ [])
+      -- an owner has a suffix
+      pub found-more : (r : Suffix) → r.owner ≡ bound → r.entries.now ≡ entries → AreFound t told receiver (bound + 1) (suffixes ++ r ∷ [])
       found-more r owner is = record {
         all = subst (AreCandidates t told receiver (bound + 1)) items more;
-        rise = AllPairs-append (λ (p q : Run). p.owner < q.owner) runs (r ∷ []) so_far.rise (AllPairs-one (λ (p q : Run). p.owner < q.owner) r) (λ p q before behind. earlier p q before behind);
+        rise = AllPairs-append (λ (p q : Suffix). p.owner < q.owner) suffixes (r ∷ []) so_far.rise (AllPairs-one (λ (p q : Suffix). p.owner < q.owner) r) (λ p q before behind. earlier p q before behind);
         are = record {
-          apart = AllPairs-append (λ (p q : Run). p.owner ≢ q.owner) runs (r ∷ []) so_far.are.apart (AllPairs-one (λ (p q : Run). p.owner ≢ q.owner) r) (λ p q before behind e. absurd (omega (arith, e, earlier p q before behind)));
-          rising = All-append InOrder runs (r ∷ []) so_far.are.rising (All-cons InOrder r [] (subst (AllPairs StandsBefore) (sym is) above.rising) (All-nil InOrder));
+          apart = AllPairs-append (λ (p q : Suffix). p.owner ≢ q.owner) suffixes (r ∷ []) so_far.are.apart (AllPairs-one (λ (p q : Suffix). p.owner ≢ q.owner) r) (λ p q before behind e. absurd (omega (arith, e, earlier p q before behind)));
+          rising = All-append InOrder suffixes (r ∷ []) so_far.are.rising (All-cons InOrder r [] (subst (AllPairs StandsBefore) (sym is) above.rising) (All-nil InOrder));
         };
-        below = All-append (λ (q : Run). q.owner < bound + 1) runs (r ∷ []) wider (All-cons (λ (q : Run). q.owner < bound + 1) r [] (omega (arith, owner)) (All-nil (λ (q : Run). q.owner < bound + 1)));
+        below = All-append (λ (q : Suffix). q.owner < bound + 1) suffixes (r ∷ []) wider (All-cons (λ (q : Suffix). q.owner < bound + 1) r [] (omega (arith, owner)) (All-nil (λ (q : Suffix). q.owner < bound + 1)));
       }
         where
-          earlier : (p q : Run) → Contains runs p → Contains (r ∷ []) q → p.owner < q.owner
+          earlier : (p q : Suffix) → Contains suffixes p → Contains (r ∷ []) q → p.owner < q.owner
           earlier p q before behind =
-              let last : q.owner ≡ bound = All-contains (λ (x : Run). x.owner ≡ bound) (r ∷ []) q (All-cons (λ (x : Run). x.owner ≡ bound) r [] owner (All-nil (λ (x : Run). x.owner ≡ bound))) behind in
-              omega (arith, last, All-contains (λ (x : Run). x.owner < bound) runs p so_far.below before)
+              let last : q.owner ≡ bound = All-contains (λ (x : Suffix). x.owner ≡ bound) (r ∷ []) q (All-cons (λ (x : Suffix). x.owner ≡ bound) r [] owner (All-nil (λ (x : Suffix). x.owner ≡ bound))) behind in
+              omega (arith, last, All-contains (λ (x : Suffix). x.owner < bound) suffixes p so_far.below before)
 
-          items : items_of_runs runs ++ map (item_with bound) entries ≡ items_of_runs (runs ++ r ∷ [])
+          items : items_of_suffixes suffixes ++ map (item_with bound) entries ≡ items_of_suffixes (suffixes ++ r ∷ [])
           items =
-              ap (λ is. items_of_runs runs ++ is) (sym (append-nil (map (item_with bound) entries)))
-              ∙ (λ i. items_of_runs runs ++ (map (item_with (sym owner i)) (sym is i) ++ []))
-              ∙ sym (flat_map-append run_items runs (r ∷ []))
+              ap (λ is. items_of_suffixes suffixes ++ is) (sym (append-nil (map (item_with bound) entries)))
+              ∙ (λ i. items_of_suffixes suffixes ++ (map (item_with (sym owner i)) (sym is i) ++ []))
+              ∙ sym (flat_map-append suffix_items suffixes (r ∷ []))
 
     -- or none, where the greatest mark is told
-    pub found-none : (mark : Mark) → bound ≢ receiver → ((key : ℕ) → mark_told told bound key ≡ mark) → IsProper t → IsUpTo (greatest_mark t bound) mark → AreFound t told receiver (bound + 1) runs
+    pub found-none : (mark : Mark) → bound ≢ receiver → ((key : ℕ) → mark_told told bound key ≡ mark) → IsProper t → IsUpTo (greatest_mark t bound) mark → AreFound t told receiver (bound + 1) suffixes
     found-none mark other same proper most = record {
-      all = subst (AreCandidates t told receiver (bound + 1)) (append-nil (items_of_runs runs)) (more mark [] other same (above-none t bound mark proper most));
+      all = subst (AreCandidates t told receiver (bound + 1)) (append-nil (items_of_suffixes suffixes)) (more mark [] other same (above-none t bound mark proper most));
       rise = so_far.rise;
       are = so_far.are;
       below = wider;

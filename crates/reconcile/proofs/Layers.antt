@@ -17,8 +17,8 @@ use Rattle.bench_types.specs.declared.exchanges.Mode.TheVariants.{ScuttleBreadth
 use Rattle.node_table.proofs.Comparing.{nat_cmp-less, nat_cmp-equal, nat_cmp-greater}
 use Rattle.reconcile.specs.Candidates.{IsScuttleMode}
 use Rattle.reconcile.specs.Order.{rotated, sending_order}
-use Rattle.reconcile.specs.Picks.{fitting, left_after}
-use Rattle.reconcile.specs.Runs.{layer_of, layered}
+use Rattle.reconcile.specs.inner.Parcels.{fitting, left_after}
+use Rattle.reconcile.specs.inner.Suffixes.{layer_of, layered}
 use Rattle.reconcile.proofs.Apart.{sending_total}
 use Rattle.reconcile.proofs.DeltaLaws.{sending_order-ascending}
 use Rattle.reconcile.proofs.Fitting.{length-fitting-le, fitting-zero, fitting-append, left_after-append}

@@ -19,6 +19,6 @@ pub mod Newer
 pub mod Layers
 pub mod Turned
 pub mod Ranked
-pub mod RunLayers
+pub mod SuffixLayers
 pub mod Found
 pub mod Answering

@@ -10,8 +10,8 @@ use Rattle.std.proofs.lemmas.List.Elements.{All-contains, All-filter, All-contai
 use Rattle.std.proofs.lemmas.List.Kept.{AllPairs-filter}
 use Rattle.std.proofs.lemmas.List.Sorted.{IsPermutation-refl, IsPermutation-sym, IsPermutation-trans, IsPermutation-cons, IsPermutation-filter_both}
 use Rattle.bench_types.specs.declared.entries.Item.{Item}
-use Rattle.node_table.specs.View.{place_of}
-use Rattle.node_table.specs.Applied.{stands_at}
+use Rattle.node_table.specs.inner.Items.{place_of}
+use Rattle.node_table.specs.inner.Applied.{stands_at}
 use Rattle.node_table.proofs.Order.{place_total}
 use Rattle.node_table.proofs.Laws.{tied-stands_at}
 use Rattle.node_table.proofs.Items.{IsApart, items_at-apart}

@@ -21,8 +21,9 @@ use Rattle.bench_types.specs.Mode.{told_by}
 use Rattle.bench_types.specs.declared.exchanges.Telling.TheVariants.{Each}
 use Rattle.reconcile.specs.Order.{rotated, rank_among, owner_count, sending_order}
 use Rattle.reconcile.specs.Candidates.{IsScuttleMode}
-use Rattle.reconcile.specs.Deltas.{item_share, first_within}
-use Rattle.reconcile.specs.Keys.{item_in, items_in, reversed, IsSet, AllSet, AreFirstItems, number_order}
+use Rattle.reconcile.specs.Deltas.{item_share}
+use Rattle.reconcile.specs.inner.Parcels.{first_within}
+use Rattle.reconcile.specs.inner.Keys.{item_in, items_in, reversed, IsSet, AllSet, AreFirstItems, number_order}
 use Rattle.reconcile.proofs.Fitting.{fitting-take, sum-within}
 use Rattle.reconcile.proofs.Front.{IsFront, whole, whole-permutation, whole-sorted, whole-front, front-split, split-permutation}
 use Rattle.node_table.proofs.Comparing.{nat_cmp-less, nat_cmp-equal, nat_cmp-greater}

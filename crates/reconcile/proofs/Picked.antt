@@ -11,7 +11,8 @@ use Rattle.std.proofs.lemmas.Bool.{cases_lt, eq-eqb, eqb-true, le-leb, lt-leb}
 use Rattle.std.proofs.lemmas.List.{get_or_default}
 use Rattle.std.proofs.lemmas.List.Sums.{sum_by-cons}
 use Rattle.std.proofs.lemmas.List.Sorted.{sorted_far, ranks_by, sum_by-IsPermutation, length_permutation, Contains-permutation, IsPermutation-sym}
-use Rattle.reconcile.specs.Picks.{before_count, at_place, first_places, size_through, fits, sent, cut_count, fitting}
+use Rattle.reconcile.specs.Picks.{before_count, at_place, first_places, size_through, fits, sent, cut_count}
+use Rattle.reconcile.specs.inner.Parcels.{fitting}
 use Rattle.reconcile.proofs.Counts.{count_by-stretch, count_by-not}
 use Rattle.reconcile.proofs.Fitting.{length-fitting-le, fitting-is_front, sum-within, sum-beyond}
 

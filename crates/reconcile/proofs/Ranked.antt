@@ -7,8 +7,8 @@ use Rattle.std.specs.Ordering.{nat_cmp, ordering_then}
 use Rattle.std.specs.Cmp.{ranked}
 use Rattle.std.proofs.lemmas.Bool.{cases_lt, eq-eqb, ne_eqb, lt-ltb, le-ltb}
 use Rattle.bench_types.specs.declared.entries.Entry.{Entry}
-use Rattle.node_table.specs.Rows.{StandsBefore}
-use Rattle.reconcile.specs.Runs.{rank_in, entries_ranked}
+use Rattle.node_table.specs.Entries.{StandsBefore}
+use Rattle.reconcile.specs.inner.Suffixes.{rank_in, entries_ranked}
 use Rattle.reconcile.proofs.Counts.{count_by-cons_true, count_by-cons_false}
 
 abbrev pub no_entry : Entry

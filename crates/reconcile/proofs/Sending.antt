@@ -17,8 +17,8 @@ use Rattle.node_table.proofs.Proper.{items_sound, length-le-limit}
 use Rattle.bench_types.specs.declared.exchanges.Mode.TheVariants.{ScuttleBreadth, ScuttleDepth, PreciseOldest, PreciseNewest}
 use Rattle.reconcile.specs.Order.{rotated, rank_among, owner_count, sending_order}
 use Rattle.reconcile.specs.Deltas.{DeltaView, item_share, delta_of}
-use Rattle.reconcile.specs.Picks.{fitting}
-use Rattle.node_table.specs.View.{no_item}
+use Rattle.reconcile.specs.inner.Parcels.{fitting}
+use Rattle.node_table.specs.inner.Items.{no_item}
 use Rattle.reconcile.proofs.Apart.{sending_total, sending_apart}
 use Rattle.reconcile.proofs.Picked.{sent-is, cut_count-is}
 

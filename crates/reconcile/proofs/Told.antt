@@ -15,7 +15,7 @@ use Rattle.bench_types.specs.declared.exchanges.Telling.{Telling}
 use Rattle.bench_types.specs.declared.exchanges.Telling.TheVariants as telling
 use Rattle.bench_types.specs.Mode.{told_by}
 use Rattle.node_table.specs.Table.{Table, items_of, IsProper}
-use Rattle.node_table.specs.View.{IsItemInPlace}
+use Rattle.node_table.specs.Table.{IsItemInPlace}
 use Rattle.node_table.proofs.Proper.{items_sound}
 use Rattle.reconcile.specs.Candidates.{items_above, candidates, known_mark}
 use Rattle.reconcile.specs.Digests.{DigestView, Knowledge, Greatest, Each, telling_of, IsDigestOf, greatest_in, each_in, known_in, mark_with, told_generation, told_mark}

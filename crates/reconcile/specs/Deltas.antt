@@ -7,12 +7,11 @@ use Rattle.bench_types.specs.declared.exchanges.Mode.{Mode}
 use Rattle.bench_types.specs.declared.exchanges.Budget.{Budget}
 use Rattle.bench_types.specs.Budget.{amount_of, share_of}
 use Rattle.bench_types.specs.Mode.{told_by}
-use Rattle.node_table.specs.Table.{Table, items_of}
-use Rattle.node_table.specs.View.{IsItemInPlace}
+use Rattle.node_table.specs.Table.{Table, items_of, IsItemInPlace}
 use Rattle.reconcile.specs.Candidates.{items_above, candidates}
 use Rattle.reconcile.specs.Digests.{DigestView, IsDigestOf, told_mark}
 use Rattle.reconcile.specs.Order.{sending_order}
-use Rattle.reconcile.specs.Picks.{sent, cut_count, fitting}
+use Rattle.reconcile.specs.Picks.{sent, cut_count}
 
 pub record DeltaView : Type 0 where
   pub items : List Item
@@ -21,10 +20,6 @@ pub record DeltaView : Type 0 where
 -- what an item takes of a budget
 abbrev pub item_share : Budget → Item → ℕ
 item_share budget i = share_of budget i.entry
-
--- as many of these items, from the first one on, as a budget has room for
-abbrev pub first_within : Budget → List Item → List Item
-first_within budget items = fitting (item_share budget) (amount_of budget) items
 
 -- a budget has room for them all
 abbrev pub AreWithin : Budget → List Item → Type 0

@@ -2,13 +2,9 @@ pub mod Candidates
 pub mod Order
 pub mod Picks
 pub mod Digests
-pub mod Inside
-pub mod Newer
 pub mod Deltas
 pub mod Laws
-pub mod Keys
-pub mod Parcels
-pub mod Runs
+pub mod inner
 pub use Rattle.node_table.specs.Table
 pub use Rattle.node_table.specs.NodeTableView
 pub use Rattle.bench_types.specs.Entry

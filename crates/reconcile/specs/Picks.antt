@@ -4,7 +4,7 @@
 -- longest beginning that fits.
 -- Source: this project, after the LADIS 2008 paper's demand that a message which can't hold all sends each
 -- owner's entries in ascending version with none left out in between.
-use Rattle.std.specs.Prelude.{ℕ, Bool, ◌-◌, ◌==◌, nat_le, not, List, [], ◌∷◌, Option, count_by, find, if◌then◌else◌}
+use Rattle.std.specs.Prelude.{ℕ, Bool, ◌==◌, nat_le, not, List, Option, count_by, find, if◌then◌else◌}
 use Rattle.std.specs.Ordering.{is_lt}
 use Rattle.std.specs.List.{filter_map, range_with_len, sum_by}
 use Rattle.std.specs.declared.cmp.Ordering.{Ordering}
@@ -35,14 +35,3 @@ module _ {X : Type 0} (order : X → X → Ordering) (candidates : List X) where
 
     abbrev pub cut_count : ℕ → ℕ
     cut_count budget = count_by (λ c. not (fits budget c)) candidates
-
-module _ {X : Type 0} (size : X → ℕ) where
-  -- the longest beginning of a list that fits
-  abbrev pub fitting : ℕ → List X → List X
-  fitting budget [] = []
-  fitting budget (x ∷ xs) = if nat_le (size x) budget then x ∷ fitting (budget - size x) xs else []
-
-  -- what it leaves of the budget: nothing, once one doesn't fit
-  abbrev pub left_after : ℕ → List X → ℕ
-  left_after budget [] = budget
-  left_after budget (x ∷ xs) = if nat_le (size x) budget then left_after (budget - size x) xs else 0

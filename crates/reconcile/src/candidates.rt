@@ -4,19 +4,21 @@
 ghost use Rattle.std.specs.Prelude.{◌≡◌, ◌^◌, ◌<◌, ◌≤◌, nat_lt, All, length, IfOk, IfSome, OnOk, IsOkUnless, IsPermutation, IsSorted};
 ghost use Rattle.std.specs.List.{sum_by};
 ghost use Rattle.bench_types.specs.declared.faults.Fault.TheVariants.{OutOfMemory};
+ghost use Rattle.bench_types.specs.declared.limits.TheConstants.{MOST_NODES};
 ghost use Rattle.bench_types.specs.Budget.{amount_of};
 ghost use Rattle.bench_types.specs.Mode.{told_by};
 ghost use Rattle.node_table.specs.Table.{IsProper};
-ghost use Rattle.reconcile.specs.Deltas.{answer_of, first_within, item_share, AreWithin};
+ghost use Rattle.reconcile.specs.Deltas.{answer_of, item_share, AreWithin};
+ghost use Rattle.reconcile.specs.inner.Parcels.{first_within};
 ghost use Rattle.reconcile.specs.Digests.{IsOfKind};
-ghost use Rattle.reconcile.specs.Newer.{AddsNewer, AreCandidates};
+ghost use Rattle.reconcile.specs.inner.Newer.{AddsNewer, AreCandidates};
 ghost use Rattle.reconcile.specs.Order.{rotated};
-ghost use Rattle.reconcile.specs.Keys.{items_in, age_first, AllSet, AreFirstItems, IsSentOf, IsSet, SetsStay, number_order};
+ghost use Rattle.reconcile.specs.inner.Keys.{items_in, age_first, AllSet, AreFirstItems, IsSentOf, IsSet, SetsStay, number_order};
 
 use crate::deltas::Delta;
 use crate::digests::{Digest, generation_in};
-use crate::orders::Turns;
 use crate::parcels::{Parcel, most_sent};
+use crate::turns::Turns;
 use bench_types::{Budget, Entry, Fault, Item, Mode, Telling};
 use node_table::NodeTable;
 use std::alloc::Global;
@@ -165,7 +167,7 @@ fn candidates(
                 digest,
                 owner,
                 generation,
-                table.row(owner),
+                table.entries_of(owner),
                 turns,
             )?;
         }
@@ -184,7 +186,7 @@ fn push_newer(
 ) -> Result<(), Fault>
     requires precise { told_by turns.mode ≡ Telling.Each }
     requires kind { IsOfKind Telling.Each digest.now }
-    requires limit { turns.nodes ≤ 4096 }
+    requires limit { turns.nodes ≤ MOST_NODES }
     requires told { digest.now.nodes ≡ turns.nodes }
     requires owner { owner < turns.nodes }
     requires generation { All (λ e. e.generation ≡ generation) row.now }
@@ -211,7 +213,7 @@ fn push_newer(
 // A candidate with its numbers.
 fn candidate_of(item: Item, turns: Turns) -> Candidate
     requires precise { told_by turns.mode ≡ Telling.Each }
-    requires limit { turns.nodes ≤ 4096 }
+    requires limit { turns.nodes ≤ MOST_NODES }
     requires owner { item.owner < turns.nodes }
     requires rotation { turns.rotation < turns.nodes }
     ensures item { result.item ≡ item }
@@ -227,7 +229,7 @@ fn candidate_of(item: Item, turns: Turns) -> Candidate
 
 // Where an owner stands, counted from the rotation on.
 fn turn_of(owner: u32, turns: Turns) -> u32
-    requires limit { turns.nodes ≤ 4096 }
+    requires limit { turns.nodes ≤ MOST_NODES }
     requires owner { owner < turns.nodes }
     requires rotation { turns.rotation < turns.nodes }
     ensures { result ≡ rotated turns.nodes turns.rotation owner }

@@ -4,7 +4,7 @@ ghost use Rattle.std.specs.Prelude.{◌≡◌, ◌^◌, ◌+◌, ◌<◌, nat_lt
 ghost use Rattle.bench_types.specs.declared.faults.Fault.TheVariants.{OutOfMemory};
 ghost use Rattle.bench_types.specs.Mode.{told_by};
 ghost use Rattle.reconcile.specs.Digests.{IsDigestOf, mark_with, version_index};
-ghost use Rattle.reconcile.specs.Inside.{AreVersions, with_row};
+ghost use Rattle.reconcile.specs.inner.Inside.{AreVersions, with_row};
 
 use bench_types::{Entry, Fault, Mark, Mode, Telling};
 use node_table::NodeTable;
@@ -37,7 +37,7 @@ impl Model for Digest {
 
     ghost Value = { DigestView };
 
-    ghost use Rattle.reconcile.specs.Inside.{knowledge_of, IsComplete};
+    ghost use Rattle.reconcile.specs.inner.Inside.{knowledge_of, IsComplete};
 
     ghost view = { λ d. record {
       nodes = d.nodes;
@@ -52,11 +52,12 @@ impl Model for Digest {
 
 impl Digest {
     ghost use Rattle.reconcile.specs.Digests.{IsOfKind, Knowledge, told_generation, told_greatest, told_each};
-    ghost use Rattle.reconcile.specs.Inside.{AreVersionsTold};
+    ghost use Rattle.reconcile.specs.inner.Inside.{AreVersionsTold};
 
     /// The digest that a mode asks of a table. In a scuttle mode it is a copy of a number for each
     /// owner; in a precise one it has a number for each key of each owner, and each entry is looked
     /// at once. Where a generation above 0 is held it has one more number for each owner.
+    /// An error is lack of memory (`OutOfMemory`).
     pub fn of(alloc: Global, table: &NodeTable, mode: Mode) -> Result<Digest, Fault>
         ensures ok { IfOk result (IsDigestOf (told_by mode) table.now.table) }
         ensures only { IsOkUnless result OutOfMemory }
@@ -230,7 +231,7 @@ fn each_version(alloc: Global, table: &NodeTable) -> Result<Vec<u32>, Fault>
         set_row(
             &mut versions,
             version_index(keys, owner, 0),
-            table.row(owner),
+            table.entries_of(owner),
         );
     }
     Ok(versions)

@@ -2,14 +2,15 @@
 //! order of a mode and cut by a budget.
 #![tactic(auto)]
 
+mod answers;
 mod candidates;
 mod deltas;
 mod digests;
 pub mod laws;
-mod orders;
 mod parcels;
-mod runs;
+mod suffixes;
+mod turns;
 
+pub use answers::delta;
 pub use deltas::Delta;
 pub use digests::Digest;
-pub use orders::delta;

@@ -5,8 +5,8 @@ ghost use Rattle.std.specs.List.{sum_by};
 ghost use Rattle.std.specs.Option.{SomeIff};
 ghost use Rattle.bench_types.specs.Budget.{amount_of, entry_size, share_of};
 ghost use Rattle.bench_types.specs.declared.faults.Fault.TheVariants.{OutOfMemory};
-ghost use Rattle.reconcile.specs.Newer.{item_with};
-ghost use Rattle.reconcile.specs.Parcels.{AddsFitting, AreEnough};
+ghost use Rattle.reconcile.specs.inner.Newer.{item_with};
+ghost use Rattle.reconcile.specs.inner.Parcels.{AddsFitting, AreEnough};
 
 use bench_types::limits::LEAST_ENTRY_SIZE;
 use bench_types::{Budget, Entry, Fault, Item};

@@ -5,9 +5,10 @@ use Rattle.std.proofs.lemmas.Bool.{and_parts, le-leb}
 use Rattle.std.proofs.lemmas.List.{map-append, take_all, length-map}
 use Rattle.std.proofs.lemmas.List.Elements.{filter_more}
 use Rattle.std.proofs.lemmas.List.Folds.{list_all-append}
-use Rattle.report.specs.Cells.{cell_text, is_plain, is_plain_cell}
+use Rattle.report.specs.inner.Cells.{cell_text, is_plain, is_plain_cell}
 use Rattle.bench_types.specs.declared.rows.Row.{Row}
-use Rattle.report.specs.Columns.{Column, all_columns, columns, IsColumn}
+use Rattle.report.specs.Columns.{Column, all_columns, columns}
+use Rattle.report.specs.inner.Cells.{IsColumn}
 use Rattle.report.specs.Report.{names, numbers}
 use Rattle.report.specs.declared.cells.Cell.{Cell}
 use Rattle.report.specs.declared.cells.Cell.TheVariants.{Text, Number}

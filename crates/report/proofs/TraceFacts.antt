@@ -6,7 +6,7 @@ use Rattle.std.specs.Prelude.{Vec}
 use Rattle.csv.specs.declared.writer.Writer.{Writer}
 use Rattle.bench_types.specs.declared.exchanges.Exchange.{Exchange}
 use Rattle.bench_types.specs.declared.exchanges.Record.{Record}
-use Rattle.report.specs.Cells.{bytes_written, IsBetweenLines}
+use Rattle.report.specs.inner.Cells.{bytes_written, IsBetweenLines}
 use Rattle.report.specs.Trace.{trace_line, trace_lines, trace_lines_from}
 
 -- the rows of the first i exchanges are written, and those that are still owed make the whole

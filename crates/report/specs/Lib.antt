@@ -2,6 +2,6 @@ pub mod Line
 pub mod Columns
 pub mod Report
 pub mod Output
-pub mod Cells
 pub mod Trace
 pub mod Compare
+pub mod inner

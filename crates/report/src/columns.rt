@@ -2,8 +2,9 @@
 
 ghost use Rattle.std.specs.Prelude.{◌≡◌, ◌<◌, ◌++◌, length, map, IsTrue, OnOk, IsOkUnless};
 ghost use Rattle.std.specs.List.{list_all, AllZip};
-ghost use Rattle.report.specs.Cells.{cell_text, is_plain_cell};
-ghost use Rattle.report.specs.Columns.{all_columns, IsColumn, IsFormat};
+ghost use Rattle.report.specs.inner.Cells.{cell_text, is_plain_cell};
+ghost use Rattle.report.specs.Columns.{all_columns, IsFormat};
+ghost use Rattle.report.specs.inner.Cells.{IsColumn};
 ghost use Rattle.report.specs.Report.{names, numbers};
 
 use crate::cells::Cell;

@@ -2,7 +2,7 @@
 
 ghost use Rattle.std.specs.Prelude.{◌<◌, length, map, IsTrue, OnOk, OnErr, IfErr, IsOkUnless};
 ghost use Rattle.std.specs.List.{list_all};
-ghost use Rattle.report.specs.Cells.{cell_text, is_plain_cell};
+ghost use Rattle.report.specs.inner.Cells.{cell_text, is_plain_cell};
 ghost use Rattle.report.specs.Line.{line_of};
 ghost use Rattle.report.specs.Output.{IsWritten, IsBrokenOff, IsWriteFault};
 
@@ -27,7 +27,7 @@ pub(crate) fn write_line<W: Sink>(
     write_text(writer, line.as_slice())
 }
 
-/// Writes all of the text, and flushes.
+/// Writes all of the text, and flushes. An error is what the writer answers (`WriteFailed`).
 pub fn write_text<W: Sink>(writer: &mut W, text: &[u8]) -> Result<(), Fault>
     ensures written { OnOk result (IsWritten W.Sink writer.old writer.new text.now) }
     ensures cut { OnErr result (IsBrokenOff W.Sink writer.old writer.new text.now) }

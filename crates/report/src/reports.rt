@@ -10,7 +10,8 @@ use crate::outputs::write_line;
 use bench_types::{Fault, Row, Sink};
 use std::alloc::Global;
 
-/// Writes the header of the report in a format, the names of its columns, and flushes.
+/// Writes the header of the report in a format, the names of its columns, and flushes. An error is
+/// lack of memory (`OutOfMemory`), before anything is written, or what the writer answers (`WriteFailed`).
 pub fn report_header<W: Sink>(alloc: Global, writer: &mut W, format: u32) -> Result<(), Fault>
     requires { IsFormat format }
     ensures written { OnOk result
@@ -23,7 +24,8 @@ pub fn report_header<W: Sink>(alloc: Global, writer: &mut W, format: u32) -> Res
     write_line(alloc, writer, &names)
 }
 
-/// Writes the row of one round in a format, and flushes.
+/// Writes the row of one round in a format, and flushes. An error is
+/// lack of memory (`OutOfMemory`), before anything is written, or what the writer answers (`WriteFailed`).
 pub fn write_report_row<W: Sink>(
     alloc: Global,
     writer: &mut W,

@@ -1,7 +1,7 @@
 //! The trace: a header, and then for each round a row for each of its exchanges.
 
 ghost use Rattle.std.specs.Prelude.{◌≡◌, ◌≤◌, ◌++◌, length, IsTrue, IfOk, OnOk, IfErr, IsOkUnless};
-ghost use Rattle.report.specs.Cells.{is_plain, bytes_written, IsBetweenLines};
+ghost use Rattle.report.specs.inner.Cells.{is_plain, bytes_written, IsBetweenLines};
 ghost use Rattle.report.specs.Output.{IsWritten, IsWriteFault};
 ghost use Rattle.round_plan.specs.declared.lists.TheConstants.{MOST_EXCHANGES};
 ghost use Rattle.report.specs.Trace.{trace_header_line, fate_name, trace_line, trace_lines};
@@ -13,7 +13,8 @@ use csv::{Writer, WriterBuilder};
 use round_plan::RoundList;
 use std::alloc::Global;
 
-/// Writes the header of the trace, the names of its columns, and flushes.
+/// Writes the header of the trace, the names of its columns, and flushes. An error is
+/// lack of memory (`OutOfMemory`), before anything is written, or what the writer answers (`WriteFailed`).
 pub fn trace_header<W: Sink>(alloc: Global, writer: &mut W) -> Result<(), Fault>
     ensures written { OnOk result (IsWritten W.Sink writer.old writer.new trace_header_line) }
     ensures fault { IfErr result (IsWriteFault W.Sink writer.old writer.new trace_header_line) }
@@ -35,7 +36,8 @@ pub fn trace_header<W: Sink>(alloc: Global, writer: &mut W) -> Result<(), Fault>
 }
 
 /// Writes the rows of one round, one for each exchange of its list, in order, and flushes. All rows
-/// are made in memory first.
+/// are made in memory first. An error is
+/// lack of memory (`OutOfMemory`), before anything is written, or what the writer answers (`WriteFailed`).
 pub fn write_trace_rows<W: Sink>(
     alloc: Global,
     writer: &mut W,

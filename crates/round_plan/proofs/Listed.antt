@@ -9,7 +9,8 @@ use Rattle.bench_types.specs.declared.exchanges.Exchange.{Exchange}
 use Rattle.scenario.specs.Settings.{Settings}
 use Rattle.round_plan.specs.Outages.{is_up}
 use Rattle.bench_types.specs.Exchange.{IsPlanned}
-use Rattle.round_plan.specs.Plan.{exchange_of, begins, is_unreached, reaches, plan_of, round_list_of, AreChosen}
+use Rattle.round_plan.specs.Plan.{exchange_of, begins, is_unreached, reaches, plan_of, round_list_of}
+use Rattle.round_plan.specs.inner.Rounds.{AreChosen}
 
 -- what the nodes below i begin, and how many of them are unreached
 pub record IsListed (s : Settings) (round i : ℕ) (done : List Exchange) (missed : ℕ) : Type 0 where

@@ -4,4 +4,5 @@ pub mod Peer
 pub mod Plan
 pub mod Words
 pub mod Writes
+pub mod inner
 pub use Rattle.bench_types.specs.Exchange

@@ -1,7 +1,7 @@
 -- The plan of a round: its exchanges in order, and how many nodes are up and reach no peer. By ascending initiator,
 -- each node that is up begins one exchange with its peer, where that is up too and no partition lies between them.
 -- Source: this project.
-use Rattle.std.specs.Prelude.{◌≡◌, ℕ, ◌%◌, ◌≤◌, Bool, not, ◌&&◌, nat_lt, List, length, map, All, count_by}
+use Rattle.std.specs.Prelude.{ℕ, ◌%◌, ◌≤◌, Bool, not, ◌&&◌, nat_lt, List, length, map, All, count_by}
 use Rattle.std.specs.List.{range_with_len, filter}
 use Rattle.bench_types.specs.declared.exchanges.Exchange.{Exchange}
 use Rattle.bench_types.specs.Exchange.{IsPlanned}
@@ -48,11 +48,6 @@ exchange_of s round node = record {
   lost3 = is_lost s (word_of s node round 3);
   rotation = rotation_by s.rotation s.nodes (word_of s node round 4);
 }
-
--- what each node would begin in a round, whoever is out of reach
-pub record AreChosen (s : Settings) (round : ℕ) (es : List Exchange) : Type 0 where
-  pub value : es ≡ map (exchange_of s round) (range_with_len 0 s.nodes)
-  pub planned : All (IsPlanned s.nodes) es
 
 -- a node's peer is up and not separated from it
 abbrev pub reaches : Settings → ℕ → ℕ → Bool

@@ -2,7 +2,8 @@
 
 ghost use Rattle.std.specs.Prelude.{◌≡◌, ℕ, ◌+◌, ◌-◌, ◌^◌, ◌<◌, ◌≤◌, ◌==◌, ◌++◌, All, length, map, slice_get};
 ghost use Rattle.round_plan.specs.Generations.{generation_upto};
-ghost use Rattle.round_plan.specs.Writes.{writes_in, numbered_write, own_writes, writes_before, writes_upto, born_in, AreNumbers};
+ghost use Rattle.round_plan.specs.Writes.{writes_in, numbered_write, own_writes, writes_before, writes_upto, born_in};
+ghost use Rattle.round_plan.specs.inner.Rounds.{AreNumbers};
 
 use crate::outages::{is_between, is_up};
 use crate::words::{WRITE_PLACE, words_of};

@@ -2,7 +2,8 @@
 
 ghost use Rattle.std.specs.Prelude.{◌≡◌, ◌<◌, ◌≤◌, IfOk, IsOkUnless};
 ghost use Rattle.bench_types.specs.Exchange.{IsPlanned};
-ghost use Rattle.round_plan.specs.Plan.{exchange_of, is_lost, reaches, round_list_of, AreChosen};
+ghost use Rattle.round_plan.specs.Plan.{exchange_of, is_lost, reaches, round_list_of};
+ghost use Rattle.round_plan.specs.inner.Rounds.{AreChosen};
 ghost use Rattle.bench_types.specs.declared.faults.Fault.TheVariants.{OutOfMemory};
 
 use crate::lists::RoundList;
@@ -18,7 +19,8 @@ use std::thread::Threads;
 
 /// The exchanges of a round, by ascending initiator: each node that is up begins one with its peer,
 /// where that is up too and not separated from it. Costs one block of words for each node, spread
-/// over threads, and a step for each restart and each partition for each node.
+/// over threads, and a step for each restart and each partition for each node. An error is lack
+/// of memory (`OutOfMemory`).
 pub fn round_list(
     rt: &(impl Threads + Sync),
     alloc: Global,

@@ -1,6 +1,5 @@
 pub mod PartitionView
 pub mod Settings
-pub mod View
 pub mod Fields
 pub mod Words
 pub mod Elements
@@ -10,3 +9,4 @@ pub mod Parts
 pub mod Checked
 pub mod Order
 pub mod CheckFault
+pub mod inner

@@ -1,16 +1,15 @@
 -- The parts of a document that are checked before its arrays: how large the run is, and by which
 -- rules it goes. Right after the nodes and the keys comes how many entries the tables can hold.
 -- Source: this project.
-use Rattle.std.specs.Prelude.{ℕ, ◌*◌, ◌≤◌, Result, Ok, Err, nat_le, if◌then◌else◌}
+use Rattle.std.specs.Prelude.{ℕ, ◌*◌, Result, Ok, Err, nat_le, if◌then◌else◌}
 use Rattle.toml.specs.Data.{Members}
 use Rattle.bench_types.specs.declared.faults.Fault.{Fault}
 use Rattle.bench_types.specs.declared.faults.Fault.TheVariants.{TooLarge}
-use Rattle.bench_types.specs.declared.limits.TheConstants.{LEAST_NODES, MOST_NODES, LEAST_KEYS, MOST_KEYS, MOST_ENTRIES, MOST_ROUNDS, MOST_LOSS, MOST_WRITES, MOST_SEED}
+use Rattle.bench_types.specs.declared.limits.TheConstants.{MOST_ENTRIES}
 use Rattle.scenario.specs.declared.parts.Basics.{Basics}
 use Rattle.scenario.specs.declared.parts.Conduct.{Conduct}
 use Rattle.scenario.specs.Budgets.{budget_at}
 use Rattle.scenario.specs.Fields.{◌>>=◌}
-use Rattle.scenario.specs.Settings.{IsWithin, IsBudgetOf}
 use Rattle.scenario.specs.Top.{format_at, nodes_at, keys_at, rounds_at, seed_at, mode_at, peers_at, rotation_at, choice_at, loss_ppm_at, writes_at}
 
 -- the entries that all tables can hold: one of each owner and key in the table of each node
@@ -45,18 +44,3 @@ conduct_at format table = do
     loss_ppm = loss_ppm;
     writes = writes;
   })
-
--- the limits of how large a run is
-pub record IsLawfulBasics (b : Basics) : Type 0 where
-  pub format : IsWithin 1 2 b.format
-  pub nodes : IsWithin LEAST_NODES MOST_NODES b.nodes
-  pub keys : IsWithin LEAST_KEYS MOST_KEYS b.keys
-  pub entries : b.nodes * b.nodes * b.keys ≤ MOST_ENTRIES
-  pub rounds : IsWithin 1 MOST_ROUNDS b.rounds
-  pub seed : b.seed ≤ MOST_SEED
-
--- the limits of a format's rules
-pub record IsLawfulConduct (format : ℕ) (c : Conduct) : Type 0 where
-  pub budget : IsBudgetOf format c.budget
-  pub loss_ppm : c.loss_ppm ≤ MOST_LOSS
-  pub writes : c.writes ≤ MOST_WRITES

@@ -55,7 +55,7 @@ impl Model for Scenario {
 
     ghost Value = { Settings };
 
-    ghost use Rattle.scenario.specs.View.{settings_of};
+    ghost use Rattle.scenario.specs.inner.View.{settings_of};
 
     ghost view = { settings_of };
 

@@ -10,7 +10,8 @@ use Rattle.scenario.specs.Settings.{Settings}
 use Rattle.staleness.specs.declared.lists.Write.{Write}
 use Rattle.staleness.specs.Figures.{writes_at}
 use Rattle.cluster.specs.Tables.{tables_in, table_of_node}
-use Rattle.simulation.specs.Rounds.{restarted_table, restarted, written_table, begun_table, begun}
+use Rattle.simulation.specs.Rounds.{restarted_table, restarted, written_table, begun}
+use Rattle.simulation.specs.inner.Steps.{begun_table}
 use Rattle.simulation.specs.Standing.{IsOwner, StandAfterRound}
 use Rattle.cluster.proofs.Tables.{length-tables_in, table_read, tables_in-set, table_of_node-set_same, table_of_node-set_other, table_of_node-made, same_tables}
 

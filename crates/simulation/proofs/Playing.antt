@@ -15,7 +15,8 @@ use Rattle.round_plan.specs.Plan.{RoundListView, IsRoundPlan, round_list_of}
 use Rattle.scenario.specs.Settings.{Settings}
 use Rattle.staleness.specs.Figures.{figures_of}
 use Rattle.staleness.specs.declared.lists.Write.{Write}
-use Rattle.simulation.specs.Outcomes.{played_with, IsPlayedFrom}
+use Rattle.simulation.specs.Outcomes.{played_with}
+use Rattle.simulation.specs.inner.Steps.{IsPlayedFrom}
 use Rattle.simulation.specs.RoundView.{RoundView}
 use Rattle.simulation.specs.Rounds.{begun, rules_of, round_of}
 use Rattle.simulation.specs.Standing.{StandAfterRound}

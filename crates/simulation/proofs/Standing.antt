@@ -18,13 +18,14 @@ use Rattle.round_plan.proofs.Generations.{generation_upto-same, generation_upto-
 use Rattle.round_plan.proofs.Growth.{length-writes_before, writes_before-grown, writes_upto-grown}
 use Rattle.scenario.specs.Settings.{Settings}
 use Rattle.staleness.specs.declared.lists.Write.{Write}
-use Rattle.staleness.specs.Cluster.{write_of_entry}
+use Rattle.staleness.specs.OwnParts.{write_of_entry}
 use Rattle.staleness.specs.Figures.{writes_at}
 use Rattle.staleness.specs.Writes.{AreBornBy}
 use Rattle.staleness.proofs.OwnParts.{own_part-empty}
-use Rattle.exchange.specs.Owns.{KeepsOwn}
+use Rattle.exchange.specs.inner.Owns.{KeepsOwn}
 use Rattle.simulation.specs.Rounds.{opening_tables}
-use Rattle.simulation.specs.Standing.{IsOwnerOf, IsOwner, IsWritten, HasRestarted, StandAfterRound}
+use Rattle.simulation.specs.Standing.{IsOwnerOf, IsOwner, StandAfterRound}
+use Rattle.simulation.specs.inner.Steps.{IsWritten, HasRestarted}
 use Rattle.cluster.specs.Tables.{table_of_node, AreProper}
 use Rattle.cluster.specs.Clusters.{KeepOwnParts}
 use Rattle.cluster.proofs.BeginLaws.{generation-written}

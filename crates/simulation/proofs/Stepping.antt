@@ -8,7 +8,8 @@ use Rattle.cluster.specs.Tables.{tables_in}
 use Rattle.simulation.specs.Rounds.{tables_after, round_of, records_in}
 use Rattle.simulation.specs.Soundness.{AreSound, OnlyRestartsLowerMarks}
 use Rattle.simulation.specs.Standing.{StandAfterRound}
-use Rattle.simulation.specs.Simulation.{IsSimulation, PlaysNext, HasPlayed, simulation_of, tables_held}
+use Rattle.simulation.specs.inner.Insides.{IsSimulation, HasPlayed, simulation_of, tables_held}
+use Rattle.simulation.specs.Simulation.{PlaysNext}
 use Rattle.simulation.specs.Outcomes.{played_with}
 use Rattle.round_plan.specs.Plan.{round_list_of}
 use Rattle.simulation.proofs.Lags.{figures_are}

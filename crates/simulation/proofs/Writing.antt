@@ -9,7 +9,7 @@ use Rattle.node_table.specs.Table.{Table, greatest_version, with_own_write, with
 use Rattle.node_table.proofs.ProperLaws.{proper-with_own_write}
 use Rattle.cluster.proofs.BeginLaws.{counted_write}
 use Rattle.staleness.specs.declared.lists.Write.{Write}
-use Rattle.staleness.specs.Cluster.{write_of_entry, OwnPartIsLastWrites}
+use Rattle.staleness.specs.OwnParts.{write_of_entry, OwnPartIsLastWrites}
 use Rattle.staleness.specs.Writes.{AreBornBy, next_write}
 use Rattle.staleness.proofs.OwnParts.{own_part-written}
 

@@ -6,15 +6,16 @@ pub mod Rows
 pub mod RoundView
 pub mod Outcomes
 pub mod Simulation
+pub mod inner
 pub use Rattle.exchange.specs.Exchanged
 pub use Rattle.cluster.specs.Tables
 pub use Rattle.cluster.specs.Folds
 pub use Rattle.pool.specs.Runs
-pub use Rattle.exchange.specs.Owns
+pub use Rattle.exchange.specs.inner.Owns
 pub use Rattle.round_plan.specs.Plan
 pub use Rattle.round_plan.specs.Writes
 pub use Rattle.staleness.specs.Figures
-pub use Rattle.staleness.specs.Cluster
+pub use Rattle.staleness.specs.OwnParts
 pub use Rattle.staleness.specs.Writes as OwnerLists
 pub use Rattle.scenario.specs.Settings
 pub use Rattle.node_table.specs.Table

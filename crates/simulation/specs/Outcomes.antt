@@ -1,16 +1,13 @@
 -- What a round comes to: its figures, its row, and all that a step answers. Source: this project.
-use Rattle.std.specs.Prelude.{◌≡◌, ℕ, List}
+use Rattle.std.specs.Prelude.{ℕ, List}
 use Rattle.bench_types.specs.declared.exchanges.Record.{Record}
 use Rattle.bench_types.specs.declared.rows.Figures.{Figures}
 use Rattle.bench_types.specs.declared.rows.Row.{Row}
-use Rattle.node_table.specs.NodeTableView.{NodeTableView}
-use Rattle.cluster.specs.Tables.{tables_in}
 use Rattle.round_plan.specs.Plan.{RoundListView, round_list_of}
 use Rattle.scenario.specs.Settings.{Settings}
 use Rattle.staleness.specs.Figures.{figures_of}
-use Rattle.staleness.specs.declared.lists.Write.{Write}
 use Rattle.simulation.specs.RoundView.{RoundView}
-use Rattle.simulation.specs.Rounds.{tables_after, records_in, round_of}
+use Rattle.simulation.specs.Rounds.{tables_after, records_in}
 use Rattle.simulation.specs.Lists.{lists_after}
 use Rattle.simulation.specs.Rows.{row_of}
 
@@ -28,10 +25,3 @@ played_with round plan records figures = record { row = row_of round plan record
 -- what a round answers: by the definitions
 abbrev pub played_of : Settings → ℕ → RoundView
 played_of s round = played_with round (round_list_of s round) (records_in s round) (figures_in s round)
-
--- and from the tables before it, and the tables and lists after it
-abbrev pub played_from : Settings → ℕ → List NodeTableView → List NodeTableView → List (List Write) → RoundView
-played_from s round old new lists = played_with round (round_list_of s round) (round_of s round (tables_in old)).records (figures_of round (tables_in new) lists)
-
-abbrev pub IsPlayedFrom : Settings → ℕ → List NodeTableView → List NodeTableView → List (List Write) → RoundView → Type 0
-IsPlayedFrom s round old new lists played = played ≡ played_from s round old new lists

@@ -36,10 +36,6 @@ written_table s round ts n = with_own_writes (table_of_node ts n) (own_writes s 
 abbrev pub written : Settings → ℕ → List Table → List Table
 written s round ts = map (written_table s round ts) (range_with_len 0 s.nodes)
 
--- what a round begins with: for one node, and for all
-abbrev pub begun_table : Settings → ℕ → ℕ → Table → Table
-begun_table s round n t = with_own_writes (after_restart s round n t) (own_writes s n round (count_before s n round))
-
 abbrev pub begun : Settings → ℕ → List Table → List Table
 begun s round ts = written s round (restarted s round ts)
 

@@ -5,12 +5,14 @@ ghost use Rattle.bench_types.specs.declared.faults.Fault.TheVariants.{OutOfMemor
 ghost use Rattle.bench_types.specs.Entry.{AreNextAfter};
 ghost use Rattle.node_table.specs.Table.{greatest_version, IsProper};
 ghost use Rattle.staleness.specs.Figures.{writes_at};
-ghost use Rattle.staleness.specs.Cluster.{OwnPartIsLastWrites};
+ghost use Rattle.staleness.specs.OwnParts.{OwnPartIsLastWrites};
 ghost use Rattle.staleness.specs.Writes.{AreBornBy};
 ghost use Rattle.round_plan.specs.Writes.{born_in};
 ghost use Rattle.cluster.specs.Tables.{tables_in, AreProper};
-ghost use Rattle.simulation.specs.Rounds.{opening_tables, after_restart, begun_table, begun};
-ghost use Rattle.simulation.specs.Standing.{IsOwner, IsWritten, HasRestarted, StandAfterRound};
+ghost use Rattle.simulation.specs.Rounds.{opening_tables, after_restart, begun};
+ghost use Rattle.simulation.specs.inner.Steps.{begun_table};
+ghost use Rattle.simulation.specs.Standing.{IsOwner, StandAfterRound};
+ghost use Rattle.simulation.specs.inner.Steps.{IsWritten, HasRestarted};
 
 use bench_types::Fault;
 use bench_types::limits::MOST_ROUNDS;

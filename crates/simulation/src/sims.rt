@@ -8,7 +8,8 @@ ghost use Rattle.cluster.specs.Tables.{tables_in};
 ghost use Rattle.pool.specs.Runs.{IsPoolFault};
 ghost use Rattle.simulation.specs.Rounds.{opening_tables, begun, round_of};
 ghost use Rattle.simulation.specs.Standing.{StandAfterRound};
-ghost use Rattle.simulation.specs.Simulation.{tables_of, lists_of, HasPlayed, AreTablesAfter, PlaysNext, MayStep, IsRefusedBy, IsStepFault};
+ghost use Rattle.simulation.specs.inner.Insides.{tables_of, lists_of, HasPlayed};
+ghost use Rattle.simulation.specs.Simulation.{AreTablesAfter, PlaysNext, MayStep, IsRefusedBy, IsStepFault};
 
 use crate::clusters::{begin_round, empty_lists, empty_tables};
 use crate::rounds::Round;
@@ -34,7 +35,8 @@ pub struct Sim {
 }
 
 impl Model for Sim {
-    ghost use Rattle.simulation.specs.Simulation.{SimView, IsSimulation, simulation_of, simulation_code};
+    ghost use Rattle.simulation.specs.Simulation.{SimView};
+    ghost use Rattle.simulation.specs.inner.Insides.{IsSimulation, simulation_of, simulation_code};
 
     ghost Value = { SimView };
 

@@ -4,9 +4,10 @@ use Rattle.std.specs.List.{find}
 use Rattle.std.proofs.lemmas.Bool.{cases_lt}
 use Rattle.std.proofs.lemmas.List.Elements.{All-head, All-tail}
 use Rattle.staleness.specs.declared.lists.Write.{Write}
-use Rattle.staleness.specs.Writes.{IsNumbered, is_missed, first_missed, last_write, last_born, in_order_from, born_in_order}
-use Rattle.staleness.specs.Linked.{version_or_zero}
-use Rattle.staleness.specs.Copies.{version_staleness}
+use Rattle.staleness.specs.Writes.{IsNumbered, last_write}
+use Rattle.staleness.specs.inner.Missed.{is_missed, first_missed, last_born, in_order_from, born_in_order}
+use Rattle.staleness.specs.inner.Linked.{version_or_zero}
+use Rattle.staleness.specs.inner.Copies.{version_staleness}
 use Rattle.staleness.specs.Figures.{stale_count, rounds_behind}
 use Rattle.staleness.proofs.Last.{fresh}
 use Rattle.staleness.proofs.Linking.{last_placed, missed_some}

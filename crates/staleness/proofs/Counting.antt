@@ -9,8 +9,8 @@ use Rattle.node_table.specs.Table.{Table}
 use Rattle.cluster.specs.Tables.{table_of_node, IsCluster}
 use Rattle.staleness.specs.declared.lists.Write.{Write}
 use Rattle.staleness.specs.Figures.{sum_below, most_below, staleness_at, stale_count, rounds_behind, figures_of}
-use Rattle.staleness.specs.Copies.{owner_lag, node_leftover, part_figures}
-use Rattle.staleness.specs.Cluster.{AreFewTriples, IsCounted, AreCounted, found_at}
+use Rattle.staleness.specs.inner.Copies.{owner_lag, node_leftover, part_figures}
+use Rattle.staleness.specs.inner.Parts.{AreFewTriples, IsCounted, AreCounted, found_at}
 use Rattle.staleness.proofs.Places.{one_more}
 use Rattle.staleness.proofs.Sums.{sum_below-same, most_below-same, sum_below-swap, most_below-swap, sum_below-parts, most_below-parts}
 

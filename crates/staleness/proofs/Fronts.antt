@@ -3,7 +3,7 @@ use Rattle.std.proofs.Common.{◌≡◌, ◌≢◌, ℕ, ◌+◌, ◌<◌, ◌�
 use Rattle.std.proofs.lemmas.Bool.{cases_lt}
 use Rattle.std.proofs.lemmas.List.{get_or_default}
 use Rattle.staleness.specs.declared.lists.Write.{Write}
-use Rattle.staleness.specs.Latest.{write_of, KeysRise, IsFrontForKey}
+use Rattle.staleness.specs.inner.Latest.{write_of, KeysRise, IsFrontForKey}
 use Rattle.staleness.proofs.Rising.{rising_at, find-at, find-gap}
 
 module _ (ws : List Write) (key front : ℕ) (rising : KeysRise ws) (is : IsFrontForKey ws key front) where

@@ -9,9 +9,10 @@ use Rattle.bench_types.specs.declared.entries.Entry.{Entry}
 use Rattle.bench_types.specs.Mark.{mark_held, is_before}
 use Rattle.node_table.specs.Table.{Table, empty_table, entry_at, generation_held, IsProper}
 use Rattle.staleness.specs.declared.lists.Write.{Write}
-use Rattle.staleness.specs.Writes.{IsNumbered, is_missed}
+use Rattle.staleness.specs.Writes.{IsNumbered}
+use Rattle.staleness.specs.inner.Missed.{is_missed}
 use Rattle.staleness.specs.Figures.{generation_at, staleness_of}
-use Rattle.staleness.specs.Copies.{generations_in, least_known, at_least, version_known, version_staleness}
+use Rattle.staleness.specs.inner.Copies.{generations_in, least_known, at_least, version_known, version_staleness}
 
 -- the generations of all nodes, by node
 module _ (tables : List Table) (generations : List ℕ) (are : generations ≡ generations_in tables) where

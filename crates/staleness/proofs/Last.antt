@@ -8,7 +8,8 @@ use Rattle.std.proofs.lemmas.List.{reverse-append}
 use Rattle.std.proofs.lemmas.List.Folds.{find-append}
 use Rattle.std.proofs.lemmas.List.Elements.{All-head, All-tail}
 use Rattle.staleness.specs.declared.lists.Write.{Write}
-use Rattle.staleness.specs.Writes.{IsNumbered, is_write_of, is_missed, last_write, first_missed}
+use Rattle.staleness.specs.Writes.{IsNumbered, is_write_of, last_write}
+use Rattle.staleness.specs.inner.Missed.{is_missed, first_missed}
 use Rattle.node_table.proofs.Comparing.{nat_cmp-less, nat_cmp-equal, nat_cmp-greater}
 
 -- a write at the end is the last of its key

@@ -8,10 +8,10 @@ use Rattle.std.proofs.lemmas.List.Folds.{list_any_none}
 use Rattle.bench_types.specs.declared.entries.Entry.{Entry}
 use Rattle.bench_types.specs.Mark.{absent}
 use Rattle.node_table.specs.Table.{Table, entry_at, generation_held, IsProper}
-use Rattle.node_table.specs.Rows.{AreAbove}
+use Rattle.node_table.specs.Entries.{AreAbove}
 use Rattle.cluster.specs.Tables.{table_of_node}
 use Rattle.staleness.specs.Figures.{sum_below, generation_at, is_left_over, leftover_at}
-use Rattle.staleness.specs.Copies.{has_key, copy_leftover, node_leftover, nodes_leftover}
+use Rattle.staleness.specs.inner.Copies.{has_key, copy_leftover, node_leftover, nodes_leftover}
 use Rattle.staleness.proofs.Rows.{row_apart, row_held, row_below}
 use Rattle.staleness.proofs.Sums.{sum_below-le, sum_below-same, sum_below-none, sum_below-add}
 

@@ -12,9 +12,10 @@ use Rattle.std.proofs.lemmas.List.{drop_all, length-reverse, get_or-reverse, get
 use Rattle.std.proofs.lemmas.List.Folds.{find-append}
 use Rattle.staleness.specs.declared.lists.Link.{Link}
 use Rattle.staleness.specs.declared.lists.Write.{Write}
-use Rattle.staleness.specs.Writes.{next_write, IsNumbered, is_write_of, is_missed, last_write, first_missed, born_in_order}
-use Rattle.staleness.specs.Linked.{as_write, shown, shown_from, version_or_zero, IsLinked, IsOwnerList}
-use Rattle.staleness.specs.Latest.{keyed, write_of, IsLatest, AreFirst}
+use Rattle.staleness.specs.Writes.{next_write, IsNumbered, is_write_of, last_write}
+use Rattle.staleness.specs.inner.Missed.{is_missed, first_missed, born_in_order}
+use Rattle.staleness.specs.inner.Linked.{as_write, shown, shown_from, version_or_zero, IsLinked, IsOwnerList}
+use Rattle.staleness.specs.inner.Latest.{keyed, write_of, IsLatest, AreFirst}
 use Rattle.staleness.proofs.Rising.{rising_put}
 use Rattle.staleness.proofs.Last.{last_write-push, first_missed-drop, fresh, same_key, All-find}
 

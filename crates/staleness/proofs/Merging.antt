@@ -7,13 +7,14 @@ use Rattle.std.specs.declared.alloc.Global.{Global}
 use Rattle.std.proofs.Math.Nat.{div-mul-le_self, mul-le-mul_right}
 use Rattle.std.proofs.lemmas.List.FromFn.{length-range_with_len}
 use Rattle.std.proofs.lemmas.Slice.Zip.{AllZip-long}
+use Rattle.bench_types.specs.declared.limits.TheConstants.{MOST_NODES}
 use Rattle.node_table.specs.Table.{Table, entry_at}
 use Rattle.cluster.specs.Tables.{table_of_node}
 use Rattle.staleness.specs.declared.copies.Copies.{Copies}
 use Rattle.staleness.specs.declared.lists.Write.{Write}
 use Rattle.staleness.specs.Figures.{generation_at}
-use Rattle.staleness.specs.Copies.{no_copies, version_known, with_held, seen_in, current_of, copies_of, copies_from, merged, HaveRoom, AreSeen}
-use Rattle.staleness.specs.Cluster.{IsSeenInPart, AreSeenInParts}
+use Rattle.staleness.specs.inner.Copies.{no_copies, version_known, with_held, seen_in, current_of, copies_of, copies_from, merged, HaveRoom, AreSeen}
+use Rattle.staleness.specs.inner.Parts.{IsSeenInPart, AreSeenInParts}
 use Rattle.staleness.proofs.Counting.{at_place}
 use Rattle.staleness.proofs.Places.{within, one_more, place_of}
 use Rattle.staleness.proofs.Seen.{few_seen}
@@ -142,7 +143,7 @@ module _ (tables : List Table) (lists : List (List Write)) (none : List Copies) 
   abbrev pub AreSeenUpTo : ℕ → List Copies → Type 0
   AreSeenUpTo p copies = AreSeen (length tables) keys (λ r k. copies_of tables lists r k (min (p * size) (length tables))) copies
 
-  module _ (begins : AreSeen (length tables) keys (λ r k. no_copies (current_of lists r k)) none) (few : length tables ≤ 4096) (p : ℕ) (copies part : List Copies) (so_far : AreSeenUpTo p copies) (seen : IsSeenInPart tables none size p part) (inside : p * size ≤ length tables) where
+  module _ (begins : AreSeen (length tables) keys (λ r k. no_copies (current_of lists r k)) none) (few : length tables ≤ MOST_NODES) (p : ℕ) (copies part : List Copies) (so_far : AreSeenUpTo p copies) (seen : IsSeenInPart tables none size p part) (inside : p * size ≤ length tables) where
     abbrev more : ℕ
     more = min size (length tables - p * size)
 

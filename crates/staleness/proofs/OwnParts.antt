@@ -9,7 +9,7 @@ use Rattle.node_table.proofs.Order.{place_total}
 use Rattle.node_table.proofs.Laws.{frame-applied, entry_at-applied_other, entry_at-without_others_own, entry_at-without_all}
 use Rattle.staleness.specs.declared.lists.Write.{Write}
 use Rattle.staleness.specs.Writes.{next_write, is_write_of, AreBornBy}
-use Rattle.staleness.specs.Cluster.{write_of_entry, OwnPartIsLastWrites}
+use Rattle.staleness.specs.OwnParts.{write_of_entry, OwnPartIsLastWrites}
 use Rattle.node_table.proofs.Comparing.{nat_cmp-equal}
 use Rattle.staleness.proofs.Last.{same_key, with_version, last_write-push}
 

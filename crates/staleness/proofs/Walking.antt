@@ -6,7 +6,7 @@ use Rattle.std.proofs.lemmas.Bool.{eq-eqb, ne_eqb}
 use Rattle.std.proofs.lemmas.List.{get_or-take, get_or_default, length-take}
 use Rattle.std.proofs.lemmas.List.Folds.{list_any_none, list_any_more}
 use Rattle.bench_types.specs.declared.entries.Entry.{Entry}
-use Rattle.staleness.specs.Copies.{has_key}
+use Rattle.staleness.specs.inner.Copies.{has_key}
 
 pub take-zero : {X : Type 0} (xs : List X) → take zero xs ≡ []
 take-zero [] = refl

@@ -1,10 +1,8 @@
 pub mod Writes
-pub mod Latest
-pub mod Linked
 pub mod Figures
-pub mod Cluster
-pub mod Copies
+pub mod OwnParts
+pub mod inner
 pub use Rattle.node_table.specs.Table
-pub use Rattle.node_table.specs.Rows
+pub use Rattle.node_table.specs.Entries
 pub use Rattle.node_table.specs.NodeTableView
 pub use Rattle.cluster.specs.Tables

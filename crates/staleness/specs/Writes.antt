@@ -1,7 +1,7 @@
 -- The writes of an owner in a generation, in order. Only the owner writes its own state, and its n-th write of a
 -- generation has version n, from 1. Source: the LADIS 2008 paper; generations, the numbers and `born`, the round of a
 -- write, are this project's.
-use Rattle.std.specs.Prelude.{◌≡◌, ℕ, ◌<◌, ◌≤◌, ◌==◌, ◌&&◌, nat_lt, nat_le, List, [], ◌∷◌, length, reverse, find, slice_index_or, All, Bool, true, Option}
+use Rattle.std.specs.Prelude.{◌≡◌, ℕ, ◌<◌, ◌≤◌, ◌==◌, ◌&&◌, List, length, reverse, find, slice_index_or, All, Bool, Option}
 use Rattle.bench_types.specs.declared.entries.Mark.{Mark}
 use Rattle.bench_types.specs.Entry.{next_version}
 use Rattle.bench_types.specs.Mark.{is_before}
@@ -23,14 +23,6 @@ is_write_of key w = w.key == key
 abbrev pub last_write : List Write → ℕ → Option Write
 last_write writes key = find (is_write_of key) (reverse writes)
 
--- a write of this key above a version
-abbrev pub is_missed : ℕ → ℕ → Write → Bool
-is_missed key version w = w.key == key && nat_lt version w.version
-
--- the least write of a key above a version: the writes stand by version, so it is the first
-abbrev pub first_missed : List Write → ℕ → ℕ → Option Write
-first_missed writes key version = find (is_missed key version) writes
-
 -- the least write of a key above a mark, where all are of one generation
 abbrev pub first_above : ℕ → List Write → ℕ → Mark → Option Write
 first_above generation writes key mark =
@@ -39,17 +31,3 @@ first_above generation writes key mark =
 -- none was made after this round
 abbrev pub AreBornBy : ℕ → List Write → Type 0
 AreBornBy round writes = All (λ w. w.born ≤ round) writes
-
--- the round of the last write, or a round where there is none
-abbrev pub last_born : ℕ → List Write → ℕ
-last_born born [] = born
-last_born born (w ∷ ws) = last_born w.born ws
-
--- none was made before this round, nor before the one in front of it
-abbrev pub in_order_from : ℕ → List Write → Bool
-in_order_from born [] = true
-in_order_from born (w ∷ ws) = nat_le born w.born && in_order_from w.born ws
-
--- no write was made in an earlier round than one before it
-abbrev pub born_in_order : List Write → Bool
-born_in_order writes = in_order_from 0 writes

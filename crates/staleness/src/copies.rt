@@ -4,11 +4,11 @@ ghost use Rattle.std.specs.Prelude.{◌≡◌, ℕ, ◌+◌, ◌*◌, ◌^◌, �
 ghost use Rattle.bench_types.specs.declared.limits.TheConstants.{MOST_NODES, MOST_KEYS};
 ghost use Rattle.node_table.specs.Table.{entry_at, generation_held, IsProper};
 ghost use Rattle.cluster.specs.Tables.{tables_in, table_of_node};
-ghost use Rattle.staleness.specs.Cluster.{MayBegin};
-ghost use Rattle.staleness.specs.Latest.{write_of, KeysRise, IsFrontForKey};
+ghost use Rattle.staleness.specs.inner.Parts.{MayBegin};
+ghost use Rattle.staleness.specs.inner.Latest.{write_of, KeysRise, IsFrontForKey};
 ghost use Rattle.staleness.specs.declared.lists.Write.{Write};
 ghost use Rattle.staleness.specs.declared.copies.Copies.{Copies};
-ghost use Rattle.staleness.specs.Copies.{generations_in, least_known, at_least, version_known, with_version, with_held, seen_in, no_copies, current_of, copies_from, merged, HasRoom, HaveRoom, KeepOutside, AreSeen, AreSeenOnce, AreAdded};
+ghost use Rattle.staleness.specs.inner.Copies.{generations_in, least_known, at_least, version_known, with_version, with_held, seen_in, no_copies, current_of, copies_from, merged, HasRoom, HaveRoom, KeepOutside, AreSeen, AreSeenOnce, AreAdded};
 
 use crate::lists::{OwnerList, Write};
 use node_table::NodeTable;
@@ -86,7 +86,7 @@ fn see_row(copies: &mut [Copies], start: usize, table: &NodeTable, owner: u32, l
         (at_least least (entry_at table.now.table owner key)) }
     ensures others { KeepOutside copies.old copies.new start table.now.table.keys }
 {
-    for entry in table.row(owner) {
+    for entry in table.entries_of(owner) {
         let at = start + entry.key as usize;
         copies[at] = with_version(copies[at], entry.version.max(least));
     }

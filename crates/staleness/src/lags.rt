@@ -2,13 +2,14 @@
 
 ghost use Rattle.std.specs.Prelude.{◌≡◌, ℕ, ◌+◌, ◌*◌, ◌/◌, ◌^◌, ◌<◌, ◌≤◌, max, All, IfOk, IsFalse, IsOkUnless, length, slice_index_or, unwrap_or};
 ghost use Rattle.bench_types.specs.declared.faults.Fault.TheVariants.{OutOfMemory};
+ghost use Rattle.bench_types.specs.declared.limits.TheConstants.{MOST_NODES, MOST_KEYS, MOST_ROUNDS};
 ghost use Rattle.staleness.specs.declared.copies.Copies.{Copies};
 ghost use Rattle.staleness.specs.Writes.{AreBornBy, IsNumbered};
 ghost use Rattle.node_table.specs.Table.{entry_at};
 ghost use Rattle.staleness.specs.Figures.{sum_below, most_below, writes_at, staleness_at, rounds_behind, figures_of};
-ghost use Rattle.staleness.specs.Copies.{generations_in, version_known, version_staleness, copies_of, key_lag, owner_lag, owners_lag, copy_leftover, node_leftover, nodes_leftover};
+ghost use Rattle.staleness.specs.inner.Copies.{generations_in, version_known, version_staleness, copies_of, key_lag, owner_lag, owners_lag, copy_leftover, node_leftover, nodes_leftover};
 ghost use Rattle.cluster.specs.Tables.{tables_in, table_of_node, IsCluster};
-ghost use Rattle.staleness.specs.Cluster.{AreCountable, AreFewTriples, IsCounted, AreCounted, AreAllSeen, MayBegin, IsSeenInPart, AreSeenInParts, found_at};
+ghost use Rattle.staleness.specs.inner.Parts.{AreCountable, AreFewTriples, IsCounted, AreCounted, AreAllSeen, MayBegin, IsSeenInPart, AreSeenInParts, found_at};
 
 use crate::copies::{
     Copies, copies_from, generation_in, generations_of, least_known, merge, no_copies,
@@ -48,7 +49,7 @@ fn joined(one: Lag, other: Lag) -> Lag
 
 // For how many rounds a version of a key has been behind its owner's list, 0 where it isn't.
 fn rounds_behind(list: &OwnerList, key: u32, version: u32, round: u32) -> u32
-    requires round { round ≤ 100000 }
+    requires round { round ≤ MOST_ROUNDS }
     requires born { AreBornBy round list.now }
     ensures { result ≡ rounds_behind (version_staleness round list.now key version) }
 {
@@ -153,7 +154,7 @@ fn lag_of_owner(
         → slice_index_or copies.now (start + key) d
         ≡ copies_of (tables_in tables.now) lists.now owner key (length tables.now) }
     ensures lag { result ≡ owner_lag round (tables_in tables.now) lists.now owner }
-    ensures bound { result.stale ≤ 4096 * 64 }
+    ensures bound { result.stale ≤ MOST_NODES * MOST_KEYS }
 {
     let mut total = NOTHING_STALE;
     for key in 0..tables[0].keys() {
@@ -176,7 +177,7 @@ fn lag_of_owners(
     requires owners { from + owners ≤ length tables.now }
     requires copies { AreAllSeen (tables_in tables.now) lists.now copies.now }
     ensures lag { result ≡ owners_lag round (tables_in tables.now) lists.now from owners }
-    ensures bound { result.stale ≤ 4096 * 4096 * 64 }
+    ensures bound { result.stale ≤ MOST_NODES * MOST_NODES * MOST_KEYS }
 {
     let keys = match tables.first() {
         Some(table) => table.keys(),
@@ -197,11 +198,11 @@ fn lag_of_owners(
 // How many entries of a node's copies are left over: of each copy of an older generation than its owner's, all.
 fn leftover_of_node(tables: &[NodeTable], generations: &[u32], node: usize) -> u64
     requires cluster { IsCluster (length tables.now) (tables_in tables.now) }
-    requires few { length tables.now ≤ 4096 }
+    requires few { length tables.now ≤ MOST_NODES }
     requires generations { generations.now ≡ generations_in (tables_in tables.now) }
     requires node { node < length tables.now }
     ensures value { result ≡ node_leftover (tables_in tables.now) node }
-    ensures bound { result ≤ 4096 * 64 }
+    ensures bound { result ≤ MOST_NODES * MOST_KEYS }
 {
     let table = &tables[node];
     let copied = table.generations();
@@ -209,7 +210,7 @@ fn leftover_of_node(tables: &[NodeTable], generations: &[u32], node: usize) -> u
     for owner in 0..table.nodes() {
         let is_older = generation_in(copied, owner) < generations[owner as usize];
         if is_older && owner as usize != node {
-            leftover += table.row(owner).len() as u64;
+            leftover += table.entries_of(owner).len() as u64;
         }
     }
     leftover
@@ -225,11 +226,11 @@ fn has_forgotten(generations: &[u32]) -> bool
 // How many entries of so many nodes' copies from one on are left over. Where no node has forgotten nothing is.
 fn leftover_of_nodes(tables: &[NodeTable], generations: &[u32], from: usize, nodes: usize) -> u64
     requires cluster { IsCluster (length tables.now) (tables_in tables.now) }
-    requires few { length tables.now ≤ 4096 }
+    requires few { length tables.now ≤ MOST_NODES }
     requires generations { generations.now ≡ generations_in (tables_in tables.now) }
     requires nodes { from + nodes ≤ length tables.now }
     ensures value { result ≡ nodes_leftover (tables_in tables.now) from nodes }
-    ensures bound { result ≤ 4096 * 4096 * 64 }
+    ensures bound { result ≤ MOST_NODES * MOST_NODES * MOST_KEYS }
 {
     let mut leftover = 0;
     if has_forgotten(generations) {
@@ -248,7 +249,7 @@ const TRIPLES_OF_A_THREAD: usize = 65_536;
 fn nodes_of_a_thread(rt: &impl Threads, tables: &[NodeTable]) -> usize
     requires { IsCluster (length tables.now) (tables_in tables.now) }
     ensures some { 1 ≤ result }
-    ensures few { length tables.now ≤ 4096 }
+    ensures few { length tables.now ≤ MOST_NODES }
 {
     let keys = match tables.first() {
         Some(table) => table.keys(),
@@ -305,7 +306,7 @@ pub fn figures(
 ) -> Result<Figures, Fault>
     requires cluster { IsCluster (length tables.now) (tables_in tables.now) }
     requires one_list_each { length lists.now ≡ length tables.now }
-    requires round { round ≤ 100000 }
+    requires round { round ≤ MOST_ROUNDS }
     requires born { All (AreBornBy round) lists.now }
     ensures figures { IfOk result (λ f. f ≡ figures_of round (tables_in tables.now) lists.now) }
     ensures only { IsOkUnless result OutOfMemory }
@@ -331,7 +332,7 @@ fn all_copies(
     requires generations { generations.now ≡ generations_in (tables_in tables.now) }
     requires cluster { IsCluster (length tables.now) (tables_in tables.now) }
     requires one_list_each { length lists.now ≡ length tables.now }
-    requires few { length tables.now ≤ 4096 }
+    requires few { length tables.now ≤ MOST_NODES }
     ensures seen { IfOk result (λ v. AreAllSeen (tables_in tables.now) lists.now v.items) }
     ensures only { IsOkUnless result OutOfMemory }
 {

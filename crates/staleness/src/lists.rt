@@ -3,9 +3,10 @@
 ghost use Rattle.std.specs.Prelude.{◌≡◌, ℕ, ◌+◌, ◌^◌, ◌-◌, ◌<◌, ◌≤◌, ◌==◌, nat_le, None, Some, ◌++◌, ◌∷◌, [], Result, Ok, Err, OnOk, OnErr, IfOk, IfErr, IsOkUnless, List, length, find, drop, slice_index_or, vec_len, vec_capacity};
 ghost use Rattle.std.specs.FinMap.{put as put_entry};
 ghost use Rattle.std.specs.Ordering.{nat_cmp};
-ghost use Rattle.staleness.specs.Writes.{next_write, is_write_of, last_write, first_missed, last_born};
-ghost use Rattle.staleness.specs.Latest.{keyed, write_of, KeysRise, IsIndexOfKey, IsGapForKey};
-ghost use Rattle.staleness.specs.Linked.{shown, version_or_zero, IsLinked};
+ghost use Rattle.staleness.specs.Writes.{next_write, is_write_of, last_write};
+ghost use Rattle.staleness.specs.inner.Missed.{first_missed, last_born};
+ghost use Rattle.staleness.specs.inner.Latest.{keyed, write_of, KeysRise, IsIndexOfKey, IsGapForKey};
+ghost use Rattle.staleness.specs.inner.Linked.{shown, version_or_zero, IsLinked};
 ghost use Rattle.bench_types.specs.declared.faults.Fault.TheVariants.{OutOfMemory};
 
 use bench_types::Fault;
@@ -48,7 +49,7 @@ impl Model for OwnerList {
 
     ghost Value = { List Write };
 
-    ghost use Rattle.staleness.specs.Linked.{shown, IsOwnerList};
+    ghost use Rattle.staleness.specs.inner.Linked.{shown, IsOwnerList};
 
     ghost view = { λ l. shown l.links.items };
 
@@ -56,8 +57,9 @@ impl Model for OwnerList {
 }
 
 impl OwnerList {
-    ghost use Rattle.staleness.specs.Writes.{next_write, last_write, first_missed, IsNumbered, born_in_order};
-    ghost use Rattle.staleness.specs.Latest.{IsLatest};
+    ghost use Rattle.staleness.specs.Writes.{next_write, last_write, IsNumbered};
+    ghost use Rattle.staleness.specs.inner.Missed.{first_missed, born_in_order};
+    ghost use Rattle.staleness.specs.inner.Latest.{IsLatest};
 
     /// The list of an owner that has written nothing. It takes no memory yet.
     pub fn new(alloc: Global) -> OwnerList

@@ -1,8 +1,11 @@
-//! Gates that see whether exchanges run at once.
+//! Gates that see whether exchanges run at once, and what a gate is told.
 
 use pool::Gate;
+use std::alloc::AllocGlobal;
 use std::hint::spin_loop;
+use std::process::Abort;
 use std::sync::atomic::{AtomicBool, AtomicU64, Ordering};
+use std::sync::{Mutex, Wait};
 
 /// How often a gate turns at most while it waits for a call.
 const TURNS: u32 = 100_000_000;
@@ -87,37 +90,148 @@ impl Gate for Theft {
     }
 }
 
-/// Counts the calls.
+/// Exchange 1 begins once 0 is being left, which lasts until 2 has begun.
 #[derive(Drop)]
-pub(crate) struct Counter {
-    entered: AtomicU64,
-    left: AtomicU64,
+pub(crate) struct Handover {
+    first_left: AtomicBool,
+    third_begun: AtomicBool,
+    is_missed: AtomicBool,
 }
 
-impl Counter {
-    pub(crate) fn new() -> Counter {
-        Counter {
-            entered: AtomicU64::new(0),
-            left: AtomicU64::new(0),
+impl Handover {
+    pub(crate) fn new() -> Handover {
+        Handover {
+            first_left: AtomicBool::new(false),
+            third_begun: AtomicBool::new(false),
+            is_missed: AtomicBool::new(false),
         }
     }
 
-    /// How often it was entered, and how often left.
-    pub(crate) fn counts(&self) -> (u64, u64) {
-        (
-            self.entered.load(Ordering::SeqCst),
-            self.left.load(Ordering::SeqCst),
-        )
+    /// Exchange 2 has begun while 0 was being left, and nothing was waited for in vain.
+    pub(crate) fn has_happened(&self) -> bool {
+        is_set(&self.third_begun) && !is_set(&self.is_missed)
     }
 }
 
-impl Gate for Counter {
-    fn enter(&self, _i: u32) {
-        self.entered.fetch_add(1, Ordering::SeqCst);
+impl Gate for Handover {
+    fn enter(&self, i: u32) {
+        if i == 1 && !comes(&self.first_left) {
+            set(&self.is_missed);
+        }
+        if i == 2 {
+            set(&self.third_begun);
+        }
     }
 
-    fn leave(&self, _i: u32) {
-        self.left.fetch_add(1, Ordering::SeqCst);
+    fn leave(&self, i: u32) {
+        if i == 0 {
+            set(&self.first_left);
+            if !comes(&self.third_begun) {
+                set(&self.is_missed);
+            }
+        }
+    }
+}
+
+/// Each exchange waits until so many have begun, itself among them.
+#[derive(Drop)]
+pub(crate) struct Gathering {
+    wanted: u64,
+    begun: AtomicU64,
+    is_missed: AtomicBool,
+}
+
+impl Gathering {
+    pub(crate) fn of(wanted: u64) -> Gathering {
+        Gathering {
+            wanted,
+            begun: AtomicU64::new(0),
+            is_missed: AtomicBool::new(false),
+        }
+    }
+
+    /// So many were under way at once.
+    pub(crate) fn has_gathered(&self) -> bool {
+        self.is_complete() && !is_set(&self.is_missed)
+    }
+
+    fn is_complete(&self) -> bool {
+        self.begun.load(Ordering::SeqCst) >= self.wanted
+    }
+
+    // Turns until so many have begun, so often at most.
+    fn waits(&self) -> bool {
+        for _ in 0..TURNS {
+            if self.is_complete() {
+                return true;
+            }
+            spin_loop();
+        }
+        false
+    }
+}
+
+impl Gate for Gathering {
+    fn enter(&self, _i: u32) {
+        self.begun.fetch_add(1, Ordering::SeqCst);
+        if !self.waits() {
+            set(&self.is_missed);
+        }
+    }
+
+    fn leave(&self, _i: u32) {}
+}
+
+/// A call of a gate, with the place of the exchange.
+#[derive(Clone, Copy, Debug, PartialEq)]
+pub(crate) enum Call {
+    Enter(u32),
+    Leave(u32),
+}
+
+impl Call {
+    pub(crate) fn place(self) -> u32 {
+        match self {
+            Call::Enter(i) | Call::Leave(i) => i,
+        }
+    }
+}
+
+/// Notes each call, in the order in which they come.
+#[derive(Drop)]
+pub(crate) struct Notes<'a, R: Wait + Abort> {
+    rt: &'a R,
+    calls: Mutex<Vec<Call>>,
+}
+
+impl<'a, R: Wait + Abort + AllocGlobal> Notes<'a, R> {
+    pub(crate) fn new(rt: &'a R) -> Notes<'a, R> {
+        Notes {
+            rt,
+            calls: Mutex::new(Vec::new(rt.alloc())),
+        }
+    }
+}
+
+impl<R: Wait + Abort> Notes<'_, R> {
+    pub(crate) fn into_calls(self) -> Vec<Call> {
+        let Notes { rt: _, calls } = self;
+        calls.into_inner()
+    }
+
+    fn note(&self, call: Call) {
+        let noted = self.calls.lock(self.rt).push(call);
+        noted.expect(self.rt, "memory");
+    }
+}
+
+impl<R: Wait + Abort> Gate for Notes<'_, R> {
+    fn enter(&self, i: u32) {
+        self.note(Call::Enter(i));
+    }
+
+    fn leave(&self, i: u32) {
+        self.note(Call::Leave(i));
     }
 }
 

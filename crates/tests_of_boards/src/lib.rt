@@ -11,6 +11,8 @@ mod long_lists;
 #[cfg(test)]
 mod pools;
 #[cfg(test)]
+mod scopes;
+#[cfg(test)]
 mod seats;
 #[cfg(test)]
 mod small_boards;

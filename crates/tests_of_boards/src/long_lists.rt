@@ -120,7 +120,7 @@ fn exchange_two(
 fn holds_the_same(one: &NodeTable, two: &NodeTable) -> bool {
     one.node() == two.node()
         && one.nodes() == two.nodes()
-        && (0..one.nodes()).all(|owner| one.row(owner) == two.row(owner))
+        && (0..one.nodes()).all(|owner| one.entries_of(owner) == two.entries_of(owner))
 }
 
 fn expect_the_same(rt: &impl Abort, tables: &[NodeTable], wanted: &[NodeTable]) {

@@ -4,8 +4,8 @@ ghost use Rattle.std.specs.Prelude.{◌≤◌};
 ghost use Rattle.bench_types.specs.declared.limits.TheConstants.{MOST_WORKERS, MOST_KEYS};
 ghost use Rattle.bench_types.specs.Budget.{IsLawfulBudget};
 
-use crate::gates::{Counter, Meeting, Theft};
-use crate::small_boards::{CROSSING, ONE_ENTRY, list_of, tables_of};
+use crate::gates::{Call, Gathering, Handover, Meeting, Notes, Theft};
+use crate::small_boards::{CROSSING, ONE_ENTRY, TWICE, list_of, tables_of};
 use bench_types::limits::{MOST_KEYS, MOST_WORKERS};
 use bench_types::{Fault, Record, Rules};
 use node_table::NodeTable;
@@ -16,11 +16,14 @@ use std::process::Abort;
 use std::sync::Wait;
 use std::thread::Threads;
 
-/// Two pairs of four nodes, which then meet the other way round.
-const PAIRS_TWICE: &[(u32, u32)] = &[(0, 2), (1, 3), (2, 0), (3, 1)];
-
 /// Four pairs that share no node.
 const FOUR_PAIRS: &[(u32, u32)] = &[(0, 1), (2, 3), (4, 5), (6, 7)];
+
+/// Three pairs that share no node.
+const THREE_PAIRS: &[(u32, u32)] = &[(0, 1), (2, 3), (4, 5)];
+
+/// Two pairs, and then one node of each.
+const BRIDGED: &[(u32, u32)] = &[(0, 1), (2, 3), (1, 2)];
 
 /// Carries out a list, on tables whose nodes have written each key once.
 pub(crate) fn run_fresh<R: Abort + AllocGlobal + Threads + Wait + Sync, G: Gate + Sync>(
@@ -52,7 +55,7 @@ fn expect_counts(
 
 fn meets<R: Abort + AllocGlobal + Threads + Wait + Sync>(rt: &R) -> Result<(), Fault> {
     let gate = Meeting::new();
-    let list = list_of(rt, 4, PAIRS_TWICE);
+    let list = list_of(rt, 4, TWICE);
     let left = run_fresh(rt, &list, 1, &ONE_ENTRY, 2, &gate)?;
     assert!(rt; gate.has_met());
     expect_counts(rt, left, 2, 4);
@@ -80,22 +83,83 @@ fn runs_nothing<R: Abort + AllocGlobal + Threads + Wait + Sync>(
     Ok(())
 }
 
-fn counts<R: Abort + AllocGlobal + Threads + Wait + Sync>(rt: &R, workers: u32) -> Result<(), Fault>
-    requires workers { (1 ≤ workers) × (workers ≤ MOST_WORKERS) }
-{
-    let gate = Counter::new();
-    let list = list_of(rt, 8, CROSSING);
-    let left = run_fresh(rt, &list, 1, &ONE_ENTRY, workers, &gate)?;
-    assert!(rt; gate.counts() == (8, 8));
-    expect_counts(rt, left, 3, 8);
+fn hands_over<R: Abort + AllocGlobal + Threads + Wait + Sync>(rt: &R) -> Result<(), Fault> {
+    let gate = Handover::new();
+    let list = list_of(rt, 4, BRIDGED);
+    let (tables, records) = run_fresh(rt, &list, 1, &ONE_ENTRY, 2, &gate)?;
+    assert!(rt; gate.has_happened());
+    assert!(rt; tables.len() == 4 && records.len() == 3);
     Ok(())
 }
 
-#[test]
-fn each_exchange_passes_the_gate_once(rt: HostRuntime) {
-    for workers in [1, 2, 3, MOST_WORKERS] {
-        counts(&rt, workers).expect(&rt, "memory and threads");
+fn gathers<R: Abort + AllocGlobal + Threads + Wait + Sync>(rt: &R) -> Result<(), Fault> {
+    let gate = Gathering::of(3);
+    let list = list_of(rt, 6, THREE_PAIRS);
+    let left = run_fresh(rt, &list, 1, &ONE_ENTRY, 3, &gate)?;
+    assert!(rt; gate.has_gathered());
+    expect_counts(rt, left, 2, 3);
+    Ok(())
+}
+
+// What a gate is told while so many workers carry out the eight exchanges of a list.
+fn calls_of<R: Abort + AllocGlobal + Threads + Wait + Sync>(
+    rt: &R,
+    workers: u32,
+) -> Result<Vec<Call>, Fault>
+    requires workers { (1 ≤ workers) × (workers ≤ MOST_WORKERS) }
+{
+    let gate = Notes::new(rt);
+    let list = list_of(rt, 8, CROSSING);
+    let left = run_fresh(rt, &list, 1, &ONE_ENTRY, workers, &gate)?;
+    expect_counts(rt, left, 3, 8);
+    Ok(gate.into_calls())
+}
+
+// Of each of the eight exchanges a gate was told that it is entered, and then that it is left.
+fn expect_each_once(rt: &(impl Abort + AllocGlobal), calls: &[Call]) {
+    assert_eq!(rt; calls.len(), 16);
+    for i in 0..8 {
+        let mut of_one = Vec::new(rt.alloc());
+        for call in calls.iter().filter(|call| call.place() == i) {
+            of_one.push(*call).expect(rt, "memory");
+        }
+        assert_eq!(rt;
+            of_one.as_slice(),
+            [Call::Enter(i), Call::Leave(i)].as_slice()
+        );
     }
+}
+
+// They were entered and left one behind the other, in list order.
+fn expect_in_list_order(rt: &impl Abort, calls: &[Call]) {
+    assert_eq!(rt; calls.len(), 16);
+    for (i, pair) in (0..8).zip(calls.chunks(2)) {
+        assert_eq!(rt; pair, [Call::Enter(i), Call::Leave(i)].as_slice());
+    }
+}
+
+#[test]
+fn one_worker_tells_the_gate_in_list_order(rt: HostRuntime) {
+    let calls = calls_of(&rt, 1).expect(&rt, "memory");
+    expect_in_list_order(&rt, &calls);
+}
+
+#[test]
+fn each_exchange_is_entered_and_then_left_once(rt: HostRuntime) {
+    for workers in [1, 2, 3, MOST_WORKERS] {
+        let calls = calls_of(&rt, workers).expect(&rt, "memory and threads");
+        expect_each_once(&rt, &calls);
+    }
+}
+
+#[test]
+fn an_exchange_is_put_back_before_it_is_left(rt: HostRuntime) {
+    hands_over(&rt).expect(&rt, "memory and threads");
+}
+
+#[test]
+fn as_many_threads_as_workers(rt: HostRuntime) {
+    gathers(&rt).expect(&rt, "memory and threads");
 }
 
 #[test]

@@ -4,14 +4,11 @@ ghost use Rattle.std.specs.Prelude.{ℕ, ◌≡◌, ◌<◌, length};
 ghost use Rattle.board.specs.Weights.{Has};
 ghost use Rattle.board.specs.Boards.{exchanges_of, IsSeatOf, seat_view};
 
-use crate::small_boards::{ONE_ENTRY, board_of, list_of};
+use crate::small_boards::{ONE_ENTRY, TWICE, board_of, expect_owners, list_of};
 use bench_types::Fault;
 use board::{Board, Claim, Hold, Progress, Seat};
 use std::alloc::AllocGlobal;
 use std::process::Abort;
-
-/// Two pairs of nodes that meet twice.
-const TWICE: &[(u32, u32)] = &[(0, 2), (1, 3), (2, 0), (3, 1)];
 
 // The answer in a word.
 fn answer_to(claim: &Claim) -> &'static str {
@@ -33,6 +30,22 @@ pub(crate) fn expect_claim(rt: &impl Abort, board: &Board, seat: &mut Seat, i: u
     assert_eq!(rt; answer_to(&claim), answer);
 }
 
+// It is held with the tables of these two nodes, each of which has its own entry alone.
+fn expect_fresh(rt: &impl Abort, board: &Board, seat: &mut Seat, i: u32, nodes: (u32, u32))
+    requires within { i < length (exchanges_of board.now) }
+    requires seat { IsSeatOf seat.old board.now }
+    ensures seat { IsSeatOf seat.new board.now }
+    ensures parts { (seat_view seat.new).parts ≡ (seat_view seat.old).parts }
+{
+    let Claim::Held(hold) = board.claim(seat, i) else {
+        panic!(rt; "exchange {i} isn't held")
+    };
+    let (initiator, responder) = (&hold.initiator, &hold.responder);
+    assert_eq!(rt; (initiator.node(), responder.node()), nodes);
+    expect_owners(rt, initiator, &[nodes.0]);
+    expect_owners(rt, responder, &[nodes.1]);
+}
+
 fn expect_unfinished(rt: &impl Abort, board: Board, seat: Seat)
     requires seat { IsSeatOf seat board }
 {
@@ -45,8 +58,8 @@ fn expect_unfinished(rt: &impl Abort, board: Board, seat: Seat)
 fn claims(rt: &(impl Abort + AllocGlobal)) -> Result<(), Fault> {
     let (board, mut first) = board_of(rt, &list_of(rt, 4, TWICE), 1, &ONE_ENTRY)?;
     let mut second = board.split(&mut first);
-    expect_claim(rt, &board, &mut first, 0, "held");
-    expect_claim(rt, &board, &mut second, 1, "held");
+    expect_fresh(rt, &board, &mut first, 0, (0, 2));
+    expect_fresh(rt, &board, &mut second, 1, (1, 3));
     expect_claim(rt, &board, &mut second, 0, "taken");
     expect_claim(rt, &board, &mut second, 2, "not ready");
     expect_claim(rt, &board, &mut second, 3, "not ready");

@@ -8,7 +8,7 @@ ghost use Rattle.board.specs.Boards.{plan_of, IsSeatOf, seat_view};
 ghost use Rattle.board.specs.SeatView.{first_seat};
 
 use bench_types::limits::{MOST_KEYS, MOST_NODES};
-use bench_types::{Budget, Exchange, Fault, Mode, Rules};
+use bench_types::{Budget, Entry, Exchange, Fault, Mode, Rules};
 use board::{Board, Seat};
 use dependencies::Deps;
 use node_table::NodeTable;
@@ -34,6 +34,18 @@ pub(crate) const CROSSING: &[(u32, u32)] = &[
     (5, 6),
     (7, 0),
 ];
+
+/// Two pairs of nodes that meet twice, the second time the other way round.
+pub(crate) const TWICE: &[(u32, u32)] = &[(0, 2), (1, 3), (2, 0), (3, 1)];
+
+/// What each node has written of its first key.
+const WRITTEN: Entry = Entry {
+    key: 0,
+    generation: 0,
+    version: 1,
+    value: 7,
+    born: 1,
+};
 
 fn between(initiator: u32, responder: u32) -> Exchange {
     Exchange {
@@ -80,7 +92,7 @@ fn table_of(
     let mut table = NodeTable::new(alloc, node, nodes, keys)?;
     for key in 0..keys {
         assert!(rt; table.greatest(node).version < MOST_KEYS);
-        table.write_own(key, 7, 1)?;
+        table.write_own(key, WRITTEN.value, WRITTEN.born)?;
     }
     Ok(table)
 }
@@ -117,4 +129,14 @@ pub(crate) fn board_of(
 {
     let tables = tables_of(rt, rt.alloc(), list.nodes(), keys)?;
     Board::new(rt.alloc(), Deps::new(rt.alloc(), list)?, *rules, tables)
+}
+
+/// A table that holds the first keys of these owners, and nothing else.
+pub(crate) fn expect_owners(rt: &impl Abort, table: &NodeTable, owners: &[u32]) {
+    let node = table.node();
+    for owner in 0..table.nodes() {
+        let wanted = owners.contains(&owner).then_some(WRITTEN);
+        assert_eq!(rt; table.get(owner, 0), wanted, "owner {owner} at node {node}");
+    }
+    assert_eq!(rt; table.count() as usize, owners.len(), "node {node}");
 }

@@ -84,8 +84,8 @@ fn work(rt: &(impl Abort + AllocGlobal), job: &Job, seat: Seat, order: Order) ->
     worked
 }
 
-// Joins what two threads came back with.
-fn together(rt: &impl Abort, board: &Board, mut first: Worked, second: Worked) -> Worked
+/// Joins what two threads came back with.
+pub(crate) fn together(rt: &impl Abort, board: &Board, mut first: Worked, second: Worked) -> Worked
     requires seats { IsSeatOf first.seat board.now × IsSeatOf second.seat board.now }
     ensures seat { IsSeatOf result.seat board.now }
 {

@@ -15,7 +15,8 @@ use std::process::Abort;
 /// Two nodes that meet twice.
 const PAIR: &[(u32, u32)] = &[(0, 1), (1, 0)];
 
-fn held(rt: &impl Abort, board: &Board, seat: &mut Seat, i: u32) -> Hold
+/// An exchange that is held by the seat now.
+pub(crate) fn held(rt: &impl Abort, board: &Board, seat: &mut Seat, i: u32) -> Hold
     requires within { i < length (exchanges_of board.now) }
     requires seat { IsSeatOf seat.old board.now }
     ensures seat { IsSeatOf seat.new board.now }
@@ -29,8 +30,8 @@ fn held(rt: &impl Abort, board: &Board, seat: &mut Seat, i: u32) -> Hold
     }
 }
 
-// Does it, which makes the next ready, if there is one.
-fn expect_next(
+/// Does it, which makes the next ready, if there is one.
+pub(crate) fn expect_next(
     rt: &(impl Abort + AllocGlobal),
     job: &Job,
     seat: &mut Seat,

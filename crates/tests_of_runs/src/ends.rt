@@ -1,5 +1,9 @@
-//! Ends that go byte by byte, fail or never end.
+//! Ends that go byte by byte, fail or never end, and how many workers runs over them have.
 
+ghost use Rattle.std.specs.Prelude.{◌≤◌};
+ghost use Rattle.bench_types.specs.declared.limits.TheConstants.{MOST_WORKERS};
+
+use bench_types::limits::MOST_WORKERS;
 use std::alloc::Global;
 use std::io::{self, ErrorKind, Read, Write};
 
@@ -88,5 +92,28 @@ impl Write for Drip {
         }
         self.left.flushes -= 1;
         Ok(())
+    }
+}
+
+/// How many workers a run is tried with.
+#[derive(Clone, Copy, Debug)]
+pub(crate) enum Team {
+    One,
+    Two,
+    Four,
+}
+
+impl Team {
+    pub(crate) const ALL: [Team; 3] = [Team::One, Team::Two, Team::Four];
+
+    pub(crate) fn workers(self) -> u32
+        ensures few { 1 ≤ result }
+        ensures many { result ≤ MOST_WORKERS }
+    {
+        match self {
+            Team::One => 1,
+            Team::Two => 2,
+            Team::Four => 4,
+        }
     }
 }

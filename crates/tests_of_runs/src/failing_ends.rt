@@ -1,6 +1,6 @@
 //! Ends that go byte by byte and fail at each place of a run of two rounds.
 
-use crate::ends::{ALL, Drip, Halting, Taking};
+use crate::ends::{ALL, Drip, Halting, Taking, Team};
 use crate::texts::RESTART_WITHOUT_DOWNTIME;
 use bench::run;
 use bench_types::{Fault, Field, Pull, Push};
@@ -85,7 +85,12 @@ struct Ran {
 }
 
 // A run of this text that reads and writes byte by byte until an end fails.
-fn run_until(rt: &(impl Threads + Wait + AllocGlobal + Sync), text: &str, calls: Calls) -> Ran {
+fn run_until(
+    rt: &(impl Threads + Wait + AllocGlobal + Sync),
+    text: &str,
+    calls: Calls,
+    team: Team,
+) -> Ran {
     let alloc = rt.alloc();
     let mut reader = Pull::new(Halting {
         rest: text.as_bytes(),
@@ -95,7 +100,14 @@ fn run_until(rt: &(impl Threads + Wait + AllocGlobal + Sync), text: &str, calls:
     });
     let mut report = Push::new(Drip::new(alloc, calls.report));
     let mut trace = Push::new(Drip::new(alloc, calls.trace));
-    let answer = run(rt, alloc, &mut reader, &mut report, &mut trace, 1);
+    let answer = run(
+        rt,
+        alloc,
+        &mut reader,
+        &mut report,
+        &mut trace,
+        team.workers(),
+    );
     Ran {
         answer,
         report: report.into_inner().taken,
@@ -133,40 +145,50 @@ fn expect_nothing(rt: &impl Abort, ran: Ran, fault: Fault) {
     assert!(rt; ran.report.is_empty() && ran.trace.is_empty());
 }
 
-#[test]
-fn empty_input_and_failing_ends(rt: HostRuntime) -> Result<(), Fault> {
-    let empty = run_until(&rt, "", NEVER_FAILS);
-    expect_nothing(&rt, empty, Fault::Missing(Field::Format));
+// Runs of no text, of one that can't be read to its end, and one whose first write fails.
+fn expect_no_begin(
+    rt: &(impl Threads + Wait + Abort + AllocGlobal + Sync),
+    team: Team,
+) -> Result<(), AllocError> {
+    let empty = run_until(rt, "", NEVER_FAILS, team);
+    expect_nothing(rt, empty, Fault::Missing(Field::Format));
     for reads in 0..=RESTART_WITHOUT_DOWNTIME.len() {
         let calls = Calls {
             reads: Some(reads),
             ..NEVER_FAILS
         };
-        let ran = run_until(&rt, RESTART_WITHOUT_DOWNTIME, calls);
-        expect_nothing(&rt, ran, Fault::ReadFailed);
+        let ran = run_until(rt, RESTART_WITHOUT_DOWNTIME, calls, team);
+        expect_nothing(rt, ran, Fault::ReadFailed);
     }
-    let at_once = Taking { writes: 0, ..ALL };
-    let ran = run_until(
-        &rt,
-        RESTART_WITHOUT_DOWNTIME,
-        calls_of(End::Report, at_once),
-    );
-    expect_front(&rt, rt.alloc(), &ran, 0)?;
+    let at_once = calls_of(End::Report, Taking { writes: 0, ..ALL });
+    let ran = run_until(rt, RESTART_WITHOUT_DOWNTIME, at_once, team);
+    expect_front(rt, rt.alloc(), &ran, 0)
+}
+
+#[test]
+fn empty_input_and_failing_ends(rt: HostRuntime) -> Result<(), Fault> {
+    for team in Team::ALL {
+        expect_no_begin(&rt, team)?;
+    }
     Ok(())
 }
 
-// One read more than the text has bytes finds its end.
+// One read more than the text has bytes finds its end, and each end is flushed three times.
 #[test]
 fn byte_by_byte(rt: HostRuntime) -> Result<(), Fault> {
+    let taking = Taking { flushes: 3, ..ALL };
     let calls = Calls {
         reads: Some(RESTART_WITHOUT_DOWNTIME.len() + 1),
-        ..NEVER_FAILS
+        report: taking,
+        trace: taking,
     };
-    let ran = run_until(&rt, RESTART_WITHOUT_DOWNTIME, calls);
-    assert_eq!(rt; ran.answer, Ok(()));
-    let all = (PARTS.len(), PARTS.len());
-    expect_written(&rt, rt.alloc(), End::Report, &ran.report, all)?;
-    expect_written(&rt, rt.alloc(), End::Trace, &ran.trace, all)?;
+    for team in Team::ALL {
+        let ran = run_until(&rt, RESTART_WITHOUT_DOWNTIME, calls, team);
+        assert_eq!(rt; ran.answer, Ok(()));
+        let all = (PARTS.len(), PARTS.len());
+        expect_written(&rt, rt.alloc(), End::Report, &ran.report, all)?;
+        expect_written(&rt, rt.alloc(), End::Trace, &ran.trace, all)?;
+    }
     Ok(())
 }
 
@@ -175,6 +197,7 @@ fn expect_fronts(
     rt: &(impl Threads + Wait + Abort + AllocGlobal + Sync),
     place: usize,
     (end, part): (End, &str),
+    team: Team,
 ) -> Result<(), AllocError> {
     let before = brought(rt.alloc(), end, place)?.len();
     for within in 0..part.len() {
@@ -182,7 +205,8 @@ fn expect_fronts(
             writes: before.saturating_add(within),
             ..ALL
         };
-        let ran = run_until(rt, RESTART_WITHOUT_DOWNTIME, calls_of(end, taking));
+        let calls = calls_of(end, taking);
+        let ran = run_until(rt, RESTART_WITHOUT_DOWNTIME, calls, team);
         expect_front(rt, rt.alloc(), &ran, place)?;
     }
     Ok(())
@@ -190,8 +214,10 @@ fn expect_fronts(
 
 #[test]
 fn writes_that_fail(rt: HostRuntime) -> Result<(), Fault> {
-    for (place, part) in PARTS.iter().enumerate() {
-        expect_fronts(&rt, place, *part)?;
+    for team in Team::ALL {
+        for (place, part) in PARTS.iter().enumerate() {
+            expect_fronts(&rt, place, *part, team)?;
+        }
     }
     Ok(())
 }
@@ -208,23 +234,12 @@ const FLUSHES: [(usize, End, usize); 6] = [
 
 #[test]
 fn flushes_that_fail(rt: HostRuntime) -> Result<(), Fault> {
-    for (place, end, flushes) in FLUSHES {
-        let calls = calls_of(end, Taking { flushes, ..ALL });
-        let ran = run_until(&rt, RESTART_WITHOUT_DOWNTIME, calls);
-        expect_front(&rt, rt.alloc(), &ran, place)?;
+    for team in Team::ALL {
+        for (place, end, flushes) in FLUSHES {
+            let calls = calls_of(end, Taking { flushes, ..ALL });
+            let ran = run_until(&rt, RESTART_WITHOUT_DOWNTIME, calls, team);
+            expect_front(&rt, rt.alloc(), &ran, place)?;
+        }
     }
     Ok(())
-}
-
-// Each end is flushed three times.
-#[test]
-fn flushes_enough(rt: HostRuntime) {
-    let taking = Taking { flushes: 3, ..ALL };
-    let calls = Calls {
-        reads: None,
-        report: taking,
-        trace: taking,
-    };
-    let ran = run_until(&rt, RESTART_WITHOUT_DOWNTIME, calls);
-    assert_eq!(rt; ran.answer, Ok(()));
 }

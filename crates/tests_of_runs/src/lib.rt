@@ -11,6 +11,8 @@ mod ends;
 #[cfg(test)]
 mod failing_ends;
 #[cfg(test)]
+mod failing_jobs;
+#[cfg(test)]
 mod forgetting;
 #[cfg(test)]
 mod inputs;

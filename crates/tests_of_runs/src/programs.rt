@@ -22,6 +22,14 @@ struct Case<'a> {
 const TOO_FEW_BYTES: &str = "format = 2\nnodes = 2\nkeys = 1\nrounds = 1\nseed = 0\n\
     mode = 'scuttle-depth'\nbudget_bytes = 1022";
 
+const APART_IS_A_NUMBER: &str = "format = 1\nnodes = 2\nkeys = 1\nrounds = 1\nseed = 0\n\
+    mode = 'scuttle-depth'\nbudget = 1\npeers = 'ring'\nrotation = 'none'\nchoice = 'cycle'\n\
+    loss_ppm = 0\nwrites = 1\n[[partition]]\nfrom = 1\nto = 1\napart = 3\n";
+
+const PARTITION_WITH_A_NOTE: &str = "format = 1\nnodes = 2\nkeys = 1\nrounds = 1\nseed = 0\n\
+    mode = 'scuttle-depth'\nbudget = 1\npeers = 'ring'\nrotation = 'none'\nchoice = 'cycle'\n\
+    loss_ppm = 0\nwrites = 1\n[[partition]]\nfrom = 1\nto = 1\napart = [0]\nnote = 1\n";
+
 const CASES: [Case; 10] = [
     Case {
         words: &["check"],
@@ -114,6 +122,42 @@ fn command_line_statuses(rt: HostRuntime) -> Result<(), Fail> {
     Ok(())
 }
 
+// What `check` says of texts at fault.
+const LINES: [(&str, &str); 7] = [
+    ("[[parti", "fault 2: input is not TOML\n"),
+    ("", "fault 4: missing field format\n"),
+    (
+        "format = 1\nnodes = 1\n",
+        "fault 6: field nodes is out of range\n",
+    ),
+    (
+        "format = 1\nnodes = true\n",
+        "fault 5: wrong type of field nodes\n",
+    ),
+    (
+        "format = 1\nnodes = 4096\nkeys = 17\n",
+        "fault 8: nodes * nodes * keys is above 268435456\n",
+    ),
+    (
+        APART_IS_A_NUMBER,
+        "fault 5: wrong type of field partition.apart\n",
+    ),
+    (
+        PARTITION_WITH_A_NOTE,
+        "fault 7: unknown field in table partition\n",
+    ),
+];
+
+#[test]
+fn lines_of_faults(rt: HostRuntime) -> Result<(), Fail> {
+    for (text, line) in LINES {
+        let ended = ending_of(&rt, &["check"], text);
+        assert!(rt; ended.status == 1 && ended.out.is_empty(), "{text:?}");
+        assert!(rt; ended.err.as_slice() == line.as_bytes(), "{text:?}");
+    }
+    Ok(())
+}
+
 // Words that are refused, and how the text on standard error begins.
 const REFUSED: [(&[&str], &str); 16] = [
     (
@@ -191,7 +235,7 @@ fn command_lines_of_the_program(rt: HostRuntime) -> Result<(), Fail> {
 }
 
 // Words that ask for help, and what stands in it.
-const HELP: [(&[&str], &str); 5] = [
+const HELP: [(&[&str], &str); 7] = [
     (&["--help"], "Usage: gossip_bench <COMMAND>"),
     (
         &["-h"],
@@ -200,6 +244,8 @@ const HELP: [(&[&str], &str); 5] = [
     (&["run", "--help"], "--trace <FILE>"),
     (&["run", "--help"], "--workers <N>"),
     (&["compare", "--help"], "--workers <N>"),
+    (&["run", "--help"], "[default: 1]"),
+    (&["compare", "--help"], "[default: 1]"),
 ];
 
 #[test]

@@ -11,10 +11,10 @@ use reconcile::{Delta, Digest, delta};
 use std::alloc::Global;
 use std::process::Abort;
 
-// One owner's versions 3 and 5 and another's version 1.
-const OLD: Item = item!(1, 0, 3, 0, 2);
+/// One owner's versions 3 and 5 and another's version 1.
+pub(crate) const OLD: Item = item!(1, 0, 3, 0, 2);
 
-const NEW: Item = item!(1, 1, 5, 0, 3);
+pub(crate) const NEW: Item = item!(1, 1, 5, 0, 3);
 
 const OTHER: Item = item!(2, 0, 1, 0, 1);
 
@@ -26,8 +26,8 @@ const ORDERS: [(Mode, [Item; 3]); 4] = [
     (Mode::PreciseNewest, [NEW, OLD, OTHER]),
 ];
 
-// The table of node 3 that holds those entries.
-fn sender(rt: &impl Abort, alloc: Global) -> NodeTable {
+/// The table of node 3 that holds those entries.
+pub(crate) fn sender(rt: &impl Abort, alloc: Global) -> NodeTable {
     let mut table = new_table(rt, alloc, 3, NODES, 2);
     take(rt, &mut table, &[OLD, NEW, OTHER]);
     table

@@ -3,7 +3,7 @@
 ghost use Rattle.std.specs.Prelude.{◌≡◌, ◌≢◌, ◌<◌, ◌≤◌, All, IsTrue};
 ghost use Rattle.bench_types.specs.Budget.{IsLawfulBudget};
 ghost use Rattle.node_table.specs.Table.{empty_table};
-ghost use Rattle.node_table.specs.View.{IsItemInPlace};
+ghost use Rattle.node_table.specs.Table.{IsItemInPlace};
 
 use bench_types::{Budget, Entry, Fault, Item, Mark};
 use node_table::NodeTable;

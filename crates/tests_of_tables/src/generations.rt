@@ -68,7 +68,7 @@ fn expect_forgotten(rt: &impl Abort, table: &NodeTable, times: u32) {
     expect_number(rt, "generation", table.generation(), times);
     for owner in 0..4 {
         expect_mark(rt, "greatest", table.greatest(owner), (0, 0));
-        assert!(rt; table.row(owner).is_empty());
+        assert!(rt; table.entries_of(owner).is_empty());
     }
     assert!(rt; table.may_apply(&OTHERS));
 }
@@ -129,7 +129,7 @@ fn entries_above_a_mark(rt: HostRuntime) {
     for (item, row) in ENTERING {
         take(&rt, &mut table, &[item]);
         assert!(rt; table.nodes() == 4);
-        expect_entries(&rt, "row", table.row(1), row);
+        expect_entries(&rt, "row", table.entries_of(1), row);
     }
     for ((generation, version), entries) in ABOVE {
         let mark = Mark {

@@ -4,6 +4,8 @@
 #![tactic(auto)]
 
 #[cfg(test)]
+mod above_marks;
+#[cfg(test)]
 mod deltas;
 #[cfg(test)]
 mod exchanges;

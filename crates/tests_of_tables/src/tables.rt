@@ -133,7 +133,7 @@ fn expect_row(rt: &impl Abort, table: &NodeTable, row: (&[u32], &[u32])) {
     for version in 0..11 {
         expect_above(rt, table, version, row);
     }
-    assert!(rt; table.row(1).len() == row.0.len());
+    assert!(rt; table.entries_of(1).len() == row.0.len());
     let greatest = row.0.last().copied().unwrap_or(0);
     assert_eq!(rt; table.greatest_versions(), [0, greatest].as_slice());
 }

@@ -2,7 +2,7 @@ use Rattle.std.proofs.Common.{List, ◌≡◌, ◌<◌, ◌≤◌, ℕ, length, 
 use Rattle.std.specs.Mem.Slots.{slots_items, slots_filled, slots_len}
 use Rattle.std.specs.Mem.Slots.Ownership.{Filled}
 use Rattle.node_table.specs.NodeTableView.{NodeTableView}
-use Rattle.dependencies.specs.States.{in_place}
+use Rattle.dependencies.specs.inner.Slots.{in_place}
 use Rattle.board.proofs.boards.all_out.Given as goal
 
 abbrev pub invariant-loop-i : goal.invariant-loop-i

@@ -1,5 +1,5 @@
 use Rattle.std.proofs.Common.{◌≡◌, ◌+◌, ◌++◌, length, map, reverse, vec_capacity}
-use Rattle.dependencies.specs.States.{in_place}
+use Rattle.dependencies.specs.inner.Slots.{in_place}
 use Rattle.board.proofs.boards.into_slots.Given as goal
 
 abbrev pub invariant-loop : goal.invariant-loop

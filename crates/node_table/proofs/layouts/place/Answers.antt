@@ -2,7 +2,7 @@ use Rattle.std.proofs.Common.{◌≡◌, ◌<◌, List, length, set, sym, ap, �
 use Rattle.std.proofs.lemmas.List.{with_items_is, get_or_read}
 use Rattle.bench_types.specs.declared.entries.Entry.{Entry}
 use Rattle.node_table.specs.declared.layouts.Row.{Row}
-use Rattle.node_table.specs.Layouts.{row_of, AreLaid, IsPlaced, IsPut, KeepOutside}
+use Rattle.node_table.specs.inner.Layouts.{row_of, AreLaid, IsPlaced, IsPut, KeepOutside}
 use Rattle.node_table.proofs.Laid.{laid_put, placed_put}
 use Rattle.node_table.proofs.layouts.place.Goals as goal
 

@@ -2,7 +2,7 @@ use Rattle.std.proofs.Common.{◌≡◌, ℕ, ◌+◌, ◌<◌, ◌≤◌, List,
 use Rattle.std.proofs.lemmas.List.{length-set, get_or_read}
 use Rattle.bench_types.specs.declared.entries.Entry.{Entry}
 use Rattle.node_table.specs.declared.layouts.Row.{Row}
-use Rattle.node_table.specs.Layouts.{row_of, IsRow, IsInSlots, AreLaid, IsRenewed, KeepOutside}
+use Rattle.node_table.specs.inner.Layouts.{row_of, IsRow, IsInSlots, AreLaid, IsRenewed, KeepOutside}
 use Rattle.node_table.proofs.Blocks.{take-set_outside, take-set_here}
 use Rattle.node_table.proofs.Laid.{laid_put, renewed_put}
 use Rattle.node_table.proofs.Opened.{one_row}

@@ -1,7 +1,7 @@
 use Rattle.std.proofs.Common.{◌≡◌, ◌+◌, ◌-◌, take, drop, sym, ◌∙◌, subst, arith}
 use borrow.Rule.Slice.PartMut.{put_mid}
 use Rattle.std.proofs.lemmas.List.{take-take}
-use Rattle.node_table.specs.Layouts.{row_of, IsPut}
+use Rattle.node_table.specs.inner.Layouts.{row_of, IsPut}
 use Rattle.node_table.proofs.Blocks.{take-block, take-outside, length-block}
 use Rattle.node_table.proofs.Laid.{len-le-keys}
 use Rattle.node_table.proofs.layouts.put_among.Goals as goal

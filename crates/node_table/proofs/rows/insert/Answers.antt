@@ -1,7 +1,7 @@
 use Rattle.std.proofs.Common.{◌≡◌, ◌+◌, take, length, set, sym, ap, ◌∙◌, subst, arith}
 use Rattle.std.proofs.lemmas.List.{length-take-le, length-set}
 use Rattle.std.specs.List.{insert}
-use Rattle.node_table.specs.Layouts.{IsPut}
+use Rattle.node_table.specs.inner.Layouts.{IsPut}
 use Rattle.node_table.proofs.InRow.{room_for_key, put_at_rank}
 use Rattle.node_table.proofs.Blocks.{let_in, let_in_last}
 use Rattle.node_table.proofs.rows.insert.Goals as goal

@@ -3,7 +3,7 @@ use Rattle.std.proofs.lemmas.Bool.{eq-eqb, ne_eqb}
 use Rattle.std.proofs.lemmas.List.{get_or_default}
 use Rattle.std.proofs.lemmas.List.Filters.{FiltersInPlace, FiltersInPlace-more_set}
 use Rattle.bench_types.specs.declared.entries.Entry.{Entry}
-use Rattle.node_table.specs.Layouts.{has_other_key}
+use Rattle.node_table.specs.inner.Layouts.{has_other_key}
 use Rattle.node_table.proofs.InRow.{no_entry}
 use Rattle.node_table.proofs.Newest.{written_over}
 use Rattle.node_table.proofs.rows.keep_others.Goals as goal

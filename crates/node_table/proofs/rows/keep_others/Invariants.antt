@@ -1,5 +1,5 @@
 use Rattle.std.proofs.lemmas.List.Filters.{FiltersInPlace}
-use Rattle.node_table.specs.Layouts.{has_other_key}
+use Rattle.node_table.specs.inner.Layouts.{has_other_key}
 use Rattle.node_table.proofs.rows.keep_others.Given as goal
 
 abbrev pub invariant-loop-at : goal.invariant-loop-at

@@ -1,6 +1,6 @@
 use Rattle.std.proofs.Common.{◌++◌, [], ◌∷◌, length, take, sym, ap, ◌∙◌, subst, arith}
 use Rattle.std.proofs.lemmas.List.{length-take-le, length-set, take_more_set}
-use Rattle.node_table.specs.Layouts.{IsPut}
+use Rattle.node_table.specs.inner.Layouts.{IsPut}
 use Rattle.node_table.proofs.Newest.{put_newest, newest_fits}
 use Rattle.node_table.proofs.rows.put_last.Goals as goal
 

@@ -1,6 +1,6 @@
 use Rattle.std.proofs.Common.{ℕ, ◌<◌, ◌≤◌, length, get_or}
 use Rattle.bench_types.specs.declared.entries.Entry.{Entry}
-use Rattle.node_table.specs.Rows.{StandsBefore}
+use Rattle.node_table.specs.Entries.{StandsBefore}
 use Rattle.node_table.proofs.rows.rank_of.Given as goal
 
 abbrev pub invariant-loop-rank : goal.invariant-loop-rank

@@ -1,7 +1,7 @@
 use Rattle.std.proofs.Common.{◌≡◌, ◌++◌}
 use Rattle.std.specs.List.{filter_map}
 use Rattle.std.specs.Vec.Iter.{into_iter_items}
-use Rattle.planner.specs.Places.{itself}
+use Rattle.planner.specs.inner.Places.{itself}
 use Rattle.planner.proofs.plays.all_of.Given as goal
 
 abbrev pub invariant-loop-place : goal.invariant-loop-place

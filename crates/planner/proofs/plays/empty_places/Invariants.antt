@@ -1,4 +1,4 @@
-use Rattle.planner.specs.Places.{AreEmpty}
+use Rattle.planner.specs.inner.Places.{AreEmpty}
 use Rattle.planner.proofs.plays.empty_places.Given as goal
 
 abbrev pub invariant-loop : goal.invariant-loop

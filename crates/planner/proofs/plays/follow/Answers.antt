@@ -1,7 +1,7 @@
 use Rattle.std.proofs.Common.{sym, ap, subst, arith}
 use Rattle.dependencies.specs.declared.events.Event.{Event}
 use Rattle.planner.specs.Stages.{stage_in, runs}
-use Rattle.planner.specs.Places.{ShowsEvent}
+use Rattle.planner.specs.inner.Places.{ShowsEvent}
 use Rattle.planner.proofs.Standings.{begun_within, runs_begun}
 use Rattle.planner.proofs.plays.follow.Goals as goal
 

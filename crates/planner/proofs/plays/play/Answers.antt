@@ -5,7 +5,7 @@ use Rattle.dependencies.specs.declared.events.Event.{Event}
 use Rattle.dependencies.specs.declared.events.Event.TheVariants.{Start}
 use Rattle.dependencies.specs.Schedules.{IsLawful, AreFinished}
 use Rattle.cluster.specs.Tables.{tables_in}
-use Rattle.planner.specs.Places.{StandIn}
+use Rattle.planner.specs.inner.Places.{StandIn}
 use Rattle.planner.specs.Plays.{ArePlayed}
 use Rattle.planner.proofs.Playing.{IsSoFar, so_far_none, so_far_in_place, so_far_more, event_refused, played}
 use Rattle.planner.proofs.Stages.{are_finished, are_counted}

@@ -2,8 +2,8 @@ use Rattle.std.proofs.Common.{length, sym, ap, subst, ◌∙◌}
 use Rattle.dependencies.specs.Neighbours.{first_ready_of}
 use Rattle.cluster.specs.Tables.{tables_in}
 use Rattle.board.specs.Boards.{plan_of, seat_view}
-use Rattle.pool.specs.Deques.{AllBelow}
-use Rattle.pool.specs.Gathering.{AreInListOrder}
+use Rattle.pool.specs.inner.Deques.{AllBelow}
+use Rattle.pool.specs.inner.Gathering.{AreInListOrder}
 use Rattle.pool.proofs.Ordered.{ready_below, all_exchanged}
 use Rattle.pool.proofs.threads.exchange_in_threads.Goals as goal
 

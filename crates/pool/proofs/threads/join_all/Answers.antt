@@ -1,8 +1,8 @@
 use Rattle.std.proofs.Common.{◌-◌, sym, ap, subst, arith, IfOk}
 use Rattle.std.specs.Vec.Iter.{into_iter_len, into_iter_items}
 use Rattle.board.specs.Boards.{plan_of, seat_view}
-use Rattle.pool.specs.Joined.{IsJoined}
-use Rattle.pool.specs.Reports.{IsReport}
+use Rattle.pool.specs.inner.Joined.{IsJoined}
+use Rattle.pool.specs.inner.Returns.{IsReturned}
 use Rattle.pool.proofs.Joining.{first_of_board, joined_more}
 use Rattle.pool.proofs.threads.join_all.Goals as goal
 
@@ -16,16 +16,16 @@ loop-handle-preserved g c =
     let before = into_iter_len c.loop-handle.handle-iterator in
     let after = into_iter_len c.next.new.self in
     let handles = first_of_board board (into_iter_items c.loop-handle.handle-iterator) (into_iter_items c.next.new.self) c.in-Some.handle so_far.promised steps.0 in
-    let report = subst (λ b. IsReport b 1 c.join-part.result) handles.0 c.join-part.ensures in
+    let returned = subst (λ b. IsReturned b 1 c.join-part.result) handles.0 c.join-part.ensures in
     let start = seat_view c.args.seat.now in
     let old = seat_view c.loop-handle.seat in
     let part = seat_view c.join-part.result.seat in
     record {
       seat = c.join.ensures.seat;
       fewer = omega (arith, so_far.fewer, steps.1);
-      parts = omega (arith, so_far.parts, so_far.fewer, steps.1, ap (λ v. v.parts) c.join.ensures.joined, report.same_parts);
+      parts = omega (arith, so_far.parts, so_far.fewer, steps.1, ap (λ v. v.parts) c.join.ensures.joined, returned.same_parts);
       promised = handles.1;
       joined = subst (λ v. IfOk c.with_more-all.result (λ stamps. IsJoined plan (first - after) start v stamps.items)) (sym c.join.ensures.joined)
-          (joined_more plan (first - after) start old part (first - before) c.loop-handle.all c.join-part.result.outcome c.with_more-all.result so_far.joined report.records c.with_more-all.ensures.together);
+          (joined_more plan (first - after) start old part (first - before) c.loop-handle.all c.join-part.result.outcome c.with_more-all.result so_far.joined returned.records c.with_more-all.ensures.together);
       fault = c.with_more-all.ensures.fault;
     }

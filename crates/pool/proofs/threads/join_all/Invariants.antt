@@ -2,7 +2,7 @@ use Rattle.std.proofs.Common.{◌≡◌, ◌+◌, ◌-◌, ◌≤◌, All, IfOk,
 use Rattle.std.specs.Vec.Iter.{into_iter_len, into_iter_items}
 use Rattle.bench_types.specs.declared.faults.Fault.TheVariants.{OutOfMemory}
 use Rattle.board.specs.Boards.{plan_of, seat_view, IsSeatOf}
-use Rattle.pool.specs.Joined.{IsOfBoard, IsJoined}
+use Rattle.pool.specs.inner.Joined.{IsOfBoard, IsJoined}
 use Rattle.pool.proofs.threads.join_all.Given as goal
 
 abbrev pub invariant-loop-handle : goal.invariant-loop-handle

@@ -1,6 +1,6 @@
 use Rattle.std.proofs.Common.{sym, ap, subst, ◌∙◌, arith, All}
 use Rattle.std.proofs.lemmas.List.Elements.{All-push}
-use Rattle.pool.specs.Joined.{IsOfBoard}
+use Rattle.pool.specs.inner.Joined.{IsOfBoard}
 use Rattle.pool.proofs.threads.start_all.Goals as goal
 
 pub loop-own-preserved : goal.loop-own-preserved
@@ -8,7 +8,7 @@ loop-own-preserved g c =
     let so_far = c.loop-own.invariant in
     let split = c.split-part.ensures in
     let pushed = c.push_reserved.ensures in
-    let board = c.args.job.now.board.now in
+    let board = c.args.shop.now.board.now in
     let steps = c.in-Some.ensures.steps in
     record {
       seat = record {

@@ -1,16 +1,16 @@
 use Rattle.std.proofs.Common.{◌≡◌, ◌+◌, All, vec_len, vec_capacity}
 use Rattle.std.specs.Vec.Iter.{into_iter_len}
 use Rattle.board.specs.Boards.{seat_view}
-use Rattle.pool.specs.Reports.{IsFreshSeat}
-use Rattle.pool.specs.Joined.{IsOfBoard}
+use Rattle.pool.specs.inner.Returns.{IsFreshSeat}
+use Rattle.pool.specs.inner.Joined.{IsOfBoard}
 use Rattle.pool.proofs.threads.start_all.Given as goal
 
 abbrev pub invariant-loop-own : goal.invariant-loop-own
 invariant-loop-own g l =
     record {
-      seat : IsFreshSeat l.job.board.now l.seat;
+      seat : IsFreshSeat l.shop.board.now l.seat;
       parts : (seat_view l.seat).parts + vec_len l.handles ≡ (seat_view l.fn.seat).parts;
       count : vec_len l.handles + into_iter_len l.own-iterator ≡ into_iter_len l.initial.own-iterator;
       room : vec_capacity l.handles ≡ vec_capacity l.fn.handles;
-      promised : All (IsOfBoard l.job.board.now) l.handles.items;
+      promised : All (IsOfBoard l.shop.board.now) l.handles.items;
     }

@@ -1,5 +1,5 @@
-use Rattle.reconcile.specs.Keys.{items_in, AllSet}
-use Rattle.reconcile.specs.Newer.{AreCandidates}
+use Rattle.reconcile.specs.inner.Keys.{items_in, AllSet}
+use Rattle.reconcile.specs.inner.Newer.{AreCandidates}
 use Rattle.reconcile.proofs.candidates.candidates.Given as goal
 
 abbrev pub invariant-loop-owner : goal.invariant-loop-owner

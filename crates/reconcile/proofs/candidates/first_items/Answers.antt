@@ -1,9 +1,9 @@
 use Rattle.std.proofs.Common.{[], ◌∷◌, take, get_or, subst}
-use Rattle.reconcile.specs.Keys.{item_in, items_in}
-use Rattle.reconcile.specs.Parcels.{AddsFitting}
+use Rattle.reconcile.specs.inner.Keys.{item_in, items_in}
+use Rattle.reconcile.specs.inner.Parcels.{AddsFitting}
 use Rattle.reconcile.proofs.Adding.{adds-append}
 use Rattle.reconcile.proofs.Ordered.{no_candidate}
-use Rattle.reconcile.proofs.RunLayers.{map-more}
+use Rattle.reconcile.proofs.SuffixLayers.{map-more}
 use Rattle.reconcile.proofs.candidates.first_items.Goals as goal
 
 pub loop-candidate-preserved : goal.loop-candidate-preserved

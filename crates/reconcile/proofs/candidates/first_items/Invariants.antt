@@ -1,6 +1,6 @@
 use Rattle.std.proofs.Common.{take}
-use Rattle.reconcile.specs.Keys.{items_in}
-use Rattle.reconcile.specs.Parcels.{AddsFitting}
+use Rattle.reconcile.specs.inner.Keys.{items_in}
+use Rattle.reconcile.specs.inner.Parcels.{AddsFitting}
 use Rattle.reconcile.proofs.candidates.first_items.Given as goal
 
 abbrev pub invariant-loop-candidate : goal.invariant-loop-candidate

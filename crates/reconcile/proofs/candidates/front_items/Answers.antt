@@ -2,7 +2,7 @@ use Rattle.std.proofs.Common.{rules}
 use Rattle.std.proofs.lemmas.List.Sorted.{answers_always}
 use Rattle.std.proofs.lemmas.Result.{IfOk-weaker}
 use Rattle.reconcile.specs.declared.candidates.Candidate.{Candidate}
-use Rattle.reconcile.specs.Keys.{AreFirstItems}
+use Rattle.reconcile.specs.inner.Keys.{AreFirstItems}
 use Rattle.reconcile.proofs.Ordered.{front_first}
 use Rattle.reconcile.proofs.candidates.front_items.Goals as goal
 

@@ -2,7 +2,7 @@ use Rattle.std.proofs.Common.{rules, ◌-◌, length, ap, ◌∙◌, arith}
 use Rattle.std.proofs.lemmas.Bool.{ltb-true}
 use Rattle.std.proofs.lemmas.List.Sorted.{answers_always}
 use Rattle.reconcile.specs.declared.candidates.Candidate.{Candidate}
-use Rattle.reconcile.specs.Keys.{AreFirstItems}
+use Rattle.reconcile.specs.inner.Keys.{AreFirstItems}
 use Rattle.reconcile.proofs.Answering.{length-first}
 use Rattle.reconcile.proofs.Ordered.{front_first, exceeded}
 use Rattle.reconcile.proofs.candidates.likely_delta.Goals as goal

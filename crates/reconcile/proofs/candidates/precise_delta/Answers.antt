@@ -2,8 +2,8 @@ use Rattle.std.proofs.Common.{◌≡◌, ◌<◌, ◌^◌, length, List, IfSome,
 use Rattle.std.proofs.lemmas.Result.{IfOk-weaker}
 use Rattle.reconcile.specs.declared.candidates.Candidate.{Candidate}
 use Rattle.reconcile.specs.Deltas.{AreWithin, answer_of}
-use Rattle.reconcile.specs.Keys.{items_in, AllSet, IsSentOf}
-use Rattle.reconcile.specs.Newer.{AreCandidates}
+use Rattle.reconcile.specs.inner.Keys.{items_in, AllSet, IsSentOf}
+use Rattle.reconcile.specs.inner.Newer.{AreCandidates}
 use Rattle.reconcile.proofs.Answering.{few-found, within-first, answer-sent, few-sent}
 use Rattle.reconcile.proofs.candidates.precise_delta.Goals as goal
 use Rattle.reconcile.proofs.candidates.precise_delta.Goals.{then-likely-len+in_ok-delta+in_default+in_ok-found-2, else-likely-len}

@@ -4,8 +4,8 @@ use Rattle.std.proofs.lemmas.List.Elements.{All-push}
 use Rattle.bench_types.specs.declared.entries.Entry.{Entry}
 use Rattle.bench_types.specs.Mark.{mark_of, IsBefore}
 use Rattle.reconcile.specs.Digests.{told_generation, mark_told}
-use Rattle.reconcile.specs.Keys.{items_in, IsSet, AllSet}
-use Rattle.reconcile.specs.Newer.{newer_items}
+use Rattle.reconcile.specs.inner.Keys.{items_in, IsSet, AllSet}
+use Rattle.reconcile.specs.inner.Newer.{newer_items}
 use Rattle.reconcile.proofs.Newer.{newer_items-more, newer_items-known, newer_items-older}
 use Rattle.reconcile.proofs.Told.{known_in-each}
 use Rattle.reconcile.proofs.candidates.push_newer.Goals as goal

@@ -1,6 +1,6 @@
 use Rattle.std.proofs.Common.{◌≡◌, ◌++◌, take}
-use Rattle.reconcile.specs.Keys.{items_in, AllSet}
-use Rattle.reconcile.specs.Newer.{newer_items}
+use Rattle.reconcile.specs.inner.Keys.{items_in, AllSet}
+use Rattle.reconcile.specs.inner.Newer.{newer_items}
 use Rattle.reconcile.proofs.candidates.push_newer.Given as goal
 
 abbrev pub invariant-loop-entry : goal.invariant-loop-entry

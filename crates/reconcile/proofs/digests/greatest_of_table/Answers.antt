@@ -2,7 +2,7 @@ use Rattle.std.proofs.Common.{◌+◌, ◌<◌, ltb, refl, sym, ap, ◌∙◌, s
 use Rattle.std.specs.Prelude.{count_by}
 use Rattle.std.specs.List.{range_with_len}
 use Rattle.node_table.specs.Table.{greatest_version}
-use Rattle.node_table.specs.Rows.{AreGenerations, AreGreatest}
+use Rattle.node_table.specs.Entries.{AreGenerations, AreGreatest}
 use Rattle.reconcile.proofs.Sizes.{count_by-indices}
 use Rattle.reconcile.proofs.digests.greatest_of_table.Goals as goal
 

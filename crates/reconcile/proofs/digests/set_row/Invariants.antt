@@ -1,6 +1,6 @@
 use Rattle.std.proofs.Common.{◌≡◌, ◌+◌, ◌<◌, drop, length, All}
 use Rattle.bench_types.specs.declared.entries.Entry.{Entry}
-use Rattle.reconcile.specs.Inside.{with_row}
+use Rattle.reconcile.specs.inner.Inside.{with_row}
 use Rattle.reconcile.proofs.digests.set_row.Given as goal
 
 abbrev pub invariant-loop-entry : goal.invariant-loop-entry

@@ -1,8 +1,8 @@
 use Rattle.std.proofs.Common.{get_or, map, take, [], ◌∷◌, ◌++◌, ap, ◌∙◌}
 use Rattle.std.proofs.lemmas.List.{append_assoc}
-use Rattle.reconcile.specs.Newer.{item_with}
+use Rattle.reconcile.specs.inner.Newer.{item_with}
 use Rattle.reconcile.proofs.Ranked.{no_entry}
-use Rattle.reconcile.proofs.RunLayers.{map-more}
+use Rattle.reconcile.proofs.SuffixLayers.{map-more}
 use Rattle.reconcile.proofs.parcels.push_entries.Goals as goal
 
 pub loop-entry-preserved : goal.loop-entry-preserved

@@ -1,5 +1,5 @@
 use Rattle.std.proofs.Common.{◌≡◌, ◌++◌, map, take}
-use Rattle.reconcile.specs.Newer.{item_with}
+use Rattle.reconcile.specs.inner.Newer.{item_with}
 use Rattle.reconcile.proofs.parcels.push_entries.Given as goal
 
 abbrev pub invariant-loop-entry : goal.invariant-loop-entry

@@ -1,5 +1,5 @@
 use Rattle.std.proofs.Common.{map, OnOk, IfErr, subst, ap}
-use Rattle.report.specs.Cells.{cell_text}
+use Rattle.report.specs.inner.Cells.{cell_text}
 use Rattle.report.specs.Line.{line_of}
 use Rattle.report.specs.Output.{IsWritten, IsWriteFault}
 use Rattle.report.specs.Report.{names, report_header_line}

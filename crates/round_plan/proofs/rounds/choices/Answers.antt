@@ -9,7 +9,8 @@ use Rattle.rayon.proofs.ListFacts.{IfOk-then, AllZip-weaken}
 use Rattle.rayon.proofs.ToStd.{nat_range-All}
 use Rattle.scenario.specs.Settings.{Settings}
 use Rattle.bench_types.specs.Exchange.{IsPlanned}
-use Rattle.round_plan.specs.Plan.{exchange_of, AreChosen}
+use Rattle.round_plan.specs.Plan.{exchange_of}
+use Rattle.round_plan.specs.inner.Rounds.{AreChosen}
 use Rattle.round_plan.proofs.rounds.choices.Goals as goal
 
 -- the closure may be called at each node

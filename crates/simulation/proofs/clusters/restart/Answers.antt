@@ -1,6 +1,6 @@
 use Rattle.std.proofs.Common.{◌-◌, sym, ◌∙◌, subst, arith}
 use Rattle.round_plan.proofs.Generations.{generation_upto_le}
-use Rattle.simulation.specs.Standing.{HasRestarted}
+use Rattle.simulation.specs.inner.Steps.{HasRestarted}
 use Rattle.simulation.proofs.Standing.{restarted_forgot, restarted_kept, restarted_same}
 use Rattle.simulation.proofs.clusters.restart.Goals as goal
 

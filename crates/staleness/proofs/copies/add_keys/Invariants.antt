@@ -1,5 +1,5 @@
-use Rattle.staleness.specs.Copies.{AreAdded}
-use Rattle.staleness.specs.Latest.{IsFrontForKey}
+use Rattle.staleness.specs.inner.Copies.{AreAdded}
+use Rattle.staleness.specs.inner.Latest.{IsFrontForKey}
 use Rattle.staleness.proofs.copies.add_keys.Given as goal
 
 abbrev pub invariant-loop-key : goal.invariant-loop-key

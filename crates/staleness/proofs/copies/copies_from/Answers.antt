@@ -3,7 +3,7 @@ use Rattle.std.proofs.lemmas.List.{append-nil, drop_all, take_all}
 use Rattle.node_table.specs.Table.{Table}
 use Rattle.cluster.specs.Tables.{tables_in, table_of_node}
 use Rattle.cluster.proofs.Tables.{table_indexed, length-tables_in}
-use Rattle.staleness.specs.Copies.{seen_in, copies_from, HasRoom, AreSeenOnce}
+use Rattle.staleness.specs.inner.Copies.{seen_in, copies_from, HasRoom, AreSeenOnce}
 use Rattle.staleness.specs.Figures.{generation_at}
 use Rattle.staleness.proofs.Known.{as_many_generations, generation_found}
 use Rattle.staleness.proofs.Merging.{few_from}

@@ -1,6 +1,6 @@
 use Rattle.cluster.specs.Tables.{tables_in, table_of_node}
 use Rattle.std.proofs.Common.{length}
-use Rattle.staleness.specs.Copies.{copies_from, AreSeenOnce}
+use Rattle.staleness.specs.inner.Copies.{copies_from, AreSeenOnce}
 use Rattle.staleness.proofs.copies.copies_from.Given as goal
 
 abbrev pub invariant-loop-at : goal.invariant-loop-at

@@ -1,6 +1,6 @@
 use Rattle.std.proofs.Common.{◌≡◌, take}
 use Rattle.cluster.specs.Tables.{tables_in}
-use Rattle.staleness.specs.Copies.{generations_in}
+use Rattle.staleness.specs.inner.Copies.{generations_in}
 use Rattle.staleness.proofs.copies.generations_of.Given as goal
 
 abbrev pub invariant-loop-table : goal.invariant-loop-table

@@ -1,6 +1,6 @@
 use Rattle.std.proofs.Common.{◌≡◌, ℕ, ◌<◌, ltb, length, get_or, if◌then◌else◌}
 use Rattle.staleness.specs.declared.copies.Copies.{Copies}
-use Rattle.staleness.specs.Copies.{merged}
+use Rattle.staleness.specs.inner.Copies.{merged}
 use Rattle.staleness.proofs.copies.merge.Given as goal
 
 abbrev pub invariant-loop-at : goal.invariant-loop-at

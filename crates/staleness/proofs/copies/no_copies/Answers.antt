@@ -2,9 +2,9 @@ use Rattle.std.proofs.Common.{◌≡◌, ◌+◌, ◌*◌, get_or, [], inl, inr,
 use Rattle.std.proofs.lemmas.Bool.{cases_lt}
 use Rattle.std.proofs.lemmas.List.{get_or_default}
 use Rattle.staleness.specs.Writes.{last_write}
-use Rattle.staleness.specs.Linked.{version_or_zero}
+use Rattle.staleness.specs.inner.Linked.{version_or_zero}
 use Rattle.staleness.specs.Figures.{writes_at}
-use Rattle.staleness.specs.Copies.{no_copies}
+use Rattle.staleness.specs.inner.Copies.{no_copies}
 use Rattle.staleness.proofs.Places.{within, one_more}
 use Rattle.staleness.proofs.copies.no_copies.Goals as goal
 

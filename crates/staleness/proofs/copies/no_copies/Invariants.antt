@@ -1,4 +1,4 @@
-use Rattle.staleness.specs.Copies.{no_copies, current_of, AreSeen}
+use Rattle.staleness.specs.inner.Copies.{no_copies, current_of, AreSeen}
 use Rattle.staleness.proofs.copies.no_copies.Given as goal
 
 abbrev pub invariant-loop-list : goal.invariant-loop-list

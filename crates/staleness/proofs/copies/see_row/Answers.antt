@@ -5,7 +5,7 @@ use Rattle.std.proofs.lemmas.List.{get_or-set_same, get_or-set_other, get_or_def
 use Rattle.bench_types.specs.declared.entries.Entry.{Entry}
 use Rattle.node_table.specs.Table.{entry_at}
 use Rattle.staleness.specs.declared.copies.Copies.{Copies}
-use Rattle.staleness.specs.Copies.{at_least, has_key, with_version, with_held, HasRoom}
+use Rattle.staleness.specs.inner.Copies.{at_least, has_key, with_version, with_held, HasRoom}
 use Rattle.staleness.proofs.Rows.{row_at, row_apart, row_held, row_below}
 use Rattle.staleness.proofs.Walking.{take-zero, here_now, others_stay, new_key}
 use Rattle.staleness.proofs.copies.see_row.Goals as goal
@@ -19,30 +19,30 @@ zeros = record { current = 0; least = 0; held = 0; fresh = 0 }
 pub loop-entry-init : goal.loop-entry-init
 loop-entry-init c = record {
   size = refl;
-  seen = λ key d lt. sym (ap (λ xs. if has_key xs key then with_held (get_or c.args.copies.now (c.args.start + key) d) (at_least c.args.least (entry_at c.args.table.now.table c.args.owner key)) else get_or c.args.copies.now (c.args.start + key) d) (take-zero c.row-entry-items.result.now));
+  seen = λ key d lt. sym (ap (λ xs. if has_key xs key then with_held (get_or c.args.copies.now (c.args.start + key) d) (at_least c.args.least (entry_at c.args.table.now.table c.args.owner key)) else get_or c.args.copies.now (c.args.start + key) d) (take-zero c.entries_of-entry-items.result.now));
   others = λ i d out. refl;
 }
 
 pub slice_copy_out-with_version : goal.slice_copy_out-with_version
 slice_copy_out-with_version c =
-    let below = row_below c.args.table.now.table c.args.owner c.row-entry-items.ensures.proper c.row-entry-items.result.now c.row-entry-items.ensures.entries c.loop-entry.entry-index no_entry c.loop-entry-test.true in
+    let below = row_below c.args.table.now.table c.args.owner c.entries_of-entry-items.ensures.proper c.entries_of-entry-items.result.now c.entries_of-entry-items.ensures.entries c.loop-entry.entry-index no_entry c.loop-entry-test.true in
     omega (arith, below, c.loop-entry.invariant.size, c.requires.within)
 
 pub with_version-requires : goal.with_version-requires
 with_version-requires c =
     let t = c.args.table.now.table in
-    let row = c.row-entry-items.result.now in
+    let row = c.entries_of-entry-items.result.now in
     let i = c.loop-entry.entry-index in
     let key = (get_or row i no_entry).key in
     let before = get_or c.args.copies.now (c.args.start + key) zeros in
-    let below = row_below t c.args.owner c.row-entry-items.ensures.proper row c.row-entry-items.ensures.entries i no_entry c.loop-entry-test.true in
-    let new = new_key row (row_apart t c.args.owner c.row-entry-items.ensures.proper row c.row-entry-items.ensures.entries) i no_entry c.loop-entry-test.true in
+    let below = row_below t c.args.owner c.entries_of-entry-items.ensures.proper row c.entries_of-entry-items.ensures.entries i no_entry c.loop-entry-test.true in
+    let new = new_key row (row_apart t c.args.owner c.entries_of-entry-items.ensures.proper row c.entries_of-entry-items.ensures.entries) i no_entry c.loop-entry-test.true in
     let same = c.loop-entry.invariant.seen key zeros below ∙ ap (λ b. if b then with_held before (at_least c.args.least (entry_at t c.args.owner key)) else before) new in
     subst HasRoom (sym same) (c.requires.room key zeros below)
 
 pub bounds-copies-at : goal.bounds-copies-at
 bounds-copies-at c =
-    let below = row_below c.args.table.now.table c.args.owner c.row-entry-items.ensures.proper c.row-entry-items.result.now c.row-entry-items.ensures.entries c.loop-entry.entry-index no_entry c.loop-entry-test.true in
+    let below = row_below c.args.table.now.table c.args.owner c.entries_of-entry-items.ensures.proper c.entries_of-entry-items.result.now c.entries_of-entry-items.ensures.entries c.loop-entry.entry-index no_entry c.loop-entry-test.true in
     omega (arith, below, c.loop-entry.invariant.size, c.requires.within)
 
 pub loop-entry-preserved : goal.loop-entry-preserved
@@ -50,7 +50,7 @@ loop-entry-preserved c =
     let t = c.args.table.now.table in
     let owner = c.args.owner in
     let least = c.args.least in
-    let row = c.row-entry-items.result.now in
+    let row = c.entries_of-entry-items.result.now in
     let i = c.loop-entry.entry-index in
     let lt = c.loop-entry-test.true in
     let entry = get_or row i no_entry in
@@ -60,8 +60,8 @@ loop-entry-preserved c =
     let copies = c.loop-entry.copies in
     let so_far = c.loop-entry.invariant in
     let seen = c.with_version.result in
-    let proper = c.row-entry-items.ensures.proper in
-    let entries = c.row-entry-items.ensures.entries in
+    let proper = c.entries_of-entry-items.ensures.proper in
+    let entries = c.entries_of-entry-items.ensures.entries in
     let below = row_below t owner proper row entries i no_entry lt in
     let in_range : place < length copies = omega (arith, below, so_far.size, c.requires.within) in
     let new = new_key row (row_apart t owner proper row entries) i no_entry lt in
@@ -96,11 +96,11 @@ loop-entry-preserved c =
 pub returns-clause-seen : goal.returns-clause-seen
 returns-clause-seen c key d lt =
     let t = c.args.table.now.table in
-    let row = c.row-entry-items.result.now in
+    let row = c.entries_of-entry-items.result.now in
     let before = get_or c.args.copies.now (c.args.start + key) d in
     c.loop-entry.invariant.seen key d lt
     ∙ ap (λ xs. if has_key xs key then with_held before (at_least c.args.least (entry_at t c.args.owner key)) else before) (take_all c.loop-entry.entry-index row c.loop-entry-test.false)
-    ∙ ap (λ b. if b then with_held before (at_least c.args.least (entry_at t c.args.owner key)) else before) (row_held t c.args.owner c.row-entry-items.ensures.proper row c.row-entry-items.ensures.entries key)
+    ∙ ap (λ b. if b then with_held before (at_least c.args.least (entry_at t c.args.owner key)) else before) (row_held t c.args.owner c.entries_of-entry-items.ensures.proper row c.entries_of-entry-items.ensures.entries key)
     ∙ whole before (entry_at t c.args.owner key)
   where
     whole : (x : Copies) (o : Option Entry) → (if is_some o then with_held x (at_least c.args.least o) else x) ≡ with_held x (at_least c.args.least o)

@@ -1,7 +1,7 @@
 use Rattle.std.proofs.Common.{◌≡◌, ℕ, ◌+◌, ◌<◌, length, get_or, take, if◌then◌else◌}
 use Rattle.node_table.specs.Table.{entry_at}
 use Rattle.staleness.specs.declared.copies.Copies.{Copies}
-use Rattle.staleness.specs.Copies.{at_least, has_key, with_held, KeepOutside}
+use Rattle.staleness.specs.inner.Copies.{at_least, has_key, with_held, KeepOutside}
 use Rattle.staleness.proofs.copies.see_row.Given as goal
 
 abbrev pub invariant-loop-entry : goal.invariant-loop-entry

@@ -2,7 +2,7 @@ use Rattle.std.proofs.Common.{◌≡◌, ◌≢◌, ℕ, ◌+◌, ◌*◌, ◌<�
 use Rattle.std.specs.Prelude.{slice_index}
 use Rattle.std.proofs.lemmas.Bool.{cases_eq, cases_lt}
 use Rattle.node_table.specs.Table.{entry_at}
-use Rattle.staleness.specs.Copies.{version_known, with_held, seen_in}
+use Rattle.staleness.specs.inner.Copies.{version_known, with_held, seen_in}
 use Rattle.staleness.proofs.Places.{apart}
 use Rattle.staleness.proofs.copies.see_table.Goals as goal
 use Rattle.staleness.proofs.copies.see_table.Goals.{then-owner-holder, else-owner-holder}

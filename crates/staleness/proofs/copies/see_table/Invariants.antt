@@ -1,6 +1,6 @@
 use Rattle.std.proofs.Common.{ltb, if◌then◌else◌}
 use Rattle.std.specs.Prelude.{slice_index}
-use Rattle.staleness.specs.Copies.{seen_in, AreSeenOnce}
+use Rattle.staleness.specs.inner.Copies.{seen_in, AreSeenOnce}
 use Rattle.staleness.proofs.copies.see_table.Given as goal
 
 abbrev pub invariant-loop-owner : goal.invariant-loop-owner

@@ -9,8 +9,8 @@ use Rattle.cluster.specs.Tables.{tables_in, table_of_node, IsCluster}
 use Rattle.cluster.proofs.Tables.{table_indexed, length-tables_in}
 use Rattle.staleness.specs.declared.copies.Copies.{Copies}
 use Rattle.staleness.specs.declared.lists.Write.{Write}
-use Rattle.staleness.specs.Copies.{no_copies, current_of, copies_of, merged, HaveRoom, AreSeen}
-use Rattle.staleness.specs.Cluster.{IsSeenInPart, AreSeenInParts}
+use Rattle.staleness.specs.inner.Copies.{no_copies, current_of, copies_of, merged, HaveRoom, AreSeen}
+use Rattle.staleness.specs.inner.Parts.{IsSeenInPart, AreSeenInParts}
 use Rattle.staleness.proofs.Counting.{enough}
 use Rattle.staleness.proofs.Merging.{AreSeenUpTo, part_within, seen_in_part, as_many_parts, same_size, room_for, seen_further, seen_none}
 use Rattle.staleness.proofs.lags.all_copies.Goals as goal

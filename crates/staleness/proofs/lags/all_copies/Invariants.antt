@@ -1,6 +1,6 @@
 use Rattle.std.proofs.Common.{◌*◌, length, min}
 use Rattle.cluster.specs.Tables.{tables_in, table_of_node}
-use Rattle.staleness.specs.Copies.{copies_of, AreSeen}
+use Rattle.staleness.specs.inner.Copies.{copies_of, AreSeen}
 use Rattle.staleness.proofs.lags.all_copies.Given as goal
 
 abbrev pub invariant-loop-part : goal.invariant-loop-part

@@ -5,7 +5,7 @@ use Rattle.rayon.specs.Numbers.{nat_range}
 use Rattle.rayon.proofs.ListFacts.{IfOk-then}
 use Rattle.rayon.proofs.ToStd.{nat_range-All}
 use Rattle.cluster.specs.Tables.{tables_in}
-use Rattle.staleness.specs.Cluster.{IsSeenInPart}
+use Rattle.staleness.specs.inner.Parts.{IsSeenInPart}
 use Rattle.staleness.proofs.lags.copies_of_parts.Goals as goal
 
 pub collect-requires-clause-ready : goal.collect-requires-clause-ready

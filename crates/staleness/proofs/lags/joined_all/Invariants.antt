@@ -1,6 +1,6 @@
 use Rattle.std.proofs.Common.{◌≡◌, ◌*◌, ◌≤◌}
 use Rattle.staleness.specs.Figures.{sum_below, most_below}
-use Rattle.staleness.specs.Cluster.{found_at}
+use Rattle.staleness.specs.inner.Parts.{found_at}
 use Rattle.staleness.proofs.lags.joined_all.Given as goal
 
 abbrev pub invariant-loop-part : goal.invariant-loop-part

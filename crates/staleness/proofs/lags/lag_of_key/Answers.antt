@@ -3,9 +3,10 @@ use Rattle.std.proofs.lemmas.List.{get_or_default}
 use Rattle.cluster.specs.Tables.{tables_in}
 use Rattle.cluster.proofs.Tables.{length-tables_in}
 use Rattle.staleness.specs.declared.copies.Copies.{Copies}
-use Rattle.staleness.specs.Writes.{IsNumbered, born_in_order}
+use Rattle.staleness.specs.Writes.{IsNumbered}
+use Rattle.staleness.specs.inner.Missed.{born_in_order}
 use Rattle.staleness.specs.Figures.{sum_below, most_below, writes_at, staleness_at, stale_count, rounds_behind}
-use Rattle.staleness.specs.Copies.{version_staleness, copies_of, least_of, stale_of}
+use Rattle.staleness.specs.inner.Copies.{version_staleness, copies_of, least_of, stale_of}
 use Rattle.staleness.proofs.Seen.{others, others_is, seen, stale_seen, most_seen}
 use Rattle.staleness.proofs.lags.lag_of_key.Goals as goal
 use Rattle.staleness.proofs.lags.lag_of_key.Goals.{then-copies-eq0, else-copies-eq0, then-in_order, else-in_order, then-copies-others, else-copies-others}

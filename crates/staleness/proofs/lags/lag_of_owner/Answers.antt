@@ -2,7 +2,7 @@ use Rattle.std.proofs.Common.{◌+◌, max, length, ap, ◌∙◌, arith, add-on
 use Rattle.staleness.specs.declared.lags.Lag.{Lag}
 use Rattle.cluster.specs.Tables.{tables_in}
 use Rattle.staleness.specs.Figures.{sum_below, most_below, staleness_at, stale_count}
-use Rattle.staleness.specs.Copies.{key_lag}
+use Rattle.staleness.specs.inner.Copies.{key_lag}
 use Rattle.staleness.proofs.Sums.{sum_below-le, stale_count-le}
 use Rattle.staleness.proofs.lags.lag_of_owner.Goals as goal
 

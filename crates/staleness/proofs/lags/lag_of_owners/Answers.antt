@@ -3,7 +3,7 @@ use Rattle.std.proofs.Math.Nat.{mul-le-mul_right}
 use Rattle.node_table.specs.Table.{Table}
 use Rattle.cluster.specs.Tables.{tables_in, table_of_node}
 use Rattle.cluster.proofs.Tables.{table_indexed, length-tables_in}
-use Rattle.staleness.specs.Copies.{copies_of}
+use Rattle.staleness.specs.inner.Copies.{copies_of}
 use Rattle.staleness.proofs.Places.{all_within}
 use Rattle.staleness.proofs.lags.lag_of_owners.Goals as goal
 

@@ -1,7 +1,7 @@
 use Rattle.std.proofs.Common.{◌≡◌, ◌+◌, ◌*◌, ◌≤◌}
 use Rattle.cluster.specs.Tables.{tables_in}
 use Rattle.staleness.specs.Figures.{sum_below, most_below}
-use Rattle.staleness.specs.Copies.{owner_lag}
+use Rattle.staleness.specs.inner.Copies.{owner_lag}
 use Rattle.staleness.proofs.lags.lag_of_owners.Given as goal
 
 abbrev pub invariant-loop-at : goal.invariant-loop-at

@@ -1,11 +1,11 @@
 use Rattle.std.proofs.Common.{◌≡◌, ◌+◌, ◌<◌, length, sym, ap, ◌∙◌, subst, arith, add-one}
 use Rattle.bench_types.specs.Mark.{absent}
 use Rattle.node_table.specs.Table.{Table, generation_held, IsProper}
-use Rattle.node_table.specs.Rows.{AreAbove}
+use Rattle.node_table.specs.Entries.{AreAbove}
 use Rattle.cluster.specs.Tables.{tables_in, table_of_node}
 use Rattle.cluster.proofs.Tables.{table_indexed, length-tables_in}
 use Rattle.staleness.specs.Figures.{sum_below}
-use Rattle.staleness.specs.Copies.{copy_leftover}
+use Rattle.staleness.specs.inner.Copies.{copy_leftover}
 use Rattle.staleness.proofs.Known.{generation_found}
 use Rattle.staleness.proofs.Leftover.{copy_leftover-own, copy_leftover-current, copy_leftover-older, copy_leftover-le}
 use Rattle.staleness.proofs.lags.leftover_of_node.Goals as goal
@@ -28,8 +28,8 @@ loop-owner-preserved c =
     let more : c.if-is_older.leftover ≡ c.loop-owner.leftover + copy_leftover tables node r = elim c.if-is_older.branch [
       | then-is_older+then-owner-node w ↦
           w.leftover-is
-          ∙ ap (λ n. c.loop-owner.leftover + n) (sym (copy_leftover-older tables node r proper copied copied_is (omega (arith, w.if-is_older.true, generation_is)) (λ same. w.if-owner-node.true (sym same)) w.row.result.now
-          (subst (λ t. AreAbove t r absent w.row.result.now) table_is w.row.ensures.entries)))
+          ∙ ap (λ n. c.loop-owner.leftover + n) (sym (copy_leftover-older tables node r proper copied copied_is (omega (arith, w.if-is_older.true, generation_is)) (λ same. w.if-owner-node.true (sym same)) w.entries_of.result.now
+          (subst (λ t. AreAbove t r absent w.entries_of.result.now) table_is w.entries_of.ensures.entries)))
       | else-is_older w ↦
           let nothing : copy_leftover tables node r ≡ 0 = elim w.else-is_older.branch [
             | else-is_older-via-then-is_older+else-owner-node v ↦ copy_leftover-own tables node r (sym v.if-owner-node.false)

@@ -1,7 +1,7 @@
 use Rattle.std.proofs.Common.{◌≡◌, ◌+◌, ◌*◌, ◌≤◌}
 use Rattle.cluster.specs.Tables.{tables_in}
 use Rattle.staleness.specs.Figures.{sum_below}
-use Rattle.staleness.specs.Copies.{node_leftover}
+use Rattle.staleness.specs.inner.Copies.{node_leftover}
 use Rattle.staleness.proofs.lags.leftover_of_nodes.Given as goal
 
 abbrev pub invariant-loop-at : goal.invariant-loop-at

@@ -4,7 +4,7 @@ use Rattle.node_table.specs.Table.{Table, entry_at, mark_at}
 use Rattle.cluster.specs.Tables.{tables_in, table_of_node}
 use Rattle.cluster.proofs.Tables.{table_indexed, length-tables_in}
 use Rattle.staleness.specs.Figures.{writes_at, generation_at, staleness_of, staleness_at, rounds_behind}
-use Rattle.staleness.specs.Copies.{version_known, version_staleness}
+use Rattle.staleness.specs.inner.Copies.{version_known, version_staleness}
 use Rattle.staleness.proofs.Known.{staleness_known}
 use Rattle.staleness.proofs.lags.most_rounds_behind.Goals as goal
 use Rattle.staleness.proofs.lags.most_rounds_behind.Goals.{then-node-owner, else-node-owner}

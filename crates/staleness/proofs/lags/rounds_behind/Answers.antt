@@ -1,6 +1,6 @@
 use Rattle.std.proofs.Common.{◌≤◌, sym, ◌∙◌}
 use Rattle.staleness.specs.declared.lists.Write.{Write}
-use Rattle.staleness.specs.Writes.{is_missed}
+use Rattle.staleness.specs.inner.Missed.{is_missed}
 use Rattle.staleness.proofs.Last.{All-find}
 use Rattle.staleness.proofs.lags.rounds_behind.Goals as goal
 

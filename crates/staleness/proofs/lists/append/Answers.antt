@@ -3,7 +3,7 @@ use Rattle.std.specs.declared.alloc.Global.{Global}
 use Rattle.std.specs.Prelude.{Vec}
 use Rattle.staleness.specs.declared.lists.Link.{Link}
 use Rattle.staleness.specs.declared.lists.Write.{Write}
-use Rattle.staleness.specs.Linked.{shown, IsLinked}
+use Rattle.staleness.specs.inner.Linked.{shown, IsLinked}
 use Rattle.staleness.proofs.Linking.{IsRelinked, relinked_at, relinked_none, last_within, shown_pushed, linked_pushed}
 use Rattle.staleness.proofs.lists.append.Goals as goal
 use Rattle.staleness.proofs.lists.append.Goals.{After-unwrap, in-Some, in_default}

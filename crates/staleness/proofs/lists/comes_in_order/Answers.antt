@@ -1,7 +1,7 @@
 use Rattle.std.proofs.Common.{◌≡◌, ◌-◌, ◌<◌, leb, length, get_or, sym, ap, ◌∙◌, arith}
 use Rattle.staleness.specs.declared.lists.Link.{Link}
 use Rattle.staleness.specs.declared.lists.Write.{Write}
-use Rattle.staleness.specs.Linked.{shown, as_write}
+use Rattle.staleness.specs.inner.Linked.{shown, as_write}
 use Rattle.staleness.proofs.Linking.{shown-at, length-shown}
 use Rattle.staleness.proofs.Births.{last_born-at}
 use Rattle.staleness.proofs.lists.comes_in_order.Goals as goal

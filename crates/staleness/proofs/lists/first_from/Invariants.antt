@@ -1,6 +1,6 @@
 use Rattle.std.proofs.Common.{◌≡◌, find, drop}
 use Rattle.staleness.specs.Writes.{is_write_of}
-use Rattle.staleness.specs.Linked.{shown}
+use Rattle.staleness.specs.inner.Linked.{shown}
 use Rattle.staleness.proofs.lists.first_from.Given as goal
 
 abbrev pub invariant-loop-at : goal.invariant-loop-at

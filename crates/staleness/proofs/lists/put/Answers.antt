@@ -1,8 +1,8 @@
 use Rattle.std.proofs.Common.{◌≡◌, is_ok, if◌then◌else◌, sym, ap, ◌∙◌, subst}
 use Rattle.std.specs.List.{insert}
 use Rattle.staleness.specs.declared.lists.Write.{Write}
-use Rattle.staleness.specs.Linked.{version_or_zero}
-use Rattle.staleness.specs.Latest.{keyed, IsIndexOfKey, IsGapForKey}
+use Rattle.staleness.specs.inner.Linked.{version_or_zero}
+use Rattle.staleness.specs.inner.Latest.{keyed, IsIndexOfKey, IsGapForKey}
 use Rattle.staleness.proofs.Rising.{find-at, find-gap, put_at, put_gap, rising_set, rising_put}
 use Rattle.staleness.proofs.lists.put.Goals as goal
 use Rattle.staleness.proofs.lists.put.Goals.{After-unwrap}

@@ -2,7 +2,7 @@ use Rattle.std.proofs.Common.{◌≡◌, ◌<◌, ◌∙◌, ◌+◌, ◌++◌, 
 use Rattle.std.proofs.lemmas.Bool.{cases_lt}
 use Rattle.std.proofs.lemmas.List.{map-append, length-map, length_push, get_or_append_left}
 use Rattle.std.proofs.Math.Seq.{get_or-append_seam}
-use Rattle.node_table.specs.Table.{Table, empty_table}
+use Rattle.node_table.specs.Table.{empty_table}
 use Rattle.node_table.specs.NodeTableView.{NodeTableView}
 use Rattle.cluster.specs.Tables.{tables_in, table_of_node, IsTableOf}
 use Rattle.tests_of_boards.proofs.small_boards.tables_of.Goals as goal

@@ -3,7 +3,7 @@ use Rattle.std.specs.Mem.Slots.{slots_items, slots_counts}
 use Rattle.round_plan.specs.Plan.{RoundListView}
 use Rattle.cluster.specs.Tables.{tables_in}
 use Rattle.board.specs.Boards.{plan_of}
-use Rattle.board.specs.Plays.{Sat}
+use Rattle.board.specs.Seats.{Sat}
 use Rattle.board.proofs.Ends.{ends}
 use Rattle.board.proofs.Calls.{at_rest}
 use Rattle.board.proofs.Filling.{first_word, close_left}

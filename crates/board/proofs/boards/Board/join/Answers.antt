@@ -3,7 +3,8 @@ use Rattle.std.proofs.lemmas.Bool.{cases_lt}
 use Rattle.board.specs.Weights.{times, only}
 use Rattle.board.specs.SeatView.{joined}
 use Rattle.board.specs.Boards.{plan_of}
-use Rattle.board.specs.Plays.{Sat, no_plan}
+use Rattle.board.specs.Seats.{Sat}
+use Rattle.board.specs.inner.Plays.{no_plan}
 use Rattle.board.proofs.Sums.{total-append}
 use Rattle.board.proofs.Ends.{joins}
 use Rattle.board.proofs.Finishing.{shows}

@@ -6,7 +6,7 @@ use Rattle.cluster.proofs.Tables.{length-tables_in}
 use Rattle.dependencies.specs.Neighbours.{pending_of}
 use Rattle.board.specs.Plan.{IsBoardPlan}
 use Rattle.board.specs.Keys.{key_plan}
-use Rattle.board.specs.declared.plays.Key.{Key}
+use Rattle.board.specs.declared.plays.BoardKey.{BoardKey}
 use Rattle.board.proofs.Ends.{starts}
 use Rattle.board.proofs.Filling.{opening_of, planned_of}
 use Rattle.board.proofs.boards.Board.new.Goals as goal
@@ -21,7 +21,7 @@ new-requires c =
 
 pub invariant_of-result : goal.invariant_of-result
 invariant_of-result c =
-    let key : Key = record { rules = c.args.rules; list = c.of.result; tables = c.of-2.result } in
+    let key : BoardKey = record { rules = c.args.rules; list = c.of.result; tables = c.of-2.result } in
     let plan = key_plan key in
     let tables_are : plan.tables ≡ tables_in c.args.tables.items = ap (λ v. tables_in v.items) c.of-2.ensures in
     let planned = planned_of plan c.args.tables.items c.args.deps c.of.ensures tables_are c.first_words.ensures.kept c.requires.cluster in

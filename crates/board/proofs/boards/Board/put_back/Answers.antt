@@ -1,7 +1,8 @@
 use Rattle.std.proofs.Common.{rules, ap, sym, ◌∙◌, ◌<◌, subst, length, IfSome}
 use Rattle.dependencies.specs.Neighbours.{successors}
 use Rattle.board.specs.Boards.{plan_of, seat_view, exchanges_of, IsPutBack}
-use Rattle.board.specs.Plays.{Sat, OwesTo, IsReleased}
+use Rattle.board.specs.Seats.{Sat}
+use Rattle.board.specs.inner.Plays.{OwesTo, IsReleased}
 use Rattle.board.proofs.Calls.{at_rest, owes_first, owes_second, after_second, put_back_seat}
 use Rattle.board.proofs.boards.Board.put_back.Goals as goal
 

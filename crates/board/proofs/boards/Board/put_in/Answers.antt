@@ -4,7 +4,7 @@ use Rattle.atomic_table.specs.Table.{step}
 use Rattle.board.specs.Boards.{plan_of}
 use Rattle.board.specs.Plan.{BoardPlan, initiator_of, responder_of}
 use Rattle.board.specs.SeatView.{without_held}
-use Rattle.board.specs.Plays.{view, Sat}
+use Rattle.board.specs.Seats.{view, Sat}
 use Rattle.dependencies.specs.Sharing.{exchange_at}
 use Rattle.board.proofs.Moving.{retakes}
 use Rattle.board.proofs.Finishing.{finishes}

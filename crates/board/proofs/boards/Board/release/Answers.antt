@@ -2,7 +2,7 @@ use Rattle.std.proofs.Common.{rules, sym, refl, None, Some, ◌≡◌, ◌<◌, 
 use mathlib.Core.Option.{none}
 use Rattle.atomic_table.specs.Table.{step}
 use Rattle.board.specs.Boards.{plan_of, exchanges_of}
-use Rattle.board.specs.Plays.{OwesTo, IsReleased}
+use Rattle.board.specs.inner.Plays.{OwesTo, IsReleased}
 use Rattle.board.proofs.Finishing.{releases}
 use Rattle.board.proofs.Calls.{word_within, released_last, released_more}
 use Rattle.board.proofs.boards.Board.release.Goals as goal

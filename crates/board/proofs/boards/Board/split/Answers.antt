@@ -1,6 +1,6 @@
 use Rattle.std.proofs.Common.{ap}
 use Rattle.board.specs.Boards.{plan_of}
-use Rattle.board.specs.Plays.{Sat}
+use Rattle.board.specs.Seats.{Sat}
 use Rattle.board.proofs.Ends.{splits}
 use Rattle.board.proofs.Calls.{at_rest, word_zero}
 use Rattle.board.proofs.boards.Board.split.Goals as goal

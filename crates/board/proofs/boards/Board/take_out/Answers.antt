@@ -1,7 +1,7 @@
 use Rattle.std.proofs.Common.{rules, ap, ◌∙◌, refl, ◌∷◌, [], None, Some}
 use Rattle.board.specs.Boards.{plan_of}
 use Rattle.board.specs.Plan.{initiator_of, responder_of}
-use Rattle.board.specs.Plays.{view}
+use Rattle.board.specs.Seats.{view}
 use Rattle.dependencies.specs.Sharing.{exchange_at}
 use Rattle.board.proofs.Moving.{empties}
 use Rattle.board.proofs.Calls.{word_zero, first_out, second_out, both_out}

@@ -1,8 +1,8 @@
 use Rattle.std.proofs.Common.{◌≡◌, drop, subst, sym, ap, ◌∙◌, arith}
 use Rattle.std.proofs.lemmas.List.{take_rest}
 use Rattle.node_table.specs.Table.{generation_held}
-use Rattle.node_table.specs.Rows.{AreAbove}
-use Rattle.node_table.specs.Layouts.{IsRankAbove, row_at, table_in}
+use Rattle.node_table.specs.Entries.{AreAbove}
+use Rattle.node_table.specs.inner.Layouts.{IsRankAbove, row_at, table_in}
 use Rattle.node_table.proofs.InLayout.{above_older, above_rank}
 use Rattle.node_table.proofs.layouts.Layout.above.Goals as goal
 

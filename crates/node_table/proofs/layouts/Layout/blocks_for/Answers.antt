@@ -3,10 +3,10 @@ use Rattle.std.specs.Vec.{with_items}
 use Rattle.std.proofs.lemmas.List.{with_items_is}
 use Rattle.bench_types.specs.declared.entries.Item.{Item}
 use Rattle.node_table.specs.Table.{greatest_version}
-use Rattle.node_table.specs.Rows.{AreGreatest}
+use Rattle.node_table.specs.Entries.{AreGreatest}
 use Rattle.node_table.specs.NodeTableView.{blocks_below, blocks_for}
-use Rattle.node_table.specs.Marks.{AreMarked, AreUnmarked}
-use Rattle.node_table.specs.Layouts.{table_in, IsLayout}
+use Rattle.node_table.specs.inner.Marks.{AreMarked, AreUnmarked}
+use Rattle.node_table.specs.inner.Layouts.{table_in, IsLayout}
 use Rattle.node_table.specs.declared.layouts.Layout.{Layout}
 use Rattle.node_table.proofs.Marks.{version_in, greatest_again}
 use Rattle.node_table.proofs.Room.{blocks-same}

@@ -1,5 +1,5 @@
 use Rattle.std.proofs.Common.{◌≡◌, ℕ, ◌+◌, replicate, refl, ap, ◌∙◌, arith}
-use Rattle.node_table.specs.Layouts.{table_in}
+use Rattle.node_table.specs.inner.Layouts.{table_in}
 use Rattle.node_table.proofs.ProperLaws.{proper-without_all}
 use Rattle.node_table.proofs.Forgotten.{empty_row}
 use Rattle.node_table.proofs.Empty.{table_bare, layout_bare}

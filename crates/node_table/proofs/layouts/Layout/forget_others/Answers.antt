@@ -4,8 +4,8 @@ use Rattle.bench_types.specs.declared.entries.Entry.{Entry}
 use Rattle.node_table.specs.declared.layouts.Row.{Row}
 use Rattle.node_table.specs.declared.layouts.Layout.{Layout}
 use Rattle.node_table.specs.Table.{Table, without_others, greatest_version, IsProper}
-use Rattle.node_table.specs.Rows.{AreGenerations, AreGreatest}
-use Rattle.node_table.specs.Layouts.{row_of, rows_of, row_at, held_in, table_in, block_len, total, IsInSlots, AreLaid, AreOthersKept, IsLayout}
+use Rattle.node_table.specs.Entries.{AreGenerations, AreGreatest}
+use Rattle.node_table.specs.inner.Layouts.{row_of, rows_of, row_at, held_in, table_in, block_len, total, IsInSlots, AreLaid, AreOthersKept, IsLayout}
 use Rattle.node_table.proofs.ProperLaws.{proper-without_others}
 use Rattle.node_table.proofs.Laid.{row_at-get_or, len-le-keys}
 use Rattle.node_table.proofs.Forgotten.{empty_row, one_row, laid_one, counted_one, row_at-one_own, row_at-one_other, table_one, greatest_one, generations_none, generations_one}

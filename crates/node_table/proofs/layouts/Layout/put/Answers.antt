@@ -4,8 +4,8 @@ use Rattle.std.proofs.Math.Nat.{mul-le-mul_right, mul-le-mul_left}
 use Rattle.std.proofs.lemmas.List.{get_or_read}
 use Rattle.bench_types.specs.declared.limits.TheConstants.{MOST_NODES}
 use Rattle.node_table.specs.Table.{Table, IsProper}
-use Rattle.node_table.specs.Layouts.{AreLaid, table_in}
-use Rattle.node_table.specs.Rows.{AreGenerations, AreGreatest}
+use Rattle.node_table.specs.inner.Layouts.{AreLaid, table_in}
+use Rattle.node_table.specs.Entries.{AreGenerations, AreGreatest}
 use Rattle.node_table.proofs.ProperLaws.{proper-taking}
 use Rattle.node_table.proofs.Taking.{taken_put, version-taken_same, greatest_set, generations_same}
 use Rattle.node_table.proofs.Laid.{total-le}

@@ -4,8 +4,8 @@ use Rattle.std.proofs.Math.Nat.{mul-le-mul_right, mul-le-mul_left}
 use Rattle.bench_types.specs.declared.entries.Mark.{Mark}
 use Rattle.bench_types.specs.declared.limits.TheConstants.{MOST_NODES}
 use Rattle.node_table.specs.Table.{Table, IsProper}
-use Rattle.node_table.specs.Layouts.{AreLaid, table_in}
-use Rattle.node_table.specs.Rows.{AreGenerations, AreGreatest}
+use Rattle.node_table.specs.inner.Layouts.{AreLaid, table_in}
+use Rattle.node_table.specs.Entries.{AreGenerations, AreGreatest}
 use Rattle.node_table.proofs.ProperLaws.{proper-taking}
 use Rattle.node_table.proofs.Taking.{mark-taken_newer, greatest_set, generations_newer}
 use Rattle.node_table.proofs.Laid.{total-le}

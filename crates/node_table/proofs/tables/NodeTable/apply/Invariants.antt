@@ -2,7 +2,7 @@ use Rattle.std.proofs.Common.{◌≡◌, ◌+◌, ◌*◌, ◌≤◌, drop}
 use Rattle.std.specs.Prelude.{vec_len, vec_capacity}
 use Rattle.node_table.specs.Table.{applied}
 use Rattle.node_table.specs.NodeTableView.{blocks_for}
-use Rattle.node_table.specs.Layouts.{table_in, IsLayout}
+use Rattle.node_table.specs.inner.Layouts.{table_in, IsLayout}
 use Rattle.node_table.proofs.tables.NodeTable.apply.Given as goal
 
 abbrev pub invariant-loop-item : goal.invariant-loop-item

@@ -4,7 +4,7 @@ use Rattle.std.proofs.lemmas.Nat.{le-div}
 use Rattle.bench_types.specs.declared.entries.Entry.{Entry}
 use Rattle.node_table.specs.Table.{Table}
 use Rattle.node_table.specs.NodeTableView.{blocks_for}
-use Rattle.node_table.specs.Layouts.{rows_of, held_in}
+use Rattle.node_table.specs.inner.Layouts.{rows_of, held_in}
 use Rattle.node_table.proofs.tables.NodeTable.reserve_for.Goals as goal
 
 pub returns-in_ok-reserve-in-Some-clause-room : goal.returns-in_ok-reserve-in-Some-clause-room

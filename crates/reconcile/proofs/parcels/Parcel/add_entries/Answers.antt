@@ -1,9 +1,9 @@
 use Rattle.std.proofs.Common.{[], ◌∷◌, map, take, get_or, refl, subst, arith}
-use Rattle.reconcile.specs.Newer.{item_with}
-use Rattle.reconcile.specs.Parcels.{AddsFitting}
+use Rattle.reconcile.specs.inner.Newer.{item_with}
+use Rattle.reconcile.specs.inner.Parcels.{AddsFitting}
 use Rattle.reconcile.proofs.Adding.{adds-all, adds-append, sum_by-items}
 use Rattle.reconcile.proofs.Ranked.{no_entry}
-use Rattle.reconcile.proofs.RunLayers.{map-more}
+use Rattle.reconcile.proofs.SuffixLayers.{map-more}
 use Rattle.reconcile.proofs.parcels.Parcel.add_entries.Goals as goal
 
 pub returns-in-Some-clause-added : goal.returns-in-Some-clause-added

@@ -1,6 +1,6 @@
 use Rattle.std.proofs.Common.{map, take}
-use Rattle.reconcile.specs.Newer.{item_with}
-use Rattle.reconcile.specs.Parcels.{AddsFitting}
+use Rattle.reconcile.specs.inner.Newer.{item_with}
+use Rattle.reconcile.specs.inner.Parcels.{AddsFitting}
 use Rattle.reconcile.proofs.parcels.Parcel.add_entries.Given as goal
 
 abbrev pub invariant-loop-entry : goal.invariant-loop-entry

@@ -2,7 +2,7 @@ use Rattle.std.proofs.Common.{◌∙◌, sym, subst}
 use Rattle.cluster.specs.Tables.{tables_in}
 use Rattle.round_plan.specs.Plan.{IsRoundPlan}
 use Rattle.staleness.specs.Figures.{figures_of}
-use Rattle.simulation.specs.Simulation.{tables_of, lists_of}
+use Rattle.simulation.specs.inner.Insides.{tables_of, lists_of}
 use Rattle.simulation.specs.Standing.{StandAfterRound}
 use Rattle.simulation.proofs.Playing.{standing_cluster, one_list_each, one_record_each, standing_exchanged, round_is, played_is}
 use Rattle.simulation.proofs.Standing.{all_born}

@@ -1,6 +1,6 @@
 use Rattle.std.proofs.Common.{◌≡◌, ◌==◌, length, ap, ◌∙◌, arith}
 use Rattle.std.specs.Prelude.{vec_len}
-use Rattle.staleness.specs.Linked.{shown}
+use Rattle.staleness.specs.inner.Linked.{shown}
 use Rattle.staleness.proofs.Linking.{length-shown}
 use Rattle.staleness.proofs.lists.OwnerList.is_empty.Goals as goal
 

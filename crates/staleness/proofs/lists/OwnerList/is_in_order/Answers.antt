@@ -1,6 +1,7 @@
 use Rattle.std.proofs.Common.{◌<◌, ◌^◌, List, length, ap, ◌∙◌, subst, arith}
 use Rattle.staleness.specs.declared.lists.Write.{Write}
-use Rattle.staleness.specs.Writes.{IsNumbered, born_in_order}
+use Rattle.staleness.specs.Writes.{IsNumbered}
+use Rattle.staleness.specs.inner.Missed.{born_in_order}
 use Rattle.staleness.proofs.Linking.{length-shown, numbered-shown}
 use Rattle.staleness.proofs.lists.OwnerList.is_in_order.Goals as goal
 

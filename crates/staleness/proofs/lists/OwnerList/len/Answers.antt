@@ -1,7 +1,7 @@
 use Rattle.std.proofs.Common.{◌≡◌, length, ap, ◌∙◌, subst, arith}
 use Rattle.std.specs.Prelude.{vec_len}
 use Rattle.staleness.specs.Writes.{IsNumbered}
-use Rattle.staleness.specs.Linked.{shown}
+use Rattle.staleness.specs.inner.Linked.{shown}
 use Rattle.staleness.proofs.Linking.{length-shown, numbered-shown}
 use Rattle.staleness.proofs.lists.OwnerList.len.Goals as goal
 

@@ -3,9 +3,10 @@ use Rattle.std.specs.Ordering.{nat_cmp}
 use Rattle.std.specs.FinMap.{put}
 use Rattle.staleness.specs.declared.lists.Link.{Link}
 use Rattle.staleness.specs.declared.lists.Write.{Write}
-use Rattle.staleness.specs.Writes.{last_write, last_born}
-use Rattle.staleness.specs.Latest.{keyed, write_of}
-use Rattle.staleness.specs.Linked.{shown, version_or_zero}
+use Rattle.staleness.specs.Writes.{last_write}
+use Rattle.staleness.specs.inner.Missed.{last_born}
+use Rattle.staleness.specs.inner.Latest.{keyed, write_of}
+use Rattle.staleness.specs.inner.Linked.{shown, version_or_zero}
 use Rattle.staleness.proofs.Linking.{numbered-shown, latest_pushed, firsts_after, kept_pushed}
 use Rattle.staleness.proofs.Births.{in_order-push}
 use Rattle.staleness.proofs.lists.OwnerList.push.Goals as goal

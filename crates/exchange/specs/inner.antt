@@ -1,0 +1,2 @@
+pub mod Owns
+pub mod Messages

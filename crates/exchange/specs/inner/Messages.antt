@@ -1,0 +1,16 @@
+-- What the messages of an exchange bring. Source: this project.
+use Rattle.std.specs.Prelude.{ℕ, Bool, if◌then◌else◌}
+use Rattle.bench_types.specs.declared.exchanges.Exchange.{Exchange}
+use Rattle.bench_types.specs.declared.exchanges.Fate.TheVariants as fate
+use Rattle.bench_types.specs.declared.exchanges.Rules.{Rules}
+use Rattle.node_table.specs.Table.{Table, applied}
+use Rattle.reconcile.specs.Digests.{DigestView}
+use Rattle.reconcile.specs.Deltas.{DeltaView, IsDeltaToReceiver}
+
+-- the delta that answers a receiver's digest in an exchange
+abbrev pub IsAnswer : Rules → Exchange → Table → ℕ → DigestView → DeltaView → Type 0
+IsAnswer rules e from receiver told = IsDeltaToReceiver rules.mode e.rotation rules.budget from receiver told
+
+-- the table of a delta's receiver after the message that has it
+abbrev pub after_message : Bool → Table → DeltaView → Table
+after_message lost t delta = if lost then t else applied t delta.items

@@ -1,0 +1,15 @@
+use Rattle.std.proofs.Common.{◌≡◌}
+use Rattle.bench_types.specs.Budget.{amount_of}
+use Rattle.reconcile.specs.Deltas.{item_share}
+use Rattle.reconcile.specs.inner.Parcels.{first_within}
+use Rattle.reconcile.specs.inner.Keys.{reversed}
+use Rattle.reconcile.specs.inner.Parcels.{left_after}
+use Rattle.reconcile.specs.inner.Suffixes.{items_of_suffixes, layered, lengths_first}
+use Rattle.reconcile.proofs.suffixes.by_length.Given as goal
+
+abbrev pub invariant-loop-shorter : goal.invariant-loop-shorter
+invariant-loop-shorter l = record {
+  budget : l.parcel.budget ≡ l.fn.budget;
+  items : l.parcel.items.items ≡ first_within l.fn.budget (layered (lengths_first (items_of_suffixes l.suffixes)) (items_of_suffixes l.suffixes) (reversed l.most) l.shorter);
+  left : l.parcel.left ≡ left_after (item_share l.fn.budget) (amount_of l.fn.budget) (layered (lengths_first (items_of_suffixes l.suffixes)) (items_of_suffixes l.suffixes) (reversed l.most) l.shorter);
+}

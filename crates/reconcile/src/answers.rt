@@ -1,0 +1,64 @@
+//! What answers a digest.
+
+ghost use Rattle.std.specs.Prelude.{◌≡◌, ◌^◌, ◌<◌, ◌≤◌, length, IfOk, IsOkUnless};
+ghost use Rattle.bench_types.specs.declared.faults.Fault.TheVariants.{OutOfMemory};
+ghost use Rattle.bench_types.specs.Budget.{IsLawfulBudget};
+ghost use Rattle.bench_types.specs.Mode.{told_by};
+ghost use Rattle.reconcile.specs.Deltas.{answer_of, AreWithin, IsDeltaToReceiver, MayTake};
+ghost use Rattle.reconcile.specs.Digests.{IsOfKind};
+
+use crate::candidates::precise_delta;
+use crate::deltas::Delta;
+use crate::digests::Digest;
+use crate::suffixes::scuttle_delta;
+use crate::turns::Turns;
+use bench_types::{Budget, Fault, Mode, Telling};
+use node_table::NodeTable;
+use std::alloc::Global;
+
+/// What is sent to a receiver whose digest came in: the first candidates in the order of the mode, as
+/// many as the budget has room for.
+///
+/// A scuttle mode compares a mark for each owner, and looks at the entries of those where its own
+/// is greater. Nothing is sorted: scuttle-breadth goes over those owners once for each place in
+/// their suffixes of entries, scuttle-depth once for each length of these, so at most once for each key,
+/// until the budget is reached. It takes memory for those owners, and for as many items as the budget
+/// may let through: in bytes, as if all were of the least size.
+/// A precise mode compares a generation for each owner and looks at each entry once, but for those of
+/// an older generation, under a budget in bytes at times twice. It sorts what is sent, in bytes about
+/// an eighth more: where the budget cuts, a selection parts it from the rest. It takes memory in
+/// proportion to the candidates.
+///
+/// An error is lack of that memory (`OutOfMemory`).
+pub fn delta(
+    alloc: Global,
+    table: &NodeTable,
+    digest: &Digest,
+    receiver: u32,
+    mode: Mode,
+    rotation: u32,
+    budget: Budget,
+) -> Result<Delta, Fault>
+    requires kind { IsOfKind (told_by mode) digest.now }
+    requires nodes { digest.now.nodes ≡ table.now.table.nodes }
+    requires keys { digest.now.keys ≡ table.now.table.keys }
+    requires receiver { receiver < table.now.table.nodes }
+    requires rotation { rotation < table.now.table.nodes }
+    requires budget { IsLawfulBudget budget }
+    ensures ok { IfOk result (λ d. d ≡ answer_of mode rotation budget table.now.table receiver digest.now) }
+    ensures of_tables { IfOk result (IsDeltaToReceiver mode rotation budget table.now.table receiver digest.now) }
+    ensures within { IfOk result (λ d. AreWithin budget d.items) }
+    ensures few { IfOk result (λ d. length d.items < 2 ^ 32) }
+    ensures sound { IfOk result (λ d. MayTake receiver table.now.table.nodes table.now.table.keys d.items) }
+    ensures only { IsOkUnless result OutOfMemory }
+{
+    let turns = Turns {
+        mode,
+        nodes: table.nodes(),
+        rotation,
+    };
+    match mode.told_by() {
+        Telling::Greatest => scuttle_delta(alloc, table, digest, receiver, turns, budget),
+        Telling::Each => precise_delta(alloc, table, digest, receiver, turns, budget),
+    }
+}

@@ -1,0 +1,117 @@
+//! What ends a program before its end.
+
+ghost use Rattle.std.specs.Prelude.{IsTrue, OnOk};
+ghost use Rattle.bench_types.specs.Budget.{IsLawfulBudget};
+
+use bench_types::{Budget, Fault};
+use std::alloc::AllocFailed;
+use std::fmt::Display;
+use std::io;
+use std::process::ExitCode;
+
+// What a program ends with where an answer is wrong, where a call was refused twice, and where printing failed.
+const WRONG: u8 = 1;
+
+const GIVEN_UP: u8 = 3;
+
+const NOT_PRINTED: u8 = 4;
+
+/// Why a program ends before its end.
+#[derive(Debug, Drop)]
+pub enum Failure {
+    /// What this names isn't as it should be.
+    Wrong(&'static str),
+    /// A call answers this fault, and no fault is right or it is the second.
+    Fault(Fault),
+    NotPrinted,
+}
+
+impl From<Fault> for Failure {
+    fn from(fault: Fault) -> Failure {
+        Failure::Fault(fault)
+    }
+}
+
+impl<T: Drop> From<AllocFailed<T>> for Failure {
+    fn from(_refused: AllocFailed<T>) -> Failure {
+        Failure::Fault(Fault::OutOfMemory)
+    }
+}
+
+impl From<io::Error> for Failure {
+    fn from(_error: io::Error) -> Failure {
+        Failure::NotPrinted
+    }
+}
+
+/// Goes on where it holds.
+pub fn check(holds: bool, name: &'static str) -> Result<(), Failure>
+    ensures { OnOk result (IsTrue holds) }
+{
+    if holds {
+        Ok(())
+    } else {
+        Err(Failure::Wrong(name))
+    }
+}
+
+/// Goes on where a budget has room for any one entry.
+pub fn check_budget(budget: Budget) -> Result<(), Failure>
+    ensures { OnOk result (IsLawfulBudget budget) }
+{
+    match budget {
+        Budget::Entries(entries) => check(entries >= 1, "entries"),
+        Budget::Bytes(bytes) => check(bytes >= 1023, "bytes"),
+    }
+}
+
+/// All answers of a call were right.
+pub fn pass(rt: &impl Print, name: impl Display + Drop) -> Result<(), Failure> {
+    println!(rt; "{name}")?;
+    Ok(())
+}
+
+/// A call was refused, and what it wanted has to be memory.
+pub fn refused(
+    rt: &impl Eprint,
+    name: impl Display + Drop,
+    fault: impl Into<Failure> + Drop,
+) -> Result<(), Failure> {
+    refused_with(rt, name, 1, fault)
+}
+
+/// The same of a call with so many workers: of several, one may want a thread.
+pub fn refused_with(
+    rt: &impl Eprint,
+    name: impl Display + Drop,
+    workers: u32,
+    fault: impl Into<Failure> + Drop,
+) -> Result<(), Failure> {
+    match fault.into() {
+        Failure::Fault(Fault::OutOfMemory) => {}
+        Failure::Fault(Fault::NoThread) if workers > 1 => {}
+        other => return Err(other),
+    }
+    eprintln!(rt; "{name}")?;
+    Ok(())
+}
+
+/// The status of a program. What was wrong is printed.
+pub fn end(rt: &impl Print, done: Result<(), Failure>) -> ExitCode {
+    let status = match done {
+        Ok(()) => return ExitCode::SUCCESS,
+        Err(Failure::Wrong(name)) => told(println!(rt; "wrong: {name}"), WRONG),
+        Err(Failure::Fault(Fault::OutOfMemory | Fault::NoThread)) => GIVEN_UP,
+        Err(Failure::Fault(fault)) => told(println!(rt; "wrong: {fault}"), WRONG),
+        Err(Failure::NotPrinted) => NOT_PRINTED,
+    };
+    ExitCode::from(status)
+}
+
+// The status, or that of printing that failed.
+fn told(printed: io::Result<()>, status: u8) -> u8 {
+    match printed {
+        Ok(()) => status,
+        Err(_) => NOT_PRINTED,
+    }
+}

@@ -1,0 +1,143 @@
+//! Simulations, step by step.
+
+ghost use Rattle.std.specs.Prelude.{◌≤◌};
+ghost use Rattle.bench_types.specs.declared.limits.TheConstants.{MOST_WORKERS};
+
+use crate::cases::Case;
+use crate::counting::Counter;
+use crate::trials::Trial;
+use bench::Sim;
+use bench_types::Fault;
+use bench_types::limits::MOST_WORKERS;
+use refusals::{Failure, check, pass, refused, refused_with, retried};
+use scenario::{Scenario, read};
+use std::sync::Wait;
+use std::thread::Threads;
+
+fn scenario_of<R: Eprint + AllocGlobal>(rt: &R, case: &Case) -> Result<Scenario, Failure> {
+    let alloc = rt.alloc();
+    Ok(retried!(rt, "read", read(alloc, case.text.as_bytes())))
+}
+
+// Whether a scenario is that of a case.
+fn is_of_case<R: Eprint + AllocGlobal>(
+    rt: &R,
+    scenario: &Scenario,
+    case: &Case,
+) -> Result<bool, Failure> {
+    let wanted = scenario_of(rt, case)?;
+    Ok(
+        are_alike(scenario, &wanted)
+            && scenario.partitions().len() == wanted.partitions().len()
+            && scenario.restarts() == wanted.restarts()
+            && scenario.loads() == wanted.loads(),
+    )
+}
+
+// Whether the fields are the same that aren't arrays.
+fn are_alike(one: &Scenario, other: &Scenario) -> bool {
+    (one.format(), one.nodes(), one.keys(), one.rounds())
+        == (other.format(), other.nodes(), other.keys(), other.rounds())
+        && (one.seed(), one.mode(), one.budget()) == (other.seed(), other.mode(), other.budget())
+        && (one.peers(), one.rotation(), one.choice())
+            == (other.peers(), other.rotation(), other.choice())
+        && (one.loss_ppm(), one.writes()) == (other.loss_ppm(), other.writes())
+}
+
+// The simulation of a scenario, which comes back where memory is refused.
+fn open<R: Eprint + AllocGlobal>(rt: &R, case: &Case, scenario: Scenario) -> Result<Sim, Failure> {
+    match Sim::new(rt.alloc(), scenario) {
+        Ok(sim) => Ok(sim),
+        Err((fault, scenario)) => {
+            refused(rt, "Sim::new", fault)?;
+            check(is_of_case(rt, &scenario, case)?, "Sim::new")?;
+            Ok(Sim::new(rt.alloc(), scenario).map_err(|(fault, _)| fault)?)
+        }
+    }
+}
+
+// All rounds of a simulation, and the step behind them.
+fn play<R: Threads + Wait + Sync>(
+    rt: &R,
+    sim: &mut Sim,
+    case: &Case,
+    workers: u32,
+    gate: &Counter,
+) -> Result<(), Failure>
+    requires few { 1 ≤ workers }
+    requires many { workers ≤ MOST_WORKERS }
+{
+    for row in case.rows {
+        let round = sim.step(rt, workers, gate)?;
+        check(
+            round.row() == *row && round.records().len() == row.exchanges as usize,
+            "step",
+        )?;
+    }
+    let behind = sim.step(rt, workers, gate).err();
+    check(behind == Some(Fault::Finished) && !sim.is_broken(), "step")
+}
+
+// A broken simulation has no tables, and answers so to each further step.
+fn check_broken<R: Threads + Wait + Sync>(
+    rt: &R,
+    sim: &mut Sim,
+    workers: u32,
+    gate: &Counter,
+) -> Result<(), Failure>
+    requires few { 1 ≤ workers }
+    requires many { workers ≤ MOST_WORKERS }
+{
+    let done = sim.rounds_done();
+    check(done < sim.rounds(), "rounds_done")?;
+    for _ in 0..3 {
+        check(sim.is_broken() && sim.tables().is_empty(), "is_broken")?;
+        check(sim.rounds_done() == done, "rounds_done")?;
+        let answer = sim.step(rt, workers, gate).err();
+        check(answer == Some(Fault::Broken), "step")?;
+    }
+    Ok(())
+}
+
+// The rounds of a simulation. Where a step is refused: what stands then, and all rounds of another one.
+fn play_at_last<R: Eprint + AllocGlobal + Threads + Wait + Sync>(
+    rt: &R,
+    mut sim: Sim,
+    case: &Case,
+    trial: Trial,
+) -> Result<(), Failure>
+    requires few { 1 ≤ trial.workers }
+    requires many { trial.workers ≤ MOST_WORKERS }
+{
+    let workers = trial.workers;
+    let gate = Counter::new();
+    let Err(failure) = play(rt, &mut sim, case, workers, &gate) else {
+        return Ok(());
+    };
+    refused_with(rt, trial, workers, failure)?;
+    let counts = gate.counts();
+    check_broken(rt, &mut sim, workers, &gate)?;
+    let scenario = sim.into_scenario();
+    check(is_of_case(rt, &scenario, case)?, "into_scenario")?;
+    let mut sim = open(rt, case, scenario)?;
+    play(rt, &mut sim, case, workers, &Counter::new())?;
+    check(gate.counts() == counts, "step")
+}
+
+pub(crate) fn try_steps<R: Print + Eprint + AllocGlobal + Threads + Wait + Sync>(
+    rt: &R,
+    case: &Case,
+    workers: u32,
+) -> Result<(), Failure>
+    requires few { 1 ≤ workers }
+    requires many { workers ≤ MOST_WORKERS }
+{
+    let trial = Trial {
+        call: "step",
+        case: case.name,
+        workers,
+    };
+    let sim = open(rt, case, scenario_of(rt, case)?)?;
+    play_at_last(rt, sim, case, trial)?;
+    pass(rt, trial)
+}

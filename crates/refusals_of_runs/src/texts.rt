@@ -1,0 +1,149 @@
+//! From a text to texts.
+
+ghost use Rattle.std.specs.Prelude.{◌≤◌};
+ghost use Rattle.bench_types.specs.declared.limits.TheConstants.{MOST_WORKERS};
+
+use crate::cases::Case;
+use crate::trials::Trial;
+use bench::{check_input, compare, read_all, run};
+use bench_types::limits::MOST_WORKERS;
+use bench_types::{Fault, Pull, Push};
+use refusals::{Failure, check, pass, refused_with, retried};
+use std::alloc::Global;
+use std::sync::Wait;
+use std::thread::Threads;
+
+// More room than a text takes, so that writing takes no memory.
+const ROOM: usize = 1000;
+
+// A writer to memory that takes none.
+fn writer(alloc: Global) -> Result<Push<Vec<u8>>, Fault> {
+    Ok(Push::new(Vec::with_capacity(alloc, ROOM)?))
+}
+
+// Whether what was written is a text or a beginning of it, in whole lines.
+fn is_beginning(written: &[u8], text: &str) -> bool {
+    text.as_bytes().starts_with(written) && (written.is_empty() || written.ends_with(b"\n"))
+}
+
+/// What a run or a comparison answers, and what it has written.
+#[derive(Drop)]
+struct Outcome {
+    answer: Result<(), Fault>,
+    report: Vec<u8>,
+    trace: Vec<u8>,
+}
+
+/// Which texts are asked for.
+#[derive(Clone, Copy)]
+enum Job {
+    Run,
+    Compare,
+}
+
+impl Job {
+    fn name(self) -> &'static str {
+        match self {
+            Job::Run => "run",
+            Job::Compare => "compare",
+        }
+    }
+
+    // What must be written of a case.
+    fn texts(self, case: &Case) -> (&'static str, &'static str) {
+        match self {
+            Job::Run => (case.report, case.trace),
+            Job::Compare => (case.comparison, ""),
+        }
+    }
+
+    fn carry_out<R: Eprint + AllocGlobal + Threads + Wait + Sync>(
+        self,
+        rt: &R,
+        case: &Case,
+        workers: u32,
+    ) -> Result<Outcome, Failure>
+        requires few { 1 ≤ workers }
+        requires many { workers ≤ MOST_WORKERS }
+    {
+        let alloc = rt.alloc();
+        let mut report = retried!(rt, "room", writer(alloc));
+        let mut trace = retried!(rt, "room", writer(alloc));
+        let reader = &mut Pull::new(case.text.as_bytes());
+        let answer = match self {
+            Job::Run => run(rt, alloc, reader, &mut report, &mut trace, workers),
+            Job::Compare => compare(rt, alloc, reader, &mut report, workers),
+        };
+        Ok(Outcome {
+            answer,
+            report: report.into_inner(),
+            trace: trace.into_inner(),
+        })
+    }
+}
+
+fn check_whole(job: Job, case: &Case, report: &[u8], trace: &[u8]) -> Result<(), Failure> {
+    let (whole_report, whole_trace) = job.texts(case);
+    check(report == whole_report.as_bytes(), job.name())?;
+    check(trace == whole_trace.as_bytes(), job.name())
+}
+
+fn check_beginnings(job: Job, case: &Case, report: &[u8], trace: &[u8]) -> Result<(), Failure> {
+    let (whole_report, whole_trace) = job.texts(case);
+    check(is_beginning(report, whole_report), job.name())?;
+    check(is_beginning(trace, whole_trace), job.name())
+}
+
+fn try_job<R: Print + Eprint + AllocGlobal + Threads + Wait + Sync>(
+    rt: &R,
+    job: Job,
+    case: &Case,
+    workers: u32,
+) -> Result<(), Failure>
+    requires few { 1 ≤ workers }
+    requires many { workers ≤ MOST_WORKERS }
+{
+    let trial = Trial {
+        call: job.name(),
+        case: case.name,
+        workers,
+    };
+    let Outcome {
+        answer,
+        report,
+        trace,
+    } = job.carry_out(rt, case, workers)?;
+    match answer {
+        Ok(()) => check_whole(job, case, &report, &trace)?,
+        Err(fault) => {
+            check_beginnings(job, case, &report, &trace)?;
+            refused_with(rt, trial, workers, fault)?;
+            let second = job.carry_out(rt, case, workers)?;
+            second.answer?;
+            check_whole(job, case, &second.report, &second.trace)?;
+        }
+    }
+    pass(rt, trial)
+}
+
+/// The report and the trace of a run are those of the case, and so is its comparison.
+pub(crate) fn try_texts<R: Print + Eprint + AllocGlobal + Threads + Wait + Sync>(
+    rt: &R,
+    case: &Case,
+    workers: u32,
+) -> Result<(), Failure>
+    requires few { 1 ≤ workers }
+    requires many { workers ≤ MOST_WORKERS }
+{
+    try_job(rt, Job::Run, case, workers)?;
+    try_job(rt, Job::Compare, case, workers)
+}
+
+/// A text is read whole, and checked.
+pub(crate) fn try_input<R: Eprint + AllocGlobal>(rt: &R, case: &Case) -> Result<(), Failure> {
+    let (alloc, text) = (rt.alloc(), case.text.as_bytes());
+    let bytes = retried!(rt, "read_all", read_all(alloc, &mut Pull::new(text)));
+    check(bytes.as_slice() == text, "read_all")?;
+    let scenario = retried!(rt, "check_input", check_input(alloc, &mut Pull::new(text)));
+    check(scenario.nodes() == case.first.writers.nodes, "check_input")
+}

@@ -1,0 +1,68 @@
+//! Boards, and what collects records.
+
+ghost use Rattle.std.specs.Prelude.{IfOk};
+ghost use Rattle.board.specs.Boards.{IsSeatOf};
+
+use crate::schedules::{ALL_ENTRIES, FOUR, crossing, deps_of};
+use bench_types::{Fault, Record};
+use board::{Board, Seat};
+use collector::{Collector, Stamped};
+use refusals::{Failure, check, pass, refused, retried, sent, tables_of};
+
+const FIRST: Record = sent!(1, 1, 1, 1, 0, 0);
+
+const SECOND: Record = sent!(2, 2, 2, 2, 0, 0);
+
+// A board of four nodes with fresh tables. Where memory is refused these are given up.
+fn board_of<R: Eprint + AllocGlobal>(rt: &R) -> Result<Result<(Board, Seat), Fault>, Failure>
+    ensures { IfOk result (λ answer. IfOk answer (λ made. IsSeatOf made.1 made.0)) }
+{
+    let alloc = rt.alloc();
+    let list = crossing(rt)?;
+    let deps = deps_of(rt, &list)?;
+    let tables = retried!(rt, "tables", tables_of(alloc, FOUR));
+    Ok(Board::new(alloc, deps, ALL_ENTRIES, tables))
+}
+
+// A board is closed before any exchange is finished.
+fn check_unfinished(board: Board, seat: Seat) -> Result<(), Failure>
+    requires { IsSeatOf seat board }
+{
+    match board.close(seat) {
+        Err(Fault::Unfinished) => Ok(()),
+        _ => Err(Failure::Wrong("Board::close")),
+    }
+}
+
+fn try_board<R: Eprint + AllocGlobal>(rt: &R) -> Result<(), Failure> {
+    match board_of(rt)? {
+        Ok((board, seat)) => check_unfinished(board, seat),
+        Err(fault) => {
+            refused(rt, "Board::new", fault)?;
+            let (board, seat) = board_of(rt)??;
+            check_unfinished(board, seat)
+        }
+    }
+}
+
+fn try_collector<R: Eprint + AllocGlobal>(rt: &R) -> Result<(), Failure> {
+    let alloc = rt.alloc();
+    let mut collector = retried!(rt, "Collector::new", Collector::new(alloc, 2));
+    for (index, outcome) in [(1, SECOND), (0, FIRST)] {
+        collector.put(Stamped { index, outcome })?;
+    }
+    match collector.finish() {
+        Ok(records) => check(
+            records.as_slice() == [FIRST, SECOND].as_slice(),
+            "Collector::finish",
+        ),
+        Err((fault, _)) => Err(Failure::Fault(fault)),
+    }
+}
+
+pub(crate) fn try_boards<R: Print + Eprint + AllocGlobal>(rt: &R) -> Result<(), Failure> {
+    try_board(rt)?;
+    pass(rt, "Board::new")?;
+    try_collector(rt)?;
+    pass(rt, "Collector::new")
+}

@@ -1,0 +1,97 @@
+//! An owner that wrote its one key in three rounds, and a copy that holds the first version.
+
+ghost use Rattle.std.specs.Prelude.{◌≡◌, ◌≤◌, IfOk, OnOk};
+ghost use Rattle.staleness.specs.Writes.{AreBornBy};
+
+use crate::tables::{new_table, take, write};
+use bench_types::{Figures, Item};
+use node_table::NodeTable;
+use refusals::{Failure, check, item, pass, retried};
+use staleness::{OwnerList, figures};
+use std::thread::Threads;
+
+const WRITTEN: [Item; 3] = [
+    item!(0, 0, 1, 0, 1),
+    item!(0, 0, 2, 0, 2),
+    item!(0, 0, 3, 0, 3),
+];
+
+// One key is stale, since the write of round 2.
+const LAG: Figures = Figures {
+    stale: 1,
+    greatest: 2,
+    leftover: 0,
+};
+
+// The owner writes its key in a round.
+fn push(rt: &impl Eprint, list: &mut OwnerList, born: u32) -> Result<(), Failure>
+    requires born { born ≤ 3 }
+    requires earlier { AreBornBy 3 list.old }
+    ensures { OnOk result (AreBornBy 3 list.new) }
+{
+    let before = list.len();
+    check(before < 9, "OwnerList::len")?;
+    retried!(
+        rt,
+        "OwnerList::push",
+        list.push(0, born),
+        list.len() == before
+    );
+    check(list.len() == before + 1, "OwnerList::push")
+}
+
+fn owner_list<R: Eprint + AllocGlobal>(rt: &R) -> Result<OwnerList, Failure>
+    ensures { IfOk result (AreBornBy 3) }
+{
+    let mut list = OwnerList::new(rt.alloc());
+    push(rt, &mut list, 1)?;
+    push(rt, &mut list, 2)?;
+    push(rt, &mut list, 3)?;
+    Ok(list)
+}
+
+// Goes on where this is the table of a node of two, with one key.
+fn check_node(table: &NodeTable, node: u32) -> Result<(), Failure>
+    ensures node { OnOk result (table.now.table.node ≡ node) }
+    ensures nodes { OnOk result (table.now.table.nodes ≡ 2) }
+    ensures keys { OnOk result (table.now.table.keys ≡ 1) }
+{
+    check(table.node() == node, "NodeTable::node")?;
+    check(table.nodes() == 2, "NodeTable::nodes")?;
+    check(table.keys() == 1, "NodeTable::keys")
+}
+
+// The owner's table.
+fn owner_table<R: Eprint + AllocGlobal>(rt: &R) -> Result<NodeTable, Failure> {
+    let mut table = new_table(rt, 0, 2, 1)?;
+    write(rt, &mut table, &[], WRITTEN[0])?;
+    write(rt, &mut table, &[WRITTEN[0]], WRITTEN[1])?;
+    write(rt, &mut table, &[WRITTEN[1]], WRITTEN[2])?;
+    Ok(table)
+}
+
+// That of the node that holds the copy.
+fn holder_table<R: Eprint + AllocGlobal>(rt: &R) -> Result<NodeTable, Failure> {
+    let mut table = new_table(rt, 1, 2, 1)?;
+    take(rt, &mut table, &[], &[WRITTEN[0]])?;
+    Ok(table)
+}
+
+fn try_figures<R: Eprint + AllocGlobal + Threads + Sync>(rt: &R) -> Result<(), Failure> {
+    let alloc = rt.alloc();
+    let (written, unwritten) = (owner_list(rt)?, OwnerList::new(alloc));
+    let (owner, holder) = (owner_table(rt)?, holder_table(rt)?);
+    check_node(&owner, 0)?;
+    check_node(&holder, 1)?;
+    let (tables, lists) = ([owner, holder], [written, unwritten]);
+    let lag = retried!(rt, "figures", figures(rt, alloc, &tables, &lists, 3));
+    check(lag == LAG, "figures")
+}
+
+pub(crate) fn try_lags<R: Print + Eprint + AllocGlobal + Threads + Sync>(
+    rt: &R,
+) -> Result<(), Failure> {
+    try_figures(rt)?;
+    pass(rt, "OwnerList::push")?;
+    pass(rt, "figures")
+}

@@ -1,0 +1,150 @@
+//! Texts that are read, and the list of a round.
+
+ghost use Rattle.std.specs.Prelude.{◌≤◌};
+
+use bench_types::{Budget, Exchange, Fault, Field, Mode, TableName};
+use refusals::{Failure, between, check, pass, refused, retried};
+use round_plan::round_list;
+use scenario::{Scenario, read};
+use std::thread::Threads;
+
+// Ten nodes at random.
+const TEN_NODES: &str = r#"format = 1
+nodes = 10
+keys = 1
+rounds = 1
+seed = 0
+mode = "scuttle-breadth"
+budget = 1
+peers = "random"
+rotation = "random"
+choice = "cycle"
+loss_ppm = 509331
+writes = 1
+"#;
+
+// What the words of its first node come to in round 1.
+const FIRST: Exchange = Exchange {
+    initiator: 0,
+    responder: 4,
+    lost1: false,
+    lost2: false,
+    lost3: false,
+    rotation: 3,
+};
+
+const FORGETFUL: &str = r#"format = 2
+nodes = 2
+keys = 1
+rounds = 3
+seed = 0
+mode = "precise-newest"
+budget_bytes = 1023
+peers = "ring"
+rotation = "none"
+choice = "cycle"
+loss_ppm = 0
+writes = 1
+[[partition]]
+from = 1
+to = 2
+apart = [0, 1]
+[[restart]]
+node = 1
+round = 2
+down = 1
+forget = true
+[[load]]
+from = 2
+to = 3
+writes = 0
+"#;
+
+const REFUSED: [(&str, Fault); 6] = [
+    ("[[parti", Fault::NotToml),
+    ("", Fault::Missing(Field::Format)),
+    ("format = \"1\"", Fault::WrongType(Field::Format)),
+    ("format = 3", Fault::OutOfRange(Field::Format)),
+    ("format = 1\nnodes = 4096\nkeys = 17", Fault::TooLarge),
+    (
+        "format = 1\nnodes = 1\nkeys = 17",
+        Fault::OutOfRange(Field::Nodes),
+    ),
+];
+
+// A field that no table has, behind a whole text.
+const UNKNOWN: &str = "note = 1";
+
+fn accepted<R: Eprint + AllocGlobal>(rt: &R, text: &str) -> Result<Scenario, Failure> {
+    let alloc = rt.alloc();
+    Ok(retried!(rt, "read", read(alloc, text.as_bytes())))
+}
+
+fn check_fault<R: Eprint + AllocGlobal>(rt: &R, text: &str, wanted: &Fault) -> Result<(), Failure> {
+    let mut answer = read(rt.alloc(), text.as_bytes());
+    if let Err(Fault::OutOfMemory) = answer {
+        refused(rt, "read", Fault::OutOfMemory)?;
+        answer = read(rt.alloc(), text.as_bytes());
+    }
+    match answer {
+        Err(fault) if fault == *wanted => Ok(()),
+        Err(fault) => Err(Failure::Fault(fault)),
+        Ok(_) => Err(Failure::Wrong("read")),
+    }
+}
+
+fn check_ten_nodes(scenario: &Scenario) -> Result<(), Failure> {
+    check(
+        (scenario.nodes(), scenario.keys(), scenario.loss_ppm()) == (10, 1, 509_331),
+        "read",
+    )?;
+    check(
+        scenario.mode() == Mode::ScuttleBreadth && scenario.budget() == Budget::Entries(1),
+        "read",
+    )
+}
+
+fn check_forgetful(scenario: &Scenario) -> Result<(), Failure> {
+    check(
+        scenario.mode() == Mode::PreciseNewest && scenario.budget() == Budget::Bytes(1023),
+        "read",
+    )?;
+    check(
+        scenario.partitions().len() == 1
+            && scenario.restarts().len() == 1
+            && scenario.loads().len() == 1,
+        "read",
+    )
+}
+
+fn try_read<R: Eprint + AllocGlobal>(rt: &R) -> Result<(), Failure> {
+    check_forgetful(&accepted(rt, FORGETFUL)?)?;
+    for (text, fault) in REFUSED {
+        check_fault(rt, text, &fault)?;
+    }
+    Ok(())
+}
+
+fn try_round_list<R: Eprint + AllocGlobal + Threads + Sync>(
+    rt: &R,
+    scenario: &Scenario,
+) -> Result<(), Failure> {
+    let alloc = rt.alloc();
+    let list = retried!(rt, "round_list", round_list(rt, alloc, scenario, 1));
+    check(
+        (list.nodes(), list.len(), list.unreached()) == (10, 10, 0),
+        "round_list",
+    )?;
+    check(list.get(0) == Some(FIRST), "round_list")
+}
+
+pub(crate) fn try_scenarios<R: Print + Eprint + AllocGlobal + Threads + Sync>(
+    rt: &R,
+) -> Result<(), Failure> {
+    let ten_nodes = accepted(rt, TEN_NODES)?;
+    check_ten_nodes(&ten_nodes)?;
+    try_read(rt)?;
+    pass(rt, "read")?;
+    try_round_list(rt, &ten_nodes)?;
+    pass(rt, "round_list")
+}

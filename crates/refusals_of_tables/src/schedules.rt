@@ -1,0 +1,165 @@
+//! Dependencies and schedules of a list of four nodes.
+
+ghost use Rattle.std.specs.Prelude.{◌≡◌, IfOk};
+
+use bench_types::{Budget, Fault, Item, Mode, Record, Rules};
+use node_table::NodeTable;
+use planner::{After, Deps, Event, Schedule, play};
+use refusals::{
+    Failure, Writers, check, holds, item, list_of, pass, refused, retried, sent, tables_of,
+};
+use round_plan::RoundList;
+
+/// Two pairs of nodes, and then one node of each pair with one of the other.
+pub(crate) const CROSSING: &[(u32, u32)] = &[(0, 1), (2, 3), (1, 2), (0, 3)];
+
+// How many exchanges each of them waits for, and which wait for it.
+const WAITING: [(u32, Option<u32>, Option<u32>); 4] = [
+    (0, Some(3), Some(2)),
+    (0, Some(2), Some(3)),
+    (2, None, None),
+    (2, None, None),
+];
+
+/// Four nodes that have written their one key.
+pub(crate) const FOUR: Writers = Writers {
+    nodes: 4,
+    keys: 1,
+    writers: 4,
+};
+
+pub(crate) const ALL_ENTRIES: Rules = Rules {
+    mode: Mode::ScuttleBreadth,
+    budget: Budget::Entries(10),
+};
+
+const EVENTS: &[Event] = &[
+    Event::Start(1),
+    Event::Start(0),
+    Event::Finish(0),
+    Event::Finish(1),
+    Event::Start(3),
+    Event::Start(2),
+    Event::Finish(2),
+    Event::Finish(3),
+];
+
+const TOO_EARLY: &[Event] = &[Event::Start(0), Event::Finish(0), Event::Start(2)];
+
+const RECORDS: &[Record] = &[
+    sent!(1, 1, 1, 1, 0, 0),
+    sent!(1, 1, 1, 1, 0, 0),
+    sent!(2, 2, 2, 2, 0, 0),
+    sent!(2, 2, 2, 2, 0, 0),
+];
+
+const LEFT: &[Item] = &[
+    item!(0, 0, 1, 0, 1),
+    item!(1, 0, 1, 0, 1),
+    item!(2, 0, 1, 0, 1),
+    item!(3, 0, 1, 0, 1),
+];
+
+/// Whether these are the dependencies of the crossing list.
+pub(crate) fn are_crossing(deps: &Deps) -> bool {
+    if deps.len() != 4 || deps.first_ready() != [0, 1].as_slice() {
+        return false;
+    }
+    for i in 0..4 {
+        let (pending, first, second) = WAITING[i as usize];
+        if deps.pending(i) != pending || deps.after(i) != (After { first, second }) {
+            return false;
+        }
+    }
+    true
+}
+
+pub(crate) fn crossing<R: Eprint + AllocGlobal>(rt: &R) -> Result<RoundList, Failure>
+    ensures { IfOk result (λ list. list.nodes ≡ 4) }
+{
+    let alloc = rt.alloc();
+    Ok(retried!(rt, "RoundList::of", list_of(alloc, 4, CROSSING)))
+}
+
+pub(crate) fn deps_of<R: Eprint + AllocGlobal>(rt: &R, list: &RoundList) -> Result<Deps, Failure>
+    ensures { IfOk result (λ deps. deps ≡ list.now) }
+{
+    let alloc = rt.alloc();
+    Ok(retried!(rt, "Deps::new", Deps::new(alloc, list)))
+}
+
+fn try_schedule<R: Eprint + AllocGlobal>(rt: &R, deps: Deps) -> Result<(), Failure> {
+    let schedule = match Schedule::new(rt.alloc(), deps) {
+        Ok(schedule) => schedule,
+        Err((fault, deps)) => {
+            refused(rt, "Schedule::new", fault)?;
+            check(are_crossing(&deps), "Schedule::new")?;
+            Schedule::new(rt.alloc(), deps).map_err(|(fault, _)| fault)?
+        }
+    };
+    check(
+        schedule.next_ready() == Some(0) && schedule.may_start(1) && !schedule.may_start(2),
+        "Schedule::new",
+    )?;
+    check(
+        schedule.running_count() == 0 && schedule.done_count() == 0,
+        "Schedule::new",
+    )
+}
+
+// Plays a schedule on fresh tables. Where memory is refused these are given up.
+fn played<R: AllocGlobal>(
+    rt: &R,
+    list: &RoundList,
+    events: &[Event],
+) -> Result<(Vec<NodeTable>, Vec<Record>), Failure>
+    requires { list.now.nodes ≡ 4 }
+{
+    let tables = tables_of(rt.alloc(), FOUR)?;
+    Ok(play(rt.alloc(), list, tables, events, &ALL_ENTRIES)?)
+}
+
+// The fault of a schedule that may not be played, or that isn't played to its end.
+fn try_unlawful<R: Eprint + AllocGlobal>(
+    rt: &R,
+    list: &RoundList,
+    events: &[Event],
+    wanted: Fault,
+) -> Result<(), Failure>
+    requires { list.now.nodes ≡ 4 }
+{
+    let mut answer = played(rt, list, events);
+    if let Err(Failure::Fault(Fault::OutOfMemory)) = answer {
+        refused(rt, "play", Fault::OutOfMemory)?;
+        answer = played(rt, list, events);
+    }
+    match answer {
+        Err(Failure::Fault(fault)) if fault == wanted => Ok(()),
+        Err(other) => Err(other),
+        Ok(_) => Err(Failure::Wrong("play")),
+    }
+}
+
+fn try_play<R: Eprint + AllocGlobal>(rt: &R, list: &RoundList) -> Result<(), Failure>
+    requires { list.now.nodes ≡ 4 }
+{
+    let (tables, records) = retried!(rt, "play", played(rt, list, EVENTS));
+    check(records.as_slice() == RECORDS, "play")?;
+    check(
+        tables.len() == 4 && tables.iter().all(|table| holds(table, LEFT)),
+        "play",
+    )
+}
+
+pub(crate) fn try_schedules<R: Print + Eprint + AllocGlobal>(rt: &R) -> Result<(), Failure> {
+    let list = crossing(rt)?;
+    let deps = deps_of(rt, &list)?;
+    check(are_crossing(&deps), "Deps::new")?;
+    pass(rt, "Deps::new")?;
+    try_schedule(rt, deps)?;
+    pass(rt, "Schedule::new")?;
+    try_play(rt, &list)?;
+    try_unlawful(rt, &list, TOO_EARLY, Fault::NotAllowed)?;
+    try_unlawful(rt, &list, &[], Fault::Unfinished)?;
+    pass(rt, "play")
+}

@@ -1,0 +1,133 @@
+//! Two threads of a scope that share a board.
+
+ghost use Rattle.std.specs.Prelude.{◌≤◌, ◌<◌, length};
+ghost use Rattle.board.specs.Boards.{exchanges_of, IsSeatOf};
+
+use crate::jobs::Job;
+use crate::small_boards::{ONE_ENTRY, TWICE, expect_owners, list_of};
+use crate::threads::{Worked, together};
+use crate::turns::{expect_next, held};
+use bench_types::Fault;
+use board::{Board, Seat};
+use node_table::NodeTable;
+use std::alloc::AllocGlobal;
+use std::process::Abort;
+use std::snapshot::Snapshot;
+use std::sync::Wait;
+use std::thread;
+use std::thread::{Promise, Scope, Threads};
+
+// What a thread promises: that it comes back with a seat of this board.
+#[derive(Drop)]
+struct SeatOf(Snapshot<Board>);
+
+impl Promise<Worked> for SeatOf {
+    ghost kept_by = { λ promise worked. IsSeatOf worked.seat promise.0.value };
+}
+
+// Claims an exchange, does it and puts it back, which makes another ready, and then the same with that one,
+// which makes none ready.
+fn do_both(
+    rt: &(impl Abort + AllocGlobal),
+    job: &Job,
+    mut seat: Seat,
+    first: u32,
+    second: u32,
+) -> Worked
+    requires first { first < length (exchanges_of job.now.board) }
+    requires second { second < length (exchanges_of job.now.board) }
+    requires seat { IsSeatOf seat job.now.board }
+    ensures seat { IsSeatOf result.seat job.now.board }
+{
+    let hold = held(rt, &job.board, &mut seat, first);
+    expect_next(rt, job, &mut seat, hold, Some(second)).expect(rt, "memory");
+    let hold = held(rt, &job.board, &mut seat, second);
+    expect_next(rt, job, &mut seat, hold, None).expect(rt, "memory");
+    let made = Vec::from_slice(rt.alloc(), &[first, second]).expect(rt, "memory");
+    Worked { seat, made }
+}
+
+// One thread does exchange 0 and then 2, the other 1 and then 3.
+fn do_all<R: Abort + AllocGlobal + Threads + Wait + Sync>(
+    rt: &R,
+    job: &Job,
+    first: Seat,
+    second: Seat,
+) -> Worked
+    requires four { 4 ≤ length (exchanges_of job.now.board) }
+    requires first { IsSeatOf first job.now.board }
+    requires second { IsSeatOf second job.now.board }
+    ensures seat { IsSeatOf result.seat job.now.board }
+{
+    thread::scope(
+        thread::scope_env(),
+        rt,
+        |scope| -> Worked
+            requires four { 4 ≤ length (exchanges_of job.now.board) }
+            requires first { IsSeatOf first job.now.board }
+            requires second { IsSeatOf second job.now.board }
+            ensures seat { IsSeatOf result.seat job.entry.now.board }
+        { do_all_in_scope(scope, rt, job, first, second) },
+    )
+}
+
+// The same, in an open scope.
+fn do_all_in_scope<'s, 'e: 's, R: Abort + AllocGlobal + Threads + Sync>(
+    scope: &Scope<'s, &'e ()>,
+    rt: &'e R,
+    job: &'e Job,
+    first: Seat,
+    second: Seat,
+) -> Worked
+    requires four { 4 ≤ length (exchanges_of job.now.board) }
+    requires first { IsSeatOf first job.now.board }
+    requires second { IsSeatOf second job.now.board }
+    ensures seat { IsSeatOf result.seat job.now.board }
+{
+    let one = scope.spawn_with(
+        SeatOf(Snapshot::of(&job.board)),
+        move || -> Worked
+            requires four { 4 ≤ length (exchanges_of job.now.board) }
+            requires seat { IsSeatOf first job.now.board }
+            ensures seat { IsSeatOf result.seat job.entry.now.board }
+        { do_both(rt, job, first, 0, 2) },
+    );
+    let two = scope.spawn_with(
+        SeatOf(Snapshot::of(&job.board)),
+        move || -> Worked
+            requires four { 4 ≤ length (exchanges_of job.now.board) }
+            requires seat { IsSeatOf second job.now.board }
+            ensures seat { IsSeatOf result.seat job.entry.now.board }
+        { do_both(rt, job, second, 1, 3) },
+    );
+    let (Ok(one), Ok(two)) = (one, two) else {
+        panic!(rt; "a thread didn't start")
+    };
+    let (one, two) = (one.join(rt), two.join(rt));
+    together(rt, &job.board, one, two)
+}
+
+// Nodes 0 and 2 hold the entries of both, and so do nodes 1 and 3.
+fn expect_pairs(rt: &impl Abort, tables: &[NodeTable]) {
+    assert_eq!(rt; tables.len(), 4);
+    for (table, owners) in tables.iter().zip([[0, 2], [1, 3], [0, 2], [1, 3]]) {
+        expect_owners(rt, table, &owners);
+    }
+}
+
+fn share_a_board<R: Abort + AllocGlobal + Threads + Wait + Sync>(rt: &R) -> Result<(), Fault> {
+    let (job, mut first) = Job::new(rt, list_of(rt, 4, TWICE), 1, ONE_ENTRY)?;
+    let second = job.board.split(&mut first);
+    let Worked { mut seat, mut made } = do_all(rt, &job, first, second);
+    made.sort_unstable();
+    assert_eq!(rt; made.as_slice(), [0, 1, 2, 3].as_slice());
+    assert_eq!(rt; job.board.look(&mut seat).finished, 4);
+    let Job { board, .. } = job;
+    expect_pairs(rt, &board.close(seat)?);
+    Ok(())
+}
+
+#[test]
+fn two_scoped_threads_on_one_board(rt: HostRuntime) {
+    share_a_board(&rt).expect(&rt, "memory");
+}

@@ -1,0 +1,82 @@
+/* Preloaded before a program (LD_PRELOAD), this refuses some of its calls of the C library. Two variables say which:
+
+     REFUSED  CALL HOW FIRST LAST: the calls FIRST to LAST of a kind, counted from 1 and from the begin of main. CALL is
+              growth, read, write or thread. HOW is fails, or short: a read or write of one byte.
+     TOLD     the number of an open file, which is told at the end how often each was called, and how many were refused
+
+   What comes before main, and what the threads of a program do in turn, is counted as it comes. */
+#define _GNU_SOURCE
+#include <dlfcn.h>
+#include <errno.h>
+#include <pthread.h>
+#include <stdatomic.h>
+#include <stdbool.h>
+#include <stdio.h>
+#include <stdlib.h>
+#include <string.h>
+#include <sys/syscall.h>
+#include <unistd.h>
+
+extern void *__libc_malloc(size_t), *__libc_calloc(size_t, size_t), *__libc_realloc(void *, size_t);
+extern void *__libc_memalign(size_t, size_t);
+
+enum call { GROWTH, READ, WRITE, THREAD, CALLS };
+static const char *const names[CALLS] = {"growth", "read", "write", "thread"};
+static atomic_long made[CALLS], refused;
+static enum call which = CALLS;
+static long first, last;
+static bool counts, is_short;
+
+__attribute__((constructor)) static void begin(void) {
+    char call[8], how[8];
+    const char *text = getenv("REFUSED");
+    if (text && sscanf(text, "%7s %7s %ld %ld", call, how, &first, &last) == 4) {
+        for (which = 0; which < CALLS && strcmp(call, names[which]); which++) {}
+        is_short = strcmp(how, "short") == 0;
+    }
+    counts = true;
+}
+
+static bool is_refused(enum call call) {
+    if (!counts) return false;
+    long number = ++made[call];
+    bool is = call == which && first <= number && number <= last;
+    refused += is;
+    return is;
+}
+
+static void *no_memory(void) { return errno = ENOMEM, NULL; }
+
+void *malloc(size_t size) { return is_refused(GROWTH) ? no_memory() : __libc_malloc(size); }
+void *calloc(size_t n, size_t size) { return is_refused(GROWTH) ? no_memory() : __libc_calloc(n, size); }
+void *realloc(void *old, size_t size) { return is_refused(GROWTH) ? no_memory() : __libc_realloc(old, size); }
+void *aligned_alloc(size_t align, size_t size) { return is_refused(GROWTH) ? no_memory() : __libc_memalign(align, size); }
+
+int posix_memalign(void **at, size_t align, size_t size) {
+    return is_refused(GROWTH) || !(*at = __libc_memalign(align, size)) ? ENOMEM : 0;
+}
+
+static ssize_t moved(enum call call, int file, void *bytes, size_t count) {
+    bool is = is_refused(call);
+    if (is && !is_short) return errno = EIO, -1;
+    return syscall(call == READ ? SYS_read : SYS_write, file, bytes, is && count > 1 ? 1 : count);
+}
+
+ssize_t read(int file, void *bytes, size_t count) { return moved(READ, file, bytes, count); }
+ssize_t write(int file, const void *bytes, size_t count) { return moved(WRITE, file, (void *)bytes, count); }
+ssize_t __write(int file, const void *bytes, size_t count) { return write(file, bytes, count); }
+
+int pthread_create(pthread_t *made_thread, const pthread_attr_t *how, void *(*run)(void *), void *with) {
+    if (is_refused(THREAD)) return EAGAIN;
+    int (*create)(pthread_t *, const pthread_attr_t *, void *(*)(void *), void *) = dlsym(RTLD_NEXT, "pthread_create");
+    return create(made_thread, how, run, with);
+}
+
+void _exit(int status) {
+    const char *told = getenv("TOLD");
+    if (told) {
+        dprintf(atoi(told), "%ld %ld %ld %ld %ld\n", made[GROWTH], made[READ], made[WRITE], made[THREAD], refused);
+    }
+    syscall(SYS_exit_group, status);
+    __builtin_unreachable();
+}

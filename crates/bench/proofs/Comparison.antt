@@ -12,7 +12,7 @@ use Rattle.bench_types.specs.declared.sinks.Sink.{Ghosts as Sink}
 use Rattle.bench_types.specs.Mode.{modes}
 use Rattle.pool.specs.Runs.{IsPoolFault}
 use Rattle.report.specs.Compare.{compare_header_line, compare_line, compare_lines}
-use Rattle.report.specs.Output.{IsWritten, IsWriteFault}
+use Rattle.bench_types.specs.Output.{IsWritten, IsWriteFault}
 use Rattle.scenario.specs.Settings.{Settings, with_mode}
 use Rattle.bench.specs.Comparisons.{lines_upto, lines_under, lines_of_modes, comparison_text, IsFaultInRound, IsFaultInRounds, IsFaultInModes}
 use Rattle.simulation.specs.RoundView.{RoundView}

@@ -4,7 +4,7 @@ use Rattle.bench_types.specs.declared.exchanges.Mode.{Mode}
 use Rattle.bench_types.specs.declared.faults.Fault.{Fault}
 use Rattle.bench_types.specs.declared.faults.Fault.TheVariants.{OutOfMemory, WriteFailed}
 use Rattle.bench_types.specs.declared.sinks.Sink.{Ghosts as Sink}
-use Rattle.report.specs.Output.{IsWritten, IsWriteFault}
+use Rattle.bench_types.specs.Output.{IsWritten, IsWriteFault}
 use Rattle.scenario.specs.Settings.{Settings}
 use Rattle.bench.specs.Comparisons.{IsFaultInModes}
 use Rattle.bench.specs.Runs.{IsFaultAfter, IsWritingFault, StoppingPlace, StopsAt, TellsOfFailing, report_header, trace_header, round_after, lines_after, row_after}

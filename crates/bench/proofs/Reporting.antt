@@ -12,7 +12,7 @@ use Rattle.bench_types.specs.declared.rows.Row.{Row}
 use Rattle.bench_types.specs.declared.sinks.Sink.{Ghosts as Sink}
 use Rattle.round_plan.specs.Plan.{RoundListView}
 use Rattle.pool.specs.Runs.{IsPoolFault}
-use Rattle.report.specs.Output.{IsWritten, IsWriteFault}
+use Rattle.bench_types.specs.Output.{IsWritten, IsWriteFault}
 use Rattle.report.specs.Trace.{trace_header_line, trace_lines}
 use Rattle.report.specs.Report.{report_header_line, report_line, report_lines}
 use Rattle.scenario.specs.Settings.{Settings}

@@ -9,7 +9,7 @@ use Rattle.bench_types.specs.declared.sinks.Sink.{Ghosts as Sink}
 use Rattle.bench_types.specs.declared.sources.Source.{Ghosts as Source}
 use Rattle.pool.specs.Runs.{IsPoolFault}
 use Rattle.report.specs.Compare.{compare_header_line, compare_line, compare_lines}
-use Rattle.report.specs.Output.{IsWritten, IsWriteFault}
+use Rattle.bench_types.specs.Output.{IsWritten, IsWriteFault}
 use Rattle.scenario.specs.Settings.{Settings, with_mode}
 use Rattle.simulation.specs.Outcomes.{row_in}
 use Rattle.bench.specs.Inputs.{IsRead, IsInputFault}

@@ -9,7 +9,7 @@ use Rattle.bench_types.specs.declared.faults.Fault.TheVariants.{NoThread, WriteF
 use Rattle.bench_types.specs.declared.sinks.Sink.{Ghosts as Sink}
 use Rattle.bench_types.specs.declared.sources.Source.{Ghosts as Source}
 use Rattle.pool.specs.Runs.{IsPoolFault}
-use Rattle.report.specs.Output.{IsWritten, IsWriteFault}
+use Rattle.bench_types.specs.Output.{IsWritten, IsWriteFault}
 use Rattle.report.specs.Report.{report_header_line, report_line}
 use Rattle.report.specs.Trace.{trace_header_line}
 use Rattle.scenario.specs.Settings.{Settings}

@@ -2,7 +2,7 @@
 
 ghost use Rattle.std.specs.Prelude.{◌≡◌, ◌≤◌, [], true, false, IfOk, OnOk, IfErr};
 ghost use Rattle.bench_types.specs.declared.limits.TheConstants.{MOST_WORKERS};
-ghost use Rattle.report.specs.Output.{IsWritten};
+ghost use Rattle.bench_types.specs.Output.{IsWritten};
 ghost use Rattle.bench.specs.Runs.{TellsOfFailing, ComesOnceAccepted};
 ghost use Rattle.bench.specs.Comparisons.{lines_upto, lines_of_modes, IsFaultInRounds, IsFaultInModes, IsCompared, IsCompareFault};
 

@@ -3,3 +3,4 @@ pub mod Entry
 pub mod Exchange
 pub mod Mark
 pub mod Mode
+pub mod Output

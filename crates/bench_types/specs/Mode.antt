@@ -4,15 +4,15 @@
 use Rattle.std.specs.Prelude.{ℕ, List, [], ◌∷◌, Option, codes, bytes_eq, find}
 use Rattle.bench_types.specs.declared.exchanges.Mode.{Mode}
 use Rattle.bench_types.specs.declared.exchanges.Mode.TheVariants.{ScuttleBreadth, ScuttleDepth, PreciseOldest, PreciseNewest}
-use Rattle.bench_types.specs.declared.exchanges.Telling.{Telling}
-use Rattle.bench_types.specs.declared.exchanges.Telling.TheVariants.{Greatest, Each}
+use Rattle.bench_types.specs.declared.exchanges.DigestKind.{DigestKind}
+use Rattle.bench_types.specs.declared.exchanges.DigestKind.TheVariants.{Scuttle, Precise}
 
--- what a digest tells in a mode
-abbrev pub told_by : Mode → Telling
-told_by ScuttleBreadth = Greatest
-told_by ScuttleDepth = Greatest
-told_by PreciseOldest = Each
-told_by PreciseNewest = Each
+-- the kind of a mode's digests
+abbrev pub digest_kind : Mode → DigestKind
+digest_kind ScuttleBreadth = Scuttle
+digest_kind ScuttleDepth = Scuttle
+digest_kind PreciseOldest = Precise
+digest_kind PreciseNewest = Precise
 
 abbrev pub mode_name : Mode → List ℕ
 mode_name ScuttleBreadth = codes "scuttle-breadth"

@@ -2,17 +2,17 @@
 
 ghost use Rattle.std.specs.Prelude.{◌≡◌, Some, find, bytes_eq};
 ghost use Rattle.bench_types.specs.Budget.{amount_of, share_of};
-ghost use Rattle.bench_types.specs.Mode.{told_by, mode_name, mode_named};
+ghost use Rattle.bench_types.specs.Mode.{digest_kind, mode_name, mode_named};
 
 use crate::entries::Entry;
 
 /// What a digest tells of a table.
 #[derive(Clone, Copy, Debug, PartialEq, Eq)]
-pub enum Telling {
+pub enum DigestKind {
     /// The greatest mark that is held of each owner.
-    Greatest,
+    Scuttle,
     /// Each mark that is held, of each owner and key, and the generation held of each owner.
-    Each,
+    Precise,
 }
 
 /// Which entries are sent, which follows from what digests tell, and in which order.
@@ -38,13 +38,13 @@ impl Mode {
         Mode::PreciseNewest,
     ];
 
-    /// What a digest tells in this mode.
-    pub fn told_by(self) -> Telling
-        ensures { result ≡ told_by self }
+    /// The kind of this mode's digests.
+    pub fn digest_kind(self) -> DigestKind
+        ensures { result ≡ digest_kind self }
     {
         match self {
-            Mode::ScuttleBreadth | Mode::ScuttleDepth => Telling::Greatest,
-            Mode::PreciseOldest | Mode::PreciseNewest => Telling::Each,
+            Mode::ScuttleBreadth | Mode::ScuttleDepth => DigestKind::Scuttle,
+            Mode::PreciseOldest | Mode::PreciseNewest => DigestKind::Precise,
         }
     }
 

@@ -8,14 +8,16 @@ mod exchanges;
 mod faults;
 mod fields;
 pub mod limits;
+mod outputs;
 mod rows;
 mod sinks;
 mod sources;
 
 pub use entries::{Entry, Item, Mark};
-pub use exchanges::{Budget, Exchange, Fate, Mode, Record, Rules, Telling};
+pub use exchanges::{Budget, DigestKind, Exchange, Fate, Mode, Record, Rules};
 pub use faults::Fault;
 pub use fields::{Field, TableName};
+pub use outputs::write_text;
 pub use rows::{Figures, Row};
 pub use sinks::{Discard, Push, Sink};
 pub use sources::{Failed, Pull, Source};

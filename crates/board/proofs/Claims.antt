@@ -14,7 +14,7 @@ use Rattle.dependencies.proofs.Sharers.{initiator_part, responder_part, not_init
 use Rattle.board.specs.Weights.{total, only, times}
 use Rattle.board.specs.SeatView.{SeatView, with_told}
 use Rattle.board.specs.Plan.{BoardPlan, initiator_of, responder_of}
-use Rattle.board.specs.Rule.{Slot, Home, TAKEN, word_of, made_in, held_in, running_in, freed_in, owed_to, finished_in, Orderly}
+use Rattle.board.specs.Rule.{Slot, Home, TAKEN, exchange_word, made_in, held_in, running_in, freed_in, owed_to, finished_in, Orderly}
 use Rattle.board.specs.Seats.{Sat, view, resting}
 use Rattle.board.specs.inner.Plays.{ClaimTells, TookOut, claimed}
 use Rattle.board.specs.declared.views.View.{View}
@@ -57,7 +57,7 @@ told_of : (plan : BoardPlan) (v : SeatView) (i r : ℕ) (st : Rattle.atomic_tabl
 told_of plan v i r st after word tells j e = let same : i ≡ j = omega (arith, word, e) in subst (Tells plan v r after) same tells
 
 module _ (plan : BoardPlan) (id : ℕ) (v : SeatView) (some_parts : 0 < v.parts) (s : St) (o : Orderly plan s) (me : get_elem? s.views id ≡ some (resting plan v)) (i : ℕ) (in_list : i < length plan.list.exchanges) where
-  module _ (is : word_of s.words i ≡ 0) where
+  module _ (is : exchange_word s.words i ≡ 0) where
     abbrev w : View
     w = view plan v (i ∷ []) []
 
@@ -94,10 +94,10 @@ module _ (plan : BoardPlan) (id : ℕ) (v : SeatView) (some_parts : 0 < v.parts)
     abbrev words' : List ℕ
     words' = set s.words (i + 1) TAKEN
 
-    word_other : (j : ℕ) → j ≢ i → word_of words' j ≡ word_of s.words j
+    word_other : (j : ℕ) → j ≢ i → exchange_word words' j ≡ exchange_word s.words j
     word_other j other = get_or-set_other s.words (i + 1) (j + 1) TAKEN 0 (λ e. other (omega (arith, e)))
 
-    word_here : word_of words' i ≡ TAKEN
+    word_here : exchange_word words' i ≡ TAKEN
     word_here = get_or-set_same s.words (i + 1) TAKEN 0 size
 
     won : (homes : List Home) → length homes ≡ length s.homes → ((node : ℕ) → takes_part plan.list.exchanges node i ≡ false → get_elem? homes node ≡ get_elem? s.homes node) → Orderly plan record { words = words'; homes = homes; views = after }
@@ -107,7 +107,7 @@ module _ (plan : BoardPlan) (id : ℕ) (v : SeatView) (some_parts : 0 < v.parts)
       words = words_claimed plan.list.exchanges (made_in s.views) (running_in s.views) (made_in after) (running_in after) o.in_order (owed_to s.views) (owed_to after) s.words words' o.words i
           (length-set s.words (i + 1) TAKEN) word_other word_here made_same runs_more owed_same (ready plan s o i in_list is).1;
       freed = freed_kept plan.list.exchanges (freed_in s.views) (freed_in after) s.words words' o.freed (λ j. omega (arith, freed-set s.views id (resting plan v) w me j)) (λ j. elim (cases_eq j i) [
-        | inl here ↦ inr (ap (word_of s.words) here ∙ is, ap (word_of words') here ∙ word_here)
+        | inl here ↦ inr (ap (exchange_word s.words) here ∙ is, ap (exchange_word words') here ∙ word_here)
         | inr other ↦ inl (word_other j other)
       ]);
       tables = tables_claimed plan (made_in s.views) (running_in s.views) (held_in s.views) (made_in after) (running_in after) (held_in after) s.homes homes o.in_order o.tables (λ j. omega arith) i long others made_same runs_more held_same (fresh plan s o i in_list is) (earlier_made plan s o i in_list is);
@@ -140,7 +140,7 @@ module _ (plan : BoardPlan) (id : ℕ) (v : SeatView) (some_parts : 0 < v.parts)
           ),
         )
 
-  goes_taken : (n : ℕ) (said : mathlib.Core.Option.Option Slot) → word_of s.words i ≡ TAKEN → Goes plan s (i + 1) id (resting plan v, []) (claimed (step n (i + 1) 0 TAKEN said) (resting plan v, [])) (get_or s.words (i + 1) 0)
+  goes_taken : (n : ℕ) (said : mathlib.Core.Option.Option Slot) → exchange_word s.words i ≡ TAKEN → Goes plan s (i + 1) id (resting plan v, []) (claimed (step n (i + 1) 0 TAKEN said) (resting plan v, [])) (get_or s.words (i + 1) 0)
   goes_taken n said is = (
     resting plan (with_told v i),
     keeps,
@@ -160,7 +160,7 @@ module _ (plan : BoardPlan) (id : ℕ) (v : SeatView) (some_parts : 0 < v.parts)
     ),
   )
 
-  goes_waits : (n : ℕ) (said : mathlib.Core.Option.Option Slot) → word_of s.words i ≢ 0 → word_of s.words i ≢ TAKEN → Goes plan s (i + 1) id (resting plan v, []) (claimed (step n (i + 1) 0 TAKEN said) (resting plan v, [])) (get_or s.words (i + 1) 0)
+  goes_waits : (n : ℕ) (said : mathlib.Core.Option.Option Slot) → exchange_word s.words i ≢ 0 → exchange_word s.words i ≢ TAKEN → Goes plan s (i + 1) id (resting plan v, []) (claimed (step n (i + 1) 0 TAKEN said) (resting plan v, [])) (get_or s.words (i + 1) 0)
   goes_waits n said not_ready not_taken = (
     resting plan v,
     keeps,

@@ -14,7 +14,7 @@ use Rattle.board.specs.Weights.{total, only, times, flag}
 use Rattle.board.specs.SeatView.{SeatView, IsWhole, split_left, split_right, joined}
 use Rattle.board.specs.inner.Plays.{spent_seat}
 use Rattle.board.specs.Plan.{BoardPlan, IsBoardPlan, table_at}
-use Rattle.board.specs.Rule.{Slot, word_of, made_in, held_in, running_in, freed_in, owed_from, owed_to, from_only, to_only, finished_in, IsSpent, OwesForMade, Orderly}
+use Rattle.board.specs.Rule.{Slot, exchange_word, made_in, held_in, running_in, freed_in, owed_from, owed_to, from_only, to_only, finished_in, IsSpent, OwesForMade, Orderly}
 use Rattle.board.specs.Seats.{view, resting, LookTells}
 use Rattle.board.specs.inner.Plays.{opened_view, is_odd}
 use Rattle.board.specs.declared.views.View.{View}
@@ -200,7 +200,7 @@ joins plan blank id other m k v w some_parts e d = subst (λ x. Joins (Orderly p
 pub record IsOpening (plan : BoardPlan) (words : List ℕ) (slots : List Slot) : Type 0 where
   pub long : length words ≡ length plan.list.exchanges + 1
   pub count : get_or words 0 0 ≡ 0
-  pub waits : (i : ℕ) → i < length plan.list.exchanges → word_of words i ≡ pending_of plan.list.exchanges i
+  pub waits : (i : ℕ) → i < length plan.list.exchanges → exchange_word words i ≡ pending_of plan.list.exchanges i
   pub size : length slots ≡ plan.list.nodes
   pub tables : (node : ℕ) → node < plan.list.nodes → (kept : NodeTableView) × (get_elem? slots node ≡ some (Some kept)) × (kept.table ≡ table_of_node plan.tables node)
 

@@ -18,7 +18,7 @@ use Rattle.board.specs.SeatView.{SeatView, IsWhole, with_made, having_seen, havi
 use Rattle.board.specs.inner.Plays.{with_freed}
 use Rattle.board.specs.Plan.{BoardPlan, table_at, initiator_of, responder_of, exchanged_at}
 use Rattle.board.specs.inner.Plays.{successor_list}
-use Rattle.board.specs.Rule.{Slot, Home, TAKEN, word_of, made_in, held_in, moving_in, running_in, freed_in, told_in, known_in, owed_from, owed_to, from_only, to_only, finished_in, HasTable, Orderly}
+use Rattle.board.specs.Rule.{Slot, Home, TAKEN, exchange_word, made_in, held_in, moving_in, running_in, freed_in, told_in, known_in, owed_from, owed_to, from_only, to_only, finished_in, HasTable, Orderly}
 use Rattle.board.specs.Seats.{Sat, view, resting}
 use Rattle.board.specs.inner.Plays.{releases_by, is_odd, finished, released, looked, halted, shown}
 use Rattle.board.specs.declared.views.View.{View}
@@ -184,7 +184,7 @@ module _ (plan : BoardPlan) (id : ℕ) (v : SeatView) (some_parts : 0 < v.parts)
     owing = view plan v [] ((i, j) ∷ more)
 
     abbrev found : ℕ
-    found = word_of s.words j
+    found = exchange_word s.words j
 
     abbrev word : ℕ
     word = (found + (2 ^ 64 - 1)) % 2 ^ 64
@@ -213,10 +213,10 @@ module _ (plan : BoardPlan) (id : ℕ) (v : SeatView) (some_parts : 0 < v.parts)
     one_less : word + 1 ≡ found
     one_less = omega (arith, some_left, bound, pending_most plan.list.exchanges j)
 
-    word_other : (k : ℕ) → k ≢ j → word_of words' k ≡ word_of s.words k
+    word_other : (k : ℕ) → k ≢ j → exchange_word words' k ≡ exchange_word s.words k
     word_other k other = get_or-set_other s.words (j + 1) (k + 1) word 0 (λ e. other (omega (arith, e)))
 
-    word_here : word_of words' j ≡ word
+    word_here : exchange_word words' j ≡ word
     word_here = get_or-set_same s.words (j + 1) word 0 (omega (arith, o.words.size, within))
 
     module _ (seat : SeatView) (made : seat.made ≡ v.made) (held : seat.held ≡ v.held) (told : seat.told ≡ v.told) (known : seat.known ≡ v.known) (seen : seat.seen ≡ v.seen) (stopped : seat.is_stopped ≡ v.is_stopped) (halted_same : seat.is_halted ≡ v.is_halted) (parts : seat.parts ≡ v.parts)
@@ -350,7 +350,7 @@ module _ (plan : BoardPlan) (id : ℕ) (v : SeatView) (some_parts : 0 < v.parts)
         let held_same : (j : ℕ) → held_in after j ≡ held_in s.views j = λ j. omega (arith, held-set s.views id (resting plan v) w me j) in
         let running_same : (j : ℕ) → running_in after j ≡ running_in s.views j = λ j. omega (arith, held_same j, moving-set s.views id (resting plan v) w me j) in
         let finished_same : finished_in after ≡ finished_in s.views = omega (arith, finished-set s.views id (resting plan v) w me) in
-        let others : (j : ℕ) → word_of words' j ≡ word_of s.words j = λ j. get_or-set_other s.words 0 (j + 1) (bit_or r 1) 0 (λ e. omega (arith, e)) in (
+        let others : (j : ℕ) → exchange_word words' j ≡ exchange_word s.words j = λ j. get_or-set_other s.words 0 (j + 1) (bit_or r 1) 0 (λ e. omega (arith, e)) in (
           w,
           keeps,
           tt,

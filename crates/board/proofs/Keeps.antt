@@ -8,7 +8,7 @@ use Rattle.atomic_table.proofs.Lists.{at_set}
 use Rattle.bench_types.specs.declared.exchanges.Exchange.{Exchange}
 use Rattle.board.specs.Weights.{total, times, flag}
 use Rattle.board.specs.Plan.{BoardPlan}
-use Rattle.board.specs.Rule.{Slot, Home, made_in, held_in, moving_in, running_in, freed_in, told_in, known_in, owed_from, owed_to, from_only, to_only, finished_in, parts_in, stops_known, stops_called, AreSound, OwesForMade, IsSpent, AreSeats, Orderly}
+use Rattle.board.specs.Rule.{Slot, Home, made_in, held_in, moving_in, running_in, freed_in, told_in, known_in, owed_from, owed_to, from_only, to_only, finished_in, parts_in, stops_known, stops_called, AreInformed, OwesForMade, IsSpent, AreSeats, Orderly}
 use Rattle.board.specs.declared.views.View.{View}
 use Rattle.board.proofs.Sums.{total-set, term_le}
 use Rattle.board.proofs.Parts.{order_kept, words_kept, freed_kept, tables_kept}
@@ -57,9 +57,9 @@ module _ (views : List View) (id : ℕ) (v w : View) (me : get_elem? views id �
   pub calls-set : stops_called (set views id w) + flag v.seat.is_halted ≡ stops_called views + flag w.seat.is_halted
   calls-set = total-set (λ u. flag u.seat.is_halted) views id v w me
 
-  pub sound_set : (stop : ℕ) → AreSound views stop → ((i : ℕ) → 0 < told_in (set views id w) i → 0 < made_in (set views id w) i + running_in (set views id w) i)
+  pub sound_set : (stop : ℕ) → AreInformed views stop → ((i : ℕ) → 0 < told_in (set views id w) i → 0 < made_in (set views id w) i + running_in (set views id w) i)
       → ((i : ℕ) → 0 < known_in (set views id w) i → (made_in (set views id w) i ≡ 1) × (owed_from (set views id w) i ≡ 0))
-      → w.seat.seen ≤ finished_in (set views id w) → finished_in views ≤ finished_in (set views id w) → (w.seat.is_stopped ≡ true → stop ≡ 1) → w.seat.is_halted ≡ v.seat.is_halted → AreSound (set views id w) stop
+      → w.seat.seen ≤ finished_in (set views id w) → finished_in views ≤ finished_in (set views id w) → (w.seat.is_stopped ≡ true → stop ≡ 1) → w.seat.is_halted ≡ v.seat.is_halted → AreInformed (set views id w) stop
   sound_set stop sound told known seen more stopped halted = record {
     told = told;
     known = known;

@@ -12,7 +12,7 @@ use Rattle.dependencies.proofs.Moves.{table_still}
 use Rattle.board.specs.Weights.{only, times}
 use Rattle.board.specs.Plan.{BoardPlan, table_at}
 use Rattle.board.specs.inner.Plays.{successor_list}
-use Rattle.board.specs.Rule.{IsInOrder, TAKEN, word_of, CountsPredecessors, NamesFreed, Home, HasTable, AreFinishedBelow, NoneIsClaimedFrom, HasTables}
+use Rattle.board.specs.Rule.{IsInOrder, TAKEN, exchange_word, CountsPredecessors, NamesFreed, Home, HasTable, AreFinishedBelow, NoneIsClaimedFrom, HasTables}
 use Rattle.board.proofs.Sums.{only-same, only-other, total_sum, total_same}
 use Rattle.board.proofs.Releases.{releases_meet, predecessor_shares}
 
@@ -59,7 +59,7 @@ module _ (es : List Exchange) (made running made' running' : ℕ → ℕ) (order
 
   module _ (owed owed' : ℕ → ℕ) (words words' : List ℕ) (counts : CountsPredecessors es made running owed words) where
     -- nothing that the words count has changed
-    pub words_kept : length words' ≡ length words → ((i : ℕ) → word_of words' i ≡ word_of words i) → ((i : ℕ) → made' i ≡ made i) → ((i : ℕ) → running' i ≡ running i) → ((i : ℕ) → owed' i ≡ owed i) → CountsPredecessors es made' running' owed' words'
+    pub words_kept : length words' ≡ length words → ((i : ℕ) → exchange_word words' i ≡ exchange_word words i) → ((i : ℕ) → made' i ≡ made i) → ((i : ℕ) → running' i ≡ running i) → ((i : ℕ) → owed' i ≡ owed i) → CountsPredecessors es made' running' owed' words'
     words_kept long word same runs owes = record {
       size = long ∙ counts.size;
       taken = λ i claimed. let was = counts.taken i (omega (arith, same i, runs i, claimed)) in (word i ∙ was.0, owes i ∙ was.1);
@@ -67,12 +67,12 @@ module _ (es : List Exchange) (made running made' running' : ℕ → ℕ) (order
       bounded = λ i within waiting. omega (arith, word i, counts.bounded i within (omega (arith, same i, runs i, waiting)));
     }
 
-    pub words_claimed : (k : ℕ) → length words' ≡ length words → ((i : ℕ) → i ≢ k → word_of words' i ≡ word_of words i) → word_of words' k ≡ TAKEN → ((i : ℕ) → made' i ≡ made i) → ((i : ℕ) → running' i ≡ running i + only k i)
+    pub words_claimed : (k : ℕ) → length words' ≡ length words → ((i : ℕ) → i ≢ k → exchange_word words' i ≡ exchange_word words i) → exchange_word words' k ≡ TAKEN → ((i : ℕ) → made' i ≡ made i) → ((i : ℕ) → running' i ≡ running i + only k i)
         → ((i : ℕ) → owed' i ≡ owed i) → owed k ≡ 0 → CountsPredecessors es made' running' owed' words'
     words_claimed k long word here same more owes none = record {
       size = long ∙ counts.size;
       taken = λ i claimed. elim (cases_eq i k) [
-        | inl at ↦ subst (λ n. (word_of words' n ≡ TAKEN) × (owed' n ≡ 0)) (sym at) (here, owes k ∙ none)
+        | inl at ↦ subst (λ n. (exchange_word words' n ≡ TAKEN) × (owed' n ≡ 0)) (sym at) (here, owes k ∙ none)
         | inr other ↦ let was = counts.taken i (omega (arith, same i, more i, only-other k i other, claimed)) in (word i other ∙ was.0, owes i ∙ was.1)
       ];
       waits = λ i within waiting. let other : i ≢ k = λ at. omega (arith, more i, waiting, ap (only k) at, only-same k) in
@@ -81,7 +81,7 @@ module _ (es : List Exchange) (made running made' running' : ℕ → ℕ) (order
           omega (arith, word i other, counts.bounded i within (omega (arith, same i, more i, waiting)));
     }
 
-    pub words_finished : (k : ℕ) → length words' ≡ length words → ((i : ℕ) → word_of words' i ≡ word_of words i) → ((i : ℕ) → made' i ≡ made i + only k i) → ((i : ℕ) → made' i + running' i ≡ made i + running i)
+    pub words_finished : (k : ℕ) → length words' ≡ length words → ((i : ℕ) → exchange_word words' i ≡ exchange_word words i) → ((i : ℕ) → made' i ≡ made i + only k i) → ((i : ℕ) → made' i + running' i ≡ made i + running i)
         → ((i : ℕ) → owed' i ≡ owed i + times i (successor_list es k)) → 0 < running k → k < length es → CountsPredecessors es made' running' owed' words'
     words_finished k long word more same owes runs in_list = record {
       size = long ∙ counts.size;
@@ -111,7 +111,7 @@ module _ (es : List Exchange) (made running made' running' : ℕ → ℕ) (order
       bounded = λ i within waiting. omega (arith, word i, counts.bounded i within (omega (arith, same i, waiting)));
     }
 
-    pub words_released : (k : ℕ) → length words' ≡ length words → ((i : ℕ) → i ≢ k → word_of words' i ≡ word_of words i) → word_of words' k + 1 ≡ word_of words k → ((i : ℕ) → made' i ≡ made i) → ((i : ℕ) → running' i ≡ running i)
+    pub words_released : (k : ℕ) → length words' ≡ length words → ((i : ℕ) → i ≢ k → exchange_word words' i ≡ exchange_word words i) → exchange_word words' k + 1 ≡ exchange_word words k → ((i : ℕ) → made' i ≡ made i) → ((i : ℕ) → running' i ≡ running i)
         → ((i : ℕ) → owed' i + only k i ≡ owed i) → CountsPredecessors es made' running' owed' words'
     words_released k long word here same runs owes = record {
       size = long ∙ counts.size;
@@ -120,18 +120,18 @@ module _ (es : List Exchange) (made running made' running' : ℕ → ℕ) (order
           let other : i ≢ k = λ at. omega (arith, owes i, was.1, ap (only k) at, only-same k) in
           (word i other ∙ was.0, omega (arith, owes i, was.1));
       waits = λ i within waiting. let was = counts.waits i within (omega (arith, same i, runs i, waiting)) in let sums = total_same made' made (predecessors es i) same in elim (cases_eq i k) [
-        | inl at ↦ omega (arith, ap (word_of words') at, ap (word_of words) at, here, ap (only k) at, only-same k, owes i, sums, was)
+        | inl at ↦ omega (arith, ap (exchange_word words') at, ap (exchange_word words) at, here, ap (only k) at, only-same k, owes i, sums, was)
         | inr other ↦ omega (arith, word i other, only-other k i other, owes i, sums, was)
       ];
       bounded = λ i within waiting. let was = counts.bounded i within (omega (arith, same i, runs i, waiting)) in elim (cases_eq i k) [
-        | inl at ↦ omega (arith, ap (word_of words') at, ap (word_of words) at, here, was)
+        | inl at ↦ omega (arith, ap (exchange_word words') at, ap (exchange_word words) at, here, was)
         | inr other ↦ omega (arith, word i other, was)
       ];
     }
 
 module _ (es : List Exchange) (freed freed' : ℕ → ℕ) (words words' : List ℕ) (names : NamesFreed es freed words) where
   -- a word stays, or an exchange that was ready is claimed
-  pub freed_kept : ((i : ℕ) → freed' i ≡ freed i) → ((i : ℕ) → (word_of words' i ≡ word_of words i) ⊎ ((word_of words i ≡ 0) × (word_of words' i ≡ TAKEN))) → NamesFreed es freed' words'
+  pub freed_kept : ((i : ℕ) → freed' i ≡ freed i) → ((i : ℕ) → (exchange_word words' i ≡ exchange_word words i) ⊎ ((exchange_word words i ≡ 0) × (exchange_word words' i ≡ TAKEN))) → NamesFreed es freed' words'
   freed_kept same word = record {
     ready = λ i within waits is. same i ∙ names.ready i within waits (elim (word i) [
       | inl as_it_was ↦ elim is [
@@ -148,12 +148,12 @@ module _ (es : List Exchange) (freed freed' : ℕ → ℕ) (words words' : List 
   }
 
   -- a release that isn't the last
-  pub freed_waits : (k : ℕ) → ((i : ℕ) → freed' i ≡ freed i) → ((i : ℕ) → i ≢ k → word_of words' i ≡ word_of words i) → word_of words' k + 1 ≡ word_of words k → 0 < word_of words' k → word_of words k < TAKEN → k < length es → NamesFreed es freed' words'
+  pub freed_waits : (k : ℕ) → ((i : ℕ) → freed' i ≡ freed i) → ((i : ℕ) → i ≢ k → exchange_word words' i ≡ exchange_word words i) → exchange_word words' k + 1 ≡ exchange_word words k → 0 < exchange_word words' k → exchange_word words k < TAKEN → k < length es → NamesFreed es freed' words'
   freed_waits k same word here some_left few in_list = record {
     ready = λ i within waits is. elim (cases_eq i k) [
       | inl at ↦ elim is [
-        | inl none ↦ absurd (omega (arith, ap (word_of words') at, none, some_left))
-        | inr taken ↦ absurd (omega (arith, ap (word_of words') at, taken, here, few))
+        | inl none ↦ absurd (omega (arith, ap (exchange_word words') at, none, some_left))
+        | inr taken ↦ absurd (omega (arith, ap (exchange_word words') at, taken, here, few))
       ]
       | inr other ↦ same i ∙ names.ready i within waits (elim is [
         | inl none ↦ inl (sym (word i other) ∙ none)
@@ -161,14 +161,14 @@ module _ (es : List Exchange) (freed freed' : ℕ → ℕ) (words words' : List 
       ])
     ];
     waiting = λ i within low high. same i ∙ elim (cases_eq i k) [
-      | inl at ↦ names.waiting i within (omega (arith, ap (word_of words) at, here, some_left)) (omega (arith, ap (word_of words) at, few))
+      | inl at ↦ names.waiting i within (omega (arith, ap (exchange_word words) at, here, some_left)) (omega (arith, ap (exchange_word words) at, few))
       | inr other ↦ names.waiting i within (omega (arith, word i other, low)) (omega (arith, word i other, high))
     ];
     first = λ i is. same i ∙ names.first i is;
   }
 
   -- the last release
-  pub freed_last : (k : ℕ) → ((i : ℕ) → freed' i ≡ freed i + only k i) → ((i : ℕ) → i ≢ k → word_of words' i ≡ word_of words i) → word_of words' k ≡ 0 → word_of words k ≡ 1 → k < length es → 0 < pending_of es k → NamesFreed es freed' words'
+  pub freed_last : (k : ℕ) → ((i : ℕ) → freed' i ≡ freed i + only k i) → ((i : ℕ) → i ≢ k → exchange_word words' i ≡ exchange_word words i) → exchange_word words' k ≡ 0 → exchange_word words k ≡ 1 → k < length es → 0 < pending_of es k → NamesFreed es freed' words'
   freed_last k more word here was in_list waits_k = record {
     ready = λ i within waits is. elim (cases_eq i k) [
       | inl at ↦ omega (arith, more i, ap freed at, ap (only k) at, only-same k, names.waiting k in_list (omega (arith, was)) (omega (arith, was)))
@@ -183,7 +183,7 @@ module _ (es : List Exchange) (freed freed' : ℕ → ℕ) (words words' : List 
       )
     ];
     waiting = λ i within low high. elim (cases_eq i k) [
-      | inl at ↦ absurd (omega (arith, ap (word_of words') at, here, low))
+      | inl at ↦ absurd (omega (arith, ap (exchange_word words') at, here, low))
       | inr other ↦ omega (arith, more i, only-other k i other, names.waiting i within (omega (arith, word i other, low)) (omega (arith, word i other, high)))
     ];
     first = λ i is. elim (cases_eq i k) [

@@ -15,7 +15,7 @@ use Rattle.dependencies.proofs.Sharers.{share_common}
 use Rattle.board.specs.Weights.{total, only, times, flag}
 use Rattle.board.specs.SeatView.{IsWhole}
 use Rattle.board.specs.Plan.{BoardPlan, IsBoardPlan, table_at}
-use Rattle.board.specs.Rule.{Slot, TAKEN, word_of, made_in, held_in, moving_in, running_in, owed_from, owed_to, from_only, to_only, finished_in, stops_called, HasTable, IsSpent, Orderly}
+use Rattle.board.specs.Rule.{Slot, TAKEN, exchange_word, made_in, held_in, moving_in, running_in, owed_from, owed_to, from_only, to_only, finished_in, stops_called, HasTable, IsSpent, Orderly}
 use Rattle.board.specs.inner.Plays.{is_odd, ClaimTells}
 use Rattle.board.specs.Seats.{LookTells, IsApart}
 use Rattle.board.specs.declared.views.View.{View}
@@ -48,19 +48,19 @@ module _ (plan : BoardPlan) (s : State Slot View) (o : Orderly plan s) where
       upto_full (made_in s.views) (length es) i made_most (sym (lengths-upto (λ v. v.seat.made) s.views (length es) (λ j past. omega (arith, o.in_order.within j past))) ∙ all) within
 
   -- an exchange of the list whose word isn't TAKEN wasn't claimed, and another was
-  pub unclaimed : (i : ℕ) → word_of s.words i ≢ TAKEN → made_in s.views i + running_in s.views i ≡ 0
+  pub unclaimed : (i : ℕ) → exchange_word s.words i ≢ TAKEN → made_in s.views i + running_in s.views i ≡ 0
   unclaimed i is = elim (cases_lt 0 (made_in s.views i + running_in s.views i)) [
     | inl claimed ↦ absurd (is (o.words.taken i claimed).0)
     | inr nothing ↦ omega (arith, nothing)
   ]
 
-  pub was_claimed : (i : ℕ) → i < length es → word_of s.words i ≡ TAKEN → 0 < made_in s.views i + running_in s.views i
+  pub was_claimed : (i : ℕ) → i < length es → exchange_word s.words i ≡ TAKEN → 0 < made_in s.views i + running_in s.views i
   was_claimed i within is = elim (cases_lt 0 (made_in s.views i + running_in s.views i)) [
     | inl claimed ↦ claimed
     | inr nothing ↦ absurd (omega (arith, o.words.bounded i within (omega (arith, nothing)), pending_most es i, is))
   ]
 
-  module _ (i : ℕ) (within : i < length es) (is : word_of s.words i ≡ 0) where
+  module _ (i : ℕ) (within : i < length es) (is : exchange_word s.words i ≡ 0) where
     pub fresh : made_in s.views i + running_in s.views i ≡ 0
     fresh = unclaimed i (λ e. omega (arith, is, e))
 
@@ -137,7 +137,7 @@ module _ (plan : BoardPlan) (s : State Slot View) (o : Orderly plan s) where
     ]
 
     -- an exchange whose predecessors the seat has made or knows of is ready or taken
-    pub not_waiting : (i : ℕ) → i < length es → word_of s.words i ≢ 0 → word_of s.words i ≢ TAKEN → ¬ All (λ j. 0 < times j v.seat.made + times j v.seat.known) (predecessors es i)
+    pub not_waiting : (i : ℕ) → i < length es → exchange_word s.words i ≢ 0 → exchange_word s.words i ≢ TAKEN → ¬ All (λ j. 0 < times j v.seat.made + times j v.seat.known) (predecessors es i)
     not_waiting i within not_ready not_taken all =
         let nothing = unclaimed i not_taken in
         let each : All (λ j. made_in s.views j ≡ 1) (predecessors es i) = times_all (λ j. made_in s.views j ≡ 1) (predecessors es i) (λ j there. elim (cases_lt 0 (times j v.seat.made)) [
@@ -166,7 +166,7 @@ module _ (plan : BoardPlan) (s : State Slot View) (o : Orderly plan s) where
         ] in
         omega (arith, nothing, made_here i, held_here i, no_told, no_known)
 
-    pub claim_tells : (i : ℕ) → i < length es → ClaimTells es i v.seat (word_of s.words i)
+    pub claim_tells : (i : ℕ) → i < length es → ClaimTells es i v.seat (exchange_word s.words i)
     claim_tells i within = record {
       fresh = λ is. nothing_of i (fresh i within is);
       waits = λ not_ready not_taken.

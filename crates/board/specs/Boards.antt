@@ -55,7 +55,7 @@ pub record IsHoldOf (plan : BoardPlan) (i : ℕ) (hold : Hold) : Type 0 where
   pub responder : hold.responder.table ≡ table_at plan (responder_of plan i) i
 
 -- a claim that was refused since another has the exchange, and one that came too early
-pub record IsRefused (plan : BoardPlan) (v : SeatView) (i : ℕ) : Type 0 where
+pub record IsTooEarly (plan : BoardPlan) (v : SeatView) (i : ℕ) : Type 0 where
   pub unknown : IsNewTo v i
   pub pending : pending_of plan.list.exchanges i ≢ 0
   pub freed : times i v.freed ≡ 0
@@ -68,7 +68,7 @@ AreMade plan v i = All (Has v.made) (predecessors plan.list.exchanges i)
 abbrev pub Claims : BoardPlan → SeatView → ℕ → Claim → SeatView → Type 0
 Claims plan old i (Held hold) new = IsHoldOf plan i hold × (new ≡ with_held old i) × IsNewTo old i × (IsWhole old → AreMade plan old i)
 Claims plan old i Taken new = (new ≡ with_told old i) × (IsWhole old → Has (old.made ++ old.held) i)
-Claims plan old i NotReady new = (new ≡ old) × IsRefused plan old i
+Claims plan old i NotReady new = (new ≡ old) × IsTooEarly plan old i
 
 -- what put_back asks: the seat has claimed it, and the tables are those that the exchange leaves
 pub record MayPutBack (plan : BoardPlan) (v : SeatView) (hold : Hold) : Type 0 where

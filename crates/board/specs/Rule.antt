@@ -76,19 +76,19 @@ pub record IsInOrder (es : List Exchange) (made running : ℕ → ℕ) : Type 0 
 abbrev pub TAKEN : ℕ
 TAKEN = 3
 
-abbrev pub word_of : List ℕ → ℕ → ℕ
-word_of words i = slice_index words (i + 1)
+abbrev pub exchange_word : List ℕ → ℕ → ℕ
+exchange_word words i = slice_index words (i + 1)
 
 pub record CountsPredecessors (es : List Exchange) (made running owed : ℕ → ℕ) (words : List ℕ) : Type 0 where
   pub size : length words ≡ length es + 1
-  pub taken : (i : ℕ) → 0 < made i + running i → (word_of words i ≡ TAKEN) × (owed i ≡ 0)
-  pub waits : (i : ℕ) → i < length es → made i + running i ≡ 0 → word_of words i + total made (predecessors es i) ≡ pending_of es i + owed i
-  pub bounded : (i : ℕ) → i < length es → made i + running i ≡ 0 → word_of words i ≤ pending_of es i
+  pub taken : (i : ℕ) → 0 < made i + running i → (exchange_word words i ≡ TAKEN) × (owed i ≡ 0)
+  pub waits : (i : ℕ) → i < length es → made i + running i ≡ 0 → exchange_word words i + total made (predecessors es i) ≡ pending_of es i + owed i
+  pub bounded : (i : ℕ) → i < length es → made i + running i ≡ 0 → exchange_word words i ≤ pending_of es i
 
 -- 3. An exchange that has predecessors was freed by one release, the last, and no other was freed.
 pub record NamesFreed (es : List Exchange) (freed : ℕ → ℕ) (words : List ℕ) : Type 0 where
-  pub ready : (i : ℕ) → i < length es → 0 < pending_of es i → (word_of words i ≡ 0) ⊎ (word_of words i ≡ TAKEN) → freed i ≡ 1
-  pub waiting : (i : ℕ) → i < length es → 0 < word_of words i → word_of words i < TAKEN → freed i ≡ 0
+  pub ready : (i : ℕ) → i < length es → 0 < pending_of es i → (exchange_word words i ≡ 0) ⊎ (exchange_word words i ≡ TAKEN) → freed i ≡ 1
+  pub waiting : (i : ℕ) → i < length es → 0 < exchange_word words i → exchange_word words i < TAKEN → freed i ≡ 0
   pub first : (i : ℕ) → (length es ≤ i) ⊎ (pending_of es i ≡ 0) → freed i ≡ 0
 
 -- 4. Where a node's exchanges before k are finished and none from k on was claimed, its slot has its table of list order
@@ -115,7 +115,7 @@ pub record HasTables (plan : BoardPlan) (made running held : ℕ → ℕ) (homes
   pub away : (i node : ℕ) → 0 < held i → takes_part plan.list.exchanges node i ≡ true → get_elem? homes node ≡ some (some None)
 
 -- 5. What seats know is so.
-pub record AreSound (views : List View) (stop : ℕ) : Type 0 where
+pub record AreInformed (views : List View) (stop : ℕ) : Type 0 where
   pub told : (i : ℕ) → 0 < told_in views i → 0 < made_in views i + running_in views i
   pub known : (i : ℕ) → 0 < known_in views i → (made_in views i ≡ 1) × (owed_from views i ≡ 0)
   pub seen : (k : ℕ) (v : View) → get_elem? views k ≡ some v → v.seat.seen ≤ finished_in views
@@ -151,5 +151,5 @@ pub record Orderly (plan : BoardPlan) (s : State Slot View) : Type 0 where
   pub stop : ℕ
   pub stop_bit : stop ≤ 1
   pub count : slice_index s.words 0 ≡ finished_in s.views * 2 + stop
-  pub sound : AreSound s.views stop
+  pub sound : AreInformed s.views stop
   pub seats : AreSeats plan.list.exchanges s.views

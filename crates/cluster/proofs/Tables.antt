@@ -11,7 +11,7 @@ use Rattle.cluster.specs.Tables.{tables_in, table_of_node, IsTableOf, AreTablesI
 use Rattle.cluster.specs.Clusters.{KeepOwnParts}
 
 abbrev pub no_table : NodeTableView
-no_table = record { table = empty_table 0 0 0; spare = 0 }
+no_table = record { table = empty_table 0 0 0; room = 0 }
 
 pub length-tables_in : (ks : List NodeTableView) → length (tables_in ks) ≡ length ks
 length-tables_in ks = length-map ks (λ (k : NodeTableView). k.table)

@@ -3,7 +3,7 @@ use Rattle.std.proofs.Common.{◌≡◌, ℕ, List, Ok, Err, Result, IfErr, OnEr
 use Rattle.bench_types.specs.declared.faults.Fault.{Fault}
 use Rattle.bench_types.specs.declared.faults.Fault.TheVariants.{WriteFailed}
 use Rattle.bench_types.specs.declared.sinks.Sink.{Ghosts as Sink}
-use Rattle.report.specs.Output.{IsBrokenOff}
+use Rattle.bench_types.specs.Output.{IsBrokenOff}
 use Rattle.command_line.specs.Statuses.{status_of, HelpIsFaulty}
 
 pub was_faulty : {T : Type 0} {P : Fault → Type 0} (done : Result T Fault) → IfErr done P → status_of done ≡ 1 → (fault : Fault) × P fault

@@ -8,7 +8,7 @@ use Rattle.bench_types.specs.declared.sources.Source.{Ghosts as Source}
 use Rattle.bench.specs.Inputs.{IsRead, IsInputFault}
 use Rattle.bench.specs.Runs.{IsReported, IsRunFault}
 use Rattle.bench.specs.Comparisons.{IsCompared, IsCompareFault}
-use Rattle.report.specs.Output.{IsWritten, IsWriteFault}
+use Rattle.bench_types.specs.Output.{IsWritten, IsWriteFault}
 use Rattle.scenario.specs.Settings.{Settings}
 use Rattle.command_words.specs.declared.jobs.Job.{Job}
 use Rattle.command_words.specs.declared.jobs.Job.TheVariants.{Check, Run, Compare}

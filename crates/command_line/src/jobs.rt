@@ -5,9 +5,8 @@ ghost use Rattle.command_words.specs.Workers.{AreLawfulWorkers, HasLawfulWorkers
 ghost use Rattle.command_line.specs.Jobs.{IsChecked, IsCheckFault, IsReportedWith, IsRunFaultWith, IsPerformed, IsJobFault};
 
 use bench::{check_input, compare, run};
-use bench_types::{Discard, Fault, Push, Sink, Source};
+use bench_types::{Discard, Fault, Push, Sink, Source, write_text};
 use command_words::Job;
-use report::write_text;
 use std::alloc::Global;
 use std::fs;
 use std::rt::Files;

@@ -1,8 +1,7 @@
 //! The program as a process.
 
 use crate::programs::{REFUSED, main_with, status_of};
-use bench_types::{Fault, Pull, Push, Sink};
-use report::write_text;
+use bench_types::{Fault, Pull, Push, Sink, write_text};
 use std::alloc::AllocGlobal;
 use std::env::Env;
 use std::io::{Input, Print};

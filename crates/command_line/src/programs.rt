@@ -7,9 +7,8 @@ ghost use Rattle.command_line.specs.Jobs.{IsDone, IsStoppedByFault};
 
 use crate::jobs::perform;
 use arrayvec::ArrayString;
-use bench_types::{Discard, Fault, Push, Sink, Source};
+use bench_types::{Discard, Fault, Push, Sink, Source, write_text};
 use command_words::{NoJob, job_of};
-use report::write_text;
 use std::alloc::Global;
 use std::convert::AsStr;
 use std::fmt::Write;

@@ -14,7 +14,7 @@ use Rattle.dependencies.specs.declared.events.Event.TheVariants.{Start, Finish}
 use Rattle.dependencies.specs.Sharing.{exchange_at, takes_part, share_node}
 use Rattle.dependencies.specs.Schedules.{is_started, is_finished, is_running, MayStart, AreFinished, IsAllowed, IsLawful}
 use Rattle.dependencies.specs.States.{State, with_at, both_of, opened, put_back, after_event, state_of}
-use Rattle.dependencies.specs.ListOrder.{AreAmong, finished_upto, table_left, taken_before, IsInListOrder, IsWhole}
+use Rattle.dependencies.specs.ListOrder.{AreAmong, finished_upto, table_left, taken_before, IsInListOrder, IsEndOfList}
 use Rattle.dependencies.proofs.Predecessors.{share_from}
 use Rattle.dependencies.proofs.Sharers.{share_sym, initiator_part, responder_part, not_initiator, not_responder, part_cases}
 use Rattle.dependencies.proofs.Histories.{on_schedules, started-finish, finished-start, IsHistory, history_of}
@@ -227,7 +227,7 @@ in_list_order rules ts es events among lawful =
       records = state.records;
     }
 
-pub whole_in_list_order : (rules : Rules) (ts : List Table) (es : List Exchange) (events : List Event) → AreAmong ts es → IsLawful es events → AreFinished es events → IsWhole rules ts es (state_of rules ts es events)
+pub whole_in_list_order : (rules : Rules) (ts : List Table) (es : List Exchange) (events : List Event) → AreAmong ts es → IsLawful es events → AreFinished es events → IsEndOfList rules ts es (state_of rules ts es events)
 whole_in_list_order rules ts es events among lawful finished = record {
   tables = λ node lt.
       state.home node lt (λ i runs. absurd (false≢true (sym (running_unfinished events i runs) ∙ finished i (history.within i (running_started events i runs)))))

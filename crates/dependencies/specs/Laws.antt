@@ -8,7 +8,7 @@ use Rattle.dependencies.specs.Sharing.{share_node}
 use Rattle.dependencies.specs.Schedules.{is_finished, AreFinished, IsLawful}
 use Rattle.dependencies.specs.Neighbours.{predecessors}
 use Rattle.dependencies.specs.States.{state_of}
-use Rattle.dependencies.specs.ListOrder.{AreAmong, IsInListOrder, IsWhole, CanGoOn, AreClosed, schedule_of}
+use Rattle.dependencies.specs.ListOrder.{AreAmong, IsInListOrder, IsEndOfList, CanGoOn, AreClosed, schedule_of}
 
 -- it stands in list order at each moment
 abbrev pub EachKeepsListOrder : Type 0
@@ -20,7 +20,7 @@ EachKeepsListOrder =
 abbrev pub EachWholeOneGivesListOrder : Type 0
 EachWholeOneGivesListOrder =
     (rules : Rules) (ts : List Table) (es : List Exchange) (events : List Event)
-    → AreAmong ts es → IsLawful es events → AreFinished es events → IsWhole rules ts es (state_of rules ts es events)
+    → AreAmong ts es → IsLawful es events → AreFinished es events → IsEndOfList rules ts es (state_of rules ts es events)
 
 -- all its exchanges are finished, or it can go on
 abbrev pub EachCanGoOn : Type 0

@@ -44,7 +44,7 @@ pub record IsInListOrder (rules : Rules) (ts : List Table) (es : List Exchange) 
   pub records : (i : ℕ) → is_finished events i ≡ true → s.records i ≡ slice_get (fold_of rules ts es).records i
 
 -- the schedule is done, and its state is the end of list order
-pub record IsWhole (rules : Rules) (ts : List Table) (es : List Exchange) (s : State) : Type 0 where
+pub record IsEndOfList (rules : Rules) (ts : List Table) (es : List Exchange) (s : State) : Type 0 where
   pub tables : (node : ℕ) → node < length ts → s.home node ≡ slice_get (fold_of rules ts es).tables node
   pub records : (i : ℕ) → i < length es → s.records i ≡ slice_get (fold_of rules ts es).records i
 

@@ -46,14 +46,14 @@ pub struct Deps {
 }
 
 impl Model for Deps {
-    ghost use Rattle.round_plan.specs.Plan.{RoundListView, plan_of};
+    ghost use Rattle.round_plan.specs.Plan.{RoundListView, round_list_view};
     ghost use Rattle.dependencies.specs.inner.Dependencies.{AreKept};
 
     ghost Value = { RoundListView };
 
-    ghost view = { λ d. plan_of d.nodes d.unreached d.exchanges.items };
+    ghost view = { λ d. round_list_view d.nodes d.unreached d.exchanges.items };
 
-    ghost invariant = { λ d. AreKept (plan_of d.nodes d.unreached d.exchanges.items)
+    ghost invariant = { λ d. AreKept (round_list_view d.nodes d.unreached d.exchanges.items)
         d.before.items d.after.items d.first_ready.items };
 }
 

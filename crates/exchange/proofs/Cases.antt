@@ -5,7 +5,7 @@ use Rattle.bench_types.specs.declared.exchanges.Fate.{Fate}
 use Rattle.bench_types.specs.declared.exchanges.Fate.TheVariants as fate
 use Rattle.bench_types.specs.declared.exchanges.Record.{Record}
 use Rattle.bench_types.specs.declared.exchanges.Rules.{Rules}
-use Rattle.bench_types.specs.Mode.{told_by}
+use Rattle.bench_types.specs.Mode.{digest_kind}
 use Rattle.node_table.specs.Table.{Table, applied}
 use Rattle.reconcile.specs.Digests.{DigestView, IsDigestOf, digest_size}
 use Rattle.reconcile.specs.Deltas.{DeltaView, delta_between}
@@ -26,24 +26,24 @@ module _ (rules : Rules) (e : Exchange) (p q : Table) where
   ended f =
       let back = delta_between rules.mode e.rotation rules.budget q p in
       let forth = delta_between rules.mode e.rotation rules.budget p q in
-      record { initiator = initiator_after f p back; responder = responder_after f q forth; sent = sent_until f (digest_size (told_by rules.mode) p) (digest_size (told_by rules.mode) q) back forth }
+      record { initiator = initiator_after f p back; responder = responder_after f q forth; sent = sent_until f (digest_size (digest_kind rules.mode) p) (digest_size (digest_kind rules.mode) q) back forth }
 
   ended-fate : (f : Fate) → fate_of e ≡ f → exchanged rules e p q ≡ ended f
   unfolding ended
   ended-fate f is = ap ended is
 
-  size_is : (t : Table) (told : DigestView) → IsDigestOf (told_by rules.mode) t told → digest_size (told_by rules.mode) t ≡ told.size
+  size_is : (t : Table) (told : DigestView) → IsDigestOf (digest_kind rules.mode) t told → digest_size (digest_kind rules.mode) t ≡ told.size
   size_is t told is = sym is.size
 
-  pub lost1_case : (d1 : DigestView) (r : Record) → IsDigestOf (told_by rules.mode) p d1 → e.lost1 ≡ true → ((n : ℕ) (back forth : DeltaView) → r ≡ sent_until fate.Lost1 d1.size n back forth) → exchanged rules e p q ≡ record { initiator = p; responder = q; sent = r }
+  pub lost1_case : (d1 : DigestView) (r : Record) → IsDigestOf (digest_kind rules.mode) p d1 → e.lost1 ≡ true → ((n : ℕ) (back forth : DeltaView) → r ≡ sent_until fate.Lost1 d1.size n back forth) → exchanged rules e p q ≡ record { initiator = p; responder = q; sent = r }
   unfolding ended
   lost1_case d1 r is lost sent =
       ended-fate fate.Lost1 (ap (λ b. if b then fate.Lost1 else (if e.lost2 then fate.Lost2 else last_fate e.lost3)) lost)
       ∙ ap (λ (s : Record). record { initiator = p; responder = q; sent = s })
-      (ap (λ n. sent_until fate.Lost1 n (digest_size (told_by rules.mode) q) (delta_between rules.mode e.rotation rules.budget q p) (delta_between rules.mode e.rotation rules.budget p q)) (size_is p d1 is)
-      ∙ sym (sent (digest_size (told_by rules.mode) q) (delta_between rules.mode e.rotation rules.budget q p) (delta_between rules.mode e.rotation rules.budget p q)))
+      (ap (λ n. sent_until fate.Lost1 n (digest_size (digest_kind rules.mode) q) (delta_between rules.mode e.rotation rules.budget q p) (delta_between rules.mode e.rotation rules.budget p q)) (size_is p d1 is)
+      ∙ sym (sent (digest_size (digest_kind rules.mode) q) (delta_between rules.mode e.rotation rules.budget q p) (delta_between rules.mode e.rotation rules.budget p q)))
 
-  module _ (d1 d2 : DigestView) (is1 : IsDigestOf (told_by rules.mode) p d1) (is2 : IsDigestOf (told_by rules.mode) q d2) (first_came : e.lost1 ≡ false) (back : DeltaView) (back_is : back ≡ delta_between rules.mode e.rotation rules.budget q p) where
+  module _ (d1 d2 : DigestView) (is1 : IsDigestOf (digest_kind rules.mode) p d1) (is2 : IsDigestOf (digest_kind rules.mode) q d2) (first_came : e.lost1 ≡ false) (back : DeltaView) (back_is : back ≡ delta_between rules.mode e.rotation rules.budget q p) where
     pub lost2_case : (r : Record) → e.lost2 ≡ true → ((forth : DeltaView) → r ≡ sent_until fate.Lost2 d1.size d2.size back forth) → exchanged rules e p q ≡ record { initiator = p; responder = q; sent = r }
     unfolding ended
     lost2_case r lost sent =

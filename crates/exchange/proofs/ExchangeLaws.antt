@@ -5,7 +5,7 @@ use Rattle.bench_types.specs.declared.exchanges.Exchange.{Exchange}
 use Rattle.bench_types.specs.declared.exchanges.Fate.{Fate}
 use Rattle.bench_types.specs.declared.exchanges.Fate.TheVariants as fate
 use Rattle.bench_types.specs.declared.exchanges.Rules.{Rules}
-use Rattle.bench_types.specs.Mode.{told_by}
+use Rattle.bench_types.specs.Mode.{digest_kind}
 use Rattle.bench_types.proofs.Marks.{up_to-itself, up_to-then}
 use Rattle.node_table.specs.Table.{Table, applied, mark_at, greatest_mark, IsProper}
 use Rattle.node_table.proofs.Laws.{frame-applied}
@@ -28,7 +28,7 @@ whole_ended fate.Ok d1 d2 back forth is = (refl, is.back, is.forth)
 
 -- where no message is lost a budget for all candidates cuts none
 pub whole_within_budget : EnoughBudgetCutsNothing
-whole_within_budget rules e p q (came1, came2, came3) back_fits forth_fits = subst (λ f. LosesAndCutsNothing (sent_until f (digest_size (told_by rules.mode) p) (digest_size (told_by rules.mode) q) (delta_between rules.mode e.rotation rules.budget q p) (delta_between rules.mode e.rotation rules.budget p q)))
+whole_within_budget rules e p q (came1, came2, came3) back_fits forth_fits = subst (λ f. LosesAndCutsNothing (sent_until f (digest_size (digest_kind rules.mode) p) (digest_size (digest_kind rules.mode) q) (delta_between rules.mode e.rotation rules.budget q p) (delta_between rules.mode e.rotation rules.budget p q)))
     (sym (λ i. if came1 i then fate.Lost1 else (if came2 i then fate.Lost2 else last_fate (came3 i)))) (record {
       fate = refl;
       back = cut-none rules.mode q p e.rotation rules.budget back_fits;
@@ -112,7 +112,7 @@ module _ (rules : Rules) (e : Exchange) (p q : Table) (meet : MayMeet e p q) whe
   module _ (precise : IsPreciseMode rules.mode) (whole : LosesAndCutsNothing (exchanged rules e p q).sent) where
     ended : (fate_of e ≡ fate.Ok) × (back.cut ≡ 0) × (forth.cut ≡ 0)
     unfolding back forth
-    ended = whole_ended (fate_of e) (digest_size (told_by rules.mode) p) (digest_size (told_by rules.mode) q) back forth whole
+    ended = whole_ended (fate_of e) (digest_size (digest_kind rules.mode) p) (digest_size (digest_kind rules.mode) q) back forth whole
 
     pub initiator_newer : HasTheNewer p q (exchanged rules e p q).initiator
     unfolding back

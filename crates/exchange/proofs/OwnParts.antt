@@ -3,7 +3,7 @@ use Rattle.std.proofs.Common.{◌≢◌, ℕ, List, All, refl, sym, ap, ◌∙�
 use Rattle.bench_types.specs.declared.entries.Item.{Item}
 use Rattle.bench_types.specs.declared.exchanges.Exchange.{Exchange}
 use Rattle.bench_types.specs.declared.exchanges.Rules.{Rules}
-use Rattle.bench_types.specs.Mode.{told_by}
+use Rattle.bench_types.specs.Mode.{digest_kind}
 use Rattle.node_table.specs.Table.{Table, applied, items_of, entry_at, greatest_mark}
 use Rattle.node_table.proofs.Laws.{entry_at-applied_other, frame-applied}
 use Rattle.node_table.proofs.MarkLaws.{greatest_mark-applied_other}
@@ -20,7 +20,7 @@ pub delta-others : (rules : Rules) (s : ℕ) (from to : Table) → All (λ (i : 
 delta-others rules s from to =
     All-delta_between (λ (i : Item). i.owner ≢ to.node) rules.mode s rules.budget from to
     (All-weaker (λ (i : Item). (i.owner ≢ to.node) × Unit {0}) (λ (i : Item). i.owner ≢ to.node) (λ i h. h.0) (candidates rules.mode from to)
-    (All-items_above (λ i. Unit {0}) (known_mark (told_by rules.mode) to) to.node (items_of from) (λ k d lt. tt)))
+    (All-items_above (λ i. Unit {0}) (known_mark (digest_kind rules.mode) to) to.node (items_of from) (λ k d lt. tt)))
 
 pub keeps_own_same : (t : Table) → KeepsOwn t t
 keeps_own_same t = record { node = refl; nodes = refl; keys = refl; generation = refl; own_part = λ key. refl; greatest = refl }

@@ -9,7 +9,7 @@ use Rattle.bench_types.specs.declared.entries.Mark.{Mark}
 use Rattle.bench_types.specs.declared.exchanges.Mode.{Mode}
 use Rattle.bench_types.specs.declared.exchanges.Rules.{Rules}
 use Rattle.bench_types.specs.Mark.{absent, mark_of, mark_held, is_before, IsBefore, IsUpTo, later}
-use Rattle.bench_types.specs.Mode.{told_by}
+use Rattle.bench_types.specs.Mode.{digest_kind}
 use Rattle.bench_types.proofs.Marks.{before-yes, cases_before, cases_later, first-later, second-later, later-first, up_to-itself, up_to-then, up_to-both, absent-first, not_both}
 use Rattle.node_table.specs.Table.{Table, applied, entry_at, mark_at, greatest_mark, generation_held, items_of, IsProper}
 use Rattle.node_table.specs.Table.{IsItemInPlace}
@@ -17,7 +17,8 @@ use Rattle.node_table.specs.inner.Runs.{greatest_among}
 use Rattle.node_table.proofs.Greatest.{greatest_mark-from, mark_at-up_to_greatest}
 use Rattle.node_table.proofs.Items.{entry_at-items_of, Contains-items_of}
 use Rattle.node_table.proofs.Laws.{entry_at-applied_from}
-use Rattle.node_table.proofs.ProperLaws.{MayTakeItem, proper-applied}
+use Rattle.node_table.specs.NodeTableView.{MayReceive}
+use Rattle.node_table.proofs.ProperLaws.{proper-applied}
 use Rattle.node_table.proofs.MarkLaws.{greatest_mark-applied, greatest_mark-up_to_applied, keeps_up-applied, keeps_up-item, greatest_among-own, greatest_among-other}
 use Rattle.reconcile.specs.Candidates.{IsScuttleMode, known_mark, candidates}
 use Rattle.reconcile.specs.Deltas.{delta_between}
@@ -62,11 +63,11 @@ greatest_among-ge (x ∷ xs) i (suc k, lt, is) =
     ]
 
 -- a held entry that the receiver doesn't know is a candidate
-candidate : (mode : Mode) (from to : Table) (owner key : ℕ) (e : Entry) → entry_at from owner key ≡ Some e → owner ≢ to.node → IsBefore (known_mark (told_by mode) to (record { owner = owner; entry = e })) (mark_of e) → Contains (candidates mode from to) (record { owner = owner; entry = e })
+candidate : (mode : Mode) (from to : Table) (owner key : ℕ) (e : Entry) → entry_at from owner key ≡ Some e → owner ≢ to.node → IsBefore (known_mark (digest_kind mode) to (record { owner = owner; entry = e })) (mark_of e) → Contains (candidates mode from to) (record { owner = owner; entry = e })
 candidate mode from to owner key e held other newer =
     let i : Item = record { owner = owner; entry = e } in
-    Contains-filter (λ (x : Item). not (eqb x.owner to.node) && is_before (known_mark (told_by mode) to x) (mark_of x.entry)) (items_of from) i (Contains-items_of from owner key e held)
-    ((λ n. not (ne_eqb owner to.node other n) && is_before (known_mark (told_by mode) to i) (mark_of e)) ∙ before-yes (known_mark (told_by mode) to i) (mark_of e) newer)
+    Contains-filter (λ (x : Item). not (eqb x.owner to.node) && is_before (known_mark (digest_kind mode) to x) (mark_of x.entry)) (items_of from) i (Contains-items_of from owner key e held)
+    ((λ n. not (ne_eqb owner to.node other n) && is_before (known_mark (digest_kind mode) to i) (mark_of e)) ∙ before-yes (known_mark (digest_kind mode) to i) (mark_of e) newer)
 
 -- what an owner holds at a key is what a copy does whose mark there is not before
 current-held : (writes : WritesBy) (own : OwnParts) (t : Table) (generation owner key : ℕ) (e : Entry) → HoldsWrites writes t → IsLastOf generation (writes owner) (own owner) → own owner key ≡ Some e → 1 ≤ e.version → IsUpTo (mark_of e) (mark_at t owner key) → entry_at t owner key ≡ Some e
@@ -113,12 +114,12 @@ module _ (rules : Rules) (rotation : ℕ) (from to : Table) (proper : IsProper f
   -- each is held by the sender
   sent-held : (d : Item) → Contains items d → entry_at from d.owner d.entry.key ≡ Some d.entry
   sent-held d there =
-      entry_at-items_of from d proper (Contains-kept (λ (x : Item). not (eqb x.owner to.node) && is_before (known_mark (told_by rules.mode) to x) (mark_of x.entry)) (items_of from) d (sent-candidate rules.mode from to rotation rules.budget d there)).0
+      entry_at-items_of from d proper (Contains-kept (λ (x : Item). not (eqb x.owner to.node) && is_before (known_mark (digest_kind rules.mode) to x) (mark_of x.entry)) (items_of from) d (sent-candidate rules.mode from to rotation rules.budget d there)).0
 
   sent-in_place : All (λ (i : Item). (i.owner ≢ to.node) × IsItemInPlace from.nodes from.keys i) items
   sent-in_place =
       All-delta_between (λ (i : Item). (i.owner ≢ to.node) × IsItemInPlace from.nodes from.keys i) rules.mode rotation rules.budget from to
-      (candidates-in_place from (known_mark (told_by rules.mode) to) to.node proper)
+      (candidates-in_place from (known_mark (digest_kind rules.mode) to) to.node proper)
 
   -- each entry was the receiver's or the sender's
   pub received-either : StoodInEither to from received
@@ -135,11 +136,11 @@ module _ (rules : Rules) (rotation : ℕ) (from to : Table) (proper : IsProper f
   ]
 
   module _ (nodes : from.nodes ≡ to.nodes) (keys : from.keys ≡ to.keys) where
-    may_take : All (MayTakeItem to) items
-    may_take = All-weaker (λ (i : Item). (i.owner ≢ to.node) × IsItemInPlace from.nodes from.keys i) (MayTakeItem to) (λ i h. (h.0, subst (λ n. IsItemInPlace n to.keys i) nodes (subst (λ k. IsItemInPlace from.nodes k i) keys h.1))) items sent-in_place
+    may_take : All (MayReceive to) items
+    may_take = All-weaker (λ (i : Item). (i.owner ≢ to.node) × IsItemInPlace from.nodes from.keys i) (MayReceive to) (λ i h. (h.0, subst (λ n. IsItemInPlace n to.keys i) nodes (subst (λ k. IsItemInPlace from.nodes k i) keys h.1))) items sent-in_place
 
     all_in_place : All (IsItemInPlace to.nodes to.keys) items
-    all_in_place = All-weaker (MayTakeItem to) (IsItemInPlace to.nodes to.keys) (λ i h. h.1) items may_take
+    all_in_place = All-weaker (MayReceive to) (IsItemInPlace to.nodes to.keys) (λ i h. h.1) items may_take
 
     greatest-received : (owner : ℕ) → greatest_mark received owner ≡ later (greatest_mark to owner) (greatest_among owner items)
     greatest-received owner = greatest_mark-applied to items owner all_in_place
@@ -180,7 +181,7 @@ module _ (rules : Rules) (rotation : ℕ) (from to : Table) (proper : IsProper f
         comes key e held news =
             let i : Item = record { owner = owner; entry = e } in
             let keyed = (proper.in_place owner key e held).keyed in
-            let unknown : IsBefore (known_mark (told_by rules.mode) to i) (mark_of e) =
+            let unknown : IsBefore (known_mark (digest_kind rules.mode) to i) (mark_of e) =
             subst (λ kind. IsBefore (known_mark kind to i) (mark_of e)) (sym precise) (subst (λ k. IsBefore (record { generation = generation_held to owner; version = (mark_at to owner k).version }) (mark_of e)) (sym keyed) news) in
             sent-uncut rules.mode from to rotation rules.budget proper in_nodes none i (candidate rules.mode from to owner key e held other unknown)
 
@@ -302,7 +303,7 @@ module _ (rules : Rules) (rotation : ℕ) (from to : Table) (proper : IsProper f
               elim (cases_lt e.version d.entry.version) [
                 | inl older ↦
                     let other : owner ≢ to.node = subst (λ r. r ≢ to.node) own_item (All-contains (λ (x : Item). (x.owner ≢ to.node) × IsItemInPlace from.nodes from.keys x) items d sent-in_place there).0 in
-                    let unknown : IsBefore (known_mark (told_by rules.mode) to i) (mark_of e) = subst (λ kind. IsBefore (known_mark kind to i) (mark_of e)) (sym scuttle) newer in
+                    let unknown : IsBefore (known_mark (digest_kind rules.mode) to i) (mark_of e) = subst (λ kind. IsBefore (known_mark kind to i) (mark_of e)) (sym scuttle) newer in
                     sent-no_gap rules.mode from to rotation rules.budget scuttle proper in_nodes i d (candidate rules.mode from to owner key e held other unknown) there (sym own_item) older
                 | inr as_old ↦
                     let marks : mark_of d.entry ≡ mark_of e = up_to-both (mark_of d.entry) (mark_of e) (record { generation = omega (arith, alike); version = λ _. as_old }) e_upto in

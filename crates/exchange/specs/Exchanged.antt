@@ -9,7 +9,7 @@ use Rattle.bench_types.specs.declared.exchanges.Fate.{Fate}
 use Rattle.bench_types.specs.declared.exchanges.Fate.TheVariants as fate
 use Rattle.bench_types.specs.declared.exchanges.Record.{Record}
 use Rattle.bench_types.specs.declared.exchanges.Rules.{Rules}
-use Rattle.bench_types.specs.Mode.{told_by}
+use Rattle.bench_types.specs.Mode.{digest_kind}
 use Rattle.node_table.specs.Table.{Table, applied}
 use Rattle.node_table.specs.NodeTableView.{NodeTableView}
 use Rattle.reconcile.specs.Digests.{digest_size}
@@ -53,11 +53,11 @@ abbrev pub exchanged : Rules → Exchange → Table → Table → Exchanged
 exchanged rules e p q =
     let back = delta_between rules.mode e.rotation rules.budget q p in
     let forth = delta_between rules.mode e.rotation rules.budget p q in
-    let telling = told_by rules.mode in
+    let kind = digest_kind rules.mode in
     record {
       initiator = initiator_after (fate_of e) p back;
       responder = responder_after (fate_of e) q forth;
-      sent = sent_until (fate_of e) (digest_size telling p) (digest_size telling q) back forth;
+      sent = sent_until (fate_of e) (digest_size kind p) (digest_size kind q) back forth;
     }
 
 -- the tables p and q in memory became p' and q' by the exchange, which has this record
@@ -67,7 +67,7 @@ IsExchanged rules e p q p' q' r =
 
 -- a table is as it was, and so is its room, or there is more of it
 abbrev pub StaysWithRoom : NodeTableView → NodeTableView → Type 0
-StaysWithRoom old new = (new.table ≡ old.table) × (old.spare ≤ new.spare)
+StaysWithRoom old new = (new.table ≡ old.table) × (old.room ≤ new.room)
 
 -- they became p' and q', and neither table changed
 abbrev pub BothTablesStay : NodeTableView → NodeTableView → NodeTableView → NodeTableView → Type 0

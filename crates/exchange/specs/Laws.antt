@@ -9,9 +9,9 @@ use Rattle.bench_types.specs.declared.exchanges.Fate.TheVariants as fate
 use Rattle.bench_types.specs.declared.exchanges.Mode.{Mode}
 use Rattle.bench_types.specs.declared.exchanges.Record.{Record}
 use Rattle.bench_types.specs.declared.exchanges.Rules.{Rules}
-use Rattle.bench_types.specs.declared.exchanges.Telling.TheVariants.{Each}
+use Rattle.bench_types.specs.declared.exchanges.DigestKind.TheVariants.{Precise}
 use Rattle.bench_types.specs.Mark.{IsUpTo}
-use Rattle.bench_types.specs.Mode.{told_by}
+use Rattle.bench_types.specs.Mode.{digest_kind}
 use Rattle.node_table.specs.Table.{Table, entry_at, mark_at, greatest_mark, generation_held, IsProper}
 use Rattle.reconcile.specs.Candidates.{candidates}
 use Rattle.reconcile.specs.Deltas.{AreWithin}
@@ -45,7 +45,7 @@ EntriesComeFromEither =
 
 -- the modes that send exactly what is newer than the receiver's entry
 abbrev pub IsPreciseMode : Mode → Type 0
-IsPreciseMode mode = told_by mode ≡ Each
+IsPreciseMode mode = digest_kind mode ≡ Precise
 
 -- no message was lost and nothing was cut
 pub record LosesAndCutsNothing (r : Record) : Type 0 where

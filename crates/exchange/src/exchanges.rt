@@ -4,11 +4,11 @@ ghost use Rattle.std.specs.Prelude.{◌≡◌, ℕ, ◌^◌, ◌<◌, All, IfOk,
 ghost use Rattle.bench_types.specs.declared.faults.Fault.TheVariants.{OutOfMemory};
 ghost use Rattle.bench_types.specs.declared.exchanges.Fate.TheVariants as fate;
 ghost use Rattle.bench_types.specs.Budget.{IsLawfulBudget};
-ghost use Rattle.bench_types.specs.Mode.{told_by};
-ghost use Rattle.node_table.specs.NodeTableView.{MayReceive};
+ghost use Rattle.bench_types.specs.Mode.{digest_kind};
+ghost use Rattle.node_table.specs.NodeTableView.{IsFor, MayReceive};
 ghost use Rattle.node_table.specs.Table.{applied};
 ghost use Rattle.reconcile.specs.Digests.{IsDigestOf, IsOfKind};
-ghost use Rattle.reconcile.specs.Deltas.{DeltaView, MayTake};
+ghost use Rattle.reconcile.specs.Deltas.{DeltaView};
 ghost use Rattle.exchange.specs.inner.Messages.{IsAnswer, after_message};
 ghost use Rattle.exchange.specs.Exchanged.{IsExchanged, BothTablesStay, last_fate, sent_until};
 
@@ -63,8 +63,8 @@ fn exchange_deltas(
     plan: &Exchange,
     rules: &Rules,
 ) -> Result<Record, Fault>
-    requires digest1 { IsDigestOf (told_by rules.now.mode) initiator.old.table digest1.now }
-    requires digest2 { IsDigestOf (told_by rules.now.mode) responder.old.table digest2.now }
+    requires digest1 { IsDigestOf (digest_kind rules.now.mode) initiator.old.table digest1.now }
+    requires digest2 { IsDigestOf (digest_kind rules.now.mode) responder.old.table digest2.now }
     requires came { plan.now.lost1 ≡ false }
     requires budget { IsLawfulBudget rules.now.budget }
     requires nodes { initiator.old.table.nodes ≡ responder.old.table.nodes }
@@ -117,7 +117,7 @@ fn answer(
     plan: &Exchange,
     rules: &Rules,
 ) -> Result<Delta, Fault>
-    requires kind { IsOfKind (told_by rules.now.mode) digest.now }
+    requires kind { IsOfKind (digest_kind rules.now.mode) digest.now }
     requires budget { IsLawfulBudget rules.now.budget }
     requires nodes { digest.now.nodes ≡ sender.now.table.nodes }
     requires keys { digest.now.keys ≡ sender.now.table.keys }
@@ -125,7 +125,7 @@ fn answer(
     requires rotation { plan.now.rotation < sender.now.table.nodes }
     ensures delta { IfOk result (IsAnswer rules.now plan.now sender.now.table receiver digest.now) }
     ensures few { IfOk result (λ d. length d.items < 2 ^ 32) }
-    ensures sound { IfOk result (λ d. MayTake receiver sender.now.table.nodes sender.now.table.keys d.items) }
+    ensures sound { IfOk result (λ d. All (IsFor receiver sender.now.table.nodes sender.now.table.keys) d.items) }
     ensures only { IsOkUnless result OutOfMemory }
 {
     delta(

@@ -11,11 +11,11 @@ use Rattle.node_table.specs.declared.layouts.Layout.{Layout}
 use Rattle.bench_types.specs.declared.entries.Mark.{Mark}
 use Rattle.node_table.specs.Table.{Table, without_others, entry_at, generation_held, greatest_version}
 use Rattle.node_table.specs.Entries.{AreGenerations, AreGreatest}
-use Rattle.node_table.specs.inner.Layouts.{row_of, rows_of, row_at, row_len, held_in, block_len, entry_in, table_in, IsRow, IsInSlots, AreApart, AreLaid, AreOthersKept}
+use Rattle.node_table.specs.inner.Layouts.{entries_in_row, rows_of, row_at, row_len, held_by_rows, block_len, entry_in, table_in, IsRow, IsInSlots, AreApart, AreLaid, AreOthersKept}
 use Rattle.node_table.proofs.Laws.{same_table, entry_at-without_others_own, entry_at-without_others_other}
 use Rattle.node_table.proofs.MarkLaws.{greatest_mark-without_others_own, greatest_mark-without_others_other}
 use Rattle.node_table.proofs.Laid.{row_at-get_or, row_at-past, block_len-some}
-use Rattle.node_table.proofs.InRows.{get-held_in}
+use Rattle.node_table.proofs.InRows.{get-held_by_rows}
 use Rattle.node_table.proofs.InLayout.{entry_at-in}
 
 abbrev pub empty_row : Row
@@ -37,7 +37,7 @@ pub sum_none : {X : Type 0} (f : X → ℕ) (n : ℕ) (x : X) → f x ≡ 0 → 
 sum_none f zero x none = refl
 sum_none f (suc n) x none = omega (arith, sum_by-cons f x (replicate n x), sum_none f n x none, none)
 
-module _ (nodes keys owner : ℕ) (r : Row) (slots slots' : List Entry) (below : owner < nodes) (lies : IsInSlots keys slots r) (le : r.len ≤ keys) (front : take r.len slots' ≡ row_of slots r) (len : length slots' ≡ block_len keys r) where
+module _ (nodes keys owner : ℕ) (r : Row) (slots slots' : List Entry) (below : owner < nodes) (lies : IsInSlots keys slots r) (le : r.len ≤ keys) (front : take r.len slots' ≡ entries_in_row slots r) (len : length slots' ≡ block_len keys r) where
   one_row-own : (d : Row) → get_or (one_row nodes owner r.len) owner d ≡ record { start = 0; len = r.len }
   one_row-own d = get_or-set_same (replicate nodes empty_row) owner (record { start = 0; len = r.len }) d (omega (arith, length-replicate nodes empty_row))
 
@@ -79,18 +79,18 @@ module _ (nodes keys owner : ℕ) (r : Row) (slots slots' : List Entry) (below :
   pub counted_one : r.len ≡ sum_by row_len (one_row nodes owner r.len)
   counted_one = omega (arith, sum_by-set row_len (replicate nodes empty_row) owner (record { start = 0; len = r.len }) empty_row (omega (arith, length-replicate nodes empty_row)), sum_none row_len nodes empty_row refl, ap row_len (get_or-replicate nodes owner empty_row empty_row below))
 
-  pub row_at-one_own : row_at slots' (one_row nodes owner r.len) owner ≡ row_of slots r
-  row_at-one_own = row_at-get_or slots' (one_row nodes owner r.len) owner empty_row (omega (arith, length-one_row)) ∙ ap (row_of slots') (one_row-own empty_row) ∙ front
+  pub row_at-one_own : row_at slots' (one_row nodes owner r.len) owner ≡ entries_in_row slots r
+  row_at-one_own = row_at-get_or slots' (one_row nodes owner r.len) owner empty_row (omega (arith, length-one_row)) ∙ ap (entries_in_row slots') (one_row-own empty_row) ∙ front
 
   pub row_at-one_other : (k : ℕ) → k ≢ owner → row_at slots' (one_row nodes owner r.len) k ≡ []
   row_at-one_other k other = elim (cases_lt k nodes) [
-    | inl lt ↦ row_at-get_or slots' (one_row nodes owner r.len) k empty_row (omega (arith, length-one_row)) ∙ ap (row_of slots') (one_row-other k empty_row lt other)
+    | inl lt ↦ row_at-get_or slots' (one_row nodes owner r.len) k empty_row (omega (arith, length-one_row)) ∙ ap (entries_in_row slots') (one_row-other k empty_row lt other)
     | inr past ↦ row_at-past slots' (one_row nodes owner r.len) k (omega (arith, length-one_row))
   ]
 
 -- with one row left the table is that of its owner's entries
-pub table_one : (l : Layout) (slots' : List Entry) (rows' : List Row) → row_at slots' rows' l.node ≡ row_at l.slots.items l.rows.items l.node → ((k : ℕ) → k ≢ l.node → row_at slots' rows' k ≡ []) → ◌≡◌ {A = Table} (record { node = l.node; nodes = l.nodes; keys = l.keys; generation = l.generation; held = held_in (rows_of slots' rows') }) (without_others (table_in l))
-table_one l slots' rows' own others = same_table _ (without_others (table_in l)) refl refl refl refl (λ owner key. get-held_in (rows_of slots' rows') owner key ∙ elim (cases_eq owner l.node) [
+pub table_one : (l : Layout) (slots' : List Entry) (rows' : List Row) → row_at slots' rows' l.node ≡ row_at l.slots.items l.rows.items l.node → ((k : ℕ) → k ≢ l.node → row_at slots' rows' k ≡ []) → ◌≡◌ {A = Table} (record { node = l.node; nodes = l.nodes; keys = l.keys; generation = l.generation; held = held_by_rows (rows_of slots' rows') }) (without_others (table_in l))
+table_one l slots' rows' own others = same_table _ (without_others (table_in l)) refl refl refl refl (λ owner key. get-held_by_rows (rows_of slots' rows') owner key ∙ elim (cases_eq owner l.node) [
   | inl is ↦ subst (λ o. entry_in (row_at slots' rows' o) key ≡ entry_at (without_others (table_in l)) o key) (sym is)
       (ap (λ row. entry_in row key) own ∙ sym (entry_at-in l l.node key) ∙ sym (entry_at-without_others_own (table_in l) key))
   | inr other ↦ ap (λ row. entry_in row key) (others owner other) ∙ sym (entry_at-without_others_other (table_in l) owner key other)

@@ -15,7 +15,7 @@ use Rattle.node_table.specs.inner.Layouts.{row_at, entry_in, table_in, IsRow, Is
 use Rattle.node_table.specs.inner.Marks.{ComesWithin, AreMarked, AreUnmarked}
 use Rattle.node_table.proofs.Room.{blocks-upto, blocks-came_held, blocks-came_new}
 use Rattle.node_table.proofs.Taking.{version-le-greatest}
-use Rattle.node_table.proofs.Laid.{row_at-get_or, length-row_of}
+use Rattle.node_table.proofs.Laid.{row_at-get_or, length-entries_in_row}
 use Rattle.node_table.proofs.InLayout.{entry_at-in, some_held, is_row}
 
 abbrev pub version_in : List ℕ → ℕ → ℕ
@@ -146,7 +146,7 @@ module _ (l : Layout) (sound : IsLayout l) where
       again : (owner : ℕ) → owner < l.nodes → get_or after owner 0 ≡ greatest_version (table_in l) owner
       again owner below =
           let lt : owner < length l.rows.items = omega (arith, sound.laid.as_many) in
-          let row_len : length (row_at l.slots.items l.rows.items owner) ≡ (get_or l.rows.items owner no_row).len = ap length (row_at-get_or l.slots.items l.rows.items owner no_row lt) ∙ length-row_of l.keys l.slots.items (get_or l.rows.items owner no_row) (sound.laid.each owner no_row lt) in
+          let row_len : length (row_at l.slots.items l.rows.items owner) ≡ (get_or l.rows.items owner no_row).len = ap length (row_at-get_or l.slots.items l.rows.items owner no_row lt) ∙ length-entries_in_row l.keys l.slots.items (get_or l.rows.items owner no_row) (sound.laid.each owner no_row lt) in
           let was = sound.greatest.greatest owner below in
           elim (cases_lt 0 (get_or l.rows.items owner no_row).len) [
             | inl some ↦

@@ -5,7 +5,7 @@ use Rattle.std.proofs.lemmas.List.{length-replicate}
 use Rattle.std.proofs.lemmas.List.Elements.{All-cons, All-nil}
 use Rattle.bench_types.specs.declared.entries.Entry.{Entry}
 use Rattle.node_table.specs.declared.layouts.Row.{Row}
-use Rattle.node_table.specs.inner.Layouts.{row_of, row_at, block_len, IsRow, IsInSlots, AreApart, AreLaid, IsPut, IsPlaced, IsRenewed}
+use Rattle.node_table.specs.inner.Layouts.{entries_in_row, row_at, block_len, IsRow, IsInSlots, AreApart, AreLaid, IsPut, IsPlaced, IsRenewed}
 use Rattle.node_table.proofs.Blocks.{take-behind, take-new}
 use Rattle.node_table.proofs.Laid.{laid_after, renewed_after, block_len-some, block_len-none}
 
@@ -46,13 +46,13 @@ module _ (nodes keys : ℕ) (slots : List Entry) (rows : List Row) (owner : ℕ)
   len_is : length slots' ≡ length slots + keys
   len_is = length-append slots (replicate keys entry) ∙ ap (λ n. length slots + n) (length-replicate keys entry)
 
-  row_is : row_of slots' opened ≡ entry ∷ []
+  row_is : entries_in_row slots' opened ≡ entry ∷ []
   row_is = take-new keys slots entry (omega arith)
 
   lies : IsInSlots keys slots' opened
   lies = record { within = omega (arith, len_is); block = λ some. omega (arith, len_is); row = subst (IsRow keys) (sym row_is) (one_row keys entry below written) }
 
-  kept : (k : ℕ) (d : Row) → k < length rows → k ≢ owner → row_of slots' (get_or rows k d) ≡ row_of slots (get_or rows k d)
+  kept : (k : ℕ) (d : Row) → k < length rows → k ≢ owner → entries_in_row slots' (get_or rows k d) ≡ entries_in_row slots (get_or rows k d)
   kept k d in_range other = take-behind (get_or rows k d).start (get_or rows k d).len slots (replicate keys entry) (laid.each k d in_range).within
 
   apart : (k : ℕ) (d : Row) → k < length rows → k ≢ owner → AreApart keys (get_or rows k d) opened

@@ -11,6 +11,7 @@ use Rattle.bench_types.specs.Mark.{mark_of}
 use Rattle.bench_types.proofs.Marks.{cases_later}
 use Rattle.node_table.specs.Table.{Table, empty_table, entry_at, greatest_mark, generation_held, taken, applied, own_write, with_own_write, without_others, without_all, IsInPlace, IsProper}
 use Rattle.node_table.specs.Table.{IsItemInPlace}
+use Rattle.node_table.specs.NodeTableView.{MayReceive}
 use Rattle.node_table.proofs.Laws.{KeepsFrame, cases_taken, entry_at-taken_other, entry_at-taken_newer, entry_at-taken_from, entry_at-own_write, entry_at-own_write_other, entry_at-without_others_own, entry_at-without_others_other, entry_at-without_all, entry_at-empty_table, frame-taken}
 use Rattle.node_table.proofs.MarkLaws.{greatest_mark-taken, greatest_mark-taken_other, greatest_mark-own_write, greatest_mark-own_write_other, greatest_mark-without_others_own}
 
@@ -44,10 +45,6 @@ proper-without_all t proper = record {
   where
     none : (owner key : ℕ) (e : Entry) → entry_at (without_all t) owner key ≡ Some e → ⊥
     none owner key e found = nothing e (sym (entry_at-without_all t owner key) ∙ found)
-
--- an item that a table may take
-abbrev pub MayTakeItem : Table → Item → Type 0
-MayTakeItem t i = (i.owner ≢ t.node) × IsItemInPlace t.nodes t.keys i
 
 -- an item of the copy's generation leaves the generation, and one of a newer has its own
 generation-taken : (t : Table) (i : Item) → i.entry.key < t.keys → generation_held t i.owner ≤ i.entry.generation → generation_held (taken t i) i.owner ≡ i.entry.generation
@@ -103,16 +100,16 @@ proper-taking t i proper placed of_node = record {
       ]
     ]
 
-pub proper-taken : (t : Table) (i : Item) → IsProper t → MayTakeItem t i → IsProper (taken t i)
+pub proper-taken : (t : Table) (i : Item) → IsProper t → MayReceive t i → IsProper (taken t i)
 proper-taken t i proper may = proper-taking t i proper may.1 (λ own. absurd (may.0 own))
 
-pub proper-applied : (t : Table) (added : List Item) → IsProper t → All (MayTakeItem t) added → IsProper (applied t added)
+pub proper-applied : (t : Table) (added : List Item) → IsProper t → All (MayReceive t) added → IsProper (applied t added)
 proper-applied t [] proper may = proper
 proper-applied t (i ∷ is) proper may =
-    proper-applied (taken t i) is (proper-taken t i proper (All-head (MayTakeItem t) i is may))
+    proper-applied (taken t i) is (proper-taken t i proper (All-head (MayReceive t) i is may))
     (subst (λ n. All (λ (x : Item). (x.owner ≢ n) × IsItemInPlace (taken t i).nodes (taken t i).keys x) is) (sym (frame-taken t i).node)
     (subst (λ n. All (λ (x : Item). (x.owner ≢ t.node) × IsItemInPlace n (taken t i).keys x) is) (sym (frame-taken t i).nodes)
-    (subst (λ k. All (λ (x : Item). (x.owner ≢ t.node) × IsItemInPlace t.nodes k x) is) (sym (frame-taken t i).keys) (All-tail (MayTakeItem t) i is may))))
+    (subst (λ k. All (λ (x : Item). (x.owner ≢ t.node) × IsItemInPlace t.nodes k x) is) (sym (frame-taken t i).keys) (All-tail (MayReceive t) i is may))))
 
 pub proper-with_own_write : (t : Table) (k v b : ℕ) → IsProper t → k < t.keys → IsProper (with_own_write t k v b)
 proper-with_own_write t k v b proper below = record {

@@ -6,11 +6,11 @@ use Rattle.std.specs.List.{list_any}
 use Rattle.std.specs.FinMap as finite
 use Rattle.bench_types.specs.declared.entries.Item.{Item}
 use Rattle.bench_types.specs.contracts.entries.Entry as entry
-use Rattle.node_table.specs.Table.{Table, greatest_version, IsInPlace}
+use Rattle.node_table.specs.Table.{Table, greatest_version, IsItemInPlace}
 
 pub record NodeTableView : Type 0 where
   pub table : Table
-  pub spare : ℕ
+  pub room : ℕ
 
 -- whether an item of the owner comes in a list
 abbrev pub comes_in : List Item → ℕ → Bool
@@ -31,11 +31,14 @@ blocks_for t added = blocks_below (greatest_version t) added t.nodes
 
 -- there is room for a list of items
 abbrev pub HasRoom : NodeTableView → List Item → Type 0
-HasRoom kept added = blocks_for kept.table added ≤ kept.spare
+HasRoom kept added = blocks_for kept.table added ≤ kept.room
 
--- an item that a table may receive: another node's, within the table's bounds
+-- an item that a node may receive, of so many nodes with so many keys: another node's, in its place
+abbrev pub IsFor : ℕ → ℕ → ℕ → Item → Type 0
+IsFor node nodes keys i = (i.owner ≢ node) × IsItemInPlace nodes keys i
+
 abbrev pub MayReceive : Table → Item → Type 0
-MayReceive t i = (i.owner ≢ t.node) × IsInPlace t.nodes t.keys i.owner i.entry.key i.entry
+MayReceive t = IsFor t.node t.nodes t.keys
 
 -- the items that a table may take without memory
 pub record MayApply (kept : NodeTableView) (added : List Item) : Type 0 where

@@ -10,7 +10,7 @@ ghost use Rattle.node_table.specs.Table.{IsItemInPlace};
 ghost use Rattle.node_table.specs.Entries.{AreAbove};
 ghost use Rattle.node_table.specs.NodeTableView.{blocks_below, blocks_for};
 ghost use Rattle.node_table.specs.inner.Marks.{AreMarked, AreUnmarked};
-ghost use Rattle.node_table.specs.inner.Layouts.{row_of, row_at, block_len, table_in, AreLaid, IsLayout, IsEmptyRow, IsInSlots, IsPlaced, AreOthersKept, IsRenewed, IsPut, KeepOutside, HasEntries, IsHeld, HasBlockLeft};
+ghost use Rattle.node_table.specs.inner.Layouts.{entries_in_row, row_at, block_len, table_in, AreLaid, IsLayout, IsEmptyRow, IsInSlots, IsPlaced, AreOthersKept, IsRenewed, IsPut, KeepOutside, HasEntries, IsHeld, HasRoomForBlock};
 
 use crate::rows::{find, put_in, rank_above};
 use bench_types::limits::{MOST_KEYS, MOST_NODES};
@@ -108,7 +108,7 @@ impl Layout {
         ensures same_slots { IsHeld self.old item.owner → vec_len self.new.slots ≡ vec_len self.old.slots }
         ensures slots { vec_len self.new.slots ≤ vec_len self.old.slots + self.old.keys }
         ensures held { IsHeld self.old item.owner → IsOk result }
-        ensures succeeds { HasBlockLeft self.old → IsOk result }
+        ensures succeeds { HasRoomForBlock self.old → IsOk result }
     {
         let held = self.generation_of(item.owner);
         if held < item.entry.generation {
@@ -151,7 +151,7 @@ impl Layout {
         ensures same_slots { IsHeld self.old item.owner → vec_len self.new.slots ≡ vec_len self.old.slots }
         ensures slots { vec_len self.new.slots ≤ vec_len self.old.slots + self.old.keys }
         ensures held { IsHeld self.old item.owner → IsOk result }
-        ensures succeeds { HasBlockLeft self.old → IsOk result }
+        ensures succeeds { HasRoomForBlock self.old → IsOk result }
     {
         let at = item.owner as usize;
         let before = self.rows[at].len;
@@ -181,7 +181,7 @@ impl Layout {
         ensures same_slots { IsHeld self.old item.owner → vec_len self.new.slots ≡ vec_len self.old.slots }
         ensures slots { vec_len self.new.slots ≤ vec_len self.old.slots + self.old.keys }
         ensures held { IsHeld self.old item.owner → IsOk result }
-        ensures succeeds { HasBlockLeft self.old → IsOk result }
+        ensures succeeds { HasRoomForBlock self.old → IsOk result }
     {
         let at = item.owner as usize;
         let before = self.rows[at].len;
@@ -299,7 +299,7 @@ fn unmark(greatest: &mut [u32], rows: &[Row], added: &[Item])
 // Leaves a row's block alone, at the front.
 fn move_to_front(slots: &mut Vec<Entry>, row: Row, keys: u32)
     requires row { IsInSlots keys slots.old.items row }
-    ensures row { take row.len slots.new.items ≡ row_of slots.old.items row }
+    ensures row { take row.len slots.new.items ≡ entries_in_row slots.old.items row }
     ensures len { vec_len slots.new ≡ block_len keys row }
     ensures capacity { vec_capacity slots.new ≡ vec_capacity slots.old }
 {
@@ -408,7 +408,7 @@ fn put_among(slots: &mut [Entry], row: Row, keys: u32, entry: Entry) -> Row
     requires written { 1 ≤ entry.version }
     ensures start { result.start ≡ row.start }
     ensures within { result.len ≤ keys }
-    ensures put { IsPut keys entry (row_of slots.old row) (row_of slots.new result) }
+    ensures put { IsPut keys entry (entries_in_row slots.old row) (entries_in_row slots.new result) }
     ensures len { length slots.new ≡ length slots.old }
     ensures others { KeepOutside slots.old slots.new row.start keys }
 {

@@ -20,13 +20,13 @@ pub struct NodeTable {
 impl Model for NodeTable {
     ghost use Rattle.node_table.specs.NodeTableView.{NodeTableView};
     ghost use Rattle.node_table.specs.inner.Codes.{kept_code};
-    ghost use Rattle.node_table.specs.inner.Layouts.{table_in, spare_of, IsLayout};
+    ghost use Rattle.node_table.specs.inner.Layouts.{table_in, room_of, IsLayout};
 
     ghost Value = { NodeTableView };
 
     ghost coded = { kept_code };
 
-    ghost view = { λ t. record { table = table_in t.layout; spare = spare_of t.layout } };
+    ghost view = { λ t. record { table = table_in t.layout; room = room_of t.layout } };
 
     ghost invariant = { λ t. IsLayout t.layout };
 }
@@ -172,8 +172,8 @@ impl NodeTable {
         ensures version { IfOk result (λ v. v ≡ greatest_version self.old.table self.old.table.node + 1) }
         ensures ok { OnOk result (self.new.table ≡ with_own_write self.old.table key value born) }
         ensures err { OnErr result (self.new.table ≡ self.old.table) }
-        ensures keeps_room { OnErr result (self.old.spare ≤ self.new.spare) }
-        ensures succeeds { 1 ≤ self.old.spare → IsOk result }
+        ensures keeps_room { OnErr result (self.old.room ≤ self.new.room) }
+        ensures succeeds { 1 ≤ self.old.room → IsOk result }
         ensures only { IsOkUnless result OutOfMemory }
     {
         let owner = self.layout.node;
@@ -198,7 +198,7 @@ impl NodeTable {
     pub fn reserve_for(&mut self, added: &[Item]) -> Result<(), Fault>
         ensures same { self.new.table ≡ self.old.table }
         ensures room { OnOk result (HasRoom self.new added.now) }
-        ensures keeps_room { self.old.spare ≤ self.new.spare }
+        ensures keeps_room { self.old.room ≤ self.new.room }
         ensures succeeds { HasRoom self.old added.now → IsOk result }
         ensures only { IsOkUnless result OutOfMemory }
     {
@@ -265,7 +265,7 @@ impl NodeTable {
     /// in place: it takes no memory and gives none back. One walk over the owners.
     pub fn forget_others(&mut self)
         ensures table { self.new.table ≡ without_others self.old.table }
-        ensures keeps_room { self.old.spare ≤ self.new.spare }
+        ensures keeps_room { self.old.room ≤ self.new.room }
     {
         self.layout.forget_others();
     }
@@ -275,7 +275,7 @@ impl NodeTable {
     pub fn forget_all(&mut self)
         requires { self.old.table.generation + 1 < 2 ^ 32 }
         ensures table { self.new.table ≡ without_all self.old.table }
-        ensures keeps_room { self.old.spare ≤ self.new.spare }
+        ensures keeps_room { self.old.room ≤ self.new.room }
     {
         self.layout.forget_all();
     }

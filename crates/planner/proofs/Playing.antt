@@ -23,10 +23,10 @@ use Rattle.dependencies.specs.Schedules.{IsLawful, AreFinished}
 use Rattle.planner.specs.Stages.{ScheduleView, not_started}
 use Rattle.dependencies.specs.States.{after_event, opened, state_of}
 use Rattle.dependencies.specs.inner.Slots.{in_place}
-use Rattle.dependencies.specs.ListOrder.{IsWhole}
+use Rattle.dependencies.specs.ListOrder.{IsEndOfList}
 use Rattle.planner.specs.inner.Places.{state_in, AreEmpty, HasPlaces, AreInPlace, StandIn}
 use Rattle.planner.specs.Plays.{IsPlayed, IsEventAt, IsRefusal}
-use Rattle.planner.specs.inner.Plays.{Follows, IsRefused}
+use Rattle.planner.specs.inner.Plays.{Follows, IsEventRefused}
 use Rattle.dependencies.proofs.Lawful.{whole_in_list_order}
 use Rattle.planner.proofs.Places.{always_in_place, opened_in_place, opened_state, all_tables, all_records}
 use Rattle.planner.proofs.Stages.{IsAt, at_first, at_start, at_finish, can_start, not_running}
@@ -59,7 +59,7 @@ played rules plan ks events s places after records cluster planned so_far finish
   given = given;
 }
   where
-    whole : IsWhole rules (tables_in ks) plan.exchanges (state_of rules (tables_in ks) plan.exchanges events)
+    whole : IsEndOfList rules (tables_in ks) plan.exchanges (state_of rules (tables_in ks) plan.exchanges events)
     whole = whole_in_list_order rules (tables_in ks) plan.exchanges events (subst (λ n. All (IsPlanned n) plan.exchanges) (sym cluster.size) planned.planned) so_far.at.lawful finished
 
     count_tables : length (fold_of rules (tables_in ks) plan.exchanges).tables ≡ plan.nodes
@@ -108,11 +108,11 @@ module _ (rules : Rules) (plan : RoundListView) (ts : List Table) (events : List
         state = state-more rules ts plan.exchanges (take k events) e ∙ ap (λ x. after_event rules plan.exchanges x e) so_far.state ∙ state;
       })
 
-  refused_as : (e : Event) (f : Fault) → get_or events k d ≡ e → IsRefused e s f → IsRefusal plan.exchanges events f
+  refused_as : (e : Event) (f : Fault) → get_or events k d ≡ e → IsEventRefused e s f → IsRefusal plan.exchanges events f
   refused_as (Start i) f is refused = subst (IsRefusal plan.exchanges events) (sym refused.0) (k, i, event_there plan.exchanges events k d (Start i) within is so_far.at.lawful, λ may. refused.1 (can_start plan (take k events) s so_far.at i may))
   refused_as (Finish i) f is (inl refused) = subst (IsRefusal plan.exchanges events) (sym refused.0) (k, i, event_there plan.exchanges events k d (Finish i) within is so_far.at.lawful, not_running plan (take k events) s so_far.at i refused.1)
   refused_as (Finish i) f is (inr memory) = subst (IsRefusal plan.exchanges events) (sym memory) refl
 
   -- a refused event
-  pub event_refused : (f : Fault) → IsRefused (get_or events k d) s f → IsRefusal plan.exchanges events f
+  pub event_refused : (f : Fault) → IsEventRefused (get_or events k d) s f → IsRefusal plan.exchanges events f
   event_refused f refused = refused_as (get_or events k d) f refl refused

@@ -10,7 +10,7 @@ ghost use Rattle.dependencies.specs.inner.Slots.{in_place};
 ghost use Rattle.planner.specs.inner.Places.{state_in, AreEmpty, HasPlaces, ShowsEvent, AreInPlace, StandIn, itself, both_or_none};
 ghost use Rattle.cluster.specs.Tables.{tables_in, IsCluster};
 ghost use Rattle.planner.specs.Plays.{ArePlayed, IsRefusal};
-ghost use Rattle.planner.specs.inner.Plays.{Follows, IsRefused};
+ghost use Rattle.planner.specs.inner.Plays.{Follows, IsEventRefused};
 
 use crate::schedules::Schedule;
 use bench_types::{Fault, Record, Rules};
@@ -133,7 +133,7 @@ fn follow(
     ensures schedule { OnOk result (Follows event schedule.old schedule.new) }
     ensures places { OnOk result (HasPlaces list.now places.new) }
     ensures state { OnOk result (ShowsEvent rules.now list.now.exchanges event places.old places.new) }
-    ensures refused { IfErr result (IsRefused event schedule.old) }
+    ensures refused { IfErr result (IsEventRefused event schedule.old) }
 {
     match event {
         Event::Start(i) => {

@@ -5,7 +5,7 @@ ghost use Rattle.bench_types.specs.declared.faults.Fault.TheVariants.{OutOfMemor
 ghost use Rattle.bench_types.specs.Budget.{IsLawfulBudget};
 ghost use Rattle.bench_types.specs.Exchange.{IsPlanned};
 ghost use Rattle.cluster.specs.Tables.{tables_in, IsCluster};
-ghost use Rattle.pool.specs.inner.Turns.{IsExchanged};
+ghost use Rattle.pool.specs.inner.Turns.{IsPairExchanged};
 ghost use Rattle.pool.specs.Runs.{AreExchanged};
 
 use crate::gates::Gate;
@@ -48,7 +48,7 @@ fn exchange_pair(
     requires budget { IsLawfulBudget rules.now.budget }
     requires tables { IsCluster (length tables.old) (tables_in tables.old) }
     requires planned { IsPlanned (length tables.old) plan.now }
-    ensures exchanged { IfOk result (IsExchanged rules.now plan.now tables.old tables.new) }
+    ensures exchanged { IfOk result (IsPairExchanged rules.now plan.now tables.old tables.new) }
     ensures only { IsOkUnless result OutOfMemory }
 {
     let initiator = plan.initiator as usize;

@@ -8,7 +8,7 @@ ghost use Rattle.cluster.specs.Tables.{tables_in, IsCluster};
 ghost use Rattle.board.specs.Boards.{seat_view, IsSeatOf};
 ghost use Rattle.pool.specs.Runs.{AreExchanged, IsPoolFault};
 ghost use Rattle.pool.specs.inner.Returns.{IsFreshSeat, IsReturned};
-ghost use Rattle.pool.specs.inner.Starts.{MayBegin};
+ghost use Rattle.pool.specs.inner.Starts.{MaySplit};
 ghost use Rattle.pool.specs.inner.Joined.{HasTakenIn, HasSeenAll, IsOfBoard, AreTogether};
 
 use crate::deques::{Limit, Tasks, deal};
@@ -82,7 +82,7 @@ fn run_workers<L: Limit + Send + Sync, R: Threads + Wait + Sync, G: Gate + Sync>
     tasks: Vec<Tasks<L>>,
 ) -> Result<(Seat, Vec<Stamped>), Fault>
     requires limit { L.limit ≡ length shop.now.list.now.exchanges }
-    requires begin { MayBegin shop.now.board.now seat (vec_len tasks) }
+    requires begin { MaySplit shop.now.board.now seat (vec_len tasks) }
     ensures made { IfOk result (λ p. HasSeenAll shop.now.board.now p.0 p.1.items) }
     ensures fault { IfErr result (IsPoolFault (vec_len tasks)) }
 {
@@ -91,7 +91,7 @@ fn run_workers<L: Limit + Send + Sync, R: Threads + Wait + Sync, G: Gate + Sync>
         rt,
         |scope| -> Result<(Seat, Vec<Stamped>), Fault>
             requires limit { L.limit ≡ length shop.now.list.now.exchanges }
-            requires begin { MayBegin shop.now.board.now seat (vec_len tasks) }
+            requires begin { MaySplit shop.now.board.now seat (vec_len tasks) }
             ensures made { IfOk result (λ p. HasSeenAll shop.entry.now.board.now p.0 p.1.items) }
             ensures fault { IfErr result (IsPoolFault (vec_len tasks)) }
         { run_in_scope(scope, rt, shop, seat, tasks) },
@@ -107,7 +107,7 @@ fn run_in_scope<'s, 'e: 's, L: Limit + Send + Sync + 'e, R: Threads + Wait + Syn
     tasks: Vec<Tasks<L>>,
 ) -> Result<(Seat, Vec<Stamped>), Fault>
     requires limit { L.limit ≡ length shop.now.list.now.exchanges }
-    requires begin { MayBegin shop.now.board.now seat (vec_len tasks) }
+    requires begin { MaySplit shop.now.board.now seat (vec_len tasks) }
     ensures made { IfOk result (λ p. HasSeenAll shop.now.board.now p.0 p.1.items) }
     ensures fault { IfErr result (IsPoolFault (vec_len tasks)) }
 {

@@ -8,9 +8,9 @@ use Rattle.bench_types.specs.declared.exchanges.Budget.{Budget}
 use Rattle.bench_types.specs.Budget.{amount_of}
 use Rattle.bench_types.specs.declared.entries.Item.{Item}
 use Rattle.bench_types.specs.declared.exchanges.Mode.{Mode}
-use Rattle.bench_types.specs.declared.exchanges.Telling.TheVariants.{Each}
+use Rattle.bench_types.specs.declared.exchanges.DigestKind.TheVariants.{Precise}
 use Rattle.bench_types.specs.Mark.{mark_of, is_before}
-use Rattle.bench_types.specs.Mode.{told_by}
+use Rattle.bench_types.specs.Mode.{digest_kind}
 use Rattle.node_table.specs.Table.{Table, items_of, IsProper}
 use Rattle.reconcile.specs.Candidates.{IsScuttleMode, items_above}
 use Rattle.reconcile.specs.Deltas.{DeltaView, item_share, answer_of, AreWithin}
@@ -66,7 +66,7 @@ module _ (mode : Mode) (t : Table) (told : DigestView) (receiver rotation : ℕ)
     pub few-found : length found < 2 ^ 32
     few-found = omega (arith, length-map found item_in, length-candidates-lt t unknown (items_in found) proper (candidates-permuted t told receiver (items_in found) proper are))
 
-    pub answer-found : told_by mode ≡ Each → AllSet mode t.nodes rotation found → (budget : Budget) (items : List Item) → AreFirstItems budget found items → ◌≡◌ {A = DeltaView} (record { items = items; cut = length found - length items }) (answer_of mode rotation budget t receiver told)
+    pub answer-found : digest_kind mode ≡ Precise → AllSet mode t.nodes rotation found → (budget : Budget) (items : List Item) → AreFirstItems budget found items → ◌≡◌ {A = DeltaView} (record { items = items; cut = length found - length items }) (answer_of mode rotation budget t receiver told)
     answer-found precise set budget items first =
         (λ i. record { items = items; cut = sym (length-map found item_in) i - length items })
         ∙ sorted_sent mode t unknown (items_in found) (items_in first.sorted) items rotation budget proper in_nodes (candidates-permuted t told receiver (items_in found) proper are)
@@ -74,7 +74,7 @@ module _ (mode : Mode) (t : Table) (told : DigestView) (receiver rotation : ℕ)
         (order_numbers mode precise t.nodes rotation found set first.sorted first.same first.rises)
         first.is
 
-    pub answer-sent : told_by mode ≡ Each → AllSet mode t.nodes rotation found → (budget : Budget) (d : DeltaView) → IsSentOf budget found d → d ≡ answer_of mode rotation budget t receiver told
+    pub answer-sent : digest_kind mode ≡ Precise → AllSet mode t.nodes rotation found → (budget : Budget) (d : DeltaView) → IsSentOf budget found d → d ≡ answer_of mode rotation budget t receiver told
     answer-sent precise set budget d sent =
         (λ i. record { items = d.items; cut = sent.cut i })
         ∙ answer-found precise set budget d.items sent.items

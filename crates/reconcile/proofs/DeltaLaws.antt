@@ -14,7 +14,7 @@ use Rattle.bench_types.specs.declared.entries.Item.{Item}
 use Rattle.bench_types.specs.declared.exchanges.Mode.{Mode}
 use Rattle.bench_types.specs.declared.exchanges.Mode.TheVariants.{ScuttleBreadth, ScuttleDepth, PreciseOldest, PreciseNewest}
 use Rattle.bench_types.specs.Mark.{mark_of, is_before}
-use Rattle.bench_types.specs.Mode.{told_by}
+use Rattle.bench_types.specs.Mode.{digest_kind}
 use Rattle.node_table.specs.Table.{Table, items_of, IsProper}
 use Rattle.node_table.proofs.Proper.{items_sound}
 use Rattle.reconcile.specs.Candidates.{IsScuttleMode, known_mark, candidates}
@@ -34,7 +34,7 @@ sending_order-total mode nodes rotation cs = sending_total nodes rotation cs mod
 -- and strict: of the candidates of a proper table each ties with itself alone
 pub sending_order-strict : (mode : Mode) (from to : Table) (rotation : ℕ) → IsProper from → rotation < from.nodes → (c d : Item) → Contains (candidates mode from to) c → Contains (candidates mode from to) d → sending_order mode from.nodes rotation (candidates mode from to) c d ≡ Equal → c ≡ d
 sending_order-strict mode from to rotation proper in_nodes c d (j, in_j, is_c) (k, in_k, is_d) e =
-    let q : Item → Bool = λ i. not (eqb i.owner to.node) && is_before (known_mark (told_by mode) to i) (mark_of i.entry) in
+    let q : Item → Bool = λ i. not (eqb i.owner to.node) && is_before (known_mark (digest_kind mode) to i) (mark_of i.entry) in
     let cs = candidates mode from to in
     let at_j = get_or_default cs j no_item c in_j ∙ is_c in
     let at_k = get_or_default cs k no_item d in_k ∙ is_d in

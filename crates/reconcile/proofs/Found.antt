@@ -10,7 +10,7 @@ use Rattle.bench_types.specs.declared.entries.Mark.{Mark}
 use Rattle.bench_types.specs.Mark.{IsUpTo}
 use Rattle.node_table.specs.Table.{Table, greatest_mark, IsProper}
 use Rattle.node_table.specs.Entries.{StandsBefore, AreAbove, AreGenerations, AreGreatest}
-use Rattle.reconcile.specs.Digests.{DigestView, Greatest, known_in, mark_told}
+use Rattle.reconcile.specs.Digests.{DigestView, Greatest, version_in, mark_told}
 use Rattle.reconcile.specs.inner.Newer.{AreCandidates, item_with}
 use Rattle.reconcile.specs.inner.Suffixes.{suffix_items, items_of_suffixes, OwnersRise, AreSuffixes}
 use Rattle.reconcile.specs.declared.suffixes.Suffix.{Suffix}
@@ -38,10 +38,10 @@ none_there (n ∷ numbers) k none = absurd (omega arith)
 -- the mark of a generation and a version that stand in lists
 module _ (owner : ℕ) (mark : Mark) (generations versions : List ℕ) (generation : mark.generation ≡ get_or generations owner 0) (version : mark.version ≡ get_or versions owner 0) where
   -- is told of all keys of an owner, where a digest has these
-  pub told_alike : (told : DigestView) → told.generations ≡ generations → told.knowledge ≡ Greatest versions → (key : ℕ) → mark_told told owner key ≡ mark
+  pub told_alike : (told : DigestView) → told.generations ≡ generations → told.versions ≡ Greatest versions → (key : ℕ) → mark_told told owner key ≡ mark
   told_alike told gs vs key i = record {
     generation = (ap (λ ns. get_or ns owner 0) gs ∙ sym generation) i;
-    version = (ap (λ k. known_in told.keys k owner key) vs ∙ sym version) i;
+    version = (ap (λ k. version_in told.keys k owner key) vs ∙ sym version) i;
   }
 
   -- and is the greatest one, where these are a table's

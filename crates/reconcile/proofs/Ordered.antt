@@ -17,8 +17,8 @@ use Rattle.bench_types.specs.declared.entries.Item.{Item}
 use Rattle.bench_types.specs.declared.exchanges.Mode.{Mode}
 use Rattle.bench_types.specs.declared.exchanges.Mode.TheVariants.{ScuttleBreadth, ScuttleDepth, PreciseOldest, PreciseNewest}
 use Rattle.reconcile.specs.declared.candidates.Candidate.{Candidate}
-use Rattle.bench_types.specs.Mode.{told_by}
-use Rattle.bench_types.specs.declared.exchanges.Telling.TheVariants.{Each}
+use Rattle.bench_types.specs.Mode.{digest_kind}
+use Rattle.bench_types.specs.declared.exchanges.DigestKind.TheVariants.{Precise}
 use Rattle.reconcile.specs.Order.{rotated, rank_among, owner_count, sending_order}
 use Rattle.reconcile.specs.Candidates.{IsScuttleMode}
 use Rattle.reconcile.specs.Deltas.{item_share}
@@ -89,7 +89,7 @@ scuttle-sending PreciseOldest is ns s items i j few = cc
 scuttle-sending PreciseNewest is ns s items i j few = cc
 
 -- and so do candidates of a precise mode by their numbers
-numbers-sending : (mode : Mode) → told_by mode ≡ Each → (ns s : ℕ) (items : List Item) (c d : Candidate) → IsSet mode ns s c → IsSet mode ns s d → number_order c d ≡ sending_order mode ns s items c.item d.item
+numbers-sending : (mode : Mode) → digest_kind mode ≡ Precise → (ns s : ℕ) (items : List Item) (c d : Candidate) → IsSet mode ns s c → IsSet mode ns s d → number_order c d ≡ sending_order mode ns s items c.item d.item
 numbers-sending ScuttleBreadth is ns s items c d a b = cc
 numbers-sending ScuttleDepth is ns s items c d a b = cc
 numbers-sending PreciseOldest is ns s items c d a b =
@@ -100,7 +100,7 @@ numbers-sending PreciseNewest is ns s items c d a b =
     ∙ (λ i. ordering_then (nat_cmp (a.first i) (b.first i)) (ordering_then (nat_cmp (a.turn i) (b.turn i)) (ordering_then (nat_cmp (a.second i) (b.second i)) (nat_cmp c.item.entry.key d.item.entry.key))))
     ∙ λ n. ordering_then (nat_cmp-reversed c.item.entry.born d.item.entry.born a.born_fits b.born_fits n) (ordering_then (nat_cmp (rotated ns s c.item.owner) (rotated ns s d.item.owner)) (ordering_then (nat_cmp-reversed c.item.entry.version d.item.entry.version a.version_fits b.version_fits n) (nat_cmp c.item.entry.key d.item.entry.key)))
 
-module _ (mode : Mode) (precise : told_by mode ≡ Each) (ns s : ℕ) (old : List Candidate) (set : AllSet mode ns s old) where
+module _ (mode : Mode) (precise : digest_kind mode ≡ Precise) (ns s : ℕ) (old : List Candidate) (set : AllSet mode ns s old) where
   -- candidates that are sorted by their numbers are in the order of the mode
   pub order_numbers : (moved : List Candidate) → IsPermutation old moved → IsSorted number_order moved → IsSorted (sending_order mode ns s (items_in old)) (items_in moved)
   order_numbers moved moves rises = sorted_items (λ i j. is_lt (sending_order mode ns s (items_in old) i j)) moved (λ k d from in_range.

@@ -11,15 +11,16 @@ use Rattle.bench_types.specs.declared.entries.Item.{Item}
 use Rattle.bench_types.specs.declared.entries.Mark.{Mark}
 use Rattle.bench_types.specs.Mark.{absent, mark_of, is_before}
 use Rattle.bench_types.specs.declared.exchanges.Mode.{Mode}
-use Rattle.bench_types.specs.declared.exchanges.Telling.{Telling}
-use Rattle.bench_types.specs.declared.exchanges.Telling.TheVariants as telling
-use Rattle.bench_types.specs.Mode.{told_by}
+use Rattle.bench_types.specs.declared.exchanges.DigestKind.{DigestKind}
+use Rattle.bench_types.specs.declared.exchanges.DigestKind.TheVariants as kinds
+use Rattle.bench_types.specs.Mode.{digest_kind}
 use Rattle.node_table.specs.Table.{Table, items_of, IsProper}
 use Rattle.node_table.specs.Table.{IsItemInPlace}
+use Rattle.node_table.specs.NodeTableView.{IsFor}
 use Rattle.node_table.proofs.Proper.{items_sound}
 use Rattle.reconcile.specs.Candidates.{items_above, candidates, known_mark}
-use Rattle.reconcile.specs.Digests.{DigestView, Knowledge, Greatest, Each, telling_of, IsDigestOf, greatest_in, each_in, known_in, mark_with, told_generation, told_mark}
-use Rattle.reconcile.specs.Deltas.{DeltaView, item_share, delta_of, delta_between, answer_of, IsDeltaToReceiver, MayTake}
+use Rattle.reconcile.specs.Digests.{DigestView, ToldVersions, Greatest, Each, kind_told, IsDigestOf, greatest_in, each_in, version_in, mark_with, told_generation, told_mark}
+use Rattle.reconcile.specs.Deltas.{DeltaView, item_share, delta_of, delta_between, answer_of, IsDeltaToReceiver}
 use Rattle.reconcile.specs.Order.{sending_order}
 use Rattle.reconcile.specs.Picks.{at_place, fits, sent}
 use Rattle.reconcile.proofs.Picked.{find_stands}
@@ -32,13 +33,13 @@ filter-same p q (x ∷ xs) same =
     ∙ ap (λ ys. cond (q x) (x ∷ ys) ys) (filter-same p q xs (All-tail (λ (i : Item). p i ≡ q i) x xs same))
 
 -- what a digest knows of an item, by its kind
-pub known_in-greatest : (k : Knowledge) (keys owner key : ℕ) → telling_of k ≡ telling.Greatest → known_in keys k owner key ≡ greatest_in k owner
-known_in-greatest (Greatest gs) keys owner key is = refl
-known_in-greatest (Each vs) keys owner key is = cc
+pub version_in-greatest : (k : ToldVersions) (keys owner key : ℕ) → kind_told k ≡ kinds.Scuttle → version_in keys k owner key ≡ greatest_in k owner
+version_in-greatest (Greatest gs) keys owner key is = refl
+version_in-greatest (Each vs) keys owner key is = cc
 
-pub known_in-each : (k : Knowledge) (keys owner key : ℕ) → telling_of k ≡ telling.Each → known_in keys k owner key ≡ each_in keys k owner key
-known_in-each (Greatest gs) keys owner key is = cc
-known_in-each (Each vs) keys owner key is = refl
+pub version_in-each : (k : ToldVersions) (keys owner key : ℕ) → kind_told k ≡ kinds.Precise → version_in keys k owner key ≡ each_in keys k owner key
+version_in-each (Greatest gs) keys owner key is = cc
+version_in-each (Each vs) keys owner key is = refl
 
 -- the version of a mark, which has none where it is 0
 pub version-mark_with : (generation version : ℕ) → (mark_with generation version).version ≡ version
@@ -48,25 +49,25 @@ version-mark_with generation version = elim (eqb version 0) as (λ b. eqb versio
 ] refl
 
 -- a table's digest knows what the table does
-pub told_mark-known : (kind : Telling) (to : Table) (told : DigestView) (i : Item) → IsDigestOf kind to told → i.owner < to.nodes → i.entry.key < to.keys → told_mark told i ≡ known_mark kind to i
-told_mark-known telling.Greatest to told i is lt fits =
-    ap (λ v. record { generation = told_generation told i.owner; version = v }) (known_in-greatest told.knowledge told.keys i.owner i.entry.key is.of_kind)
+pub told_mark-known : (kind : DigestKind) (to : Table) (told : DigestView) (i : Item) → IsDigestOf kind to told → i.owner < to.nodes → i.entry.key < to.keys → told_mark told i ≡ known_mark kind to i
+told_mark-known kinds.Scuttle to told i is lt fits =
+    ap (λ v. record { generation = told_generation told i.owner; version = v }) (version_in-greatest told.versions told.keys i.owner i.entry.key is.of_kind)
     ∙ is.tells i.owner lt
-told_mark-known telling.Each to told i is lt fits =
+told_mark-known kinds.Precise to told i is lt fits =
     λ n. record {
       generation = is.generations i.owner lt n;
-      version = (known_in-each told.knowledge told.keys i.owner i.entry.key is.of_kind ∙ sym (version-mark_with (told_generation told i.owner) (each_in told.keys told.knowledge i.owner i.entry.key)) ∙ ap (λ (m : Mark). m.version) (is.tells i.owner i.entry.key lt fits)) n;
+      version = (version_in-each told.versions told.keys i.owner i.entry.key is.of_kind ∙ sym (version-mark_with (told_generation told i.owner) (each_in told.keys told.versions i.owner i.entry.key)) ∙ ap (λ (m : Mark). m.version) (is.tells i.owner i.entry.key lt fits)) n;
     }
 
 -- what a table's digest does not tell are the candidates to that table
-pub candidates-told : (mode : Mode) (from to : Table) (told : DigestView) → IsProper from → IsDigestOf (told_by mode) to told → told.nodes ≡ from.nodes → told.keys ≡ from.keys → items_above (told_mark told) to.node (items_of from) ≡ candidates mode from to
+pub candidates-told : (mode : Mode) (from to : Table) (told : DigestView) → IsProper from → IsDigestOf (digest_kind mode) to told → told.nodes ≡ from.nodes → told.keys ≡ from.keys → items_above (told_mark told) to.node (items_of from) ≡ candidates mode from to
 candidates-told mode from to told proper is nodes keys =
-    filter-same (λ i. not (eqb i.owner to.node) && is_before (told_mark told i) (mark_of i.entry)) (λ i. not (eqb i.owner to.node) && is_before (known_mark (told_by mode) to i) (mark_of i.entry)) (items_of from)
+    filter-same (λ i. not (eqb i.owner to.node) && is_before (told_mark told i) (mark_of i.entry)) (λ i. not (eqb i.owner to.node) && is_before (known_mark (digest_kind mode) to i) (mark_of i.entry)) (items_of from)
     (λ k d lt.
     let i = get_or (items_of from) k d in
     let here = (items_sound from proper).in_place k d lt in
     ap (λ v. not (eqb i.owner to.node) && is_before v (mark_of i.entry))
-    (told_mark-known (told_by mode) to told i is (subst (λ n. i.owner < n) (sym nodes ∙ is.nodes) here.owner_below) (subst (λ n. i.entry.key < n) (sym keys ∙ is.keys) here.key_below)))
+    (told_mark-known (digest_kind mode) to told i is (subst (λ n. i.owner < n) (sym nodes ∙ is.nodes) here.owner_below) (subst (λ n. i.entry.key < n) (sym keys ∙ is.keys) here.key_below)))
 
 -- none of the candidates is the receiver's own, and each has what all the sender's items have
 pub All-items_above : (P : Item → Type 0) (known : Item → Mark) (receiver : ℕ) (xs : List Item) → All P xs → All (λ (i : Item). (i.owner ≢ receiver) × P i) (items_above known receiver xs)
@@ -102,7 +103,7 @@ pub All-delta_between : (P : Item → Type 0) (mode : Mode) (rotation : ℕ) (bu
 All-delta_between P mode rotation budget from to = All-sent P (sending_order mode from.nodes rotation (candidates mode from to)) (candidates mode from to) (item_share budget) (amount_of budget)
 
 -- so a receiver may take what is sent in answer to its digest
-pub answer-in_place : (mode : Mode) (rotation : ℕ) (budget : Budget) (from : Table) (receiver : ℕ) (told : DigestView) → IsProper from → MayTake receiver from.nodes from.keys (answer_of mode rotation budget from receiver told).items
+pub answer-in_place : (mode : Mode) (rotation : ℕ) (budget : Budget) (from : Table) (receiver : ℕ) (told : DigestView) → IsProper from → All (IsFor receiver from.nodes from.keys) (answer_of mode rotation budget from receiver told).items
 answer-in_place mode rotation budget from receiver told proper =
     let cs = items_above (told_mark told) receiver (items_of from) in
     All-sent (λ (i : Item). (i.owner ≢ receiver) × IsItemInPlace from.nodes from.keys i) (sending_order mode from.nodes rotation cs) cs (item_share budget) (amount_of budget) (candidates-in_place from (told_mark told) receiver proper)
@@ -114,6 +115,6 @@ answer-of_tables mode rotation budget from receiver told delta proper nodes keys
     ∙ ap (λ r. delta_of mode from.nodes rotation budget (items_above (told_mark told) r (items_of from))) (sym at)
     ∙ ap (delta_of mode from.nodes rotation budget) (candidates-told mode from to told proper of_to nodes keys)
 
-pub answer-sound : (mode : Mode) (rotation : ℕ) (budget : Budget) (from : Table) (receiver : ℕ) (told : DigestView) (delta : DeltaView) → IsProper from → delta ≡ answer_of mode rotation budget from receiver told → MayTake receiver from.nodes from.keys delta.items
+pub answer-sound : (mode : Mode) (rotation : ℕ) (budget : Budget) (from : Table) (receiver : ℕ) (told : DigestView) (delta : DeltaView) → IsProper from → delta ≡ answer_of mode rotation budget from receiver told → All (IsFor receiver from.nodes from.keys) delta.items
 answer-sound mode rotation budget from receiver told delta proper is =
-    subst (λ (d : DeltaView). MayTake receiver from.nodes from.keys d.items) (sym is) (answer-in_place mode rotation budget from receiver told proper)
+    subst (λ (d : DeltaView). All (IsFor receiver from.nodes from.keys) d.items) (sym is) (answer-in_place mode rotation budget from receiver told proper)

@@ -7,21 +7,21 @@ use Rattle.std.specs.Prelude.{◌≡◌, ℕ, not, ◌&&◌, ◌==◌, List, fil
 use Rattle.bench_types.specs.declared.entries.Item.{Item}
 use Rattle.bench_types.specs.declared.entries.Mark.{Mark}
 use Rattle.bench_types.specs.declared.exchanges.Mode.{Mode}
-use Rattle.bench_types.specs.declared.exchanges.Telling.{Telling}
-use Rattle.bench_types.specs.declared.exchanges.Telling.TheVariants.{Greatest, Each}
+use Rattle.bench_types.specs.declared.exchanges.DigestKind.{DigestKind}
+use Rattle.bench_types.specs.declared.exchanges.DigestKind.TheVariants.{Scuttle, Precise}
 use Rattle.bench_types.specs.Mark.{mark_of, is_before}
-use Rattle.bench_types.specs.Mode.{told_by}
+use Rattle.bench_types.specs.Mode.{digest_kind}
 use Rattle.node_table.specs.Table.{Table, mark_at, greatest_mark, generation_held, items_of}
 
 -- the modes of the LADIS 2008 paper, in which a digest gives one mark for each owner
 abbrev pub IsScuttleMode : Mode → Type 0
-IsScuttleMode mode = told_by mode ≡ Greatest
+IsScuttleMode mode = digest_kind mode ≡ Scuttle
 
 -- the mark up to which a receiver knows what an item tells, by what its digest tells: of a key that its copy lacks it
 -- knows nothing of the copy's generation, and of an older one all
-abbrev pub known_mark : Telling → Table → Item → Mark
-known_mark Greatest to i = greatest_mark to i.owner
-known_mark Each to i =
+abbrev pub known_mark : DigestKind → Table → Item → Mark
+known_mark Scuttle to i = greatest_mark to i.owner
+known_mark Precise to i =
     record { generation = generation_held to i.owner; version = (mark_at to i.owner i.entry.key).version }
 
 -- the items above what is known, but for the receiver's own
@@ -29,4 +29,4 @@ abbrev pub items_above : (Item → Mark) → ℕ → List Item → List Item
 items_above known receiver = filter (λ i. not (i.owner == receiver) && is_before (known i) (mark_of i.entry))
 
 abbrev pub candidates : Mode → Table → Table → List Item
-candidates mode from to = items_above (known_mark (told_by mode) to) to.node (items_of from)
+candidates mode from to = items_above (known_mark (digest_kind mode) to) to.node (items_of from)

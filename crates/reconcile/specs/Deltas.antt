@@ -6,8 +6,8 @@ use Rattle.bench_types.specs.declared.entries.Item.{Item}
 use Rattle.bench_types.specs.declared.exchanges.Mode.{Mode}
 use Rattle.bench_types.specs.declared.exchanges.Budget.{Budget}
 use Rattle.bench_types.specs.Budget.{amount_of, share_of}
-use Rattle.bench_types.specs.Mode.{told_by}
-use Rattle.node_table.specs.Table.{Table, items_of, IsItemInPlace}
+use Rattle.bench_types.specs.Mode.{digest_kind}
+use Rattle.node_table.specs.Table.{Table, items_of}
 use Rattle.reconcile.specs.Candidates.{items_above, candidates}
 use Rattle.reconcile.specs.Digests.{DigestView, IsDigestOf, told_mark}
 use Rattle.reconcile.specs.Order.{sending_order}
@@ -45,9 +45,5 @@ delta_between mode rotation budget from to = delta_of mode from.nodes rotation b
 -- it is the delta to every table of the receiver that this is the digest of
 abbrev pub IsDeltaToReceiver : Mode → ℕ → Budget → Table → ℕ → DigestView → DeltaView → Type 0
 IsDeltaToReceiver mode rotation budget from receiver told delta =
-    (to : Table) → to.node ≡ receiver → IsDigestOf (told_by mode) to told
+    (to : Table) → to.node ≡ receiver → IsDigestOf (digest_kind mode) to told
     → delta ≡ delta_between mode rotation budget from to
-
--- items that a node may take: none is its own, and each is in its place among so many nodes with so many keys
-abbrev pub MayTake : ℕ → ℕ → ℕ → List Item → Type 0
-MayTake node nodes keys items = All (λ (i : Item). (i.owner ≢ node) × IsItemInPlace nodes keys i) items

@@ -6,21 +6,21 @@
 use Rattle.std.specs.Prelude.{◌≡◌, ℕ, ◌+◌, ◌*◌, ◌<◌, ◌==◌, nat_lt, List, count_by, slice_index, if◌then◌else◌}
 use Rattle.std.specs.List.{range_with_len}
 use Rattle.bench_types.specs.declared.entries.Item.{Item}
-use Rattle.bench_types.specs.declared.exchanges.Telling.{Telling}
-use Rattle.bench_types.specs.declared.exchanges.Telling.TheVariants as telling
+use Rattle.bench_types.specs.declared.exchanges.DigestKind.{DigestKind}
+use Rattle.bench_types.specs.declared.exchanges.DigestKind.TheVariants as kinds
 use Rattle.bench_types.specs.declared.entries.Mark.{Mark}
 use Rattle.bench_types.specs.Mark.{absent}
 use Rattle.node_table.specs.Table.{Table, mark_at, greatest_mark, greatest_version, generation_held, count_of}
 
-abbrev pub digest_size : Telling → Table → ℕ
-digest_size telling.Greatest t = count_by (λ r. nat_lt 0 (greatest_version t r)) (range_with_len 0 t.nodes)
-digest_size telling.Each t = count_of t
+abbrev pub digest_size : DigestKind → Table → ℕ
+digest_size kinds.Scuttle t = count_by (λ r. nat_lt 0 (greatest_version t r)) (range_with_len 0 t.nodes)
+digest_size kinds.Precise t = count_of t
 
 -- which versions a digest tells: the greatest one of each owner, in order, or that of each key of each owner, owner by
 -- owner, 0 where none is held
-pub data Knowledge : Type 0 where
-  Greatest : List ℕ → Knowledge
-  Each : List ℕ → Knowledge
+pub data ToldVersions : Type 0 where
+  Greatest : List ℕ → ToldVersions
+  Each : List ℕ → ToldVersions
 
 -- what contracts see of a digest; there are generations for all owners, in order, or for none
 pub record DigestView : Type 0 where
@@ -28,35 +28,35 @@ pub record DigestView : Type 0 where
   pub keys : ℕ
   pub size : ℕ
   pub generations : List ℕ
-  pub knowledge : Knowledge
+  pub versions : ToldVersions
 
 -- where the version of an owner's key stands
 abbrev pub version_index : ℕ → ℕ → ℕ → ℕ
 version_index keys owner key = owner * keys + key
 
 -- which of the two
-abbrev pub telling_of : Knowledge → Telling
-telling_of (Greatest gs) = telling.Greatest
-telling_of (Each vs) = telling.Each
+abbrev pub kind_told : ToldVersions → DigestKind
+kind_told (Greatest gs) = kinds.Scuttle
+kind_told (Each vs) = kinds.Precise
 
-abbrev pub IsOfKind : Telling → DigestView → Type 0
-IsOfKind kind told = telling_of told.knowledge ≡ kind
+abbrev pub IsOfKind : DigestKind → DigestView → Type 0
+IsOfKind kind told = kind_told told.versions ≡ kind
 
 -- the generation of an owner's copy
 abbrev pub told_generation : DigestView → ℕ → ℕ
 told_generation told owner = slice_index told.generations owner
 
 -- the greatest version of an owner, where a digest gives that
-abbrev pub greatest_in : Knowledge → ℕ → ℕ
+abbrev pub greatest_in : ToldVersions → ℕ → ℕ
 greatest_in (Greatest gs) owner = slice_index gs owner
 greatest_in (Each vs) owner = 0
 
 abbrev pub told_greatest : DigestView → ℕ → Mark
 told_greatest told owner =
-    record { generation = told_generation told owner; version = greatest_in told.knowledge owner }
+    record { generation = told_generation told owner; version = greatest_in told.versions owner }
 
 -- the version of an owner's key, where a digest gives that
-abbrev pub each_in : ℕ → Knowledge → ℕ → ℕ → ℕ
+abbrev pub each_in : ℕ → ToldVersions → ℕ → ℕ → ℕ
 each_in keys (Greatest gs) owner key = 0
 each_in keys (Each vs) owner key = slice_index vs (version_index keys owner key)
 
@@ -65,16 +65,16 @@ abbrev pub mark_with : ℕ → ℕ → Mark
 mark_with generation version = if version == 0 then absent else record { generation = generation; version = version }
 
 abbrev pub told_each : DigestView → ℕ → ℕ → Mark
-told_each told owner key = mark_with (told_generation told owner) (each_in told.keys told.knowledge owner key)
+told_each told owner key = mark_with (told_generation told owner) (each_in told.keys told.versions owner key)
 
 -- it tells what the table holds: the greatest mark of each owner, or the mark of each owner and key
-abbrev pub Tells : Telling → Table → DigestView → Type 0
-Tells telling.Greatest t told = (owner : ℕ) → owner < t.nodes → told_greatest told owner ≡ greatest_mark t owner
-Tells telling.Each t told =
+abbrev pub Tells : DigestKind → Table → DigestView → Type 0
+Tells kinds.Scuttle t told = (owner : ℕ) → owner < t.nodes → told_greatest told owner ≡ greatest_mark t owner
+Tells kinds.Precise t told =
     (owner key : ℕ) → owner < t.nodes → key < t.keys → told_each told owner key ≡ mark_at t owner key
 
 -- it is the table's digest of this kind
-pub record IsDigestOf (kind : Telling) (t : Table) (told : DigestView) : Type 0 where
+pub record IsDigestOf (kind : DigestKind) (t : Table) (told : DigestView) : Type 0 where
   pub nodes : told.nodes ≡ t.nodes
   pub keys : told.keys ≡ t.keys
   pub size : told.size ≡ digest_size kind t
@@ -83,14 +83,14 @@ pub record IsDigestOf (kind : Telling) (t : Table) (told : DigestView) : Type 0 
   pub tells : Tells kind t told
 
 -- the version up to which a digest knows what an owner's key has
-abbrev pub known_in : ℕ → Knowledge → ℕ → ℕ → ℕ
-known_in keys (Greatest gs) owner key = slice_index gs owner
-known_in keys (Each vs) owner key = slice_index vs (version_index keys owner key)
+abbrev pub version_in : ℕ → ToldVersions → ℕ → ℕ → ℕ
+version_in keys (Greatest gs) owner key = slice_index gs owner
+version_in keys (Each vs) owner key = slice_index vs (version_index keys owner key)
 
 -- and the mark
 abbrev pub mark_told : DigestView → ℕ → ℕ → Mark
 mark_told told owner key =
-    record { generation = told_generation told owner; version = known_in told.keys told.knowledge owner key }
+    record { generation = told_generation told owner; version = version_in told.keys told.versions owner key }
 
 abbrev pub told_mark : DigestView → Item → Mark
 told_mark told i = mark_told told i.owner i.entry.key

@@ -5,10 +5,10 @@ use Rattle.std.specs.Cmp.{IsTotalOrder}
 use Rattle.bench_types.specs.declared.entries.Item.{Item}
 use Rattle.bench_types.specs.declared.exchanges.Budget.{Budget}
 use Rattle.bench_types.specs.declared.exchanges.Mode.{Mode}
-use Rattle.bench_types.specs.declared.exchanges.Telling.{Telling}
-use Rattle.bench_types.specs.declared.exchanges.Telling.TheVariants.{Greatest, Each}
+use Rattle.bench_types.specs.declared.exchanges.DigestKind.{DigestKind}
+use Rattle.bench_types.specs.declared.exchanges.DigestKind.TheVariants.{Scuttle, Precise}
 use Rattle.bench_types.specs.Mark.{mark_of, IsBefore}
-use Rattle.bench_types.specs.Mode.{told_by}
+use Rattle.bench_types.specs.Mode.{digest_kind}
 use Rattle.node_table.specs.Table.{Table, mark_at, greatest_mark, generation_held, items_of, IsProper}
 use Rattle.reconcile.specs.Candidates.{IsScuttleMode, candidates}
 use Rattle.reconcile.specs.Deltas.{DeltaView, delta_between}
@@ -45,9 +45,9 @@ UncutDeltasSendAll =
 
 -- a receiver lacks an item that isn't its own: by greatest marks where it is above all that is held of its owner, by
 -- each mark where it is of no older generation than the copy of its owner and above what is held of its key
-abbrev pub Lacks : Telling → Table → Item → Type 0
-Lacks Greatest to i = (i.owner ≢ to.node) × IsBefore (greatest_mark to i.owner) (mark_of i.entry)
-Lacks Each to i =
+abbrev pub Lacks : DigestKind → Table → Item → Type 0
+Lacks Scuttle to i = (i.owner ≢ to.node) × IsBefore (greatest_mark to i.owner) (mark_of i.entry)
+Lacks Precise to i =
     (i.owner ≢ to.node) × (generation_held to i.owner ≤ i.entry.generation)
     × IsBefore (mark_at to i.owner i.entry.key) (mark_of i.entry)
 
@@ -55,4 +55,4 @@ Lacks Each to i =
 abbrev pub CandidatesAreLacked : Type 0
 CandidatesAreLacked =
     (mode : Mode) (from to : Table) (i : Item) → IsProper from → IsProper to
-    → Contains (candidates mode from to) i ↔ (Contains (items_of from) i × Lacks (told_by mode) to i)
+    → Contains (candidates mode from to) i ↔ (Contains (items_of from) i × Lacks (digest_kind mode) to i)

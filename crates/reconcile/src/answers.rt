@@ -1,10 +1,11 @@
 //! What answers a digest.
 
-ghost use Rattle.std.specs.Prelude.{◌≡◌, ◌^◌, ◌<◌, ◌≤◌, length, IfOk, IsOkUnless};
+ghost use Rattle.std.specs.Prelude.{◌≡◌, ◌^◌, ◌<◌, ◌≤◌, All, length, IfOk, IsOkUnless};
 ghost use Rattle.bench_types.specs.declared.faults.Fault.TheVariants.{OutOfMemory};
 ghost use Rattle.bench_types.specs.Budget.{IsLawfulBudget};
-ghost use Rattle.bench_types.specs.Mode.{told_by};
-ghost use Rattle.reconcile.specs.Deltas.{answer_of, AreWithin, IsDeltaToReceiver, MayTake};
+ghost use Rattle.bench_types.specs.Mode.{digest_kind};
+ghost use Rattle.node_table.specs.NodeTableView.{IsFor};
+ghost use Rattle.reconcile.specs.Deltas.{answer_of, AreWithin, IsDeltaToReceiver};
 ghost use Rattle.reconcile.specs.Digests.{IsOfKind};
 
 use crate::candidates::precise_delta;
@@ -12,7 +13,7 @@ use crate::deltas::Delta;
 use crate::digests::Digest;
 use crate::suffixes::scuttle_delta;
 use crate::turns::Turns;
-use bench_types::{Budget, Fault, Mode, Telling};
+use bench_types::{Budget, DigestKind, Fault, Mode};
 use node_table::NodeTable;
 use std::alloc::Global;
 
@@ -39,7 +40,7 @@ pub fn delta(
     rotation: u32,
     budget: Budget,
 ) -> Result<Delta, Fault>
-    requires kind { IsOfKind (told_by mode) digest.now }
+    requires kind { IsOfKind (digest_kind mode) digest.now }
     requires nodes { digest.now.nodes ≡ table.now.table.nodes }
     requires keys { digest.now.keys ≡ table.now.table.keys }
     requires receiver { receiver < table.now.table.nodes }
@@ -49,7 +50,7 @@ pub fn delta(
     ensures of_tables { IfOk result (IsDeltaToReceiver mode rotation budget table.now.table receiver digest.now) }
     ensures within { IfOk result (λ d. AreWithin budget d.items) }
     ensures few { IfOk result (λ d. length d.items < 2 ^ 32) }
-    ensures sound { IfOk result (λ d. MayTake receiver table.now.table.nodes table.now.table.keys d.items) }
+    ensures sound { IfOk result (λ d. All (IsFor receiver table.now.table.nodes table.now.table.keys) d.items) }
     ensures only { IsOkUnless result OutOfMemory }
 {
     let turns = Turns {
@@ -57,8 +58,8 @@ pub fn delta(
         nodes: table.nodes(),
         rotation,
     };
-    match mode.told_by() {
-        Telling::Greatest => scuttle_delta(alloc, table, digest, receiver, turns, budget),
-        Telling::Each => precise_delta(alloc, table, digest, receiver, turns, budget),
+    match mode.digest_kind() {
+        DigestKind::Scuttle => scuttle_delta(alloc, table, digest, receiver, turns, budget),
+        DigestKind::Precise => precise_delta(alloc, table, digest, receiver, turns, budget),
     }
 }

@@ -6,7 +6,7 @@ ghost use Rattle.std.specs.List.{sum_by};
 ghost use Rattle.bench_types.specs.declared.faults.Fault.TheVariants.{OutOfMemory};
 ghost use Rattle.bench_types.specs.declared.limits.TheConstants.{MOST_NODES};
 ghost use Rattle.bench_types.specs.Budget.{amount_of};
-ghost use Rattle.bench_types.specs.Mode.{told_by};
+ghost use Rattle.bench_types.specs.Mode.{digest_kind};
 ghost use Rattle.node_table.specs.Table.{IsProper};
 ghost use Rattle.reconcile.specs.Deltas.{answer_of, item_share, AreWithin};
 ghost use Rattle.reconcile.specs.inner.Parcels.{first_within};
@@ -19,7 +19,7 @@ use crate::deltas::Delta;
 use crate::digests::{Digest, generation_in};
 use crate::parcels::{Parcel, most_sent};
 use crate::turns::Turns;
-use bench_types::{Budget, Entry, Fault, Item, Mode, Telling};
+use bench_types::{Budget, DigestKind, Entry, Fault, Item, Mode};
 use node_table::NodeTable;
 use std::alloc::Global;
 
@@ -46,9 +46,9 @@ pub(crate) fn precise_delta(
     turns: Turns,
     budget: Budget,
 ) -> Result<Delta, Fault>
-    requires precise { told_by turns.mode ≡ Telling.Each }
+    requires precise { digest_kind turns.mode ≡ DigestKind.Precise }
     requires proper { IsProper table.now.table }
-    requires kind { IsOfKind Telling.Each digest.now }
+    requires kind { IsOfKind DigestKind.Precise digest.now }
     requires told { digest.now.nodes ≡ table.now.table.nodes }
     requires keys { digest.now.keys ≡ table.now.table.keys }
     requires nodes { turns.nodes ≡ table.now.table.nodes }
@@ -147,8 +147,8 @@ fn candidates(
     receiver: u32,
     turns: Turns,
 ) -> Result<Vec<Candidate>, Fault>
-    requires precise { told_by turns.mode ≡ Telling.Each }
-    requires kind { IsOfKind Telling.Each digest.now }
+    requires precise { digest_kind turns.mode ≡ DigestKind.Precise }
+    requires kind { IsOfKind DigestKind.Precise digest.now }
     requires told { digest.now.nodes ≡ table.now.table.nodes }
     requires keys { digest.now.keys ≡ table.now.table.keys }
     requires nodes { turns.nodes ≡ table.now.table.nodes }
@@ -184,8 +184,8 @@ fn push_newer(
     row: &[Entry],
     turns: Turns,
 ) -> Result<(), Fault>
-    requires precise { told_by turns.mode ≡ Telling.Each }
-    requires kind { IsOfKind Telling.Each digest.now }
+    requires precise { digest_kind turns.mode ≡ DigestKind.Precise }
+    requires kind { IsOfKind DigestKind.Precise digest.now }
     requires limit { turns.nodes ≤ MOST_NODES }
     requires told { digest.now.nodes ≡ turns.nodes }
     requires owner { owner < turns.nodes }
@@ -212,7 +212,7 @@ fn push_newer(
 
 // A candidate with its numbers.
 fn candidate_of(item: Item, turns: Turns) -> Candidate
-    requires precise { told_by turns.mode ≡ Telling.Each }
+    requires precise { digest_kind turns.mode ≡ DigestKind.Precise }
     requires limit { turns.nodes ≤ MOST_NODES }
     requires owner { item.owner < turns.nodes }
     requires rotation { turns.rotation < turns.nodes }
@@ -243,7 +243,7 @@ fn turn_of(owner: u32, turns: Turns) -> u32
 
 // A round or a version as a number that is smaller where it comes first.
 fn age_first(mode: Mode, age: u32) -> u32
-    requires { told_by mode ≡ Telling.Each }
+    requires { digest_kind mode ≡ DigestKind.Precise }
     ensures { result ≡ age_first mode age }
 {
     match mode {

@@ -2,11 +2,11 @@
 
 ghost use Rattle.std.specs.Prelude.{◌≡◌, ◌^◌, ◌+◌, ◌<◌, nat_lt, count_by, slice_index, All, length, IfOk, IsOkUnless};
 ghost use Rattle.bench_types.specs.declared.faults.Fault.TheVariants.{OutOfMemory};
-ghost use Rattle.bench_types.specs.Mode.{told_by};
+ghost use Rattle.bench_types.specs.Mode.{digest_kind};
 ghost use Rattle.reconcile.specs.Digests.{IsDigestOf, mark_with, version_index};
 ghost use Rattle.reconcile.specs.inner.Inside.{AreVersions, with_row};
 
-use bench_types::{Entry, Fault, Mark, Mode, Telling};
+use bench_types::{DigestKind, Entry, Fault, Mark, Mode};
 use node_table::NodeTable;
 use std::alloc::Global;
 use std::marker::Model;
@@ -37,21 +37,21 @@ impl Model for Digest {
 
     ghost Value = { DigestView };
 
-    ghost use Rattle.reconcile.specs.inner.Inside.{knowledge_of, IsComplete};
+    ghost use Rattle.reconcile.specs.inner.Inside.{versions_told, IsComplete};
 
     ghost view = { λ d. record {
       nodes = d.nodes;
       keys = d.keys;
       size = d.size;
       generations = d.generations.items;
-      knowledge = knowledge_of d.versions;
+      versions = versions_told d.versions;
     } };
 
     ghost invariant = { λ d. IsComplete d.nodes d.keys d.generations.items d.versions };
 }
 
 impl Digest {
-    ghost use Rattle.reconcile.specs.Digests.{IsOfKind, Knowledge, told_generation, told_greatest, told_each};
+    ghost use Rattle.reconcile.specs.Digests.{IsOfKind, ToldVersions, told_generation, told_greatest, told_each};
     ghost use Rattle.reconcile.specs.inner.Inside.{AreVersionsTold};
 
     /// The digest that a mode asks of a table. In a scuttle mode it is a copy of a number for each
@@ -59,12 +59,12 @@ impl Digest {
     /// at once. Where a generation above 0 is held it has one more number for each owner.
     /// An error is lack of memory (`OutOfMemory`).
     pub fn of(alloc: Global, table: &NodeTable, mode: Mode) -> Result<Digest, Fault>
-        ensures ok { IfOk result (IsDigestOf (told_by mode) table.now.table) }
+        ensures ok { IfOk result (IsDigestOf (digest_kind mode) table.now.table) }
         ensures only { IsOkUnless result OutOfMemory }
     {
-        match mode.told_by() {
-            Telling::Greatest => greatest_of_table(alloc, table),
-            Telling::Each => each_of_table(alloc, table),
+        match mode.digest_kind() {
+            DigestKind::Scuttle => greatest_of_table(alloc, table),
+            DigestKind::Precise => each_of_table(alloc, table),
         }
     }
 
@@ -77,7 +77,7 @@ impl Digest {
 
     /// The greatest mark that is held of an owner: two looks.
     pub fn greatest(&self, owner: u32) -> Mark
-        requires kind { IsOfKind Telling.Greatest self.now }
+        requires kind { IsOfKind DigestKind.Scuttle self.now }
         requires owner { owner < self.now.nodes }
         ensures { result ≡ told_greatest self.now owner }
     {
@@ -89,7 +89,7 @@ impl Digest {
 
     /// The mark that is held of an owner's key, the absent one where none is: two looks.
     pub fn version(&self, owner: u32, key: u32) -> Mark
-        requires kind { IsOfKind Telling.Each self.now }
+        requires kind { IsOfKind DigestKind.Precise self.now }
         requires owner { owner < self.now.nodes }
         requires key { key < self.now.keys }
         ensures { result ≡ told_each self.now owner key }
@@ -122,8 +122,8 @@ impl Digest {
 
     // The greatest version that is held of each owner, in order.
     pub(crate) fn all_greatest(&self) -> &[u32]
-        requires kind { IsOfKind Telling.Greatest self.now }
-        ensures versions { self.now.knowledge ≡ Knowledge.Greatest result.now }
+        requires kind { IsOfKind DigestKind.Scuttle self.now }
+        ensures versions { self.now.versions ≡ ToldVersions.Greatest result.now }
         ensures count { length result.now ≡ self.now.nodes }
     {
         match &self.versions {
@@ -134,7 +134,7 @@ impl Digest {
 
     // The version that is held of each of an owner's keys, in order, 0 where none is.
     pub(crate) fn versions_of(&self, owner: u32) -> &[u32]
-        requires kind { IsOfKind Telling.Each self.now }
+        requires kind { IsOfKind DigestKind.Precise self.now }
         requires owner { owner < self.now.nodes }
         ensures { AreVersionsTold self.now owner result.now }
     {
@@ -183,7 +183,7 @@ fn mark_with(generation: u32, version: u32) -> Mark
 
 // What the scuttle modes ask of a table.
 fn greatest_of_table(alloc: Global, table: &NodeTable) -> Result<Digest, Fault>
-    ensures ok { IfOk result (IsDigestOf Telling.Greatest table.now.table) }
+    ensures ok { IfOk result (IsDigestOf DigestKind.Scuttle table.now.table) }
     ensures only { IsOkUnless result OutOfMemory }
 {
     let generations = Vec::from_slice(alloc, table.generations())?;
@@ -199,7 +199,7 @@ fn greatest_of_table(alloc: Global, table: &NodeTable) -> Result<Digest, Fault>
 
 // What the precise modes ask of a table.
 fn each_of_table(alloc: Global, table: &NodeTable) -> Result<Digest, Fault>
-    ensures ok { IfOk result (IsDigestOf Telling.Each table.now.table) }
+    ensures ok { IfOk result (IsDigestOf DigestKind.Precise table.now.table) }
     ensures only { IsOkUnless result OutOfMemory }
 {
     Ok(Digest {

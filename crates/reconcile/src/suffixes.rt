@@ -4,7 +4,7 @@
 ghost use Rattle.std.specs.Prelude.{◌≡◌, ◌+◌, ◌^◌, ◌<◌, ◌≤◌, All, length, IfOk, OnOk, IsOkUnless};
 ghost use Rattle.std.specs.List.{AllPairs};
 ghost use Rattle.bench_types.specs.declared.faults.Fault.TheVariants.{OutOfMemory};
-ghost use Rattle.bench_types.specs.Mode.{told_by};
+ghost use Rattle.bench_types.specs.Mode.{digest_kind};
 ghost use Rattle.node_table.specs.Entries.{StandsBefore};
 ghost use Rattle.node_table.specs.Table.{IsProper};
 ghost use Rattle.reconcile.specs.Deltas.{answer_of, AreWithin};
@@ -17,7 +17,7 @@ use crate::deltas::Delta;
 use crate::digests::{Digest, mark_in};
 use crate::parcels::Parcel;
 use crate::turns::Turns;
-use bench_types::{Budget, Entry, Fault, Item, Mode, Telling};
+use bench_types::{Budget, DigestKind, Entry, Fault, Item, Mode};
 use node_table::NodeTable;
 use std::alloc::Global;
 
@@ -38,9 +38,9 @@ pub(crate) fn scuttle_delta(
     turns: Turns,
     budget: Budget,
 ) -> Result<Delta, Fault>
-    requires scuttle { told_by turns.mode ≡ Telling.Greatest }
+    requires scuttle { digest_kind turns.mode ≡ DigestKind.Scuttle }
     requires proper { IsProper table.now.table }
-    requires kind { IsOfKind Telling.Greatest digest.now }
+    requires kind { IsOfKind DigestKind.Scuttle digest.now }
     requires told { digest.now.nodes ≡ table.now.table.nodes }
     requires nodes { turns.nodes ≡ table.now.table.nodes }
     requires rotation { turns.rotation < turns.nodes }
@@ -70,7 +70,7 @@ fn suffixes_above<'a>(
     digest: &Digest,
     receiver: u32,
 ) -> Result<Vec<Suffix<'a>>, Fault>
-    requires kind { IsOfKind Telling.Greatest digest.now }
+    requires kind { IsOfKind DigestKind.Scuttle digest.now }
     requires told { digest.now.nodes ≡ table.now.table.nodes }
     ensures all { IfOk result
         (λ v. AreCandidates table.now.table digest.now receiver table.now.table.nodes (items_of_suffixes v.items)) }

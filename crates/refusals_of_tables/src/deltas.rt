@@ -1,7 +1,7 @@
 //! Digests, and the deltas that answer them.
 
 ghost use Rattle.std.specs.Prelude.{IfOk};
-ghost use Rattle.bench_types.specs.Mode.{told_by};
+ghost use Rattle.bench_types.specs.Mode.{digest_kind};
 ghost use Rattle.reconcile.specs.Digests.{IsDigestOf};
 
 use crate::tables::{new_table, take};
@@ -85,7 +85,7 @@ fn digest_of<R: Eprint + AllocGlobal>(
     table: &NodeTable,
     mode: Mode,
 ) -> Result<Digest, Failure>
-    ensures { IfOk result (IsDigestOf (told_by mode) table.now.table) }
+    ensures { IfOk result (IsDigestOf (digest_kind mode) table.now.table) }
 {
     let alloc = rt.alloc();
     Ok(retried!(rt, "Digest::of", Digest::of(alloc, table, mode)))

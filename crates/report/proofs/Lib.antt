@@ -1,4 +1,3 @@
-pub mod Sinking
 pub mod CellFacts
 pub mod ColumnFacts
 pub mod Headers

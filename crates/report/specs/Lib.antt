@@ -1,7 +1,6 @@
 pub mod Line
 pub mod Columns
 pub mod Report
-pub mod Output
 pub mod Trace
 pub mod Compare
 pub mod inner

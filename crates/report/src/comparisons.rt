@@ -3,7 +3,7 @@
 ghost use Rattle.std.specs.Prelude.{OnOk, IfErr};
 ghost use Rattle.report.specs.Columns.{IsFormat};
 ghost use Rattle.report.specs.Compare.{compare_header_line, compare_line};
-ghost use Rattle.report.specs.Output.{IsWritten, IsWriteFault};
+ghost use Rattle.bench_types.specs.Output.{IsWritten, IsWriteFault};
 
 use crate::cells::Cell;
 use crate::columns::{push_names, push_numbers};

@@ -10,6 +10,5 @@ mod reports;
 mod traces;
 
 pub use comparisons::{compare_header, write_compare_row};
-pub use outputs::write_text;
 pub use reports::{report_header, write_report_row};
 pub use traces::{trace_header, write_trace_rows};

@@ -2,7 +2,7 @@
 
 ghost use Rattle.std.specs.Prelude.{OnOk, IfErr};
 ghost use Rattle.report.specs.Columns.{IsFormat};
-ghost use Rattle.report.specs.Output.{IsWritten, IsWriteFault};
+ghost use Rattle.bench_types.specs.Output.{IsWritten, IsWriteFault};
 ghost use Rattle.report.specs.Report.{report_header_line, report_line};
 
 use crate::columns::{push_names, push_numbers};

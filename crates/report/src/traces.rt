@@ -2,13 +2,13 @@
 
 ghost use Rattle.std.specs.Prelude.{◌≡◌, ◌≤◌, ◌++◌, length, IsTrue, IfOk, OnOk, IfErr, IsOkUnless};
 ghost use Rattle.report.specs.inner.Cells.{is_plain, bytes_written, IsBetweenLines};
-ghost use Rattle.report.specs.Output.{IsWritten, IsWriteFault};
+ghost use Rattle.bench_types.specs.Output.{IsWritten, IsWriteFault};
 ghost use Rattle.round_plan.specs.declared.lists.TheConstants.{MOST_EXCHANGES};
 ghost use Rattle.report.specs.Trace.{trace_header_line, fate_name, trace_line, trace_lines};
 
 use crate::cells::{Cell, put_line};
-use crate::outputs::{write_line, write_text};
-use bench_types::{Exchange, Fate, Fault, Record, Sink};
+use crate::outputs::write_line;
+use bench_types::{Exchange, Fate, Fault, Record, Sink, write_text};
 use csv::{Writer, WriterBuilder};
 use round_plan::RoundList;
 use std::alloc::Global;

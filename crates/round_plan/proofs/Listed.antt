@@ -9,7 +9,7 @@ use Rattle.bench_types.specs.declared.exchanges.Exchange.{Exchange}
 use Rattle.scenario.specs.Settings.{Settings}
 use Rattle.round_plan.specs.Outages.{is_up}
 use Rattle.bench_types.specs.Exchange.{IsPlanned}
-use Rattle.round_plan.specs.Plan.{exchange_of, begins, is_unreached, reaches, plan_of, round_list_of}
+use Rattle.round_plan.specs.Plan.{exchange_of, begins, is_unreached, reaches, round_list_view, round_list_of}
 use Rattle.round_plan.specs.inner.Rounds.{AreChosen}
 
 -- what the nodes below i begin, and how many of them are unreached
@@ -30,10 +30,10 @@ pub length_chosen : (s : Settings) (round : ℕ) (es : List Exchange) → AreCho
 length_chosen s round es chosen = ap length chosen.value ∙ length-map-range_with_len (exchange_of s round) 0 s.nodes
 
 -- all nodes make the round's plan
-pub listed_all : (s : Settings) (round i : ℕ) (done : List Exchange) (missed : ℕ) → IsListed s round i done missed → s.nodes ≤ i → plan_of s.nodes missed done ≡ round_list_of s round
+pub listed_all : (s : Settings) (round i : ℕ) (done : List Exchange) (missed : ℕ) → IsListed s round i done missed → s.nodes ≤ i → round_list_view s.nodes missed done ≡ round_list_of s round
 listed_all s round i done missed listed all =
     let whole : take i (range_with_len 0 s.nodes) ≡ range_with_len 0 s.nodes = take_all i (range_with_len 0 s.nodes) (omega (arith, length-range_with_len 0 s.nodes)) in
-    λ j. plan_of s.nodes
+    λ j. round_list_view s.nodes
     ((listed.unreached ∙ ap (count_by (is_unreached s round)) whole) j)
     ((listed.exchanges ∙ ap (λ ns. map (exchange_of s round) (filter (begins s round) ns)) whole) j)
 

@@ -19,8 +19,8 @@ pub record RoundListView : Type 0 where
   pub unreached : ℕ
   pub exchanges : List Exchange
 
-abbrev pub plan_of : ℕ → ℕ → List Exchange → RoundListView
-plan_of n u es = record { nodes = n; unreached = u; exchanges = es }
+abbrev pub round_list_view : ℕ → ℕ → List Exchange → RoundListView
+round_list_view n u es = record { nodes = n; unreached = u; exchanges = es }
 
 -- what each plan of a round keeps
 pub record IsRoundPlan (p : RoundListView) : Type 0 where
@@ -62,4 +62,4 @@ is_unreached s round node = is_up s node round && not (reaches s round node)
 -- the plan of a round of a scenario
 abbrev pub round_list_of : Settings → ℕ → RoundListView
 round_list_of s round =
-    plan_of s.nodes (count_by (is_unreached s round) (range_with_len 0 s.nodes)) (map (exchange_of s round) (filter (begins s round) (range_with_len 0 s.nodes)))
+    round_list_view s.nodes (count_by (is_unreached s round) (range_with_len 0 s.nodes)) (map (exchange_of s round) (filter (begins s round) (range_with_len 0 s.nodes)))

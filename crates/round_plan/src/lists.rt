@@ -2,7 +2,7 @@
 
 ghost use Rattle.std.specs.Prelude.{◌≡◌, ◌==◌, ◌↔◌, length, slice_get, IsSome, IfSome, IsTrue};
 ghost use Rattle.bench_types.specs.Exchange.{IsPlanned};
-ghost use Rattle.round_plan.specs.Plan.{RoundListView, plan_of, IsRoundPlan};
+ghost use Rattle.round_plan.specs.Plan.{RoundListView, round_list_view, IsRoundPlan};
 
 use bench_types::Exchange;
 use bench_types::limits::{LEAST_NODES, MOST_NODES};
@@ -20,20 +20,20 @@ pub struct RoundList {
 }
 
 impl Model for RoundList {
-    ghost use Rattle.round_plan.specs.Plan.{RoundListView, plan_of, IsRoundPlan};
+    ghost use Rattle.round_plan.specs.Plan.{RoundListView, round_list_view, IsRoundPlan};
 
     ghost Value = { RoundListView };
 
-    ghost view = { λ l. plan_of l.nodes l.unreached l.exchanges.items };
+    ghost view = { λ l. round_list_view l.nodes l.unreached l.exchanges.items };
 
-    ghost invariant = { λ l. IsRoundPlan (plan_of l.nodes l.unreached l.exchanges.items) };
+    ghost invariant = { λ l. IsRoundPlan (round_list_view l.nodes l.unreached l.exchanges.items) };
 }
 
 impl RoundList {
     /// The list of these exchanges, where they are a round's plan. Costs a step for each of them.
     pub fn of(nodes: u32, unreached: u32, exchanges: Vec<Exchange>) -> Option<RoundList>
-        ensures lawful { IsSome result ↔ IsRoundPlan (plan_of nodes unreached exchanges.items) }
-        ensures value { IfSome result (λ list. list ≡ plan_of nodes unreached exchanges.items) }
+        ensures lawful { IsSome result ↔ IsRoundPlan (round_list_view nodes unreached exchanges.items) }
+        ensures value { IfSome result (λ list. list ≡ round_list_view nodes unreached exchanges.items) }
     {
         let is_lawful = (LEAST_NODES..=MOST_NODES).contains(&nodes)
             && exchanges.len() <= MOST_EXCHANGES as usize
@@ -51,8 +51,8 @@ impl RoundList {
 
     // As `of`, for what is known to be a plan.
     pub(crate) fn planned(nodes: u32, unreached: u32, exchanges: Vec<Exchange>) -> RoundList
-        requires { IsRoundPlan (plan_of nodes unreached exchanges.items) }
-        ensures { result ≡ plan_of nodes unreached exchanges.items }
+        requires { IsRoundPlan (round_list_view nodes unreached exchanges.items) }
+        ensures { result ≡ round_list_view nodes unreached exchanges.items }
     {
         RoundList {
             nodes,

@@ -12,7 +12,7 @@ use Rattle.bench_types.specs.declared.limits.TheConstants.{LEAST_NODES, MOST_NOD
 use Rattle.scenario.specs.Budgets.{is_in_entries, entries_at, is_too_small, bytes_of, bytes_at, budget_at}
 use Rattle.scenario.specs.Checked.{checked, unknown_checked}
 use Rattle.scenario.specs.Elements.{has_generations, array_of, table_of, few, elements_of, elements_at, each, ascending, apart_at, forget_at, array_at, partition_of, restart_of, load_of, partitions_at, restarts_at, loads_at, elements_have_only, only_elements, partition_fields, restart_fields, load_fields}
-use Rattle.scenario.specs.Fields.{◌>>=◌, name_of, value_at, number_at, number_of, present, text_of, flag_of, flag_at, only, only_fields}
+use Rattle.scenario.specs.Fields.{◌>>=◌, name_of, value_at, number_at, number_of, present, text_of, flag_of, flag_at, no_other_field, only_fields}
 use Rattle.scenario.specs.Parts.{size_checked, basics_at, conduct_at}
 use Rattle.scenario.specs.CheckFault.{IsFaultOfCheck}
 use Rattle.scenario.specs.Settings.{Settings}
@@ -132,7 +132,7 @@ of_load value =
     next (number_at field.LoadTo from MOST_ROUNDS members) _ (at_number field.LoadTo from MOST_ROUNDS members) (λ to.
     next (number_at field.LoadWrites 0 MOST_WRITES members) _ (at_number field.LoadWrites 0 MOST_WRITES members) (λ writes. tt))))
 
-of_only : (name : TableName) (b : Bool) → OnlyFaultsOfCheck (only name b)
+of_only : (name : TableName) (b : Bool) → OnlyFaultsOfCheck (no_other_field name b)
 of_only name true = tt
 of_only name false = tt
 

@@ -18,7 +18,7 @@ use Rattle.scenario.specs.declared.parts.Basics.{Basics}
 use Rattle.scenario.specs.declared.parts.Conduct.{Conduct}
 use Rattle.scenario.specs.Checked.{checked, unknown_checked}
 use Rattle.scenario.specs.Elements.{list_of, array_of, few, elements_of, each, ascending, apart_at, forget_at, partition_of, restart_of, load_of, partitions_at, restarts_at, loads_at, elements_have_only, only_elements, partition_fields, restart_fields, load_fields}
-use Rattle.scenario.specs.Fields.{◌>>=◌, value_at, number_of, number_at, name_of, present, text_of, flag_of, flag_at, only, only_fields, has_only}
+use Rattle.scenario.specs.Fields.{◌>>=◌, value_at, number_of, number_at, name_of, present, text_of, flag_of, flag_at, no_other_field, only_fields, has_only}
 use Rattle.scenario.specs.Order.{HasNumber, HasFlag, HasBudget, HasWord, SaysPartition, SaysRestart, SaysLoad, Says}
 use Rattle.scenario.specs.Parts.{size_checked, basics_at, conduct_at}
 use Rattle.scenario.specs.Budgets.{is_in_entries, entries_at, is_too_small, bytes_of, bytes_at, budget_at}
@@ -43,7 +43,7 @@ word_found f meaning x None e = absurd cc
 word_found f meaning x (Some (string word)) e = (word, refl, word_meant f x (meaning word) e)
 word_found f meaning x (Some _) e = absurd cc
 
-only_known : (name : TableName) (b : Bool) (u : Unit {0}) → only name b ≡ Ok u → b ≡ true
+only_known : (name : TableName) (b : Bool) (u : Unit {0}) → no_other_field name b ≡ Ok u → b ≡ true
 only_known name true u e = refl
 only_known name false u e = absurd cc
 

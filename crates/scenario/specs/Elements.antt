@@ -13,7 +13,7 @@ use Rattle.bench_types.specs.declared.limits.TheConstants.{MOST_ROUNDS, MOST_WRI
 use Rattle.scenario.specs.declared.elements.Partition.{Partition}
 use Rattle.scenario.specs.declared.elements.Restart.{Restart}
 use Rattle.scenario.specs.declared.elements.Load.{Load}
-use Rattle.scenario.specs.Fields.{◌>>=◌, name_of, value_at, number_of, number_at, flag_at, has_only, only}
+use Rattle.scenario.specs.Fields.{◌>>=◌, name_of, value_at, number_of, number_at, flag_at, has_only, no_other_field}
 
 -- the items of an array, as a list
 abbrev pub list_of : Items → List Data
@@ -28,7 +28,7 @@ abbrev pub table_of : Field → Data → Result Members Fault
 table_of f (toml.table table) = Ok table
 table_of f _ = Err (WrongType f)
 
--- an array of tables has only so many elements
+-- an array of tables has no_other_field so many elements
 abbrev pub few : Field → List Data → Result (List Data) Fault
 few f values = if nat_le (length values) MOST_ELEMENTS then Ok values else Err (OutOfRange f)
 
@@ -68,7 +68,7 @@ partition_of nodes value = do
 abbrev pub has_generations : ℕ → Bool
 has_generations format = format == 2
 
--- whether a restart forgets: only a format with generations says so
+-- whether a restart forgets: no_other_field a format with generations says so
 abbrev pub forget_at : ℕ → Members → Result Bool Fault
 forget_at format table = if has_generations format then flag_at field.RestartForget table else Ok false
 
@@ -133,4 +133,4 @@ elements_have_only f fields table = list_all (table_has_only fields) (values_at 
 
 -- the fault of an array with a table that has another key
 abbrev pub only_elements : TableName → Field → List Field → Members → Result (Unit {0}) Fault
-only_elements name f fields table = only name (elements_have_only f fields table)
+only_elements name f fields table = no_other_field name (elements_have_only f fields table)

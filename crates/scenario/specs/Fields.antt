@@ -96,9 +96,9 @@ has_only fields no_members = true
 has_only fields (member key value others) = is_among fields key && has_only fields others
 
 -- the fault of a table that has another key
-abbrev pub only : TableName → Bool → Result (Unit {0}) Fault
-only name true = Ok tt
-only name false = Err (UnknownField name)
+abbrev pub no_other_field : TableName → Bool → Result (Unit {0}) Fault
+no_other_field name true = Ok tt
+no_other_field name false = Err (UnknownField name)
 
 abbrev pub only_fields : TableName → List Field → Members → Result (Unit {0}) Fault
-only_fields name fields table = only name (has_only fields table)
+only_fields name fields table = no_other_field name (has_only fields table)

@@ -8,7 +8,7 @@ use Rattle.node_table.specs.NodeTableView.{NodeTableView}
 use Rattle.round_plan.specs.Writes.{count_before, own_writes}
 use Rattle.scenario.specs.Settings.{Settings}
 use Rattle.staleness.specs.declared.lists.Write.{Write}
-use Rattle.staleness.specs.Figures.{writes_at}
+use Rattle.staleness.specs.Figures.{writes_of_owner}
 use Rattle.cluster.specs.Tables.{tables_in, table_of_node}
 use Rattle.simulation.specs.Rounds.{restarted_table, restarted, written_table, begun}
 use Rattle.simulation.specs.inner.Steps.{begun_table}
@@ -19,8 +19,8 @@ use Rattle.cluster.proofs.Tables.{length-tables_in, table_read, tables_in-set, t
 pub record HaveBegun (s : Settings) (round : ℕ) (old new : List Table) (lists : List (List Write)) (n : ℕ) : Type 0 where
   pub table_count : length new ≡ s.nodes
   pub list_count : length lists ≡ s.nodes
-  pub done : (p : ℕ) → p < n → p < s.nodes → (table_of_node new p ≡ begun_table s round p (table_of_node old p)) × IsOwner s round p (table_of_node new p) (writes_at lists p)
-  pub rest : (p : ℕ) → n ≤ p → p < s.nodes → (table_of_node new p ≡ table_of_node old p) × IsOwner s (round - 1) p (table_of_node new p) (writes_at lists p)
+  pub done : (p : ℕ) → p < n → p < s.nodes → (table_of_node new p ≡ begun_table s round p (table_of_node old p)) × IsOwner s round p (table_of_node new p) (writes_of_owner lists p)
+  pub rest : (p : ℕ) → n ≤ p → p < s.nodes → (table_of_node new p ≡ table_of_node old p) × IsOwner s (round - 1) p (table_of_node new p) (writes_of_owner lists p)
 
 pub begun_none : (s : Settings) (round : ℕ) (tables : List Table) (lists : List (List Write)) → StandAfterRound s (round - 1) tables lists → HaveBegun s round tables tables lists 0
 begun_none s round tables lists standing = record {
@@ -39,22 +39,22 @@ module _ (s : Settings) (round : ℕ) (old new : List Table) (lists : List (List
     done = λ p lt in_range. elim (cases_eq p n) [
       | inr other ↦ moved p (λ u w. (u ≡ begun_table s round p (table_of_node old p)) × IsOwner s round p u w) other (so_far.done p (omega arith) in_range)
       | inl this ↦
-          subst (λ q. (table_of_node (set new n t) q ≡ begun_table s round q (table_of_node old q)) × IsOwner s round q (table_of_node (set new n t) q) (writes_at (set lists n ws) q)) (sym this)
-          (subst (λ u. (u ≡ begun_table s round n (table_of_node old n)) × IsOwner s round n u (writes_at (set lists n ws) n)) (sym (table_of_node-set_same new n t (omega (arith, so_far.table_count))))
+          subst (λ q. (table_of_node (set new n t) q ≡ begun_table s round q (table_of_node old q)) × IsOwner s round q (table_of_node (set new n t) q) (writes_of_owner (set lists n ws) q)) (sym this)
+          (subst (λ u. (u ≡ begun_table s round n (table_of_node old n)) × IsOwner s round n u (writes_of_owner (set lists n ws) n)) (sym (table_of_node-set_same new n t (omega (arith, so_far.table_count))))
           (is ∙ ap (begun_table s round n) (so_far.rest n (omega arith) below).0, subst (IsOwner s round n t) (sym (get_or-set_same lists n ws [] (omega (arith, so_far.list_count)))) own))
     ];
     rest = λ p le in_range. moved p (λ u w. (u ≡ table_of_node old p) × IsOwner s (round - 1) p u w) (λ e. absurd (omega arith)) (so_far.rest p (omega arith) in_range);
   }
     where
-      moved : (p : ℕ) (P : Table → List Write → Type 0) → p ≢ n → P (table_of_node new p) (writes_at lists p) → P (table_of_node (set new n t) p) (writes_at (set lists n ws) p)
-      moved p P other x = subst (λ w. P (table_of_node (set new n t) p) w) (sym (get_or-set_other lists n p ws [] other)) (subst (λ u. P u (writes_at lists p)) (sym (table_of_node-set_other new n p t other)) x)
+      moved : (p : ℕ) (P : Table → List Write → Type 0) → p ≢ n → P (table_of_node new p) (writes_of_owner lists p) → P (table_of_node (set new n t) p) (writes_of_owner (set lists n ws) p)
+      moved p P other x = subst (λ w. P (table_of_node (set new n t) p) w) (sym (get_or-set_other lists n p ws [] other)) (subst (λ u. P u (writes_of_owner lists p)) (sym (table_of_node-set_other new n p t other)) x)
 
 -- with the table and the list as the code reads and writes them
 module _ (s : Settings) (round : ℕ) (old : List Table) (new : List NodeTableView) (lists : List (List Write)) (n : ℕ) (so_far : HaveBegun s round old (tables_in new) lists n) (below : n < s.nodes) (d : NodeTableView) (e : List Write) where
   table_is : (get_or new n d).table ≡ table_of_node (tables_in new) n
   table_is = table_read new n d (omega (arith, so_far.table_count, length-tables_in new))
 
-  list_is : get_or lists n e ≡ writes_at lists n
+  list_is : get_or lists n e ≡ writes_of_owner lists n
   list_is = get_or_default lists n e [] (omega (arith, so_far.list_count))
 
   pub owner_next : IsOwner s (round - 1) n (get_or new n d).table (get_or lists n e)

@@ -19,13 +19,13 @@ use Rattle.round_plan.proofs.Growth.{length-writes_before, writes_before-grown, 
 use Rattle.scenario.specs.Settings.{Settings}
 use Rattle.staleness.specs.declared.lists.Write.{Write}
 use Rattle.staleness.specs.OwnParts.{write_of_entry}
-use Rattle.staleness.specs.Figures.{writes_at}
+use Rattle.staleness.specs.Figures.{writes_of_owner}
 use Rattle.staleness.specs.Writes.{AreBornBy}
 use Rattle.staleness.proofs.OwnParts.{own_part-empty}
 use Rattle.exchange.specs.inner.Owns.{KeepsOwn}
 use Rattle.simulation.specs.Rounds.{opening_tables}
 use Rattle.simulation.specs.Standing.{IsOwnerOf, IsOwner, StandAfterRound}
-use Rattle.simulation.specs.inner.Steps.{IsWritten, HasRestarted}
+use Rattle.simulation.specs.inner.Steps.{HasWritten, HasRestarted}
 use Rattle.cluster.specs.Tables.{table_of_node, AreProper}
 use Rattle.cluster.specs.Clusters.{KeepOwnParts}
 use Rattle.cluster.proofs.BeginLaws.{generation-written}
@@ -56,11 +56,11 @@ owner_opening s n t ws proper table list = subst (λ u. IsOwner s 0 n u ws) (sym
   born = λ k d lt. absurd (omega arith);
 }))
 
-pub standing_opening : (s : Settings) (ts : List Table) (lists : List (List Write)) → AreProper ts → ts ≡ opening_tables s → length lists ≡ s.nodes → ((n : ℕ) → writes_at lists n ≡ []) → StandAfterRound s 0 ts lists
+pub standing_opening : (s : Settings) (ts : List Table) (lists : List (List Write)) → AreProper ts → ts ≡ opening_tables s → length lists ≡ s.nodes → ((n : ℕ) → writes_of_owner lists n ≡ []) → StandAfterRound s 0 ts lists
 standing_opening s ts lists proper opening count none = record {
   table_count = size;
   list_count = count;
-  owners = λ n lt. owner_opening s n (table_of_node ts n) (writes_at lists n) (proper n (omega (arith, lt, size))) (ap (λ us. table_of_node us n) opening ∙ table_of_node-made (λ m. empty_table m s.nodes s.keys) s.nodes n lt) (none n);
+  owners = λ n lt. owner_opening s n (table_of_node ts n) (writes_of_owner lists n) (proper n (omega (arith, lt, size))) (ap (λ us. table_of_node us n) opening ∙ table_of_node-made (λ m. empty_table m s.nodes s.keys) s.nodes n lt) (none n);
 }
   where
     size : length ts ≡ s.nodes
@@ -88,7 +88,7 @@ pub standing_kept : (s : Settings) (round : ℕ) (old new : List Table) (lists :
 standing_kept s round old new lists size own proper is = record {
   table_count = size ∙ is.table_count;
   list_count = is.list_count;
-  owners = λ n lt. owner_kept s n (generation_upto s n round) (writes_upto s n round) round (table_of_node old n) (table_of_node new n) (writes_at lists n) (own n) (proper n (omega (arith, lt, size, is.table_count))) (is.owners n lt);
+  owners = λ n lt. owner_kept s n (generation_upto s n round) (writes_upto s n round) round (table_of_node old n) (table_of_node new n) (writes_of_owner lists n) (own n) (proper n (omega (arith, lt, size, is.table_count))) (is.owners n lt);
 }
 
 -- after its restarts a node has its own part, but where it forgets
@@ -136,7 +136,7 @@ module _ (s : Settings) (round n : ℕ) (first : 1 ≤ round) (t : Table) (ws : 
   restarted_same stays = of_round t stays is
 
 -- and after its writes it is the round's
-pub owner_written : (s : Settings) (round n : ℕ) (t u : Table) (ws ws' : List Write) (writes : List OwnWrite) → 1 ≤ round → length writes ≤ 8 → HasRestarted s round n t ws → IsWritten round writes t u ws ws' → map (born_in round (generation_upto s n round)) writes ≡ own_writes s n round (length ws) → IsOwner s round n u ws' × (u ≡ with_own_writes t (own_writes s n round (count_before s n round)))
+pub owner_written : (s : Settings) (round n : ℕ) (t u : Table) (ws ws' : List Write) (writes : List OwnWrite) → 1 ≤ round → length writes ≤ 8 → HasRestarted s round n t ws → HasWritten round writes t u ws ws' → map (born_in round (generation_upto s n round)) writes ≡ own_writes s n round (length ws) → IsOwner s round n u ws' × (u ≡ with_own_writes t (own_writes s n round (count_before s n round)))
 owner_written s round n t u ws ws' writes first small is written made = (
   record {
     table = record {

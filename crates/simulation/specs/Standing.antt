@@ -8,7 +8,7 @@ use Rattle.round_plan.specs.Writes.{writes_upto}
 use Rattle.scenario.specs.Settings.{Settings}
 use Rattle.staleness.specs.declared.lists.Write.{Write}
 use Rattle.staleness.specs.OwnParts.{write_of_entry, OwnPartIsLastWrites}
-use Rattle.staleness.specs.Figures.{writes_at}
+use Rattle.staleness.specs.Figures.{writes_of_owner}
 use Rattle.staleness.specs.Writes.{AreBornBy}
 
 -- a node's table of a generation beside the list of these writes, which is all that it wrote in it up to a round
@@ -29,4 +29,4 @@ IsOwner s round n t ws = IsOwnerOf s n (generation_upto s n round) (writes_upto 
 pub record StandAfterRound (s : Settings) (round : ℕ) (ts : List Table) (lists : List (List Write)) : Type 0 where
   pub table_count : length ts ≡ s.nodes
   pub list_count : length lists ≡ s.nodes
-  pub owners : (n : ℕ) → n < s.nodes → IsOwner s round n (table_of_node ts n) (writes_at lists n)
+  pub owners : (n : ℕ) → n < s.nodes → IsOwner s round n (table_of_node ts n) (writes_of_owner lists n)

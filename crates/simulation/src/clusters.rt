@@ -4,7 +4,7 @@ ghost use Rattle.std.specs.Prelude.{◌≡◌, ℕ, ◌+◌, ◌-◌, ◌^◌, �
 ghost use Rattle.bench_types.specs.declared.faults.Fault.TheVariants.{OutOfMemory};
 ghost use Rattle.bench_types.specs.Entry.{AreNextAfter};
 ghost use Rattle.node_table.specs.Table.{greatest_version, IsProper};
-ghost use Rattle.staleness.specs.Figures.{writes_at};
+ghost use Rattle.staleness.specs.Figures.{writes_of_owner};
 ghost use Rattle.staleness.specs.OwnParts.{OwnPartIsLastWrites};
 ghost use Rattle.staleness.specs.Writes.{AreBornBy};
 ghost use Rattle.round_plan.specs.Writes.{born_in};
@@ -12,7 +12,7 @@ ghost use Rattle.cluster.specs.Tables.{tables_in, AreProper};
 ghost use Rattle.simulation.specs.Rounds.{opening_tables, after_restart, begun};
 ghost use Rattle.simulation.specs.inner.Steps.{begun_table};
 ghost use Rattle.simulation.specs.Standing.{IsOwner, StandAfterRound};
-ghost use Rattle.simulation.specs.inner.Steps.{IsWritten, HasRestarted};
+ghost use Rattle.simulation.specs.inner.Steps.{HasWritten, HasRestarted};
 
 use bench_types::Fault;
 use bench_types::limits::MOST_ROUNDS;
@@ -40,7 +40,7 @@ pub(crate) fn empty_tables(alloc: Global, scenario: &Scenario) -> Result<Vec<Nod
 /// A list for each owner, with nothing written.
 pub(crate) fn empty_lists(alloc: Global, scenario: &Scenario) -> Result<Vec<OwnerList>, Fault>
     ensures count { IfOk result (λ v. length v.items ≡ scenario.now.nodes) }
-    ensures lists { IfOk result (λ v. (n : ℕ) → writes_at v.items n ≡ []) }
+    ensures lists { IfOk result (λ v. (n : ℕ) → writes_of_owner v.items n ≡ []) }
     ensures only { IsOkUnless result OutOfMemory }
 {
     let mut lists = Vec::with_capacity(alloc, scenario.nodes() as usize)?;
@@ -124,7 +124,7 @@ fn write_own(
     requires greatest { greatest_version table.old.table table.old.table.node ≡ length list.old }
     requires own_part { OwnPartIsLastWrites table.old.table list.old }
     requires born { AreBornBy round list.old }
-    ensures written { OnOk result (IsWritten round writes.now table.old.table table.new.table list.old list.new) }
+    ensures written { OnOk result (HasWritten round writes.now table.old.table table.new.table list.old list.new) }
     ensures only { IsOkUnless result OutOfMemory }
 {
     for write in writes {

@@ -9,7 +9,7 @@ use Rattle.node_table.specs.Table.{Table}
 use Rattle.cluster.specs.Tables.{table_of_node, IsCluster}
 use Rattle.staleness.specs.declared.lists.Write.{Write}
 use Rattle.staleness.specs.Figures.{sum_below, most_below, staleness_at, stale_count, rounds_behind, figures_of}
-use Rattle.staleness.specs.inner.Copies.{owner_lag, node_leftover, part_figures}
+use Rattle.staleness.specs.inner.Copies.{owner_staleness, node_leftover, part_figures}
 use Rattle.staleness.specs.inner.Parts.{AreFewTriples, IsCounted, AreCounted, found_at}
 use Rattle.staleness.proofs.Places.{one_more}
 use Rattle.staleness.proofs.Sums.{sum_below-same, most_below-same, sum_below-swap, most_below-swap, sum_below-parts, most_below-parts}
@@ -25,14 +25,14 @@ module _ (round : ℕ) (tables : List Table) (lists : List (List Write)) (cluste
   abbrev rounds : ℕ → ℕ → ℕ → ℕ
   rounds p r k = rounds_behind (staleness_at round tables lists p r k)
 
-  pub stale_by_owner : sum_below (length tables) (λ r. (owner_lag round tables lists r).stale) ≡ sum_below (length tables) (λ p. sum_below (length tables) (λ r. sum_below (table_of_node tables p).keys (stale p r)))
+  pub stale_by_owner : sum_below (length tables) (λ r. (owner_staleness round tables lists r).stale) ≡ sum_below (length tables) (λ p. sum_below (length tables) (λ r. sum_below (table_of_node tables p).keys (stale p r)))
   stale_by_owner =
       sum_below-same (λ r. sum_below keys (λ k. sum_below (length tables) (λ p. stale p r k))) (λ r. sum_below (length tables) (λ p. sum_below keys (stale p r))) (length tables) (λ r lt. sym (sum_below-swap (λ p k. stale p r k) (length tables) keys))
       ∙ sum_below-swap (λ r p. sum_below keys (stale p r)) (length tables) (length tables)
       ∙ sum_below-same (λ p. sum_below (length tables) (λ r. sum_below keys (stale p r))) (λ p. sum_below (length tables) (λ r. sum_below (table_of_node tables p).keys (stale p r))) (length tables)
       (λ p lt. ap (λ n. sum_below (length tables) (λ r. sum_below n (stale p r))) (sym (cluster.tables p lt).keys))
 
-  pub most_by_owner : most_below (length tables) (λ r. (owner_lag round tables lists r).greatest) ≡ most_below (length tables) (λ p. most_below (length tables) (λ r. most_below (table_of_node tables p).keys (rounds p r)))
+  pub most_by_owner : most_below (length tables) (λ r. (owner_staleness round tables lists r).greatest) ≡ most_below (length tables) (λ p. most_below (length tables) (λ r. most_below (table_of_node tables p).keys (rounds p r)))
   most_by_owner =
       most_below-same (λ r. most_below keys (λ k. most_below (length tables) (λ p. rounds p r k))) (λ r. most_below (length tables) (λ p. most_below keys (rounds p r))) (length tables) (λ r lt. sym (most_below-swap (λ p k. rounds p r k) (length tables) keys))
       ∙ most_below-swap (λ r p. most_below keys (rounds p r)) (length tables) (length tables)
@@ -71,15 +71,15 @@ module _ (round : ℕ) (tables : List Table) (lists : List (List Write)) (size c
       stale_is
       ∙ ap (λ n. sum_below n (λ i. (found_at parts i).stale)) as_many
       ∙ sum_below-same (λ i. (found_at parts i).stale) (λ i. (part_figures round tables lists size i).stale) count (λ k lt. ap (λ (f : Figures). f.stale) (found k lt))
-      ∙ sum_below-parts (λ r. (owner_lag round tables lists r).stale) (length tables) size count
-      ∙ ap (λ n. sum_below n (λ r. (owner_lag round tables lists r).stale)) whole
+      ∙ sum_below-parts (λ r. (owner_staleness round tables lists r).stale) (length tables) size count
+      ∙ ap (λ n. sum_below n (λ r. (owner_staleness round tables lists r).stale)) whole
       ∙ stale_by_owner round tables lists cluster in
       let greatest_all : total.greatest ≡ (figures_of round tables lists).greatest =
       greatest_is
       ∙ ap (λ n. most_below n (λ i. (found_at parts i).greatest)) as_many
       ∙ most_below-same (λ i. (found_at parts i).greatest) (λ i. (part_figures round tables lists size i).greatest) count (λ k lt. ap (λ (f : Figures). f.greatest) (found k lt))
-      ∙ most_below-parts (λ r. (owner_lag round tables lists r).greatest) (length tables) size count
-      ∙ ap (λ n. most_below n (λ r. (owner_lag round tables lists r).greatest)) whole
+      ∙ most_below-parts (λ r. (owner_staleness round tables lists r).greatest) (length tables) size count
+      ∙ ap (λ n. most_below n (λ r. (owner_staleness round tables lists r).greatest)) whole
       ∙ most_by_owner round tables lists cluster in
       let leftover_all : total.leftover ≡ (figures_of round tables lists).leftover =
       leftover_is

@@ -14,7 +14,7 @@ use Rattle.staleness.specs.declared.lists.Link.{Link}
 use Rattle.staleness.specs.declared.lists.Write.{Write}
 use Rattle.staleness.specs.Writes.{next_write, IsNumbered, is_write_of, last_write}
 use Rattle.staleness.specs.inner.Missed.{is_missed, first_missed, born_in_order}
-use Rattle.staleness.specs.inner.Linked.{as_write, shown, shown_from, version_or_zero, IsLinked, IsOwnerList}
+use Rattle.staleness.specs.inner.Linked.{as_write, writes_linked, writes_linked_from, version_or_zero, IsLinked, IsOwnerList}
 use Rattle.staleness.specs.inner.Latest.{keyed, write_of, IsLatest, AreFirst}
 use Rattle.staleness.proofs.Rising.{rising_put}
 use Rattle.staleness.proofs.Last.{last_write-push, first_missed-drop, fresh, same_key, All-find}
@@ -23,43 +23,43 @@ use Rattle.staleness.proofs.Last.{last_write-push, first_missed-drop, fresh, sam
 abbrev pub no_link : Link
 no_link = record { key = 0; born = 0; next = 0 }
 
-shown_from-at : (n : ℕ) (ls : List Link) (i : ℕ) (l : Link) (w : Write) → i < length ls → get_or (shown_from n ls) i w ≡ as_write (n + i) (get_or ls i l)
-shown_from-at n [] i l w lt = absurd (omega arith)
-shown_from-at n (x ∷ ls) zero l w lt = let same : n ≡ n + 0 = omega arith in ap (λ m. as_write m x) same
-shown_from-at n (x ∷ ls) (suc i) l w lt =
+writes_linked_from-at : (n : ℕ) (ls : List Link) (i : ℕ) (l : Link) (w : Write) → i < length ls → get_or (writes_linked_from n ls) i w ≡ as_write (n + i) (get_or ls i l)
+writes_linked_from-at n [] i l w lt = absurd (omega arith)
+writes_linked_from-at n (x ∷ ls) zero l w lt = let same : n ≡ n + 0 = omega arith in ap (λ m. as_write m x) same
+writes_linked_from-at n (x ∷ ls) (suc i) l w lt =
     let same : suc n + i ≡ n + suc i = omega arith in
-    shown_from-at (suc n) ls i l w (omega arith) ∙ ap (λ m. as_write m (get_or ls i l)) same
+    writes_linked_from-at (suc n) ls i l w (omega arith) ∙ ap (λ m. as_write m (get_or ls i l)) same
 
 -- the write at a place is that of its link
-pub shown-at : (ls : List Link) (i : ℕ) (l : Link) (w : Write) → i < length ls → get_or (shown ls) i w ≡ as_write i (get_or ls i l)
-shown-at ls i l w lt = let same : 0 + i ≡ i = omega arith in shown_from-at 0 ls i l w lt ∙ ap (λ m. as_write m (get_or ls i l)) same
+pub writes_linked-at : (ls : List Link) (i : ℕ) (l : Link) (w : Write) → i < length ls → get_or (writes_linked ls) i w ≡ as_write i (get_or ls i l)
+writes_linked-at ls i l w lt = let same : 0 + i ≡ i = omega arith in writes_linked_from-at 0 ls i l w lt ∙ ap (λ m. as_write m (get_or ls i l)) same
 
-length-shown_from : (n : ℕ) (ls : List Link) → length (shown_from n ls) ≡ length ls
-length-shown_from n [] = refl
-length-shown_from n (x ∷ ls) = omega (arith, length-shown_from (suc n) ls)
+length-writes_linked_from : (n : ℕ) (ls : List Link) → length (writes_linked_from n ls) ≡ length ls
+length-writes_linked_from n [] = refl
+length-writes_linked_from n (x ∷ ls) = omega (arith, length-writes_linked_from (suc n) ls)
 
-pub length-shown : (ls : List Link) → length (shown ls) ≡ length ls
-length-shown ls = length-shown_from 0 ls
+pub length-writes_linked : (ls : List Link) → length (writes_linked ls) ≡ length ls
+length-writes_linked ls = length-writes_linked_from 0 ls
 
-pub numbered-shown : (ls : List Link) → IsNumbered (shown ls)
-numbered-shown ls i d lt = ap (λ (w : Write). w.version) (shown-at ls i no_link d (omega (arith, length-shown ls)))
+pub numbered-writes_linked : (ls : List Link) → IsNumbered (writes_linked ls)
+numbered-writes_linked ls i d lt = ap (λ (w : Write). w.version) (writes_linked-at ls i no_link d (omega (arith, length-writes_linked ls)))
 
-shown_from-push : (n : ℕ) (ls : List Link) (x : Link) → shown_from n (ls ++ x ∷ []) ≡ shown_from n ls ++ as_write (n + length ls) x ∷ []
-shown_from-push n [] x = let same : n ≡ n + 0 = omega arith in ap (λ m. as_write m x ∷ []) same
-shown_from-push n (y ∷ ls) x =
+writes_linked_from-push : (n : ℕ) (ls : List Link) (x : Link) → writes_linked_from n (ls ++ x ∷ []) ≡ writes_linked_from n ls ++ as_write (n + length ls) x ∷ []
+writes_linked_from-push n [] x = let same : n ≡ n + 0 = omega arith in ap (λ m. as_write m x ∷ []) same
+writes_linked_from-push n (y ∷ ls) x =
     let same : suc n + length ls ≡ n + suc (length ls) = omega arith in
-    ap (λ ws. as_write n y ∷ ws) (shown_from-push (suc n) ls x ∙ ap (λ m. shown_from (suc n) ls ++ as_write m x ∷ []) same)
+    ap (λ ws. as_write n y ∷ ws) (writes_linked_from-push (suc n) ls x ∙ ap (λ m. writes_linked_from (suc n) ls ++ as_write m x ∷ []) same)
 
-shown-push : (ls : List Link) (key born next : ℕ) → shown (ls ++ record { key = key; born = born; next = next } ∷ []) ≡ shown ls ++ next_write (shown ls) key born ∷ []
-shown-push ls key born next =
-    let same : 0 + length ls ≡ length (shown ls) = omega (arith, length-shown ls) in
-    shown_from-push 0 ls (record { key = key; born = born; next = next }) ∙ ap (λ m. shown ls ++ as_write m (record { key = key; born = born; next = next }) ∷ []) same
+writes_linked-push : (ls : List Link) (key born next : ℕ) → writes_linked (ls ++ record { key = key; born = born; next = next } ∷ []) ≡ writes_linked ls ++ next_write (writes_linked ls) key born ∷ []
+writes_linked-push ls key born next =
+    let same : 0 + length ls ≡ length (writes_linked ls) = omega (arith, length-writes_linked ls) in
+    writes_linked_from-push 0 ls (record { key = key; born = born; next = next }) ∙ ap (λ m. writes_linked ls ++ as_write m (record { key = key; born = born; next = next }) ∷ []) same
 
 -- a link shows nothing of where it leads
-shown_from-set : (n : ℕ) (ls : List Link) (i : ℕ) (x d : Link) → i < length ls → x.key ≡ (get_or ls i d).key → x.born ≡ (get_or ls i d).born → shown_from n (set ls i x) ≡ shown_from n ls
-shown_from-set n [] i x d lt key born = absurd (omega arith)
-shown_from-set n (y ∷ ls) zero x d lt key born = λ j. record { key = key j; version = n + 1; born = born j } ∷ shown_from (suc n) ls
-shown_from-set n (y ∷ ls) (suc i) x d lt key born = ap (λ ws. as_write n y ∷ ws) (shown_from-set (suc n) ls i x d (omega arith) key born)
+writes_linked_from-set : (n : ℕ) (ls : List Link) (i : ℕ) (x d : Link) → i < length ls → x.key ≡ (get_or ls i d).key → x.born ≡ (get_or ls i d).born → writes_linked_from n (set ls i x) ≡ writes_linked_from n ls
+writes_linked_from-set n [] i x d lt key born = absurd (omega arith)
+writes_linked_from-set n (y ∷ ls) zero x d lt key born = λ j. record { key = key j; version = n + 1; born = born j } ∷ writes_linked_from (suc n) ls
+writes_linked_from-set n (y ∷ ls) (suc i) x d lt key born = ap (λ ws. as_write n y ∷ ws) (writes_linked_from-set (suc n) ls i x d (omega arith) key born)
 
 -- a search stops where the test passes, and nowhere else
 found_some : (test : Write → Bool) (ws : List Write) (i : ℕ) (d : Write) → i < length ws → test (get_or ws i d) ≡ true → find test ws ≢ None
@@ -173,7 +173,7 @@ module _ (ws : List Write) (key born : ℕ) (numbered : IsNumbered ws) where
 
 -- the link of the write of one version was set, if there is one
 pub record IsRelinked (ls ls' : List Link) (before version : ℕ) : Type 0 where
-  pub shows : shown ls' ≡ shown ls
+  pub shows : writes_linked ls' ≡ writes_linked ls
   pub link : (i : ℕ) (d : Link) → i < length ls → (get_or ls' i d).next ≡ (if i + 1 == before then version else (get_or ls i d).next)
 
 pub relinked_none : (ls : List Link) (before version : ℕ) → before ≡ 0 → IsRelinked ls ls before version
@@ -184,7 +184,7 @@ relinked_none ls before version none = record {
 
 pub relinked_at : (ls : List Link) (at : ℕ) (x : Link) (before version : ℕ) → at < length ls → x ≡ get_or ls at x → before ≡ at + 1 → IsRelinked ls (set ls at (record x { next = version })) before version
 relinked_at ls at x before version lt there is = record {
-  shows = shown_from-set 0 ls at (record x { next = version }) x lt (ap (λ (l : Link). l.key) there) (ap (λ (l : Link). l.born) there);
+  shows = writes_linked_from-set 0 ls at (record x { next = version }) x lt (ap (λ (l : Link). l.key) there) (ap (λ (l : Link). l.born) there);
   link = λ i d in_range. elim (eqb_tells (i + 1) before) [
     | inl (tie, same) ↦
         let here : at ≡ i = omega arith in
@@ -198,63 +198,63 @@ relinked_at ls at x before version lt there is = record {
 }
 
 -- a write is added, and the last one of its key linked to it
-module _ (ls ls' : List Link) (key born before : ℕ) (linked : IsLinked ls) (is : before ≡ version_or_zero (last_write (shown ls) key)) (relinked : IsRelinked ls ls' before (length (shown ls) + 1)) where
+module _ (ls ls' : List Link) (key born before : ℕ) (linked : IsLinked ls) (is : before ≡ version_or_zero (last_write (writes_linked ls) key)) (relinked : IsRelinked ls ls' before (length (writes_linked ls) + 1)) where
   as_long : length ls' ≡ length ls
-  as_long = sym (length-shown ls') ∙ ap length relinked.shows ∙ length-shown ls
+  as_long = sym (length-writes_linked ls') ∙ ap length relinked.shows ∙ length-writes_linked ls
 
-  pub shown_pushed : shown (ls' ++ record { key = key; born = born; next = 0 } ∷ []) ≡ shown ls ++ next_write (shown ls) key born ∷ []
-  shown_pushed = shown-push ls' key born 0 ∙ ap (λ ws. ws ++ next_write ws key born ∷ []) relinked.shows
+  pub shown_pushed : writes_linked (ls' ++ record { key = key; born = born; next = 0 } ∷ []) ≡ writes_linked ls ++ next_write (writes_linked ls) key born ∷ []
+  shown_pushed = writes_linked-push ls' key born 0 ∙ ap (λ ws. ws ++ next_write ws key born ∷ []) relinked.shows
 
   pub linked_pushed : IsLinked (ls' ++ record { key = key; born = born; next = 0 } ∷ [])
   linked_pushed i d lt = subst (λ vs. (get_or (ls' ++ (record { key = key; born = born; next = 0 }) ∷ []) i d).next ≡ version_or_zero (first_missed vs (get_or (ls' ++ (record { key = key; born = born; next = 0 }) ∷ []) i d).key (i + 1))) (sym shown_pushed) (elim (cases_lt i (length ls)) [
     | inl before ↦
-        let in_shown : i < length (shown ls) = omega (arith, length-shown ls) in
+        let in_shown : i < length (writes_linked ls) = omega (arith, length-writes_linked ls) in
         let front : get_or (ls' ++ (record { key = key; born = born; next = 0 }) ∷ []) i d ≡ get_or ls' i d = get_or_append_left ls' ((record { key = key; born = born; next = 0 }) ∷ []) d i (omega (arith, as_long)) in
-        let read : get_or (shown ls) i (as_write 0 d) ≡ as_write i (get_or ls i d) = shown-at ls i d (as_write 0 d) before in
-        let read' : get_or (shown ls') i (as_write 0 d) ≡ as_write i (get_or ls' i d) = shown-at ls' i d (as_write 0 d) (omega (arith, as_long)) in
-        let key_is : (get_or (shown ls) i (as_write 0 d)).key ≡ (get_or ls' i d).key = ap (λ vs. (get_or vs i (as_write 0 d)).key) (sym relinked.shows) ∙ ap (λ (v : Write). v.key) read' in
-        let next_is : (get_or ls i d).next ≡ version_or_zero (first_missed (shown ls) (get_or (shown ls) i (as_write 0 d)).key (i + 1)) = linked i d before ∙ ap (λ (v : Write). version_or_zero (first_missed (shown ls) v.key (i + 1))) (sym read) in
-        subst (λ (l : Link). l.next ≡ version_or_zero (first_missed (shown ls ++ next_write (shown ls) key born ∷ []) l.key (i + 1))) (sym front)
+        let read : get_or (writes_linked ls) i (as_write 0 d) ≡ as_write i (get_or ls i d) = writes_linked-at ls i d (as_write 0 d) before in
+        let read' : get_or (writes_linked ls') i (as_write 0 d) ≡ as_write i (get_or ls' i d) = writes_linked-at ls' i d (as_write 0 d) (omega (arith, as_long)) in
+        let key_is : (get_or (writes_linked ls) i (as_write 0 d)).key ≡ (get_or ls' i d).key = ap (λ vs. (get_or vs i (as_write 0 d)).key) (sym relinked.shows) ∙ ap (λ (v : Write). v.key) read' in
+        let next_is : (get_or ls i d).next ≡ version_or_zero (first_missed (writes_linked ls) (get_or (writes_linked ls) i (as_write 0 d)).key (i + 1)) = linked i d before ∙ ap (λ (v : Write). version_or_zero (first_missed (writes_linked ls) v.key (i + 1))) (sym read) in
+        subst (λ (l : Link). l.next ≡ version_or_zero (first_missed (writes_linked ls ++ next_write (writes_linked ls) key born ∷ []) l.key (i + 1))) (sym front)
         (relinked.link i d before
-        ∙ ap (λ n. if i + 1 == n then length (shown ls) + 1 else (get_or ls i d).next) is
-        ∙ ap (λ n. if i + 1 == version_or_zero (last_write (shown ls) key) then length (shown ls) + 1 else n) next_is
-        ∙ sym (next_after (shown ls) key born (numbered-shown ls) i (as_write 0 d) in_shown)
-        ∙ ap (λ k. version_or_zero (first_missed (shown ls ++ next_write (shown ls) key born ∷ []) k (i + 1))) key_is)
+        ∙ ap (λ n. if i + 1 == n then length (writes_linked ls) + 1 else (get_or ls i d).next) is
+        ∙ ap (λ n. if i + 1 == version_or_zero (last_write (writes_linked ls) key) then length (writes_linked ls) + 1 else n) next_is
+        ∙ sym (next_after (writes_linked ls) key born (numbered-writes_linked ls) i (as_write 0 d) in_shown)
+        ∙ ap (λ k. version_or_zero (first_missed (writes_linked ls ++ next_write (writes_linked ls) key born ∷ []) k (i + 1))) key_is)
     | inr behind ↦
         let last : length ls' ≡ i = omega (arith, as_long, length-append ls' ((record { key = key; born = born; next = 0 }) ∷ [])) in
-        let long : length (shown ls) ≡ i = omega (arith, length-shown ls, as_long) in
-        subst (λ (l : Link). l.next ≡ version_or_zero (first_missed (shown ls ++ next_write (shown ls) key born ∷ []) l.key (i + 1))) (sym (get_or_push ls' (record { key = key; born = born; next = 0 }) d i last))
-        (subst (λ n. 0 ≡ version_or_zero (first_missed (shown ls ++ next_write (shown ls) key born ∷ []) key (n + 1))) long
-        (sym (ap version_or_zero (none_after (shown ls) key born (numbered-shown ls) (subst IsNumbered shown_pushed (numbered-shown (ls' ++ (record { key = key; born = born; next = 0 }) ∷ [])))))))
+        let long : length (writes_linked ls) ≡ i = omega (arith, length-writes_linked ls, as_long) in
+        subst (λ (l : Link). l.next ≡ version_or_zero (first_missed (writes_linked ls ++ next_write (writes_linked ls) key born ∷ []) l.key (i + 1))) (sym (get_or_push ls' (record { key = key; born = born; next = 0 }) d i last))
+        (subst (λ n. 0 ≡ version_or_zero (first_missed (writes_linked ls ++ next_write (writes_linked ls) key born ∷ []) key (n + 1))) long
+        (sym (ap version_or_zero (none_after (writes_linked ls) key born (numbered-writes_linked ls) (subst IsNumbered shown_pushed (numbered-writes_linked (ls' ++ (record { key = key; born = born; next = 0 }) ∷ [])))))))
   ])
 
 -- the first write of a key from a place on stands there, or behind it
-pub first_here : (ls : List Link) (key at : ℕ) (l : Link) (w : Write) → at < length ls → (get_or ls at l).key ≡ key → ((d : Write) → get_or (shown ls) at d ≡ w) → find (is_write_of key) (drop at (shown ls)) ≡ Some w
+pub first_here : (ls : List Link) (key at : ℕ) (l : Link) (w : Write) → at < length ls → (get_or ls at l).key ≡ key → ((d : Write) → get_or (writes_linked ls) at d ≡ w) → find (is_write_of key) (drop at (writes_linked ls)) ≡ Some w
 first_here ls key at l w lt same there =
-    let in_shown : at < length (shown ls) = omega (arith, length-shown ls) in
-    let here : w.key ≡ key = ap (λ (v : Write). v.key) (sym (there w) ∙ shown-at ls at l w lt) ∙ same in
-    ap (find (is_write_of key)) (drop-cons (shown ls) at w in_shown ∙ ap (λ v. v ∷ drop (suc at) (shown ls)) (there w))
-    ∙ ap (λ b. cond b (Some w) (find (is_write_of key) (drop (suc at) (shown ls)))) (eq-eqb w.key key here)
+    let in_shown : at < length (writes_linked ls) = omega (arith, length-writes_linked ls) in
+    let here : w.key ≡ key = ap (λ (v : Write). v.key) (sym (there w) ∙ writes_linked-at ls at l w lt) ∙ same in
+    ap (find (is_write_of key)) (drop-cons (writes_linked ls) at w in_shown ∙ ap (λ v. v ∷ drop (suc at) (writes_linked ls)) (there w))
+    ∙ ap (λ b. cond b (Some w) (find (is_write_of key) (drop (suc at) (writes_linked ls)))) (eq-eqb w.key key here)
 
-pub first_later : (ls : List Link) (key at : ℕ) (l : Link) → at < length ls → (get_or ls at l).key ≢ key → find (is_write_of key) (drop at (shown ls)) ≡ find (is_write_of key) (drop (at + 1) (shown ls))
+pub first_later : (ls : List Link) (key at : ℕ) (l : Link) → at < length ls → (get_or ls at l).key ≢ key → find (is_write_of key) (drop at (writes_linked ls)) ≡ find (is_write_of key) (drop (at + 1) (writes_linked ls))
 first_later ls key at l lt apart =
-    let in_shown : at < length (shown ls) = omega (arith, length-shown ls) in
-    let v = get_or (shown ls) at (as_write 0 l) in
-    let ne : v.key ≢ key = λ same. apart (sym (ap (λ (u : Write). u.key) (shown-at ls at l (as_write 0 l) lt)) ∙ same) in
-    ap (find (is_write_of key)) (drop-cons (shown ls) at (as_write 0 l) in_shown)
-    ∙ ap (λ b. cond b (Some v) (find (is_write_of key) (drop (suc at) (shown ls)))) (ne_eqb v.key key ne)
-    ∙ ap (λ n. find (is_write_of key) (drop n (shown ls))) (sym (add-one at))
+    let in_shown : at < length (writes_linked ls) = omega (arith, length-writes_linked ls) in
+    let v = get_or (writes_linked ls) at (as_write 0 l) in
+    let ne : v.key ≢ key = λ same. apart (sym (ap (λ (u : Write). u.key) (writes_linked-at ls at l (as_write 0 l) lt)) ∙ same) in
+    ap (find (is_write_of key)) (drop-cons (writes_linked ls) at (as_write 0 l) in_shown)
+    ∙ ap (λ b. cond b (Some v) (find (is_write_of key) (drop (suc at) (writes_linked ls)))) (ne_eqb v.key key ne)
+    ∙ ap (λ n. find (is_write_of key) (drop n (writes_linked ls))) (sym (add-one at))
 
-pub first_nowhere : (ls : List Link) (key at : ℕ) → length ls ≤ at → find (is_write_of key) (drop at (shown ls)) ≡ None
-first_nowhere ls key at end = ap (find (is_write_of key)) (drop_all at (shown ls) (omega (arith, length-shown ls)))
+pub first_nowhere : (ls : List Link) (key at : ℕ) → length ls ≤ at → find (is_write_of key) (drop at (writes_linked ls)) ≡ None
+first_nowhere ls key at end = ap (find (is_write_of key)) (drop_all at (writes_linked ls) (omega (arith, length-writes_linked ls)))
 
-pub first_behind : (ls : List Link) (key version : ℕ) → first_missed (shown ls) key version ≡ find (is_write_of key) (drop version (shown ls))
-first_behind ls key version = first_missed-drop (shown ls) key version (numbered-shown ls)
+pub first_behind : (ls : List Link) (key version : ℕ) → first_missed (writes_linked ls) key version ≡ find (is_write_of key) (drop version (writes_linked ls))
+first_behind ls key version = first_missed-drop (writes_linked ls) key version (numbered-writes_linked ls)
 
-version_within : (ls : List Link) (key version : ℕ) → version_or_zero (first_missed (shown ls) key version) ≤ length ls
-version_within ls key version = elim (first_missed (shown ls) key version) as (λ o. first_missed (shown ls) key version ≡ o → version_or_zero o ≤ length ls) [
+version_within : (ls : List Link) (key version : ℕ) → version_or_zero (first_missed (writes_linked ls) key version) ≤ length ls
+version_within ls key version = elim (first_missed (writes_linked ls) key version) as (λ o. first_missed (writes_linked ls) key version ≡ o → version_or_zero o ≤ length ls) [
   | None ↦ λ _. omega arith
-  | Some w ↦ λ is. omega (arith, length-shown ls, (first_placed (shown ls) key version w (numbered-shown ls) is).within)
+  | Some w ↦ λ is. omega (arith, length-writes_linked ls, (first_placed (writes_linked ls) key version w (numbered-writes_linked ls) is).within)
 ] refl
 
 -- the link at a place leads to a write, if anywhere
@@ -263,22 +263,22 @@ next_within ls at x linked lt there = omega (arith, ap (λ (l : Link). l.next) t
 
 -- which is the first that was missed
 pub next_read : (ls : List Link) (key at : ℕ) (x : Link) (r : Option Write) → IsLinked ls → at < length ls → x ≡ get_or ls at x → x.key ≡ key → (x.next ≡ 0 → r ≡ None)
-    → ((d : Write) → 0 < x.next → r ≡ Some (get_or (shown ls) (x.next - 1) d)) → r ≡ first_missed (shown ls) key (at + 1)
-next_read ls key at x r linked lt there same none some = elim (first_missed (shown ls) key (at + 1)) as (λ o. first_missed (shown ls) key (at + 1) ≡ o → r ≡ o) [
+    → ((d : Write) → 0 < x.next → r ≡ Some (get_or (writes_linked ls) (x.next - 1) d)) → r ≡ first_missed (writes_linked ls) key (at + 1)
+next_read ls key at x r linked lt there same none some = elim (first_missed (writes_linked ls) key (at + 1)) as (λ o. first_missed (writes_linked ls) key (at + 1) ≡ o → r ≡ o) [
   | None ↦ λ is. none (leads ∙ ap version_or_zero is)
   | Some w ↦ λ is.
-      let placed = first_placed (shown ls) key (at + 1) w (numbered-shown ls) is in
+      let placed = first_placed (writes_linked ls) key (at + 1) w (numbered-writes_linked ls) is in
       let next : x.next ≡ w.version = leads ∙ ap version_or_zero is in
-      some w (omega (arith, placed.some)) ∙ ap (λ n. Some (get_or (shown ls) (n - 1) w)) next ∙ ap Some (placed.there w)
+      some w (omega (arith, placed.some)) ∙ ap (λ n. Some (get_or (writes_linked ls) (n - 1) w)) next ∙ ap Some (placed.there w)
 ] refl
   where
-    leads : x.next ≡ version_or_zero (first_missed (shown ls) key (at + 1))
-    leads = ap (λ (l : Link). l.next) there ∙ linked at x lt ∙ ap (λ k. version_or_zero (first_missed (shown ls) k (at + 1))) (sym (ap (λ (l : Link). l.key) there) ∙ same)
+    leads : x.next ≡ version_or_zero (first_missed (writes_linked ls) key (at + 1))
+    leads = ap (λ (l : Link). l.next) there ∙ linked at x lt ∙ ap (λ k. version_or_zero (first_missed (writes_linked ls) k (at + 1))) (sym (ap (λ (l : Link). l.key) there) ∙ same)
 
-pub last_within : (ls : List Link) (key : ℕ) → version_or_zero (last_write (shown ls) key) ≤ length ls
-last_within ls key = elim (last_write (shown ls) key) as (λ o. last_write (shown ls) key ≡ o → version_or_zero o ≤ length ls) [
+pub last_within : (ls : List Link) (key : ℕ) → version_or_zero (last_write (writes_linked ls) key) ≤ length ls
+last_within ls key = elim (last_write (writes_linked ls) key) as (λ o. last_write (writes_linked ls) key ≡ o → version_or_zero o ≤ length ls) [
   | None ↦ λ _. omega arith
-  | Some w ↦ λ is. omega (arith, length-shown ls, (last_placed (shown ls) key w (numbered-shown ls) is).0.within)
+  | Some w ↦ λ is. omega (arith, length-writes_linked ls, (last_placed (writes_linked ls) key w (numbered-writes_linked ls) is).0.within)
 ] refl
 
 -- the first write of a key, once one is pushed
@@ -353,10 +353,10 @@ firsts_after ws firsts firsts' w (suc n) numbered some is begins pushed same =
     subst (λ vs. AreFirst vs (ws ++ w ∷ [])) (sym (same (omega arith))) (firsts_kept ws firsts w numbered some (omega (arith, is)) begins)
 
 -- what the list keeps, after a push
-pub kept_pushed : (ls ls' : List Link) (firsts' latest' : List Write) (in_order' : Bool) (w : Write) → length (shown ls) + 1 < 2 ^ 32
-    → shown ls' ≡ shown ls ++ w ∷ [] → IsLinked ls' → AreFirst firsts' (shown ls ++ w ∷ []) → IsLatest latest' (shown ls ++ w ∷ []) → in_order' ≡ born_in_order (shown ls ++ w ∷ []) → IsOwnerList ls' firsts' latest' in_order'
+pub kept_pushed : (ls ls' : List Link) (firsts' latest' : List Write) (in_order' : Bool) (w : Write) → length (writes_linked ls) + 1 < 2 ^ 32
+    → writes_linked ls' ≡ writes_linked ls ++ w ∷ [] → IsLinked ls' → AreFirst firsts' (writes_linked ls ++ w ∷ []) → IsLatest latest' (writes_linked ls ++ w ∷ []) → in_order' ≡ born_in_order (writes_linked ls ++ w ∷ []) → IsOwnerList ls' firsts' latest' in_order'
 kept_pushed ls ls' firsts' latest' in_order' w few pushed linked begins ends in_order = record {
-  few = omega (arith, length-shown ls', ap length pushed, length-append (shown ls) (w ∷ []));
+  few = omega (arith, length-writes_linked ls', ap length pushed, length-append (writes_linked ls) (w ∷ []));
   linked = linked;
   begins = subst (AreFirst firsts') (sym pushed) begins;
   ends = subst (IsLatest latest') (sym pushed) ends;

@@ -13,30 +13,30 @@ use Rattle.cluster.specs.Tables.{table_of_node}
 use Rattle.staleness.specs.declared.copies.Copies.{Copies}
 use Rattle.staleness.specs.declared.lists.Write.{Write}
 use Rattle.staleness.specs.Figures.{generation_at}
-use Rattle.staleness.specs.inner.Copies.{no_copies, version_known, with_held, seen_in, current_of, copies_of, copies_from, merged, HaveRoom, AreSeen}
+use Rattle.staleness.specs.inner.Copies.{no_copies, version_known, with_copy, seen_in, current_of, copies_of, copies_from, merged, MayCountBoth, AreSeen}
 use Rattle.staleness.specs.inner.Parts.{IsSeenInPart, AreSeenInParts}
 use Rattle.staleness.proofs.Counting.{at_place}
 use Rattle.staleness.proofs.Places.{within, one_more, place_of}
 use Rattle.staleness.proofs.Seen.{few_seen}
 
 -- a table leaves the owner's current version as it is
-held_current : (c : Copies) (o : Option ℕ) → (with_held c o).current ≡ c.current
+held_current : (c : Copies) (o : Option ℕ) → (with_copy c o).current ≡ c.current
 held_current c None = refl
 held_current c (Some v) = refl
 
 seen_current : (g : ℕ) (t : Table) (r k : ℕ) (c : Copies) → (seen_in g t r k c).current ≡ c.current
-seen_current g t r k c = elim (eqb t.node r) as (λ b. (if b then c else with_held c (version_known g (entry_at t r k))).current ≡ c.current) [
+seen_current g t r k c = elim (eqb t.node r) as (λ b. (if b then c else with_copy c (version_known g (entry_at t r k))).current ≡ c.current) [
   | true ↦ refl
   | false ↦ held_current c (version_known g (entry_at t r k))
 ]
 
 -- and the least version at most what it was
-held_least : (c : Copies) (o : Option ℕ) → (with_held c o).least ≤ c.least
+held_least : (c : Copies) (o : Option ℕ) → (with_copy c o).least ≤ c.least
 held_least c None = omega arith
 held_least c (Some v) = omega arith
 
 seen_least : (g : ℕ) (t : Table) (r k : ℕ) (c : Copies) → (seen_in g t r k c).least ≤ c.least
-seen_least g t r k c = elim (eqb t.node r) as (λ b. (if b then c else with_held c (version_known g (entry_at t r k))).least ≤ c.least) [
+seen_least g t r k c = elim (eqb t.node r) as (λ b. (if b then c else with_copy c (version_known g (entry_at t r k))).least ≤ c.least) [
   | true ↦ omega arith
   | false ↦ held_least c (version_known g (entry_at t r k))
 ]
@@ -50,7 +50,7 @@ merged_none c current le =
     λ i. record { current = c.current; least = least i; held = held i; fresh = fresh i }
 
 -- a table may be gone over before or after
-merged_held : (c d : Copies) (o : Option ℕ) → d.current ≡ c.current → merged c (with_held d o) ≡ with_held (merged c d) o
+merged_held : (c d : Copies) (o : Option ℕ) → d.current ≡ c.current → merged c (with_copy d o) ≡ with_copy (merged c d) o
 merged_held c d None same = refl
 merged_held c d (Some v) same =
     let least : min c.least (min d.least v) ≡ min (min c.least d.least) v = omega arith in
@@ -60,7 +60,7 @@ merged_held c d (Some v) same =
     λ i. record { current = c.current; least = least i; held = held i; fresh = fresh i }
 
 merged_seen : (g : ℕ) (t : Table) (r k : ℕ) (c d : Copies) → d.current ≡ c.current → merged c (seen_in g t r k d) ≡ seen_in g t r k (merged c d)
-merged_seen g t r k c d same = elim (eqb t.node r) as (λ b. merged c (if b then d else with_held d (version_known g (entry_at t r k))) ≡ (if b then merged c d else with_held (merged c d) (version_known g (entry_at t r k)))) [
+merged_seen g t r k c d same = elim (eqb t.node r) as (λ b. merged c (if b then d else with_copy d (version_known g (entry_at t r k))) ≡ (if b then merged c d else with_copy (merged c d) (version_known g (entry_at t r k)))) [
   | true ↦ refl
   | false ↦ merged_held c d (version_known g (entry_at t r k)) same
 ]
@@ -100,7 +100,7 @@ pub record AreNoMore (p : ℕ) (c : Copies) : Type 0 where
   pub held : c.held ≤ p
   pub fresh : c.fresh ≤ c.held
 
-no_more_with : (p : ℕ) (c : Copies) (o : Option ℕ) → AreNoMore p c → AreNoMore (suc p) (with_held c o)
+no_more_with : (p : ℕ) (c : Copies) (o : Option ℕ) → AreNoMore p c → AreNoMore (suc p) (with_copy c o)
 no_more_with p c None few = record { held = omega (arith, few.held); fresh = few.fresh }
 no_more_with p c (Some v) few = record { held = omega (arith, few.held); fresh = omega (arith, few.fresh, at_most (leb c.current v)) }
   where
@@ -115,7 +115,7 @@ few_from tables r k from (suc p) current =
     let g = generation_at tables r in
     let c = copies_from tables r k from p (no_copies current) in
     let before = few_from tables r k from p current in
-    elim (eqb t.node r) as (λ b. AreNoMore (suc p) (if b then c else with_held c (version_known g (entry_at t r k)))) [
+    elim (eqb t.node r) as (λ b. AreNoMore (suc p) (if b then c else with_copy c (version_known g (entry_at t r k)))) [
       | true ↦ record { held = omega (arith, before.held); fresh = before.fresh }
       | false ↦ no_more_with p c (version_known g (entry_at t r k)) before
     ]
@@ -158,14 +158,14 @@ module _ (tables : List Table) (lists : List (List Write)) (none : List Copies) 
     pub same_size : length part ≡ length copies
     same_size = seen.size ∙ begins.size ∙ sym so_far.size
 
-    pub room_for : (i : ℕ) (d : Copies) → i < length copies → HaveRoom (get_or copies i d) (get_or part i d)
+    pub room_for : (i : ℕ) (d : Copies) → i < length copies → MayCountBoth (get_or copies i d) (get_or part i d)
     room_for i d lt =
         let place = place_of (length tables) keys i (omega (arith, lt, so_far.size)) in
         let one = few_seen tables lists place.owner place.key (p * size) in
         let other = few_from tables place.owner place.key (p * size) more (current_of lists place.owner place.key) in
         let is = ap (λ j. get_or copies j d) place.is ∙ copies_here place.owner place.key d place.among place.below in
         let part_is = ap (λ j. get_or part j d) place.is ∙ part_here place.owner place.key d place.among place.below in
-        subst (λ c. HaveRoom c (get_or part i d)) (sym is) (subst (HaveRoom (copies_of tables lists place.owner place.key (p * size))) (sym part_is) (record {
+        subst (λ c. MayCountBoth c (get_or part i d)) (sym is) (subst (MayCountBoth (copies_of tables lists place.owner place.key (p * size))) (sym part_is) (record {
           held = omega (arith, one.held, other.held);
           fresh = omega (arith, one.held, one.fresh, other.held, other.fresh);
         }))

@@ -9,8 +9,8 @@ use Rattle.staleness.specs.declared.lists.Write.{Write}
 use Rattle.staleness.specs.Writes.{IsNumbered, last_write}
 use Rattle.staleness.specs.inner.Missed.{born_in_order}
 use Rattle.staleness.specs.inner.Linked.{version_or_zero}
-use Rattle.staleness.specs.Figures.{sum_below, most_below, writes_at, generation_at, staleness_of, staleness_at, stale_count, rounds_behind}
-use Rattle.staleness.specs.inner.Copies.{version_known, version_staleness, with_held, current_of, copies_of, least_of, stale_of}
+use Rattle.staleness.specs.Figures.{sum_below, most_below, writes_of_owner, generation_at, staleness_of, staleness_at, stale_count, rounds_behind}
+use Rattle.staleness.specs.inner.Copies.{version_known, version_staleness, with_copy, current_of, copies_of, least_of, stale_of}
 use Rattle.staleness.proofs.Linking.{last_placed}
 use Rattle.staleness.proofs.Sums.{sum_below-none}
 use Rattle.staleness.proofs.Births.{staleness_falls, not_stale, is_stale}
@@ -18,7 +18,7 @@ use Rattle.staleness.proofs.Known.{staleness_known}
 
 -- the least version of one more is the lesser one, and so lags most
 most_step : (rounds : ℕ → ℕ) → ((version greater : ℕ) → version ≤ greater → rounds greater ≤ rounds version) → (c : Copies) (others : ℕ) (o : Option ℕ) → c.held ≤ others
-    → max (rounds (least_of c others)) (rounds (unwrap_or o 0)) ≡ rounds (least_of (with_held c o) (others + 1))
+    → max (rounds (least_of c others)) (rounds (unwrap_or o 0)) ≡ rounds (least_of (with_copy c o) (others + 1))
 most_step rounds falls c others None le =
     omega (arith, falls 0 (least_of c others) (omega arith), ap (λ b. rounds (if b then 0 else c.least)) (lt-ltb c.held (others + 1) (omega arith)))
 most_step rounds falls c others (Some v) le = elim (cases_lt c.held others) [
@@ -44,7 +44,7 @@ most_step rounds falls c others (Some v) le = elim (cases_lt c.held others) [
 
 module _ (round : ℕ) (tables : List Table) (lists : List (List Write)) (r k : ℕ) where
   abbrev ws : List Write
-  ws = writes_at lists r
+  ws = writes_of_owner lists r
 
   abbrev current : ℕ
   current = current_of lists r k
@@ -93,22 +93,22 @@ module _ (round : ℕ) (tables : List Table) (lists : List (List Write)) (r k : 
     own : (p : ℕ) → p < length tables → p ≡ r → (copies_of tables lists r k (suc p) ≡ copies_of tables lists r k p) × (staleness_at round tables lists p r k ≡ None) × (others (suc p) ≡ others p)
     unfolding others
     own p lt same = (
-      ap (λ b. if b then copies_of tables lists r k p else with_held (copies_of tables lists r k p) (held p)) (eq-eqb (table_of_node tables p).node r (nodes p lt ∙ same)),
+      ap (λ b. if b then copies_of tables lists r k p else with_copy (copies_of tables lists r k p) (held p)) (eq-eqb (table_of_node tables p).node r (nodes p lt ∙ same)),
       ap (λ b. if b then None else staleness_of round generation ws k (mark_at (table_of_node tables p) r k)) (eq-eqb p r same),
       ap (λ b. if b then others p else others p + 1) (eq-eqb p r same),
     )
 
     other : (p : ℕ) → p < length tables → p ≢ r
-        → (copies_of tables lists r k (suc p) ≡ with_held (copies_of tables lists r k p) (held p)) × (staleness_at round tables lists p r k ≡ version_staleness round ws k (version p)) × (others (suc p) ≡ others p + 1)
+        → (copies_of tables lists r k (suc p) ≡ with_copy (copies_of tables lists r k p) (held p)) × (staleness_at round tables lists p r k ≡ version_staleness round ws k (version p)) × (others (suc p) ≡ others p + 1)
     unfolding others
     other p lt ne = (
-      ap (λ b. if b then copies_of tables lists r k p else with_held (copies_of tables lists r k p) (held p)) (ne_eqb (table_of_node tables p).node r (λ same. ne (sym (nodes p lt) ∙ same))),
+      ap (λ b. if b then copies_of tables lists r k p else with_copy (copies_of tables lists r k p) (held p)) (ne_eqb (table_of_node tables p).node r (λ same. ne (sym (nodes p lt) ∙ same))),
       ap (λ b. if b then None else staleness_of round generation ws k (mark_at (table_of_node tables p) r k)) (ne_eqb p r ne)
           ∙ staleness_known round generation ws k (entry_at (table_of_node tables p) r k) numbered few,
       ap (λ b. if b then others p else others p + 1) (ne_eqb p r ne),
     )
 
-    seen_more : (p : ℕ) (c : Copies) (o : Option ℕ) → held p ≡ o → IsSeen p c → others (suc p) ≡ others p + 1 → staleness_at round tables lists p r k ≡ version_staleness round ws k (version p) → IsSeen (suc p) (with_held c o)
+    seen_more : (p : ℕ) (c : Copies) (o : Option ℕ) → held p ≡ o → IsSeen p c → others (suc p) ≡ others p + 1 → staleness_at round tables lists p r k ≡ version_staleness round ws k (version p) → IsSeen (suc p) (with_copy c o)
     seen_more p c None is seen more at = record {
       current_is = seen.current_is;
       held = omega (arith, seen.held, more);
@@ -196,7 +196,7 @@ module _ (round : ℕ) (tables : List Table) (lists : List (List Write)) (r k : 
           ap (max (most_below p (λ q. rounds_behind (staleness_at round tables lists q r k)))) (ap rounds_behind is.1)
           ∙ ap (λ n. max n (rounds_behind (version_staleness round ws k (version p)))) (most_seen in_order p (omega arith))
           ∙ most_step (λ v. rounds_behind (version_staleness round ws k v)) (λ v greater at_most. staleness_falls round ws k v greater in_order at_most) c (others p) o (seen p (omega arith)).held
-          ∙ ap (λ n. rounds_behind (version_staleness round ws k (least_of (with_held c o) n))) (sym is.2)
+          ∙ ap (λ n. rounds_behind (version_staleness round ws k (least_of (with_copy c o) n))) (sym is.2)
           ∙ ap (λ x. rounds_behind (version_staleness round ws k (least_of x (others (suc p))))) (sym is.0)
     ]
 
@@ -205,7 +205,7 @@ pub record AreFew (p : ℕ) (c : Copies) : Type 0 where
   pub held : c.held ≤ p
   pub fresh : c.fresh ≤ c.held
 
-few_with : (p : ℕ) (c : Copies) (o : Option ℕ) → AreFew p c → AreFew (suc p) (with_held c o)
+few_with : (p : ℕ) (c : Copies) (o : Option ℕ) → AreFew p c → AreFew (suc p) (with_copy c o)
 few_with p c None few = record { held = omega (arith, few.held); fresh = few.fresh }
 few_with p c (Some v) few = record { held = omega (arith, few.held); fresh = omega (arith, few.fresh, at_most (leb c.current v)) }
   where
@@ -217,7 +217,7 @@ pub few_seen : (tables : List Table) (lists : List (List Write)) (r k p : ℕ) �
 few_seen tables lists r k zero = record { held = omega arith; fresh = omega arith }
 few_seen tables lists r k (suc p) =
     let before = few_seen tables lists r k p in
-    elim (eqb (table_of_node tables p).node r) as (λ b. AreFew (suc p) (if b then copies_of tables lists r k p else with_held (copies_of tables lists r k p) (version_known (generation_at tables r) (entry_at (table_of_node tables p) r k)))) [
+    elim (eqb (table_of_node tables p).node r) as (λ b. AreFew (suc p) (if b then copies_of tables lists r k p else with_copy (copies_of tables lists r k p) (version_known (generation_at tables r) (entry_at (table_of_node tables p) r k)))) [
       | true ↦ record { held = omega (arith, before.held); fresh = before.fresh }
       | false ↦ few_with p (copies_of tables lists r k p) (version_known (generation_at tables r) (entry_at (table_of_node tables p) r k)) before
     ]

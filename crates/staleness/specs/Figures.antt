@@ -23,8 +23,8 @@ most_below zero f = 0
 most_below (suc n) f = max (most_below n f) (f n)
 
 -- the writes of an owner
-abbrev pub writes_at : List (List Write) → ℕ → List Write
-writes_at lists r = slice_index_or lists r []
+abbrev pub writes_of_owner : List (List Write) → ℕ → List Write
+writes_of_owner lists r = slice_index_or lists r []
 
 -- the generation of an owner
 abbrev pub generation_at : List Table → ℕ → ℕ
@@ -39,7 +39,7 @@ staleness_of round generation writes key mark =
 abbrev pub staleness_at : ℕ → List Table → List (List Write) → ℕ → ℕ → ℕ → Option ℕ
 staleness_at round tables lists p r k =
     if p == r then None
-    else staleness_of round (generation_at tables r) (writes_at lists r) k (mark_at (table_of_node tables p) r k)
+    else staleness_of round (generation_at tables r) (writes_of_owner lists r) k (mark_at (table_of_node tables p) r k)
 
 -- an entry is of a generation before this one
 abbrev pub is_left_over : ℕ → Option Entry → Bool

@@ -8,7 +8,7 @@ ghost use Rattle.staleness.specs.inner.Parts.{MayBegin};
 ghost use Rattle.staleness.specs.inner.Latest.{write_of, KeysRise, IsFrontForKey};
 ghost use Rattle.staleness.specs.declared.lists.Write.{Write};
 ghost use Rattle.staleness.specs.declared.copies.Copies.{Copies};
-ghost use Rattle.staleness.specs.inner.Copies.{generations_in, least_known, at_least, version_known, with_version, with_held, seen_in, no_copies, current_of, copies_from, merged, HasRoom, HaveRoom, KeepOutside, AreSeen, AreSeenOnce, AreAdded};
+ghost use Rattle.staleness.specs.inner.Copies.{generations_in, least_known, at_least, version_known, with_version, with_copy, seen_in, no_copies, current_of, copies_from, merged, MayCountOne, MayCountBoth, StayOutside, AreSeen, AreSeenOnce, AreAdded};
 
 use crate::lists::{OwnerList, Write};
 use node_table::NodeTable;
@@ -28,7 +28,7 @@ pub(crate) struct Copies {
 
 // One more of them holds a version.
 fn with_version(copies: Copies, version: u32) -> Copies
-    requires { HasRoom copies }
+    requires { MayCountOne copies }
     ensures { result ≡ with_version copies version }
 {
     Copies {
@@ -79,12 +79,12 @@ fn see_row(copies: &mut [Copies], start: usize, table: &NodeTable, owner: u32, l
     requires owner { owner < table.now.table.nodes }
     requires within { start + table.now.table.keys ≤ length copies.old }
     requires room { (key : ℕ) (d : Copies)
-        → key < table.now.table.keys → HasRoom (slice_index_or copies.old (start + key) d) }
+        → key < table.now.table.keys → MayCountOne (slice_index_or copies.old (start + key) d) }
     ensures size { length copies.new ≡ length copies.old }
     ensures seen { (key : ℕ) (d : Copies) → key < table.now.table.keys → slice_index_or copies.new (start + key) d
-        ≡ with_held (slice_index_or copies.old (start + key) d)
+        ≡ with_copy (slice_index_or copies.old (start + key) d)
         (at_least least (entry_at table.now.table owner key)) }
-    ensures others { KeepOutside copies.old copies.new start table.now.table.keys }
+    ensures others { StayOutside copies.old copies.new start table.now.table.keys }
 {
     for entry in table.entries_of(owner) {
         let at = start + entry.key as usize;
@@ -106,12 +106,12 @@ fn see_copy(
     requires copied { copied ≡ generation_held table.now.table owner }
     requires within { start + table.now.table.keys ≤ length copies.old }
     requires room { (key : ℕ) (d : Copies)
-        → key < table.now.table.keys → HasRoom (slice_index_or copies.old (start + key) d) }
+        → key < table.now.table.keys → MayCountOne (slice_index_or copies.old (start + key) d) }
     ensures size { length copies.new ≡ length copies.old }
     ensures seen { (key : ℕ) (d : Copies) → key < table.now.table.keys → slice_index_or copies.new (start + key) d
-        ≡ with_held (slice_index_or copies.old (start + key) d)
+        ≡ with_copy (slice_index_or copies.old (start + key) d)
         (version_known generation (entry_at table.now.table owner key)) }
-    ensures others { KeepOutside copies.old copies.new start table.now.table.keys }
+    ensures others { StayOutside copies.old copies.new start table.now.table.keys }
 {
     if let Some(least) = least_known(generation, copied) {
         see_row(copies, start, table, owner, least);
@@ -123,7 +123,7 @@ fn see_table(copies: &mut [Copies], table: &NodeTable, generations: &[u32])
     requires generations { length generations.now ≡ table.now.table.nodes }
     requires size { length copies.old ≡ table.now.table.nodes * table.now.table.keys }
     requires room { (owner key : ℕ) (d : Copies) → owner < table.now.table.nodes → key < table.now.table.keys
-        → HasRoom (slice_index_or copies.old (owner * table.now.table.keys + key) d) }
+        → MayCountOne (slice_index_or copies.old (owner * table.now.table.keys + key) d) }
     ensures { AreSeenOnce table.now.table.nodes table.now.table.keys
         (λ owner key c. seen_in (slice_index generations.now owner) table.now.table owner key c)
         copies.old copies.new }
@@ -228,7 +228,7 @@ pub(crate) fn copies_from(
 
 // What two parts of the tables hold together.
 fn merged(one: Copies, other: Copies) -> Copies
-    requires { HaveRoom one other }
+    requires { MayCountBoth one other }
     ensures { result ≡ merged one other }
 {
     Copies {
@@ -243,7 +243,7 @@ fn merged(one: Copies, other: Copies) -> Copies
 pub(crate) fn merge(copies: &mut [Copies], part: &[Copies])
     requires size { length part.now ≡ length copies.old }
     requires room { (i : ℕ) (d : Copies) → i < length copies.old
-        → HaveRoom (slice_index_or copies.old i d) (slice_index_or part.now i d) }
+        → MayCountBoth (slice_index_or copies.old i d) (slice_index_or part.now i d) }
     ensures size { length copies.new ≡ length copies.old }
     ensures merged { (i : ℕ) (d : Copies) → i < length copies.old
         → slice_index_or copies.new i d ≡ merged (slice_index_or copies.old i d) (slice_index_or part.now i d) }

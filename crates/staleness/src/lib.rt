@@ -3,8 +3,8 @@
 #![tactic(auto)]
 
 mod copies;
-mod lags;
+mod staleness;
 mod lists;
 
-pub use lags::figures;
+pub use staleness::figures;
 pub use lists::{OwnerList, Write};

@@ -6,7 +6,7 @@ ghost use Rattle.std.specs.Ordering.{nat_cmp};
 ghost use Rattle.staleness.specs.Writes.{next_write, is_write_of, last_write};
 ghost use Rattle.staleness.specs.inner.Missed.{first_missed, last_born};
 ghost use Rattle.staleness.specs.inner.Latest.{keyed, write_of, KeysRise, IsIndexOfKey, IsGapForKey};
-ghost use Rattle.staleness.specs.inner.Linked.{shown, version_or_zero, IsLinked};
+ghost use Rattle.staleness.specs.inner.Linked.{writes_linked, version_or_zero, IsLinked};
 ghost use Rattle.bench_types.specs.declared.faults.Fault.TheVariants.{OutOfMemory};
 
 use bench_types::Fault;
@@ -49,9 +49,9 @@ impl Model for OwnerList {
 
     ghost Value = { List Write };
 
-    ghost use Rattle.staleness.specs.inner.Linked.{shown, IsOwnerList};
+    ghost use Rattle.staleness.specs.inner.Linked.{writes_linked, IsOwnerList};
 
-    ghost view = { λ l. shown l.links.items };
+    ghost view = { λ l. writes_linked l.links.items };
 
     ghost invariant = { λ l. IsOwnerList l.links.items l.firsts.items l.latest.items l.in_order };
 }
@@ -178,7 +178,7 @@ fn write_in(writes: &[Write], key: u32) -> Option<Write>
 // Whether a write of a round comes in order behind those before it.
 fn comes_in_order(links: &[Link], born: u32) -> bool
     requires few { length links.now < 2 ^ 32 }
-    ensures { result ≡ nat_le (last_born 0 (shown links.now)) born }
+    ensures { result ≡ nat_le (last_born 0 (writes_linked links.now)) born }
 {
     match links.last() {
         Some(link) => link.born <= born,
@@ -190,7 +190,7 @@ fn comes_in_order(links: &[Link], born: u32) -> bool
 fn missed_after(links: &[Link], key: u32, at: usize) -> Option<Write>
     requires few { length links.now < 2 ^ 32 }
     requires linked { IsLinked links.now }
-    ensures { result ≡ first_missed (shown links.now) key (at + 1) }
+    ensures { result ≡ first_missed (writes_linked links.now) key (at + 1) }
 {
     match links.get(at) {
         Some(held) if held.key == key => linked_to(links, held.next),
@@ -204,7 +204,7 @@ fn linked_to(links: &[Link], version: u32) -> Option<Write>
     requires few { length links.now < 2 ^ 32 }
     requires within { version ≤ length links.now }
     ensures none { version ≡ 0 → result ≡ None }
-    ensures some { (d : Write) → 0 < version → result ≡ Some (slice_index_or (shown links.now) (version - 1) d) }
+    ensures some { (d : Write) → 0 < version → result ≡ Some (slice_index_or (writes_linked links.now) (version - 1) d) }
 {
     match version.checked_sub(1) {
         Some(at) => Some(write_at(links, at as usize)),
@@ -215,7 +215,7 @@ fn linked_to(links: &[Link], version: u32) -> Option<Write>
 // The first write of a key from a place on.
 fn first_from(links: &[Link], key: u32, from: usize) -> Option<Write>
     requires few { length links.now < 2 ^ 32 }
-    ensures { result ≡ find (is_write_of key) (drop from (shown links.now)) }
+    ensures { result ≡ find (is_write_of key) (drop from (writes_linked links.now)) }
 {
     for at in from..links.len() {
         if links[at].key == key {
@@ -228,7 +228,7 @@ fn first_from(links: &[Link], key: u32, from: usize) -> Option<Write>
 fn write_at(links: &[Link], at: usize) -> Write
     requires few { length links.now < 2 ^ 32 }
     requires at { at < length links.now }
-    ensures { (d : Write) → slice_index_or (shown links.now) at d ≡ result }
+    ensures { (d : Write) → slice_index_or (writes_linked links.now) at d ≡ result }
 {
     let link = links[at];
     Write {
@@ -243,9 +243,9 @@ fn write_at(links: &[Link], at: usize) -> Write
 fn append(links: &mut Vec<Link>, before: u32, write: Write)
     requires room { vec_len links.old < vec_capacity links.old }
     requires linked { IsLinked links.old.items }
-    requires before { before ≡ version_or_zero (last_write (shown links.old.items) write.key) }
-    requires next { write ≡ next_write (shown links.old.items) write.key write.born }
-    ensures shown { shown links.new.items ≡ shown links.old.items ++ write ∷ [] }
+    requires before { before ≡ version_or_zero (last_write (writes_linked links.old.items) write.key) }
+    requires next { write ≡ next_write (writes_linked links.old.items) write.key write.born }
+    ensures shown { writes_linked links.new.items ≡ writes_linked links.old.items ++ write ∷ [] }
     ensures linked { IsLinked links.new.items }
 {
     if let Some(at) = before.checked_sub(1) {

@@ -19,4 +19,4 @@ table_code =
 
 abbrev pub kept_code : Coded NodeTableView
 kept_code =
-    code_by (Table × ℕ) (coded× table_code coded_ℕ) (λ k. (k.table, k.spare)) (λ p. record { table = p.0; spare = p.1 }) (λ _. refl)
+    code_by (Table × ℕ) (coded× table_code coded_ℕ) (λ k. (k.table, k.room)) (λ p. record { table = p.0; room = p.1 }) (λ _. refl)

@@ -10,11 +10,11 @@ use Rattle.node_table.specs.Table.{Place, Held, Table, greatest_version, IsPrope
 use Rattle.node_table.specs.Entries.{entry_cmp, StandsBefore, AreGenerations, AreGreatest}
 
 -- the entries of a row
-abbrev pub row_of : List Entry → Row → List Entry
-row_of slots row = take row.len (drop row.start slots)
+abbrev pub entries_in_row : List Entry → Row → List Entry
+entries_in_row slots row = take row.len (drop row.start slots)
 
 abbrev pub rows_of : List Entry → List Row → List (List Entry)
-rows_of slots rows = map (row_of slots) rows
+rows_of slots rows = map (entries_in_row slots) rows
 
 -- the entries of an owner, none where there is no such row
 abbrev pub row_at : List Entry → List Row → ℕ → List Entry
@@ -35,11 +35,11 @@ placed_from owner [] = []
 placed_from owner (row ∷ rows) = map (placed owner) row ++ placed_from (suc owner) rows
 
 -- what rows hold, the first row being that of owner 0
-unfoldable pub held_in : List (List Entry) → Held
-held_in rows = from_entries (placed_from 0 rows)
+unfoldable pub held_by_rows : List (List Entry) → Held
+held_by_rows rows = from_entries (placed_from 0 rows)
 
 abbrev pub held_by : Layout → Held
-held_by l = held_in (rows_of l.slots.items l.rows.items)
+held_by l = held_by_rows (rows_of l.slots.items l.rows.items)
 
 -- the table that lies in memory
 abbrev pub table_in : Layout → Table
@@ -63,7 +63,7 @@ pub record IsRow (keys : ℕ) (row : List Entry) : Type 0 where
 pub record IsInSlots (keys : ℕ) (slots : List Entry) (r : Row) : Type 0 where
   pub within : r.start + r.len ≤ length slots
   pub block : 0 < r.len → r.start + keys ≤ length slots
-  pub row : IsRow keys (row_of slots r)
+  pub row : IsRow keys (entries_in_row slots r)
 
 -- the blocks of two rows that have entries don't overlap
 abbrev pub AreApart : ℕ → Row → Row → Type 0
@@ -73,8 +73,8 @@ abbrev pub row_len : Row → ℕ
 row_len row = row.len
 
 -- how many entries all rows have
-abbrev pub total : List Row → ℕ
-total rows = sum_by row_len rows
+abbrev pub count_in_rows : List Row → ℕ
+count_in_rows rows = sum_by row_len rows
 
 -- how many slots a row takes up
 abbrev pub block_len : ℕ → Row → ℕ
@@ -94,7 +94,7 @@ pub record IsLayout (l : Layout) : Type 0 where
   pub greatest : AreGreatest (table_in l) l.greatest.items
   pub generations : AreGenerations (table_in l) l.generations.items
   pub room : l.nodes ≤ vec_capacity l.generations
-  pub counted : l.count ≡ total l.rows.items
+  pub counted : l.count ≡ count_in_rows l.rows.items
 
 -- the owner's row has no entry
 abbrev pub IsEmptyRow : List Row → ℕ → Type 0
@@ -109,12 +109,12 @@ abbrev pub IsHeld : Layout → ℕ → Type 0
 IsHeld l owner = 0 < greatest_version (table_in l) owner
 
 -- there is room for one more block
-abbrev pub HasBlockLeft : Layout → Type 0
-HasBlockLeft l = vec_len l.slots + l.keys ≤ vec_capacity l.slots
+abbrev pub HasRoomForBlock : Layout → Type 0
+HasRoomForBlock l = vec_len l.slots + l.keys ≤ vec_capacity l.slots
 
 -- for how many more blocks there is room
-abbrev pub spare_of : Layout → ℕ
-spare_of l = (vec_capacity l.slots - vec_len l.slots) / l.keys
+abbrev pub room_of : Layout → ℕ
+room_of l = (vec_capacity l.slots - vec_len l.slots) / l.keys
 
 -- the key's entry stands at the index, or nowhere where the index is the row's length
 pub record IsIndexOf (row : List Entry) (key index : ℕ) : Type 0 where
@@ -151,19 +151,19 @@ IsOutside r start keys = (r.start + r.len ≤ start) ⊎ (start + keys ≤ r.sta
 
 -- rows outside of a block stay
 abbrev pub KeepOutside : List Entry → List Entry → ℕ → ℕ → Type 0
-KeepOutside slots slots' start keys = (r : Row) → IsOutside r start keys → row_of slots' r ≡ row_of slots r
+KeepOutside slots slots' start keys = (r : Row) → IsOutside r start keys → entries_in_row slots' r ≡ entries_in_row slots r
 
 -- an entry came into an owner's row, and the other rows stayed
 pub record IsPlaced (keys owner : ℕ) (entry : Entry) (slots slots' : List Entry) (rows rows' : List Row) : Type 0 where
   pub put : IsPut keys entry (row_at slots rows owner) (row_at slots' rows' owner)
   pub others : (other : ℕ) → other ≢ owner → row_at slots' rows' other ≡ row_at slots rows other
-  pub counted : total rows' + length (row_at slots rows owner) ≡ total rows + length (row_at slots' rows' owner)
+  pub counted : count_in_rows rows' + length (row_at slots rows owner) ≡ count_in_rows rows + length (row_at slots' rows' owner)
 
 -- an entry became all of an owner's row, and the other rows stayed
 pub record IsRenewed (owner : ℕ) (entry : Entry) (slots slots' : List Entry) (rows rows' : List Row) : Type 0 where
   pub alone : row_at slots' rows' owner ≡ entry ∷ []
   pub others : (other : ℕ) → other ≢ owner → row_at slots' rows' other ≡ row_at slots rows other
-  pub counted : total rows' + length (row_at slots rows owner) ≡ total rows + 1
+  pub counted : count_in_rows rows' + length (row_at slots rows owner) ≡ count_in_rows rows + 1
 
 -- the other owners' generations stayed
 abbrev pub AreOthersKept : ℕ → List ℕ → List ℕ → Type 0

@@ -12,6 +12,6 @@ Follows (Start i) old new = Starts i old new
 Follows (Finish i) old new = Finishes i old new
 
 -- why it isn't: it isn't allowed, or memory ran out
-abbrev pub IsRefused : Event → ScheduleView → Fault → Type 0
-IsRefused (Start i) s f = (f ≡ fault.NotAllowed) × (¬ (CanStart s i))
-IsRefused (Finish i) s f = ((f ≡ fault.NotRunning) × (¬ (IsRunning s i))) ⊎ (f ≡ fault.OutOfMemory)
+abbrev pub IsEventRefused : Event → ScheduleView → Fault → Type 0
+IsEventRefused (Start i) s f = (f ≡ fault.NotAllowed) × (¬ (CanStart s i))
+IsEventRefused (Finish i) s f = ((f ≡ fault.NotRunning) × (¬ (IsRunning s i))) ⊎ (f ≡ fault.OutOfMemory)

@@ -7,7 +7,7 @@ use Rattle.board.specs.declared.boards.Board.{Board}
 use Rattle.board.specs.declared.boards.Seat.{Seat}
 
 -- the first seat of a board, and so many workers, who are several
-pub record MayBegin (board : Board) (seat : Seat) (workers : ℕ) : Type 0 where
+pub record MaySplit (board : Board) (seat : Seat) (workers : ℕ) : Type 0 where
   pub of_board : IsSeatOf seat board
   pub first : seat_view seat ≡ first_seat
   pub several : 2 ≤ workers

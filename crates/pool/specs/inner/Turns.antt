@@ -8,6 +8,6 @@ use Rattle.cluster.specs.Tables.{tables_in}
 use Rattle.cluster.specs.Folds.{exchange_in}
 
 -- behind any records
-abbrev pub IsExchanged : Rules → Exchange → List NodeTableView → List NodeTableView → Record → Type 0
-IsExchanged rules e old new r =
+abbrev pub IsPairExchanged : Rules → Exchange → List NodeTableView → List NodeTableView → Record → Type 0
+IsPairExchanged rules e old new r =
     (before : List Record) → exchange_in rules (record { tables = tables_in old; records = before }) e ≡ record { tables = tables_in new; records = before ++ r ∷ [] }

@@ -2,13 +2,13 @@
 use Rattle.std.specs.Prelude.{◌≡◌, ℕ, ◌+◌, ◌*◌, ◌<◌, ◌⊎◌, List, [], ◌∷◌, length, slice_index, slice_set}
 use Rattle.bench_types.specs.declared.entries.Entry.{Entry}
 use Rattle.node_table.specs.Table.{Table, mark_at}
-use Rattle.reconcile.specs.Digests.{DigestView, Knowledge, Greatest, Each, each_in, version_index}
+use Rattle.reconcile.specs.Digests.{DigestView, ToldVersions, Greatest, Each, each_in, version_index}
 use Rattle.reconcile.specs.declared.digests.Versions.{Versions}
 use Rattle.reconcile.specs.declared.digests.Versions.TheVariants as versions
 
-abbrev pub knowledge_of : Versions → Knowledge
-knowledge_of (versions.Greatest v) = Greatest v.items
-knowledge_of (versions.Each v) = Each v.items
+abbrev pub versions_told : Versions → ToldVersions
+versions_told (versions.Greatest v) = Greatest v.items
+versions_told (versions.Each v) = Each v.items
 
 -- there is a version for each owner, or for each key of each owner
 abbrev pub AreComplete : ℕ → ℕ → Versions → Type 0
@@ -29,7 +29,7 @@ pub record AreVersions (t : Table) (versions : List ℕ) : Type 0 where
 -- the version that a digest tells of each of an owner's keys
 pub record AreVersionsTold (told : DigestView) (owner : ℕ) (versions : List ℕ) : Type 0 where
   pub count : length versions ≡ told.keys
-  pub each : (key : ℕ) → key < told.keys → slice_index versions key ≡ each_in told.keys told.knowledge owner key
+  pub each : (key : ℕ) → key < told.keys → slice_index versions key ≡ each_in told.keys told.versions owner key
 
 -- numbers with the versions of an owner's entries among them, where its first key's stands at the start
 abbrev pub with_row : ℕ → List Entry → List ℕ → List ℕ

@@ -29,7 +29,7 @@ abbrev pub begun_table : Settings → ℕ → ℕ → Table → Table
 begun_table s round n t = with_own_writes (after_restart s round n t) (own_writes s n round (count_before s n round))
 
 -- these writes of a round were made, and added to the list
-pub record IsWritten (round : ℕ) (writes : List OwnWrite) (old new : Table) (ws ws' : List Write) : Type 0 where
+pub record HasWritten (round : ℕ) (writes : List OwnWrite) (old new : Table) (ws ws' : List Write) : Type 0 where
   pub table : new ≡ with_own_writes old (map (born_in round old.generation) writes)
   pub list : ws' ≡ ws ++ map write_of_entry (map (born_in round old.generation) writes)
   pub proper : IsProper new

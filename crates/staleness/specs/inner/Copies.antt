@@ -10,12 +10,12 @@ use Rattle.bench_types.specs.declared.rows.Figures.{Figures}
 use Rattle.node_table.specs.Table.{Table, entry_at}
 use Rattle.cluster.specs.Tables.{table_of_node}
 use Rattle.staleness.specs.declared.copies.Copies.{Copies}
-use Rattle.staleness.specs.declared.lags.Lag.{Lag}
+use Rattle.staleness.specs.declared.staleness.Staleness.{Staleness}
 use Rattle.staleness.specs.declared.lists.Write.{Write}
 use Rattle.staleness.specs.Writes.{last_write}
 use Rattle.staleness.specs.inner.Missed.{first_missed}
 use Rattle.staleness.specs.inner.Linked.{version_or_zero}
-use Rattle.staleness.specs.Figures.{sum_below, most_below, writes_at, generation_at, staleness_at, leftover_at, stale_count, rounds_behind}
+use Rattle.staleness.specs.Figures.{sum_below, most_below, writes_of_owner, generation_at, staleness_at, leftover_at, stale_count, rounds_behind}
 
 -- the generations of all nodes, in order
 abbrev pub generations_in : List Table → List ℕ
@@ -59,19 +59,19 @@ with_version c version = record {
 }
 
 -- one more table holds a version, or none
-abbrev pub with_held : Copies → Option ℕ → Copies
-with_held c None = c
-with_held c (Some version) = with_version c version
+abbrev pub with_copy : Copies → Option ℕ → Copies
+with_copy c None = c
+with_copy c (Some version) = with_version c version
 
 -- one more table is gone over, unless it is the owner's, which is in a generation
 abbrev pub seen_in : ℕ → Table → ℕ → ℕ → Copies → Copies
 seen_in generation t owner key c =
     if t.node == owner then c
-    else with_held c (version_known generation (entry_at t owner key))
+    else with_copy c (version_known generation (entry_at t owner key))
 
 -- the version of the last write of an owner's key
 abbrev pub current_of : List (List Write) → ℕ → ℕ → ℕ
-current_of lists owner key = version_or_zero (last_write (writes_at lists owner) key)
+current_of lists owner key = version_or_zero (last_write (writes_of_owner lists owner) key)
 
 -- the first so many tables have been gone over
 abbrev pub copies_of : List Table → List (List Write) → ℕ → ℕ → ℕ → Copies
@@ -108,18 +108,18 @@ abbrev pub stale_of : Copies → ℕ → ℕ
 stale_of c others = if c.current == 0 then 0 else others - c.fresh
 
 -- there is room for one more
-pub record HasRoom (c : Copies) : Type 0 where
+pub record MayCountOne (c : Copies) : Type 0 where
   pub fresh : c.fresh ≤ c.held
   pub held : c.held + 1 < 2 ^ 32
 
 -- there is room for both
-pub record HaveRoom (c d : Copies) : Type 0 where
+pub record MayCountBoth (c d : Copies) : Type 0 where
   pub held : c.held + d.held < 2 ^ 32
   pub fresh : c.fresh + d.fresh < 2 ^ 32
 
 -- so many elements from a place on may change alone
-abbrev pub KeepOutside : List Copies → List Copies → ℕ → ℕ → Type 0
-KeepOutside before after start count = (i : ℕ) (d : Copies) → (i < start) ⊎ (start + count ≤ i) → slice_index_or after i d ≡ slice_index_or before i d
+abbrev pub StayOutside : List Copies → List Copies → ℕ → ℕ → Type 0
+StayOutside before after start count = (i : ℕ) (d : Copies) → (i < start) ⊎ (start + count ≤ i) → slice_index_or after i d ≡ slice_index_or before i d
 
 -- what was seen of so many owners' keys lies by owner and then by key
 pub record AreSeen (owners keys : ℕ) (seen : ℕ → ℕ → Copies) (copies : List Copies) : Type 0 where
@@ -138,22 +138,22 @@ pub record AreAdded (writes : List Write) (keys : ℕ) (before after : List Copi
   pub added : (key : ℕ) (d : Copies) → key < keys → slice_index_or after (length before + key) d ≡ no_copies (version_or_zero (last_write writes key))
 
 -- how far copies lag by owner: those of a key, of all its keys, and of so many owners from one on
-abbrev pub key_lag : ℕ → List Table → List (List Write) → ℕ → ℕ → Lag
-key_lag round tables lists r k = record {
+abbrev pub key_staleness : ℕ → List Table → List (List Write) → ℕ → ℕ → Staleness
+key_staleness round tables lists r k = record {
   stale = sum_below (length tables) (λ p. stale_count (staleness_at round tables lists p r k));
   greatest = most_below (length tables) (λ p. rounds_behind (staleness_at round tables lists p r k));
 }
 
-abbrev pub owner_lag : ℕ → List Table → List (List Write) → ℕ → Lag
-owner_lag round tables lists r = record {
-  stale = sum_below (table_of_node tables 0).keys (λ k. (key_lag round tables lists r k).stale);
-  greatest = most_below (table_of_node tables 0).keys (λ k. (key_lag round tables lists r k).greatest);
+abbrev pub owner_staleness : ℕ → List Table → List (List Write) → ℕ → Staleness
+owner_staleness round tables lists r = record {
+  stale = sum_below (table_of_node tables 0).keys (λ k. (key_staleness round tables lists r k).stale);
+  greatest = most_below (table_of_node tables 0).keys (λ k. (key_staleness round tables lists r k).greatest);
 }
 
-abbrev pub owners_lag : ℕ → List Table → List (List Write) → ℕ → ℕ → Lag
-owners_lag round tables lists from owners = record {
-  stale = sum_below owners (λ at. (owner_lag round tables lists (from + at)).stale);
-  greatest = most_below owners (λ at. (owner_lag round tables lists (from + at)).greatest);
+abbrev pub owners_staleness : ℕ → List Table → List (List Write) → ℕ → ℕ → Staleness
+owners_staleness round tables lists from owners = record {
+  stale = sum_below owners (λ at. (owner_staleness round tables lists (from + at)).stale);
+  greatest = most_below owners (λ at. (owner_staleness round tables lists (from + at)).greatest);
 }
 
 -- what is left over by node: of an owner's keys, of all owners', and in so many tables from one on
@@ -173,7 +173,7 @@ part_figures round tables lists size part =
     let from = part * size in
     let count = min size (length tables - part * size) in
     record {
-      stale = (owners_lag round tables lists from count).stale;
-      greatest = (owners_lag round tables lists from count).greatest;
+      stale = (owners_staleness round tables lists from count).stale;
+      greatest = (owners_staleness round tables lists from count).greatest;
       leftover = nodes_leftover tables from count;
     }

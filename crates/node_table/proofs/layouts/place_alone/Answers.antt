@@ -2,7 +2,7 @@ use Rattle.std.proofs.Common.{◌≡◌, ℕ, ◌+◌, ◌<◌, ◌≤◌, List,
 use Rattle.std.proofs.lemmas.List.{length-set, get_or_read}
 use Rattle.bench_types.specs.declared.entries.Entry.{Entry}
 use Rattle.node_table.specs.declared.layouts.Row.{Row}
-use Rattle.node_table.specs.inner.Layouts.{row_of, IsRow, IsInSlots, AreLaid, IsRenewed, KeepOutside}
+use Rattle.node_table.specs.inner.Layouts.{entries_in_row, IsRow, IsInSlots, AreLaid, IsRenewed, KeepOutside}
 use Rattle.node_table.proofs.Blocks.{take-set_outside, take-set_here}
 use Rattle.node_table.proofs.Laid.{laid_put, renewed_put}
 use Rattle.node_table.proofs.Opened.{one_row}
@@ -16,10 +16,10 @@ module _ (nodes keys : ℕ) (slots : List Entry) (rows : List Row) (owner : ℕ)
   within : r.start + keys ≤ length slots
   within = (subst (IsInSlots keys slots) (is r) (laid.each owner r lt)).block held
 
-  row_is : row_of (set slots r.start entry) first ≡ entry ∷ []
+  row_is : entries_in_row (set slots r.start entry) first ≡ entry ∷ []
   row_is = take-set_here r.start slots entry (omega (arith, within))
 
-  anew : IsRow keys (row_of (set slots r.start entry) first)
+  anew : IsRow keys (entries_in_row (set slots r.start entry) first)
   anew = subst (IsRow keys) (sym row_is) (one_row keys entry below written)
 
   outside : KeepOutside slots (set slots r.start entry) r.start keys

@@ -1,7 +1,7 @@
 use Rattle.std.proofs.Common.{OnOk, IfErr, subst, ap, ◌∙◌, ◌∷◌, []}
 use Rattle.report.specs.Compare.{compare_line}
 use Rattle.report.specs.Line.{line_of}
-use Rattle.report.specs.Output.{IsWritten, IsWriteFault}
+use Rattle.bench_types.specs.Output.{IsWritten, IsWriteFault}
 use Rattle.report.specs.Report.{numbers}
 use Rattle.report.proofs.ColumnFacts.{line_texts, first_text}
 use Rattle.report.proofs.comparisons.write_compare_row.Goals as goal

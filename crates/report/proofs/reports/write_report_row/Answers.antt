@@ -1,7 +1,7 @@
 use Rattle.std.proofs.Common.{map, OnOk, IfErr, subst, ap}
 use Rattle.report.specs.inner.Cells.{cell_text}
 use Rattle.report.specs.Line.{line_of}
-use Rattle.report.specs.Output.{IsWritten, IsWriteFault}
+use Rattle.bench_types.specs.Output.{IsWritten, IsWriteFault}
 use Rattle.report.specs.Report.{numbers, report_line}
 use Rattle.report.proofs.ColumnFacts.{line_texts}
 use Rattle.report.proofs.reports.write_report_row.Goals as goal

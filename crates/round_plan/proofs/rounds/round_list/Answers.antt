@@ -2,7 +2,7 @@ use Rattle.std.proofs.Common.{◌≡◌, ◌+◌, true, false, All, length, get_
 use Rattle.bench_types.specs.declared.exchanges.Exchange.{Exchange}
 use Rattle.round_plan.specs.Outages.{is_up}
 use Rattle.bench_types.specs.Exchange.{IsPlanned}
-use Rattle.round_plan.specs.Plan.{exchange_of, reaches, plan_of}
+use Rattle.round_plan.specs.Plan.{exchange_of, reaches, round_list_view}
 use Rattle.round_plan.specs.inner.Rounds.{AreChosen}
 use Rattle.round_plan.proofs.Listed.{IsListed, chosen_at, length_chosen, listed_all, listed_begins, listed_unreached, listed_down}
 use Rattle.round_plan.proofs.rounds.round_list.Goals.{then-is_up+then-reaches+in_ok-push, then-is_up+else-reaches, else-is_up}
@@ -69,6 +69,6 @@ returns-clause-plan g c =
     let s = c.args.scenario.now in
     let chosen = length_chosen s c.args.round c.in_ok-chosen.chosen.items c.in_ok-chosen.ensures in
     c.planned.ensures
-    ∙ ap (λ n. plan_of n c.loop-exchange.unreached c.loop-exchange.exchanges.items) c.nodes-nodes.ensures.value
+    ∙ ap (λ n. round_list_view n c.loop-exchange.unreached c.loop-exchange.exchanges.items) c.nodes-nodes.ensures.value
     ∙ listed_all s c.args.round c.loop-exchange.exchange-index c.loop-exchange.exchanges.items c.loop-exchange.unreached c.loop-exchange.invariant
     (omega (arith, chosen, ap length c.deref-exchange-items.ensures.value, c.loop-exchange-test.false))

@@ -3,7 +3,7 @@ use Rattle.std.proofs.lemmas.List.{append-nil, drop_all, take_all}
 use Rattle.node_table.specs.Table.{Table}
 use Rattle.cluster.specs.Tables.{tables_in, table_of_node}
 use Rattle.cluster.proofs.Tables.{table_indexed, length-tables_in}
-use Rattle.staleness.specs.inner.Copies.{seen_in, copies_from, HasRoom, AreSeenOnce}
+use Rattle.staleness.specs.inner.Copies.{seen_in, copies_from, MayCountOne, AreSeenOnce}
 use Rattle.staleness.specs.Figures.{generation_at}
 use Rattle.staleness.proofs.Known.{as_many_generations, generation_found}
 use Rattle.staleness.proofs.Merging.{few_from}
@@ -57,7 +57,7 @@ see_table-requires-clause-room c owner key d lt_owner below =
     ∙ c.loop-at.invariant.at owner key d among under
     ∙ ap (copies_from tables owner key from at) blank in
     let few = few_from tables owner key from at (get_or none place d).current in
-    subst HasRoom (sym is) (record { fresh = few.fresh; held = omega (arith, few.held, begins.few, lt, counted) })
+    subst MayCountOne (sym is) (record { fresh = few.fresh; held = omega (arith, few.held, begins.few, lt, counted) })
 
 pub loop-at-preserved : goal.loop-at-preserved
 loop-at-preserved c =

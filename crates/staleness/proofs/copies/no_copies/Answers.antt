@@ -3,7 +3,7 @@ use Rattle.std.proofs.lemmas.Bool.{cases_lt}
 use Rattle.std.proofs.lemmas.List.{get_or_default}
 use Rattle.staleness.specs.Writes.{last_write}
 use Rattle.staleness.specs.inner.Linked.{version_or_zero}
-use Rattle.staleness.specs.Figures.{writes_at}
+use Rattle.staleness.specs.Figures.{writes_of_owner}
 use Rattle.staleness.specs.inner.Copies.{no_copies}
 use Rattle.staleness.proofs.Places.{within, one_more}
 use Rattle.staleness.proofs.copies.no_copies.Goals as goal
@@ -27,6 +27,6 @@ loop-list-preserved c =
             ∙ ap (λ n. get_or after (n + key) d) (sym so_far.size)
             ∙ added.added key d below
             ∙ ap (λ ws. no_copies (version_or_zero (last_write ws key))) writes_is
-            ∙ sym (ap (λ n. no_copies (version_or_zero (last_write (writes_at lists n) key))) here)
+            ∙ sym (ap (λ n. no_copies (version_or_zero (last_write (writes_of_owner lists n) key))) here)
       ];
     }

@@ -5,7 +5,7 @@ use Rattle.std.proofs.lemmas.List.{get_or-set_same, get_or-set_other, get_or_def
 use Rattle.bench_types.specs.declared.entries.Entry.{Entry}
 use Rattle.node_table.specs.Table.{entry_at}
 use Rattle.staleness.specs.declared.copies.Copies.{Copies}
-use Rattle.staleness.specs.inner.Copies.{at_least, has_key, with_version, with_held, HasRoom}
+use Rattle.staleness.specs.inner.Copies.{at_least, has_key, with_version, with_copy, MayCountOne}
 use Rattle.staleness.proofs.Rows.{row_at, row_apart, row_held, row_below}
 use Rattle.staleness.proofs.Walking.{take-zero, here_now, others_stay, new_key}
 use Rattle.staleness.proofs.copies.see_row.Goals as goal
@@ -19,7 +19,7 @@ zeros = record { current = 0; least = 0; held = 0; fresh = 0 }
 pub loop-entry-init : goal.loop-entry-init
 loop-entry-init c = record {
   size = refl;
-  seen = λ key d lt. sym (ap (λ xs. if has_key xs key then with_held (get_or c.args.copies.now (c.args.start + key) d) (at_least c.args.least (entry_at c.args.table.now.table c.args.owner key)) else get_or c.args.copies.now (c.args.start + key) d) (take-zero c.entries_of-entry-items.result.now));
+  seen = λ key d lt. sym (ap (λ xs. if has_key xs key then with_copy (get_or c.args.copies.now (c.args.start + key) d) (at_least c.args.least (entry_at c.args.table.now.table c.args.owner key)) else get_or c.args.copies.now (c.args.start + key) d) (take-zero c.entries_of-entry-items.result.now));
   others = λ i d out. refl;
 }
 
@@ -37,8 +37,8 @@ with_version-requires c =
     let before = get_or c.args.copies.now (c.args.start + key) zeros in
     let below = row_below t c.args.owner c.entries_of-entry-items.ensures.proper row c.entries_of-entry-items.ensures.entries i no_entry c.loop-entry-test.true in
     let new = new_key row (row_apart t c.args.owner c.entries_of-entry-items.ensures.proper row c.entries_of-entry-items.ensures.entries) i no_entry c.loop-entry-test.true in
-    let same = c.loop-entry.invariant.seen key zeros below ∙ ap (λ b. if b then with_held before (at_least c.args.least (entry_at t c.args.owner key)) else before) new in
-    subst HasRoom (sym same) (c.requires.room key zeros below)
+    let same = c.loop-entry.invariant.seen key zeros below ∙ ap (λ b. if b then with_copy before (at_least c.args.least (entry_at t c.args.owner key)) else before) new in
+    subst MayCountOne (sym same) (c.requires.room key zeros below)
 
 pub bounds-copies-at : goal.bounds-copies-at
 bounds-copies-at c =
@@ -72,19 +72,19 @@ loop-entry-preserved c =
             let there : start + key ≡ place = omega (arith, here) in
             let before = get_or old place d in
             let kept : get_or copies place zeros ≡ before =
-            get_or_default copies place zeros d in_range ∙ so_far.seen entry.key d below ∙ ap (λ b. if b then with_held before (at_least least (entry_at t owner entry.key)) else before) new in
+            get_or_default copies place zeros d in_range ∙ so_far.seen entry.key d below ∙ ap (λ b. if b then with_copy before (at_least least (entry_at t owner entry.key)) else before) new in
             ap (λ j. get_or (set copies place seen) j d) there
             ∙ get_or-set_same copies place seen d in_range
             ∙ c.with_version.ensures
             ∙ ap (with_version (get_or copies place zeros)) c.max.ensures
             ∙ ap (λ x. with_version x (max entry.version least)) kept
-            ∙ sym (ap (λ o. with_held before (at_least least o)) (row_at t owner proper row entries i no_entry lt))
-            ∙ sym (ap (λ b. if b then with_held before (at_least least (entry_at t owner entry.key)) else before) (here_now row i no_entry lt))
-            ∙ sym (ap (λ k. if has_key (take (i + 1) row) k then with_held (get_or old (start + k) d) (at_least least (entry_at t owner k)) else get_or old (start + k) d) here)
+            ∙ sym (ap (λ o. with_copy before (at_least least o)) (row_at t owner proper row entries i no_entry lt))
+            ∙ sym (ap (λ b. if b then with_copy before (at_least least (entry_at t owner entry.key)) else before) (here_now row i no_entry lt))
+            ∙ sym (ap (λ k. if has_key (take (i + 1) row) k then with_copy (get_or old (start + k) d) (at_least least (entry_at t owner k)) else get_or old (start + k) d) here)
         | inr other ↦
             get_or-set_other copies place (start + key) seen d (λ same. other (omega (arith, same)))
             ∙ so_far.seen key d at
-            ∙ sym (ap (λ b. if b then with_held (get_or old (start + key) d) (at_least least (entry_at t owner key)) else get_or old (start + key) d) (others_stay row i no_entry key lt other))
+            ∙ sym (ap (λ b. if b then with_copy (get_or old (start + key) d) (at_least least (entry_at t owner key)) else get_or old (start + key) d) (others_stay row i no_entry key lt other))
       ];
       others = λ j d out. get_or-set_other copies place j seen d (elsewhere j out below) ∙ so_far.others j d out;
     }
@@ -99,10 +99,10 @@ returns-clause-seen c key d lt =
     let row = c.entries_of-entry-items.result.now in
     let before = get_or c.args.copies.now (c.args.start + key) d in
     c.loop-entry.invariant.seen key d lt
-    ∙ ap (λ xs. if has_key xs key then with_held before (at_least c.args.least (entry_at t c.args.owner key)) else before) (take_all c.loop-entry.entry-index row c.loop-entry-test.false)
-    ∙ ap (λ b. if b then with_held before (at_least c.args.least (entry_at t c.args.owner key)) else before) (row_held t c.args.owner c.entries_of-entry-items.ensures.proper row c.entries_of-entry-items.ensures.entries key)
+    ∙ ap (λ xs. if has_key xs key then with_copy before (at_least c.args.least (entry_at t c.args.owner key)) else before) (take_all c.loop-entry.entry-index row c.loop-entry-test.false)
+    ∙ ap (λ b. if b then with_copy before (at_least c.args.least (entry_at t c.args.owner key)) else before) (row_held t c.args.owner c.entries_of-entry-items.ensures.proper row c.entries_of-entry-items.ensures.entries key)
     ∙ whole before (entry_at t c.args.owner key)
   where
-    whole : (x : Copies) (o : Option Entry) → (if is_some o then with_held x (at_least c.args.least o) else x) ≡ with_held x (at_least c.args.least o)
+    whole : (x : Copies) (o : Option Entry) → (if is_some o then with_copy x (at_least c.args.least o) else x) ≡ with_copy x (at_least c.args.least o)
     whole x None = refl
     whole x (Some e) = refl

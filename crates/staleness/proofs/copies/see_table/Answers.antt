@@ -2,7 +2,7 @@ use Rattle.std.proofs.Common.{◌≡◌, ◌≢◌, ℕ, ◌+◌, ◌*◌, ◌<�
 use Rattle.std.specs.Prelude.{slice_index}
 use Rattle.std.proofs.lemmas.Bool.{cases_eq, cases_lt}
 use Rattle.node_table.specs.Table.{entry_at}
-use Rattle.staleness.specs.inner.Copies.{version_known, with_held, seen_in}
+use Rattle.staleness.specs.inner.Copies.{version_known, with_copy, seen_in}
 use Rattle.staleness.proofs.Places.{apart}
 use Rattle.staleness.proofs.copies.see_table.Goals as goal
 use Rattle.staleness.proofs.copies.see_table.Goals.{then-owner-holder, else-owner-holder}
@@ -41,9 +41,9 @@ loop-owner-preserved c =
                   ap (λ n. get_or new (n * keys + key) d) here
                   ∙ ap (λ n. get_or new (n + key) d) (sym start)
                   ∙ w.see_copy.ensures.seen key d below
-                  ∙ ap (λ n. with_held (get_or copies (n + key) d) (version_known generation (entry_at t owner key))) start
-                  ∙ ap (λ x. with_held x (version_known generation (entry_at t owner key))) (so_far.at at key d within below ∙ ap (λ b. if b then seen_in generation t owner key old_here else old_here) not_yet)
-                  ∙ sym (ap (λ b. if b then old_here else with_held old_here (version_known generation (entry_at t owner key))) (ne_eqb t.node owner ne))
+                  ∙ ap (λ n. with_copy (get_or copies (n + key) d) (version_known generation (entry_at t owner key))) start
+                  ∙ ap (λ x. with_copy x (version_known generation (entry_at t owner key))) (so_far.at at key d within below ∙ ap (λ b. if b then seen_in generation t owner key old_here else old_here) not_yet)
+                  ∙ sym (ap (λ b. if b then old_here else with_copy old_here (version_known generation (entry_at t owner key))) (ne_eqb t.node owner ne))
                   ∙ sym (ap (λ b. if b then seen_in generation t owner key old_here else old_here) now_below)
                   ∙ sym (ap (λ n. if ltb n (at + 1) then seen_in (slice_index generations n) t n key (get_or old (n * keys + key) d) else get_or old (n * keys + key) d) here)
               | inr other ↦
@@ -62,7 +62,7 @@ loop-owner-preserved c =
                   let old_here = get_or old (at * keys + key) d in
                   ap (λ n. if ltb n at then seen_in (slice_index generations n) t n key (get_or old (n * keys + key) d) else get_or old (n * keys + key) d) here
                   ∙ ap (λ b. if b then seen_in generation t owner key old_here else old_here) not_yet
-                  ∙ sym (ap (λ b. if b then old_here else with_held old_here (version_known generation (entry_at t owner key))) (eq-eqb t.node owner same))
+                  ∙ sym (ap (λ b. if b then old_here else with_copy old_here (version_known generation (entry_at t owner key))) (eq-eqb t.node owner same))
                   ∙ sym (ap (λ b. if b then seen_in generation t owner key old_here else old_here) now_below)
                   ∙ sym (ap (λ n. if ltb n (at + 1) then seen_in (slice_index generations n) t n key (get_or old (n * keys + key) d) else get_or old (n * keys + key) d) here)
               | inr other ↦

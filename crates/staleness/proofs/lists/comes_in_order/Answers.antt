@@ -1,8 +1,8 @@
 use Rattle.std.proofs.Common.{◌≡◌, ◌-◌, ◌<◌, leb, length, get_or, sym, ap, ◌∙◌, arith}
 use Rattle.staleness.specs.declared.lists.Link.{Link}
 use Rattle.staleness.specs.declared.lists.Write.{Write}
-use Rattle.staleness.specs.inner.Linked.{shown, as_write}
-use Rattle.staleness.proofs.Linking.{shown-at, length-shown}
+use Rattle.staleness.specs.inner.Linked.{writes_linked, as_write}
+use Rattle.staleness.proofs.Linking.{writes_linked-at, length-writes_linked}
 use Rattle.staleness.proofs.Births.{last_born-at}
 use Rattle.staleness.proofs.lists.comes_in_order.Goals as goal
 
@@ -14,9 +14,9 @@ returns-in-Some c =
     let w : Write = as_write at link in
     let found = c.in-Some.ensures.item in
     let lt : at < length links = omega (arith, found.3.0) in
-    let last : length (shown links) - 1 ≡ at = omega (arith, length-shown links) in
+    let last : length (writes_linked links) - 1 ≡ at = omega (arith, length-writes_linked links) in
     ap (λ n. leb n c.args.born)
     (ap (λ (l : Link). l.born) found.1
-    ∙ sym (ap (λ (v : Write). v.born) (shown-at links at link w lt))
-    ∙ sym (ap (λ n. (get_or (shown links) n w).born) last)
-    ∙ sym (last_born-at 0 (shown links) w (omega (arith, lt, length-shown links))))
+    ∙ sym (ap (λ (v : Write). v.born) (writes_linked-at links at link w lt))
+    ∙ sym (ap (λ n. (get_or (writes_linked links) n w).born) last)
+    ∙ sym (last_born-at 0 (writes_linked links) w (omega (arith, lt, length-writes_linked links))))

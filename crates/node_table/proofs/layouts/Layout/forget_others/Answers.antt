@@ -5,7 +5,7 @@ use Rattle.node_table.specs.declared.layouts.Row.{Row}
 use Rattle.node_table.specs.declared.layouts.Layout.{Layout}
 use Rattle.node_table.specs.Table.{Table, without_others, greatest_version, IsProper}
 use Rattle.node_table.specs.Entries.{AreGenerations, AreGreatest}
-use Rattle.node_table.specs.inner.Layouts.{row_of, rows_of, row_at, held_in, table_in, block_len, total, IsInSlots, AreLaid, AreOthersKept, IsLayout}
+use Rattle.node_table.specs.inner.Layouts.{entries_in_row, rows_of, row_at, held_by_rows, table_in, block_len, count_in_rows, IsInSlots, AreLaid, AreOthersKept, IsLayout}
 use Rattle.node_table.proofs.ProperLaws.{proper-without_others}
 use Rattle.node_table.proofs.Laid.{row_at-get_or, len-le-keys}
 use Rattle.node_table.proofs.Forgotten.{empty_row, one_row, laid_one, counted_one, row_at-one_own, row_at-one_other, table_one, greatest_one, generations_none, generations_one}
@@ -13,21 +13,21 @@ use Rattle.node_table.proofs.layouts.Layout.forget_others.Goals as goal
 
 -- the table of a layout with other slots and rows
 abbrev table_of : Layout → List Entry → List Row → Table
-table_of l slots rows = record { node = l.node; nodes = l.nodes; keys = l.keys; generation = l.generation; held = held_in (rows_of slots rows) }
+table_of l slots rows = record { node = l.node; nodes = l.nodes; keys = l.keys; generation = l.generation; held = held_by_rows (rows_of slots rows) }
 
 -- what is left of a layout of which its node's row was moved to the front
 record IsLeft (l : Layout) (slots : List Entry) (rows : List Row) (versions : List ℕ) (count : ℕ) : Type 0 where
   table : table_of l slots rows ≡ without_others (table_in l)
   laid : AreLaid l.nodes l.keys slots rows
   greatest : AreGreatest (table_of l slots rows) versions
-  counted : count ≡ total rows
+  counted : count ≡ count_in_rows rows
 
-left : (l : Layout) (r : Row) (slots : List Entry) (rows : List Row) (versions : List ℕ) (version : ℕ) → IsLayout l → r ≡ get_or l.rows.items l.node r → version ≡ get_or l.greatest.items l.node version → take r.len slots ≡ row_of l.slots.items r → length slots ≡ block_len l.keys r → rows ≡ replicate l.rows.len empty_row → versions ≡ replicate {A = ℕ} l.greatest.len 0 → IsLeft l slots (set rows l.node (record { start = 0; len = r.len })) (set versions l.node version) r.len
+left : (l : Layout) (r : Row) (slots : List Entry) (rows : List Row) (versions : List ℕ) (version : ℕ) → IsLayout l → r ≡ get_or l.rows.items l.node r → version ≡ get_or l.greatest.items l.node version → take r.len slots ≡ entries_in_row l.slots.items r → length slots ≡ block_len l.keys r → rows ≡ replicate l.rows.len empty_row → versions ≡ replicate {A = ℕ} l.greatest.len 0 → IsLeft l slots (set rows l.node (record { start = 0; len = r.len })) (set versions l.node version) r.len
 left l r slots rows versions version sound read read' front len cleared zeros = record {
   table = table_is;
   laid = subst (AreLaid l.nodes l.keys slots) (sym rows_are) (laid_one l.nodes l.keys l.node r l.slots.items slots sound.proper.node_below lies fits front len);
   greatest = subst (λ (t : Table). AreGreatest t (set versions l.node version)) (sym table_is) (subst (AreGreatest (without_others (table_in l))) (sym versions_are) (greatest_one (table_in l) version sound.proper.node_below version_is));
-  counted = counted_one l.nodes l.keys l.node r l.slots.items slots sound.proper.node_below lies fits front len ∙ ap total (sym rows_are);
+  counted = counted_one l.nodes l.keys l.node r l.slots.items slots sound.proper.node_below lies fits front len ∙ ap count_in_rows (sym rows_are);
 }
   where
     below : l.node < length l.rows.items
@@ -55,7 +55,7 @@ left l r slots rows versions version sound read read' front len cleared zeros = 
 
     table_is : table_of l slots (set rows l.node (record { start = 0; len = r.len })) ≡ without_others (table_in l)
     table_is = table_one l slots (set rows l.node (record { start = 0; len = r.len }))
-        (ap (λ xs. row_at slots xs l.node) rows_are ∙ row_at-one_own l.nodes l.keys l.node r l.slots.items slots sound.proper.node_below lies fits front len ∙ ap (row_of l.slots.items) (sym (own r)) ∙ sym (row_at-get_or l.slots.items l.rows.items l.node r below))
+        (ap (λ xs. row_at slots xs l.node) rows_are ∙ row_at-one_own l.nodes l.keys l.node r l.slots.items slots sound.proper.node_below lies fits front len ∙ ap (entries_in_row l.slots.items) (sym (own r)) ∙ sym (row_at-get_or l.slots.items l.rows.items l.node r below))
         (λ k other. ap (λ xs. row_at slots xs k) rows_are ∙ row_at-one_other l.nodes l.keys l.node r l.slots.items slots sound.proper.node_below lies fits front len k other)
 
 pub returns-then-generation-gt0-clause-layout : goal.returns-then-generation-gt0-clause-layout

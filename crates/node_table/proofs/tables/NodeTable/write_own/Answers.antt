@@ -20,12 +20,12 @@ returns-in_err-take-clause-keeps_room c =
     let l = c.self.inside.layout in
     let keys : c.take.new.self.keys ≡ l.keys = ap (λ t. t.keys) c.in_err-take.ensures.err in
     let more = div-le-div (vec_capacity l.slots - vec_len l.slots) (vec_capacity c.take.new.self.slots - vec_len c.take.new.self.slots) l.keys (omega (arith, c.self.invariant.proper.some_key)) (omega (arith, c.in_err-take.ensures.keeps_slots, c.take.ensures.capacity)) in
-    on_err c.from_residual.result _ (subst (λ n. c.args.self.now.spare ≤ (vec_capacity c.take.new.self.slots - vec_len c.take.new.self.slots) / n) (sym keys) (omega (arith, more, ap (λ k. k.spare) c.self.view_is)))
+    on_err c.from_residual.result _ (subst (λ n. c.args.self.now.room ≤ (vec_capacity c.take.new.self.slots - vec_len c.take.new.self.slots) / n) (sym keys) (omega (arith, more, ap (λ k. k.room) c.self.view_is)))
 
 pub returns-in_err-take-clause-succeeds : goal.returns-in_err-take-clause-succeeds
 returns-in_err-take-clause-succeeds c = λ some.
     let l = c.self.inside.layout in
-    let one : 1 ≤ (vec_capacity l.slots - vec_len l.slots) / l.keys = omega (arith, some, ap (λ k. k.spare) c.self.view_is) in
+    let one : 1 ≤ (vec_capacity l.slots - vec_len l.slots) / l.keys = omega (arith, some, ap (λ k. k.room) c.self.view_is) in
     let left : vec_len l.slots + l.keys ≤ vec_capacity l.slots = omega (arith, mul-le-mul_right l.keys one, div-add-mod' (vec_capacity l.slots - vec_len l.slots) l.keys, c.self.invariant.proper.some_key) in
     let contrary : false ≡ true = subst IsOk c.in_err-take.was (c.take.ensures.succeeds left) in
     cc

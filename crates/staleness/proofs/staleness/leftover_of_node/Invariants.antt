@@ -1,0 +1,11 @@
+use Rattle.std.proofs.Common.{◌≡◌, ◌*◌, ◌≤◌}
+use Rattle.cluster.specs.Tables.{tables_in}
+use Rattle.staleness.specs.Figures.{sum_below}
+use Rattle.staleness.specs.inner.Copies.{copy_leftover}
+use Rattle.staleness.proofs.staleness.leftover_of_node.Given as goal
+
+abbrev pub invariant-loop-owner : goal.invariant-loop-owner
+invariant-loop-owner l = record {
+  few : l.leftover ≤ l.owner * 64;
+  value : l.leftover ≡ sum_below l.owner (λ r. copy_leftover (tables_in l.tables) l.node r);
+}

@@ -1,0 +1,7 @@
+use Rattle.std.proofs.Common.{◌≡◌}
+use Rattle.cluster.specs.Tables.{tables_in}
+use Rattle.staleness.specs.Figures.{most_below, staleness_at, rounds_behind}
+use Rattle.staleness.proofs.staleness.most_rounds_behind.Given as goal
+
+abbrev pub invariant-loop-table : goal.invariant-loop-table
+invariant-loop-table l = l.most ≡ most_below l.table-index (λ p. rounds_behind (staleness_at l.round (tables_in l.tables) l.lists p l.owner l.key))

@@ -1,4 +1,5 @@
 -- How far a comparison of the modes has been written.
+-- Serves `compare`, `write_all_rounds`, `write_modes` and `write_rows`.
 use Rattle.std.proofs.Common.{◌≡◌, ℕ, ◌+◌, ◌<◌, ◌++◌, ◌∷◌, [], List, length, take, drop, get_or, inl, inr, refl, sym, ap, ◌∙◌, subst, append_assoc, arith, add-one, drop-cons, take-append-drop}
 use Rattle.std.specs.Prelude.{true, false}
 use Rattle.std.proofs.KnownBytes.{Appends-nil}

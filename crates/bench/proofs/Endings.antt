@@ -1,4 +1,5 @@
 -- What the fault of a call tells of its ends, and of reading.
+-- Serves `compare` and `run`.
 use Rattle.std.proofs.Common.{◌≡◌, ℕ, List, inl, inr, refl, ap}
 use Rattle.bench_types.specs.declared.exchanges.Mode.{Mode}
 use Rattle.bench_types.specs.declared.faults.Fault.{Fault}

@@ -1,4 +1,5 @@
 -- How far the report and the trace have been written.
+-- Serves `write_texts` and `Comparison`.
 use Rattle.std.proofs.Common.{◌≡◌, ℕ, ◌+◌, ◌<◌, ◌++◌, ◌∷◌, [], List, inl, inr, refl, sym, ap, ◌∙◌, subst, append_assoc, arith}
 use Rattle.std.specs.Prelude.{false, Result, IfErr, IsErrAnd}
 use Rattle.std.proofs.KnownBytes.{Appends-trans}

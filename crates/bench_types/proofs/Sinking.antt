@@ -1,4 +1,5 @@
 -- A text on its way into a sink.
+-- Serves `write_text`.
 use Rattle.std.proofs.Common.{◌≡◌, ◌++◌, ◌∙◌, ℕ, true, List, Option, sym, ap, subst, take, drop, length, append_assoc, take-append-drop}
 use lib.Seq.{take-append_seam}
 use Rattle.std.proofs.KnownBytes.{Appends-trans, Appends-kept}

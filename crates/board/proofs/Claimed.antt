@@ -1,4 +1,5 @@
 -- What a claim leaves of a seat.
+-- Serves `pool` and `tests_of_boards`.
 use Rattle.std.proofs.Common.{◌≡◌, ℕ, [], ◌∷◌, sym, ap, subst, arith}
 use Rattle.board.specs.Weights.{Has, only}
 use Rattle.board.specs.SeatView.{SeatView}

@@ -1,4 +1,5 @@
 -- The words and slots that a board is made of, and the tables that come out at its end.
+-- Serves `Board::close`, `Board::new` and `all_out`.
 use Rattle.std.proofs.Common.{◌≡◌, ℕ, zero, suc, ◌+◌, ◌<◌, List, [], ◌∷◌, ◌++◌, length, map, take, get_or, Some, refl, sym, ap, ◌∙◌, subst, arith}
 use Rattle.std.specs.List.{range_with_len}
 use Rattle.std.proofs.lemmas.List.{length-map}

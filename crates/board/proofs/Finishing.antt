@@ -1,4 +1,5 @@
 -- A finish, a release, a look and a stop keep the rule.
+-- Serves `Board::join`, `Board::look`, `Board::put_in`, `Board::release` and `Board::stop`.
 use Rattle.std.proofs.Common.{◌≡◌, ◌≢◌, ℕ, ◌+◌, ◌-◌, ◌*◌, ◌/◌, ◌%◌, ◌<◌, ◌≤◌, Bool, true, ◌==◌, ◌^◌, if◌then◌else◌, List, [], ◌∷◌, ◌++◌, length, map, drop, eq-zero-or-pos, ◌↔◌, All, get_or, set, Some, inl, inr, refl, sym, ap, ◌∙◌, subst, arith, length-set, get_or-set_same, get_or-set_other}
 use Rattle.std.proofs.lemmas.Bool.{cases_eq, cases_lt, eq-eqb, ne_eqb, eqb-true}
 use mathlib.Core.Option.{some, none}

@@ -10,7 +10,6 @@ pub mod Ends
 pub mod Calls
 pub mod Filling
 pub mod Scheduled
-pub mod Knowing
 pub mod Claimed
 pub mod Meeting
 pub mod Returning

@@ -1,5 +1,6 @@
 -- What a claim, a move of tables, a finish and a release make of the parts of the rule. Here the lists of all seats stand
 -- as counts by index.
+-- Serves most of the crate.
 use Rattle.std.proofs.Common.{◌≡◌, ◌≢◌, ℕ, zero, suc, ◌+◌, ◌<◌, ◌≤◌, ◌⊎◌, true, false, List, length, None, inl, inr, sym, ap, ◌∙◌, subst, arith}
 use Rattle.std.proofs.lemmas.Bool.{cases_Bool, cases_eq, cases_lt, false≢true}
 use mathlib.Core.Option.{some}

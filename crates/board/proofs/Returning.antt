@@ -1,4 +1,5 @@
 -- What an exchange leaves of a hold's tables may be put back.
+-- Serves `every_exchange_may_be_put_back`, `pool` and `tests_of_boards`.
 use Rattle.std.proofs.Common.{◌≡◌, ◌∙◌, sym, ap, subst}
 use Rattle.exchange.specs.Exchanged.{Exchanged, exchanged}
 use Rattle.dependencies.specs.Sharing.{exchange_at}

@@ -1,4 +1,5 @@
 -- The lawful schedule at which a board stands.
+-- Serves `every_board_keeps_a_schedule`.
 use Rattle.std.proofs.Common.{◌≡◌, ℕ, zero, suc, ◌+◌, ◌<◌, ◌≤◌, ◌⊎◌, Bool, true, false, not, ◌&&◌, ◌||◌, if◌then◌else◌, nat_lt, List, length, All, Some, inl, inr, refl, sym, ap, ◌∙◌, subst, arith}
 use Rattle.std.proofs.lemmas.Bool.{cases_Bool, cases_eq, cases_lt, false≢true, and_parts, and_from, lt-ltb, le-ltb}
 use Rattle.bench_types.specs.declared.exchanges.Exchange.{Exchange}

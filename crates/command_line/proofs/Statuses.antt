@@ -1,4 +1,5 @@
 -- What a status tells of the answer that it was made from.
+-- Serves `main_with` and `print`.
 use Rattle.std.proofs.Common.{◌≡◌, ℕ, List, Ok, Err, Result, IfErr, OnErr, IsOkUnless, arith}
 use Rattle.bench_types.specs.declared.faults.Fault.{Fault}
 use Rattle.bench_types.specs.declared.faults.Fault.TheVariants.{WriteFailed}

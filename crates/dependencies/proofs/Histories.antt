@@ -1,4 +1,5 @@
 -- Lawful schedules, event by event.
+-- Serves `predecessors_tell_of_all_earlier`, `Lawful`, `Moments`, `Sets` and `planner`.
 use Rattle.std.proofs.Common.{◌≡◌, ℕ, zero, suc, ◌+◌, ◌<◌, ◌≤◌, Bool, true, false, not, ◌==◌, ◌||◌, List, [], ◌∷◌, ◌++◌, length, take, slice_get, Some, ◌⊎◌, inl, inr, refl, sym, ap, ◌∙◌, subst, arith}
 use Rattle.std.proofs.lemmas.Bool.{cases_lt, or_cases, or_left, and_parts, eqb-true, false≢true}
 use Rattle.std.proofs.lemmas.List.{take_more, take_all, take-take, take-append-le, take_at, length_push, length-take-le}

@@ -1,4 +1,5 @@
 -- Every lawful schedule gives the tables and records of list order.
+-- Serves `every_schedule_keeps_list_order`, `every_whole_schedule_gives_list_order`, `board` and `planner`.
 use Rattle.std.proofs.Common.{◌≡◌, ◌≢◌, ◌∙◌, ℕ, suc, ◌+◌, ◌<◌, ◌≤◌, ◌⊎◌, Bool, true, false, if◌then◌else◌, List, [], ◌∷◌, ◌++◌, length, inl, inr, Option, None, Some, refl, sym, ap, subst, arith, add-one}
 use Rattle.std.specs.Prelude.{slice_get}
 use Rattle.std.proofs.lemmas.Bool.{cases_Bool, cases_lt, cases_eq, and_from, false_from_ne_true, false≢true}

@@ -1,4 +1,5 @@
 -- A map changed at one place, and at two.
+-- Serves `Lawful` and `planner`.
 use Rattle.std.proofs.Common.{◌≡◌, ◌≢◌, ℕ, ◌==◌, ◌∙◌}
 use Rattle.std.proofs.lemmas.Bool.{eq-eqb, ne_eqb, cond-true, cond-false}
 use Rattle.dependencies.specs.States.{with_at}

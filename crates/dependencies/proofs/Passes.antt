@@ -1,4 +1,5 @@
 -- The two passes over a list: the last exchange of each node before a place, and the first from a place on.
+-- Serves the functions of `deps`.
 use Rattle.std.proofs.Common.{◌≡◌, ℕ, suc, inl, inr, ◌+◌, ◌-◌, ◌<◌, ◌≤◌, ◌||◌, Bool, true, false, cond, List, [], ◌∷◌, ◌++◌, length, map, get_or, set, add-one, refl, sym, ap, ◌∙◌, arith, append-nil, length-set, get_or-set_other, get_or-set_same}
 use Rattle.std.specs.Prelude.{Option, None, Some, nat_eq}
 use Rattle.std.specs.List.{range_with_len, find, filter}

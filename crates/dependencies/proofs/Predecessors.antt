@@ -1,4 +1,5 @@
 -- What the predecessors of an exchange tell of all earlier exchanges of its nodes.
+-- Serves `predecessors_tell_of_all_earlier`, `Lawful`, `Sets`, `Sharers`, `board` and `planner`.
 use Rattle.std.proofs.Common.{◌≡◌, ℕ, zero, suc, ◌<◌, ◌≤◌, Bool, true, false, ◌==◌, if◌then◌else◌, List, [], ◌∷◌, ◌++◌, Option, None, Some, inl, inr, All, refl, sym, ap, ◌∙◌, subst, arith}
 use Rattle.std.proofs.lemmas.Bool.{cases_eq, or_cases, or_left, or_right, eqb-true, false≢true}
 use Rattle.std.proofs.lemmas.Option.{none-some, same_Some}

@@ -1,4 +1,5 @@
 -- The schedule that carries out one set of exchanges and then starts another, built event by event.
+-- Serves `two_sets_make_a_schedule`, `board` and `planner`.
 use Rattle.std.proofs.Common.{◌≡◌, ℕ, zero, suc, ◌+◌, ◌<◌, Bool, true, false, not, ◌==◌, ◌&&◌, ◌||◌, if◌then◌else◌, List, [], ◌∷◌, ◌++◌, length, map, append_assoc, inl, inr, refl, sym, ap, ◌∙◌, subst, arith}
 use Rattle.std.specs.Prelude.{nat_lt, flat_map}
 use Rattle.std.specs.List.{range_with_len, filter}

@@ -1,4 +1,5 @@
 -- A layout of which no row has an entry.
+-- Serves `Layout::forget_all` and `NodeTable::new`.
 use Rattle.std.proofs.Common.{◌≡◌, ℕ, [], replicate, None, inl, inr, refl, sym, ap, ◌∙◌, subst, arith}
 use Rattle.std.specs.Prelude.{◌≤◌, List, vec_capacity, sum_by}
 use Rattle.std.specs.FinMap.{empty, get-empty}

@@ -1,4 +1,5 @@
 -- A layout of which one owner's row is left, at the front.
+-- Serves `Layout::forget_all`, `Layout::forget_others` and `Empty`.
 use Rattle.std.proofs.Common.{◌≡◌, ◌≢◌, ℕ, zero, suc, ◌<◌, ◌≤◌, List, [], length, get_or, set, take, replicate, All, inl, inr, refl, sym, ap, ◌∙◌, subst, arith}
 use Rattle.std.specs.Prelude.{sum_by}
 use Rattle.std.specs.List.{AllPairs}

@@ -1,4 +1,5 @@
 -- One owner's row: how many entries it has at most, and what becomes of it where an entry is taken out or put in.
+-- Serves the functions of `rows`, `InLayout`, `Laid` and `Newest`.
 use Rattle.std.proofs.Common.{◌≡◌, ◌≢◌, ℕ, zero, suc, ◌+◌, ◌-◌, ◌<◌, ◌≤◌, false, cond, eqb, ◌==◌, List, [], ◌∷◌, length, map, get_or, Some, None, All, inl, inr, refl, sym, ap, ◌∙◌, subst, arith}
 use Rattle.std.specs.declared.cmp.Ordering.TheVariants.{Less, Equal, Greater}
 use Rattle.std.specs.Ordering.{is_lt, nat_cmp, ordering_then}

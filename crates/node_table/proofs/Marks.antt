@@ -1,4 +1,5 @@
 -- Marks in a list of greatest versions: each owner of whom nothing is held is counted once, and its mark goes again.
+-- Serves `Layout::blocks_for`, `mark_new` and `unmark`.
 use Rattle.std.proofs.Common.{◌≡◌, ◌≢◌, ℕ, ◌+◌, ◌<◌, ◌≤◌, cond, List, [], ◌∷◌, length, get_or, set, drop, Some, ◌⊎◌, inl, inr, refl, sym, ap, ◌∙◌, arith, get_or-set_same, get_or-set_other}
 use Rattle.std.proofs.lemmas.Bool.{cases_lt, cases_eq, eq-eqb}
 use Rattle.std.proofs.lemmas.List.{drop_more, get_or_default}

@@ -1,4 +1,5 @@
 -- What stands in the places, and how starts and finishes change it.
+-- Serves `all_of`, `put_back`, `take_out` and `Playing`.
 use Rattle.std.proofs.Common.{◌≡◌, ◌≢◌, ℕ, zero, suc, ◌<◌, List, [], ◌∷◌, ◌++◌, length, get_or, set, map, fold, Option, None, Some, inl, inr, refl, sym, ap, ◌∙◌, subst, arith}
 use Rattle.std.specs.List.{slice_get, filter_map, cons_option}
 use Rattle.std.proofs.lemmas.Bool.{cases_eq}

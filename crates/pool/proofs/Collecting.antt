@@ -1,4 +1,5 @@
 -- A collector that has taken stamps of distinct exchanges.
+-- Serves `in_list_order` and `Ordered`.
 use Rattle.std.proofs.Common.{◌≡◌, ◌≢◌, ℕ, zero, suc, ◌+◌, ◌<◌, ◌≤◌, List, [], ◌∷◌, ◌++◌, length, map, take, get_or, set, All, inl, inr, refl, sym, ap, ◌∙◌, subst, arith, add-one, replicate}
 use Rattle.std.specs.Prelude.{Option, Some, None, slice_get}
 use Rattle.std.proofs.lemmas.Bool.{cases_eq, cases_lt}

@@ -1,4 +1,5 @@
 -- A hold of a shop's board: its exchange may be carried out, and what that leaves is put back.
+-- Serves `Workshop::carry_out`.
 use Rattle.std.proofs.Common.{◌≡◌, ℕ, ◌<◌, List, length, Option, None, Some, IfSome, inl, inr, refl, sym, ap, ◌∙◌, subst, arith}
 use Rattle.bench_types.specs.declared.exchanges.Exchange.{Exchange}
 use Rattle.bench_types.specs.declared.exchanges.Record.{Record}

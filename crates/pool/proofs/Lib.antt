@@ -1,8 +1,6 @@
 pub mod Moves
 pub mod Holds
-pub mod Records
 pub mod Pairs
 pub mod Turns
 pub mod Collecting
-pub mod Joining
 pub mod Ordered

@@ -1,4 +1,5 @@
 -- A push of an index below the limit keeps the rule of a deque. What leaves at the front is below it, and so is what stays.
+-- Serves `Tasks::next`, `Tasks::push` and `Way::steal`.
 use Rattle.std.proofs.Common.{ℕ, List, [], ◌∷◌, ◌<◌, ◌++◌, length, subst, arith}
 use lib.Seq.{take-append_seam, drop-append_seam}
 use Rattle.std.proofs.lemmas.List.Elements.{All-append, All-cons, All-take, All-drop}

@@ -1,4 +1,5 @@
 -- What a whole seat's records and tables come to.
+-- Serves `exchange_in_threads`.
 use Rattle.std.proofs.Common.{◌≡◌, ℕ, ◌<◌, Bool, List, [], ◌∷◌, length, map, All, inl, inr, sym, ap, ◌∙◌, subst, arith}
 use Rattle.std.specs.Prelude.{Some, slice_get}
 use Rattle.std.specs.List.{range_with_len, filter}

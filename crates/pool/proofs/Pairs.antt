@@ -1,4 +1,5 @@
 -- An exchange of two tables of a list that is split between them.
+-- Serves `exchange_pair`.
 use Rattle.std.proofs.Common.{◌≡◌, ◌≢◌, ℕ, zero, suc, ◌+◌, ◌-◌, ◌<◌, List, [], ◌∷◌, ◌++◌, length, get_or, set, refl, sym, ap, ◌∙◌, subst, arith}
 use Rattle.std.proofs.lemmas.List.{set-append_left, set-append_right, get_or_append_left, get_or-append-add, length-set, map-append}
 use Rattle.bench_types.specs.declared.exchanges.Exchange.{Exchange}

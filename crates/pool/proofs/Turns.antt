@@ -1,4 +1,5 @@
 -- How far the exchanges of a round have been carried out.
+-- Serves `exchange_all`.
 use Rattle.std.proofs.Common.{◌≡◌, ℕ, ◌+◌, ◌<◌, List, [], ◌∷◌, ◌++◌, length, take, get_or, All, refl, ap, ◌∙◌, subst, length-append}
 use Rattle.std.proofs.lemmas.List.Sums.{fold_more}
 use Rattle.bench_types.specs.Exchange.{IsPlanned}

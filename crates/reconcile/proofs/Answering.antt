@@ -1,4 +1,5 @@
 -- What is sent of the suffixes that were found, or of the candidates, is the answer to the digest.
+-- Serves `likely_delta`, `precise_delta`, `scuttle_delta` and `sorted_delta`.
 use Rattle.std.proofs.Common.{◌≡◌, ℕ, ◌-◌, ◌<◌, ◌≤◌, ◌^◌, not, ◌&&◌, eqb, Bool, List, length, sym, ap, ◌∙◌, arith, subst}
 use Rattle.std.specs.Prelude.{IsPermutation}
 use Rattle.std.proofs.lemmas.List.{length-map}

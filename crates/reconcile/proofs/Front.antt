@@ -1,4 +1,5 @@
 -- The first of a list in an order, where the others were only told apart from them.
+-- Serves `Layers` and `Ordered`.
 use Rattle.std.proofs.Common.{◌≡◌, ℕ, suc, ◌+◌, ◌-◌, ◌<◌, ◌≤◌, true, false, cond, List, [], ◌∷◌, ◌++◌, length, get_or, take, drop, All, refl, sym, ap, ◌∙◌, subst, arith}
 use Rattle.std.specs.Prelude.{Contains, IsPermutation}
 use Rattle.std.specs.List.{AllPairs}

@@ -2,7 +2,6 @@
 pub mod DeltaLaws
 pub mod Told
 pub mod Members
-pub mod Lacked
 -- What the proofs of this crate's functions rest on.
 pub mod Fitting
 pub mod Adding
@@ -12,7 +11,6 @@ pub mod Places
 pub mod Ordered
 pub mod Apart
 pub mod Sending
-pub mod Sizes
 pub mod Dense
 pub mod Front
 pub mod Newer

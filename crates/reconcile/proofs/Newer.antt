@@ -1,4 +1,5 @@
 -- A table's entries that a digest doesn't know, owner by owner, are the candidates in another order.
+-- Serves `candidates`, `push_newer`, `Answering` and `Found`.
 use Rattle.std.proofs.Common.{◌≡◌, ◌≢◌, ℕ, ◌+◌, ◌<◌, Bool, true, false, cond, not, ◌&&◌, eqb, List, [], ◌∷◌, ◌++◌, length, map, take, get_or, All, Some, inl, inr, refl, sym, ap, ◌∙◌, subst, arith}
 use Rattle.std.specs.Prelude.{filter, Contains, IsPermutation}
 use Rattle.std.specs.List.{AllPairs}

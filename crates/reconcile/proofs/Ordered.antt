@@ -1,4 +1,5 @@
 -- Candidates sorted by their three numbers and by key are in the order of their mode.
+-- Serves the functions of `candidates` and `suffixes`, `Answering` and `Layers`.
 use Rattle.std.proofs.Common.{◌≡◌, ℕ, zero, suc, ◌+◌, ◌<◌, ◌^◌, Bool, eqb, ◌≤◌, List, ◌∷◌, ◌++◌, length, take, get_or, inl, inr, refl, sym, ap, ◌∙◌, subst, arith}
 use Rattle.std.specs.Prelude.{IsPermutation}
 use Rattle.std.specs.List.{sum_by}

@@ -1,4 +1,5 @@
 -- What a digest tells is what the table holds, and what is sent stood among the candidates.
+-- Serves `delta`, `push_newer` and `exchange`.
 use Rattle.std.proofs.Common.{◌≡◌, ◌≢◌, ℕ, zero, suc, ◌+◌, ◌<◌, Bool, true, false, cond, not, ◌&&◌, eqb, List, [], ◌∷◌, get_or, All, Some, None, refl, sym, ap, ◌∙◌, subst}
 use Rattle.std.specs.Prelude.{count_by, filter}
 use Rattle.std.specs.List.{filter_map, range_with_len, cons_option}

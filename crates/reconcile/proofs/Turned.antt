@@ -1,4 +1,5 @@
 -- Suffixes turned by a rotation: their items stand by turn, then by version and then by key.
+-- Serves `scuttle_delta`, `turn_to`, `Answering` and `SuffixLayers`.
 use Rattle.std.proofs.Common.{◌≡◌, ◌≢◌, ℕ, ◌+◌, ◌-◌, ◌<◌, ◌≤◌, true, false, ltb, List, [], ◌∷◌, ◌++◌, length, take, drop, get_or, All, ◌⊎◌, inl, inr, refl, sym, ap, ◌∙◌, subst, arith}
 use Rattle.std.specs.Prelude.{Contains, IsPermutation}
 use Rattle.std.specs.List.{AllPairs}

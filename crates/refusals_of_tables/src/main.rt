@@ -7,7 +7,7 @@
 mod boards;
 mod deltas;
 mod exchanges;
-mod lags;
+mod figures;
 mod lines;
 mod scenarios;
 mod schedules;
@@ -27,7 +27,7 @@ fn try_all<R: Print + Eprint + AllocGlobal + Threads + Sync>(rt: &R) -> Result<(
     exchanges::try_exchanges(rt)?;
     schedules::try_schedules(rt)?;
     boards::try_boards(rt)?;
-    lags::try_lags(rt)?;
+    figures::try_lists_and_figures(rt)?;
     scenarios::try_scenarios(rt)?;
     lines::try_lines(rt)
 }

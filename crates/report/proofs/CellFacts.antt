@@ -1,4 +1,5 @@
 -- The fields of a line.
+-- Serves `put_line` and `put_number`.
 use Rattle.std.proofs.Common.{◌≡◌, ◌==◌, ◌∙◌, ◌++◌, ◌∷◌, ◌^◌, ◌<◌, ◌+◌, ◌%◌, [], ℕ, List, refl, sym, true, false, length, take, get_or, arith, append_assoc, suc}
 use Rattle.std.specs.Prelude.{decimal, map, if◌then◌else◌, is_ok, OnOk, Result, Ok, Err}
 use Rattle.std.specs.List.{join_with_byte}

@@ -1,4 +1,5 @@
 -- The headers, letter by letter.
+-- Serves no file: it is for readers.
 use Rattle.std.proofs.Common.{◌≡◌, codes, refl}
 use Rattle.report.specs.Columns.{columns}
 use Rattle.report.specs.Compare.{compare_header_line}

@@ -3,5 +3,4 @@ pub mod Growth
 pub mod Listed
 pub mod Others
 pub mod Planned
-pub mod Searched
 pub mod Written

@@ -1,4 +1,5 @@
 -- What the check of an array gives keeps the limits of its elements.
+-- Serves `loads_at`, `partitions_at` and `restarts_at`.
 use Rattle.std.proofs.Common.{◌≡◌, ℕ, zero, suc, ◌+◌, ◌-◌, ◌<◌, ◌≤◌, pos, negsuc, Bool, true, false, nat_le, ◌&&◌, cond, List, [], ◌∷◌, length, get_or, Option, None, Some, Result, Ok, Err, IfOk, Vec, Global, All, refl, sym, ap, subst, arith}
 use Rattle.std.specs.List.Sorted.{IsStrictlyIncreasing}
 use Rattle.std.proofs.lemmas.Bool.{eqb-true, leb-true, and_parts}

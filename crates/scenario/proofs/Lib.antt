@@ -1,5 +1,3 @@
-pub mod Keys
-pub mod Documents
 pub mod Walks
 pub mod Steps
 pub mod Lawful

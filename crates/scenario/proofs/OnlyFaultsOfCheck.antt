@@ -1,4 +1,5 @@
 -- The check of a document comes to no other faults than those of reading a scenario.
+-- Serves `read`.
 use Rattle.std.proofs.Common.{◌≡◌, ◌≢◌, ℕ, ◌+◌, ◌-◌, ◌*◌, pos, negsuc, Bool, true, false, ◌&&◌, nat_le, cond, List, [], ◌∷◌, length, Option, None, Some, Result, Ok, Err, IfErr, subst}
 use Rattle.toml.specs.Data as toml
 use Rattle.toml.specs.Data.{Data, integer, string, boolean, Members, get_member}

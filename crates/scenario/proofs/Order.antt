@@ -1,4 +1,5 @@
 -- The check of a document, done one check after another, answers the first fault of them all.
+-- Serves `read`.
 use Rattle.std.proofs.Common.{◌≡◌, ◌≢◌, ℕ, ◌+◌, ◌-◌, List, [], ◌∷◌, ◌++◌, Option, None, Some, Result, Ok, Err, IfOk, IfErr, OnOk, refl, sym, ◌∙◌, ap}
 use Rattle.std.specs.List.{flat_map}
 use Rattle.std.specs.Result.{result_err, result_unwrap_or}

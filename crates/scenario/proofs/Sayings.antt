@@ -1,4 +1,5 @@
 -- What the check of a document gives is what the document says.
+-- Serves `read`.
 use Rattle.std.proofs.Common.{◌≡◌, ℕ, ◌+◌, ◌-◌, ◌⊎◌, inl, inr, pos, Bool, true, false, nat_le, cond, List, [], ◌∷◌, length, map, Option, None, Some, Result, Ok, Err, IfOk, refl, sym, ap, ◌∙◌, subst}
 use Rattle.std.specs.List.{AllZip}
 use Rattle.toml.specs.Data as toml

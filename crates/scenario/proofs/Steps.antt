@@ -1,4 +1,5 @@
 -- Checks one after another, and what a check that passed has found.
+-- Serves `Lawful`, `Order` and `Sayings`.
 use Rattle.std.proofs.Common.{◌≡◌, ℕ, pos, negsuc, Bool, true, false, nat_le, ◌&&◌, cond, List, [], length, Option, None, Some, Result, Ok, Err, refl, ap}
 use Rattle.toml.specs.Data.{Data, integer, array}
 use Rattle.bench_types.specs.declared.faults.Fault.{Fault}

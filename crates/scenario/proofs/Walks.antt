@@ -1,4 +1,5 @@
 -- An array of the program beside that of a document, and a walk along it.
+-- Serves `apart_at`, `array_at`, `array_of` and `tables_have_only`.
 use Rattle.std.proofs.Common.{◌≡◌, Bool, ◌&&◌, List, [], ◌∷◌, ◌++◌, map, Result, Ok, refl, ap}
 use Rattle.std.specs.List.{list_all}
 use Rattle.toml.specs.Data.{Data}

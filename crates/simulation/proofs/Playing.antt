@@ -1,4 +1,5 @@
 -- A round, from the tables with which it begins to those that its exchanges leave.
+-- Serves `Cluster::play`.
 use Rattle.std.proofs.Common.{◌≡◌, ℕ, All, List, [], length, sym, ap, ◌∙◌, subst, arith}
 use Rattle.bench_types.specs.Exchange.{IsPlanned}
 use Rattle.bench_types.specs.declared.exchanges.Record.{Record}

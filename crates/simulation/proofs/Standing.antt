@@ -1,4 +1,5 @@
 -- What holds of all nodes at the beginning, and still holds after exchanges, restarts and writes.
+-- Serves the functions of `clusters` and `sims`, `Playing` and `Soundness`.
 use Rattle.std.proofs.Common.{◌≡◌, ℕ, ◌+◌, ◌-◌, ◌<◌, ◌≤◌, true, false, if◌then◌else◌, All, List, [], ◌∷◌, ◌++◌, length, map, refl, sym, ap, ◌∙◌, subst, arith, length-append}
 use Rattle.std.specs.List.{range_with_len}
 use Rattle.std.proofs.lemmas.List.{get_or_default, length-map, map-append}

@@ -1,19 +1,42 @@
 -- A step that carries out the next round.
-use Rattle.std.proofs.Common.{◌≡◌, ℕ, suc, ◌+◌, ◌-◌, ◌<◌, false, Option, Some, refl, sym, ap, ◌∙◌, subst, arith}
-use Rattle.std.specs.Prelude.{is_none}
+-- Serves `Sim::step`.
+use Rattle.std.proofs.Common.{◌≡◌, ℕ, ◌<◌, List, [], length, get_or, sym, ◌∙◌, arith, suc, ◌+◌, ◌-◌, false, Option, Some, refl, ap, subst}
+use Rattle.std.proofs.lemmas.List.{ext_get_or}
+use Rattle.std.proofs.lemmas.List.FromFn.{get_or-map-range_with_len, length-map-range_with_len}
+use Rattle.node_table.specs.Table.{Table}
 use Rattle.scenario.specs.Settings.{Settings, IsLawfulScenario}
+use Rattle.staleness.specs.declared.lists.Write.{Write}
+use Rattle.staleness.specs.Figures.{figures_of}
+use Rattle.simulation.specs.Rounds.{tables_after, round_of, records_in}
+use Rattle.simulation.specs.Lists.{list_after, lists_after}
+use Rattle.simulation.specs.Outcomes.{figures_in, played_with}
+use Rattle.simulation.specs.Standing.{StandAfterRound}
+use Rattle.std.specs.Prelude.{is_none}
 use Rattle.simulation.specs.declared.sims.Cluster.{Cluster}
 use Rattle.simulation.specs.RoundView.{RoundView}
 use Rattle.cluster.specs.Tables.{tables_in}
-use Rattle.simulation.specs.Rounds.{tables_after, round_of, records_in}
 use Rattle.simulation.specs.Soundness.{AreSound, OnlyRestartsLowerMarks}
-use Rattle.simulation.specs.Standing.{StandAfterRound}
 use Rattle.simulation.specs.inner.Insides.{IsSimulation, HasPlayed, simulation_of, tables_held}
 use Rattle.simulation.specs.Simulation.{PlaysNext}
-use Rattle.simulation.specs.Outcomes.{played_with}
 use Rattle.round_plan.specs.Plan.{round_list_of}
-use Rattle.simulation.proofs.Lags.{figures_are}
 use Rattle.simulation.proofs.Soundness.{sound_run, round_rises}
+
+-- the lists are those of the definition
+-- The figures of a simulation's tables and lists are those of the definition.
+lists_are : (s : Settings) (round : ℕ) (ts : List Table) (lists : List (List Write)) → StandAfterRound s round ts lists → lists ≡ lists_after s round
+lists_are s round ts lists standing =
+    ext_get_or [] lists (lists_after s round) (standing.list_count ∙ sym there) at_each
+  where
+    there : length (lists_after s round) ≡ s.nodes
+    there = length-map-range_with_len (list_after s round) 0 s.nodes
+
+    at_each : (n : ℕ) → n < length lists → get_or lists n [] ≡ get_or (lists_after s round) n []
+    at_each n lt =
+        let below : n < s.nodes = omega (arith, standing.list_count) in
+        (standing.owners n below).writes ∙ sym (get_or-map-range_with_len (list_after s round) 0 s.nodes n n [] below (omega arith))
+
+figures_are : (s : Settings) (round : ℕ) (ts : List Table) (lists : List (List Write)) → StandAfterRound s round ts lists → ts ≡ tables_after s round → figures_of round ts lists ≡ figures_in s round
+figures_are s round ts lists standing is = λ i. figures_of round (is i) (lists_are s round ts lists standing i)
 
 unfolded : (s : Settings) (done : ℕ) → tables_after s (suc done) ≡ (round_of s (suc done) (tables_after s done)).tables
 unfolding tables_after

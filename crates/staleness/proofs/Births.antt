@@ -1,4 +1,5 @@
 -- Lists whose writes stand in the order of their rounds: a copy with a greater version isn't staler.
+-- Serves `OwnerList::push`, `comes_in_order` and `Seen`.
 use Rattle.std.proofs.Common.{◌≡◌, ◌≢◌, ℕ, zero, suc, ◌+◌, ◌-◌, ◌<◌, ◌≤◌, Bool, true, false, cond, eqb, ltb, leb, ◌&&◌, List, [], ◌∷◌, ◌++◌, length, get_or, Option, Some, None, All, option_map, inl, inr, refl, sym, ap, ◌∙◌, subst, arith, leb-true, lt-ltb, le-ltb}
 use Rattle.std.specs.List.{find}
 use Rattle.std.proofs.lemmas.Bool.{cases_lt}

@@ -1,4 +1,5 @@
 -- What is left over is counted copy by copy, where a copy is older than its owner's generation.
+-- Serves `leftover_of_node` and `leftover_of_nodes`.
 use Rattle.std.proofs.Common.{◌≡◌, ◌≢◌, ℕ, zero, suc, ◌+◌, ◌<◌, ◌≤◌, Bool, true, false, eqb, ◌||◌, List, [], ◌∷◌, length, get_or, Some, None, All, if◌then◌else◌, inl, inr, refl, sym, ap, ◌∙◌, arith, lt-ltb, le-ltb, eq-eqb, eqb-true, ne_eqb}
 use Rattle.std.specs.Prelude.{is_some}
 use Rattle.std.specs.List.{AllPairs}

@@ -2,7 +2,6 @@ pub mod Rising
 pub mod Last
 pub mod Linking
 pub mod Births
-pub mod Walking
 pub mod Sums
 pub mod Rows
 pub mod Known
@@ -12,4 +11,3 @@ pub mod Places
 pub mod OwnParts
 pub mod Counting
 pub mod Merging
-pub mod Fronts

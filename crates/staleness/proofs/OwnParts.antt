@@ -1,5 +1,6 @@
 -- A node's own part stays the last writes of its list, through its own writes and what it receives. For callers that
 -- keep tables and lists side by side.
+-- Serves `simulation`.
 use Rattle.std.proofs.Common.{◌≡◌, ◌≢◌, ℕ, ◌+◌, ◌≤◌, Bool, true, false, cond, eqb, List, [], ◌∷◌, ◌++◌, length, Some, All, option_map, if◌then◌else◌, refl, sym, ap, ◌∙◌, arith}
 use Rattle.std.specs.Ordering.{nat_cmp, ordering_then, is_eq, eq_by_cmp}
 use Rattle.std.specs.FinMap.{get-empty, get-insert}

@@ -1,4 +1,5 @@
 -- Lists of writes that rise by key: what a search finds, and what an edit at an index does to the look-ups.
+-- Serves `put`, `search`, `write_at_front`, `write_in` and `Linking`.
 use Rattle.std.proofs.Common.{◌≡◌, ◌≢◌, ℕ, zero, suc, ◌+◌, ◌<◌, Bool, true, false, cond, List, [], ◌∷◌, length, get_or, set, Some, None, Result, Ok, Err, IfOk, IfErr, inl, inr, if◌then◌else◌, refl, sym, ap, ◌∙◌, subst, arith}
 use lib.Dec.{T}
 use Rattle.std.specs.declared.cmp.Ordering.TheVariants.{Less, Equal, Greater}

@@ -1,4 +1,5 @@
 -- A row of a table, and the keys of its entries.
+-- Serves `see_row` and `Leftover`.
 use Rattle.std.proofs.Common.{◌≡◌, ◌≢◌, ℕ, ◌<◌, eqb, List, length, get_or, Some, None, refl, sym, ap, ◌∙◌, arith}
 use Rattle.std.specs.Prelude.{Contains, is_some}
 use Rattle.std.specs.List.{AllPairs}

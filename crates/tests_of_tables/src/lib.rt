@@ -14,12 +14,12 @@ mod fixtures;
 #[cfg(test)]
 mod generations;
 #[cfg(test)]
-mod lags;
-#[cfg(test)]
 mod listed;
 #[cfg(test)]
 mod model;
 #[cfg(test)]
 mod records;
+#[cfg(test)]
+mod stale_copies;
 #[cfg(test)]
 mod tables;

@@ -1,10 +1,19 @@
-use Rattle.std.proofs.Common.{◌+◌, ◌<◌, ltb, refl, sym, ap, ◌∙◌, subst, arith}
+use Rattle.std.proofs.Common.{◌≡◌, ℕ, suc, ◌+◌, ◌<◌, Bool, cond, List, [], ◌∷◌, length, get_or, refl, sym, ap, ◌∙◌, arith, ltb, subst}
 use Rattle.std.specs.Prelude.{count_by}
 use Rattle.std.specs.List.{range_with_len}
+use Rattle.std.proofs.lemmas.List.Sums.{sum_by-cons}
 use Rattle.node_table.specs.Table.{greatest_version}
 use Rattle.node_table.specs.Entries.{AreGenerations, AreGreatest}
-use Rattle.reconcile.proofs.Sizes.{count_by-indices}
 use Rattle.reconcile.proofs.digests.greatest_of_table.Goals as goal
+
+-- A count over a list is the count over its indices.
+count_by-indices : (p : ℕ → Bool) (f : ℕ → ℕ) (xs : List ℕ) (a : ℕ) → ((i : ℕ) → i < length xs → get_or xs i 0 ≡ f (a + i)) → count_by p xs ≡ count_by (λ r. p (f r)) (range_with_len a (length xs))
+count_by-indices p f [] a is = refl
+count_by-indices p f (x ∷ xs) a is =
+    sum_by-cons (λ y. cond (p y) 1 0) x xs
+    ∙ ap (λ y. cond (p y) 1 0 + count_by p xs) (is 0 (omega arith) ∙ ap f {x = a + 0} {y = a} (omega arith))
+    ∙ ap (λ n. cond (p (f a)) 1 0 + n) (count_by-indices p f xs (a + 1) (λ i lt. is (suc i) (omega arith) ∙ ap f {x = a + suc i} {y = a + 1 + i} (omega arith)))
+    ∙ sym (sum_by-cons (λ r. cond (p (f r)) 1 0) a (range_with_len (a + 1) (length xs)))
 
 pub returns-clause-ok : goal.returns-clause-ok
 returns-clause-ok c =

@@ -1,6 +1,20 @@
-use Rattle.std.proofs.Common.{refl, ◌∙◌}
-use Rattle.scenario.proofs.Documents.{document_of-text, document_of-no_text}
+use Rattle.std.proofs.Common.{◌≡◌, ℕ, Bool, true, false, List, Option, None, cond, IsUtf8, refl, ◌∙◌}
+use Rattle.std.specs.Str.{is_utf8}
+use Rattle.std.proofs.lemmas.Str.{IsUtf8-from_is_utf8, is_utf8-from_IsUtf8}
+use Rattle.toml.specs.Parse.{parse_document}
+use Rattle.scenario.specs.Checked.{document_of}
 use Rattle.scenario.proofs.texts.document.Goals as goal
+
+-- The document of some bytes, by whether they are UTF-8.
+document_of-text : (bytes : List ℕ) → IsUtf8 bytes → document_of bytes ≡ parse_document bytes
+document_of-text bytes text = rw (is_utf8-from_IsUtf8 bytes text)
+
+unless : {A : Type 0} (b : Bool) (x : Option A) → ¬ (b ≡ true) → cond b x None ≡ None
+unless true x fails = absurd (fails refl)
+unless false x fails = refl
+
+document_of-no_text : (bytes : List ℕ) → ¬ IsUtf8 bytes → document_of bytes ≡ None
+document_of-no_text bytes fails = unless (is_utf8 bytes) (parse_document bytes) (λ e. fails (IsUtf8-from_is_utf8 bytes e))
 
 pub returns-in-Err-clause-refused : goal.returns-in-Err-clause-refused
 returns-in-Err-clause-refused c _ = (refl, document_of-no_text c.args.bytes.now c.in-Err.ensures.cases.0)

@@ -2,7 +2,7 @@ use Rattle.std.proofs.Common.{◌≡◌, List, sym, subst, ◌∙◌}
 use Rattle.bench_types.specs.declared.entries.Item.{Item}
 use Rattle.node_table.specs.Table.{Table, applied}
 use Rattle.node_table.proofs.Laws.{KeepsFrame, frame-applied}
-use Rattle.tests_of_tables.proofs.lags.reader.Goals as goal
+use Rattle.tests_of_tables.proofs.stale_copies.reader.Goals as goal
 
 -- a table makes room for items, and takes them
 kept : (before room after : Table) (held : List Item) → room ≡ before → after ≡ applied room held → KeepsFrame before after

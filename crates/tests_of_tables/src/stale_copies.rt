@@ -117,7 +117,7 @@ fn reader(
 // How often nodes 0 and 1 forgot, what node 0 then wrote by the end of a round, what node 1 then holds, how
 // many keys of that copy are stale, for how many rounds, and how many are left over.
 #[derive(Clone, Copy)]
-struct Lag {
+struct Case {
     forgets: [u32; 2],
     writes: &'static [(u32, u32)],
     round: u32,
@@ -128,25 +128,25 @@ struct Lag {
 }
 
 // Compares the figures of two nodes with so many keys.
-fn expect_lag(rt: &(impl Abort + Threads + Sync), alloc: Global, keys: u32, lag: Lag)
+fn expect_stale(rt: &(impl Abort + Threads + Sync), alloc: Global, keys: u32, case: Case)
     requires some_key { 1 ≤ keys }
     requires keys { keys ≤ 64 }
 {
-    let (round, [first, second]) = (lag.round, lag.forgets);
+    let (round, [first, second]) = (case.round, case.forgets);
     assert!(rt; round < 1000);
-    let (owner, written) = writer(rt, alloc, 0, keys, first, lag.writes, round);
-    let (copy, unwritten) = reader(rt, alloc, keys, second, lag.held, round);
+    let (owner, written) = writer(rt, alloc, 0, keys, first, case.writes, round);
+    let (copy, unwritten) = reader(rt, alloc, keys, second, case.held, round);
     let found = figures(rt, alloc, &[owner, copy], &[written, unwritten], round);
-    expect_figures(rt, found.expect(rt, "memory"), lag);
+    expect_figures(rt, found.expect(rt, "memory"), case);
 }
 
-fn expect_figures(rt: &impl Abort, found: Figures, lag: Lag) {
-    let Lag {
+fn expect_figures(rt: &impl Abort, found: Figures, case: Case) {
+    let Case {
         stale,
         greatest,
         leftover,
         ..
-    } = lag;
+    } = case;
     let wanted = Figures {
         stale,
         greatest,
@@ -156,7 +156,7 @@ fn expect_figures(rt: &impl Abort, found: Figures, lag: Lag) {
 }
 
 // One key, written in each of three rounds.
-const IN_EACH_ROUND: Lag = Lag {
+const IN_EACH_ROUND: Case = Case {
     forgets: [0, 0],
     writes: &[(0, 1), (0, 2), (0, 3)],
     round: 3,
@@ -166,20 +166,20 @@ const IN_EACH_ROUND: Lag = Lag {
     leftover: 0,
 };
 
-const AGES: [Lag; 4] = [
+const AGES: [Case; 4] = [
     IN_EACH_ROUND,
-    Lag {
+    Case {
         held: &[item!(0, 0, 3, 7, 3)],
         stale: 0,
         greatest: 0,
         ..IN_EACH_ROUND
     },
-    Lag {
+    Case {
         held: &[],
         greatest: 3,
         ..IN_EACH_ROUND
     },
-    Lag {
+    Case {
         writes: &[],
         round: 0,
         held: &[],
@@ -191,8 +191,8 @@ const AGES: [Lag; 4] = [
 
 #[test]
 fn missed_writes_age_from_the_first(rt: HostRuntime) {
-    for lag in AGES {
-        expect_lag(&rt, rt.alloc(), 1, lag);
+    for case in AGES {
+        expect_stale(&rt, rt.alloc(), 1, case);
     }
 }
 
@@ -213,7 +213,7 @@ fn first_missed_of_four_writes()
 // The writes of two keys, by key and round.
 const WRITES: [(u32, u32); 4] = [(5, 2), (3, 2), (5, 4), (5, 7)];
 
-const AT_ROUND_9: Lag = Lag {
+const AT_ROUND_9: Case = Case {
     forgets: [0, 0],
     writes: &WRITES,
     round: 9,
@@ -240,13 +240,13 @@ fn a_list_keeps_its_writes(rt: HostRuntime) {
     expect_four_writes(&rt, rt.alloc());
     first_missed_of_four_writes();
     for (held, stale, greatest) in STALE {
-        let lag = Lag {
+        let case = Case {
             held,
             stale,
             greatest,
             ..AT_ROUND_9
         };
-        expect_lag(&rt, rt.alloc(), 6, lag);
+        expect_stale(&rt, rt.alloc(), 6, case);
     }
 }
 
@@ -319,7 +319,7 @@ const LEFT_OVER: [([u32; 2], &[Item], [u64; 2], u32); 9] = [
 fn copies_of_nodes_that_forgot(rt: HostRuntime) {
     first_above_of_four_writes();
     for (forgets, held, [stale, leftover], greatest) in LEFT_OVER {
-        let lag = Lag {
+        let case = Case {
             forgets,
             held,
             stale,
@@ -327,19 +327,19 @@ fn copies_of_nodes_that_forgot(rt: HostRuntime) {
             leftover,
             ..AT_ROUND_9
         };
-        expect_lag(&rt, rt.alloc(), 6, lag);
+        expect_stale(&rt, rt.alloc(), 6, case);
     }
 }
 
 // Nothing is stale of a node that has written nothing since it forgot, and all is left over.
 #[test]
 fn copies_of_a_node_that_wrote_nothing_since(rt: HostRuntime) {
-    let lag = Lag {
+    let case = Case {
         forgets: [1, 0],
         writes: &[],
         held: &[item!(0, 3, 2, 7, 2), item!(0, 5, 4, 7, 7)],
         leftover: 2,
         ..AT_ROUND_9
     };
-    expect_lag(&rt, rt.alloc(), 6, lag);
+    expect_stale(&rt, rt.alloc(), 6, case);
 }

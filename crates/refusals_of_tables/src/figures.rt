@@ -17,7 +17,7 @@ const WRITTEN: [Item; 3] = [
 ];
 
 // One key is stale, since the write of round 2.
-const LAG: Figures = Figures {
+const STALE: Figures = Figures {
     stale: 1,
     greatest: 2,
     leftover: 0,
@@ -48,6 +48,14 @@ fn owner_list<R: Eprint + AllocGlobal>(rt: &R) -> Result<OwnerList, Failure>
     push(rt, &mut list, 2)?;
     push(rt, &mut list, 3)?;
     Ok(list)
+}
+
+// A list of six, which grows while it has writes.
+fn try_long_list<R: Eprint + AllocGlobal>(rt: &R) -> Result<(), Failure> {
+    let mut list = owner_list(rt)?;
+    push(rt, &mut list, 3)?;
+    push(rt, &mut list, 3)?;
+    push(rt, &mut list, 3)
 }
 
 // Goes on where this is the table of a node of two, with one key.
@@ -84,14 +92,15 @@ fn try_figures<R: Eprint + AllocGlobal + Threads + Sync>(rt: &R) -> Result<(), F
     check_node(&owner, 0)?;
     check_node(&holder, 1)?;
     let (tables, lists) = ([owner, holder], [written, unwritten]);
-    let lag = retried!(rt, "figures", figures(rt, alloc, &tables, &lists, 3));
-    check(lag == LAG, "figures")
+    let found = retried!(rt, "figures", figures(rt, alloc, &tables, &lists, 3));
+    check(found == STALE, "figures")
 }
 
-pub(crate) fn try_lags<R: Print + Eprint + AllocGlobal + Threads + Sync>(
+pub(crate) fn try_lists_and_figures<R: Print + Eprint + AllocGlobal + Threads + Sync>(
     rt: &R,
 ) -> Result<(), Failure> {
-    try_figures(rt)?;
+    try_long_list(rt)?;
     pass(rt, "OwnerList::push")?;
+    try_figures(rt)?;
     pass(rt, "figures")
 }

@@ -1,6 +1,6 @@
 use Rattle.std.proofs.Common.{◌≡◌}
 use Rattle.staleness.specs.Writes.{AreBornBy}
-use Rattle.tests_of_tables.proofs.lags.forgetter.Given as goal
+use Rattle.tests_of_tables.proofs.stale_copies.forgetter.Given as goal
 
 abbrev pub invariant-loop : goal.invariant-loop
 invariant-loop g l = record {

@@ -1,6 +1,6 @@
 use Rattle.std.proofs.Common.{◌≡◌}
 use Rattle.staleness.specs.Writes.{AreBornBy}
-use Rattle.tests_of_tables.proofs.lags.writer.Given as goal
+use Rattle.tests_of_tables.proofs.stale_copies.writer.Given as goal
 
 abbrev pub invariant-loop-key : goal.invariant-loop-key
 invariant-loop-key g l = record {

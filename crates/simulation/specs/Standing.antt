@@ -5,6 +5,7 @@ use Rattle.node_table.specs.Table.{Table, greatest_version, IsProper}
 use Rattle.cluster.specs.Tables.{table_of_node, IsTableOf}
 use Rattle.round_plan.specs.Generations.{generation_upto}
 use Rattle.round_plan.specs.Writes.{writes_upto}
+use Rattle.bench_types.specs.declared.limits.TheConstants.{MOST_WRITES}
 use Rattle.scenario.specs.Settings.{Settings}
 use Rattle.staleness.specs.declared.lists.Write.{Write}
 use Rattle.staleness.specs.OwnParts.{write_of_entry, OwnPartIsLastWrites}
@@ -17,7 +18,7 @@ pub record IsOwnerOf (s : Settings) (n current : ℕ) (written : List Entry) (ro
   pub proper : IsProper t
   pub generation : t.generation ≡ current
   pub writes : ws ≡ map write_of_entry written
-  pub few : length ws ≤ 8 * round
+  pub few : length ws ≤ MOST_WRITES * round
   pub greatest : greatest_version t t.node ≡ length ws
   pub own_part : OwnPartIsLastWrites t ws
   pub born : AreBornBy round ws

@@ -264,7 +264,7 @@ fn nodes_of_a_thread(rt: &impl Threads, tables: &[NodeTable]) -> usize
 
 // What several parts come to together.
 fn joined_all(parts: &[Figures]) -> Figures
-    requires few { length parts.now ≤ 4097 }
+    requires few { length parts.now ≤ MOST_NODES + 1 }
     requires bound { All AreFewTriples parts.now }
     ensures stale { result.stale ≡ sum_below (length parts.now) (λ i. (found_at parts.now i).stale) }
     ensures greatest { result.greatest ≡ most_below (length parts.now) (λ i. (found_at parts.now i).greatest) }

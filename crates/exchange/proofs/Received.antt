@@ -14,7 +14,7 @@ use Rattle.bench_types.specs.Mode.{digest_kind}
 use Rattle.bench_types.proofs.Marks.{before-yes, cases_before, cases_later, first-later, second-later, later-first, up_to-itself, up_to-then, up_to-both, absent-first, not_both}
 use Rattle.node_table.specs.Table.{Table, applied, entry_at, mark_at, greatest_mark, generation_held, items_of, IsProper}
 use Rattle.node_table.specs.Table.{IsItemInPlace}
-use Rattle.node_table.specs.inner.Runs.{greatest_among}
+use Rattle.node_table.specs.inner.GreatestMarks.{greatest_among}
 use Rattle.node_table.proofs.Greatest.{greatest_mark-from, mark_at-up_to_greatest}
 use Rattle.node_table.proofs.Items.{entry_at-items_of, Contains-items_of}
 use Rattle.node_table.proofs.Laws.{entry_at-applied_from}

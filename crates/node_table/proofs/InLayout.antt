@@ -1,5 +1,5 @@
 -- The table that lies in memory: its look-ups, its rows, its count, and that it is proper.
--- Serves the functions of `layouts`, `rows` and `tables`, `Forgotten` and `Marks`.
+-- Serves the functions of `layouts`, `rows` and `tables`, `Flags` and `Forgotten`.
 use Rattle.std.proofs.Common.{◌≡◌, ◌≢◌, ℕ, zero, suc, ◌+◌, ◌-◌, ◌<◌, ◌≤◌, cond, ◌==◌, true, false, List, [], ◌∷◌, length, get_or, drop, Some, None, inl, inr, refl, sym, ap, ◌∙◌, subst, arith}
 use Rattle.std.specs.Prelude.{sum_by}
 use Rattle.std.specs.List.{AllPairs, Contains}

@@ -19,5 +19,5 @@ mod InLayout
 mod Forgotten
 mod Empty
 mod Room
-mod Marks
+mod Flags
 mod Newest

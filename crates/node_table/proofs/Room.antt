@@ -1,5 +1,5 @@
 -- How many blocks a list of items needs once one of them has come in.
--- Serves the functions of `layouts` and `tables` and `Marks`.
+-- Serves the functions of `layouts` and `tables` and `Flags`.
 use Rattle.std.proofs.Common.{◌≡◌, ◌≢◌, ℕ, zero, suc, ◌+◌, ◌*◌, ◌/◌, ◌<◌, ◌≤◌, true, false, cond, ◌==◌, ◌&&◌, ◌||◌, List, [], ◌∷◌, inl, inr, refl, sym, ap, ◌∙◌, subst, arith}
 use Rattle.std.proofs.lemmas.Bool.{cases_lt, cases_eq, eq-eqb, ne_eqb}
 use Rattle.std.proofs.Math.Nat.{mul-le-mul_right}
@@ -13,7 +13,7 @@ use Rattle.node_table.proofs.Laws.{frame-taken}
 use Rattle.node_table.proofs.MarkLaws.{greatest_mark-taken_other}
 use Rattle.node_table.proofs.Taking.{held-taken}
 
--- greatest versions before and after an item came in, or its owner was marked
+-- greatest versions before and after an item came in, or its owner was flagged
 module _ (g h : ℕ → ℕ) (i : Item) (is : List Item) (others : (owner : ℕ) → owner ≢ i.owner → h owner ≡ g owner) where
   needs-other : (owner : ℕ) → owner ≢ i.owner → needs_block h is owner ≡ needs_block g (i ∷ is) owner
   needs-other owner other =

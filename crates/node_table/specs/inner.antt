@@ -1,6 +1,6 @@
-pub mod Runs
+pub mod GreatestMarks
 pub mod Applied
 pub mod Layouts
-pub mod Marks
+pub mod Flags
 pub mod Codes
 pub mod Items

@@ -9,7 +9,7 @@ ghost use Rattle.node_table.specs.Table.{mark_at, generation_held, greatest_mark
 ghost use Rattle.node_table.specs.Table.{IsItemInPlace};
 ghost use Rattle.node_table.specs.Entries.{AreAbove};
 ghost use Rattle.node_table.specs.NodeTableView.{blocks_below, blocks_for};
-ghost use Rattle.node_table.specs.inner.Marks.{AreMarked, AreUnmarked};
+ghost use Rattle.node_table.specs.inner.Flags.{AreFlagged, AreUnflagged};
 ghost use Rattle.node_table.specs.inner.Layouts.{entries_in_row, row_at, block_len, table_in, AreLaid, IsLayout, IsEmptyRow, IsInSlots, IsPlaced, AreOthersKept, IsRenewed, IsPut, KeepOutside, HasEntries, IsHeld, HasRoomForBlock};
 
 use crate::rows::{find, put_in, rank_above};
@@ -203,8 +203,8 @@ impl Layout {
         Ok(())
     }
 
-    // How many owners come in a list of whom nothing is held. Each is marked by a version where its
-    // first item stands, and the marks are taken away again.
+    // How many owners come in a list of whom nothing is held. Each is flagged by a version where its
+    // first item stands, and the flags are taken away again.
     pub(crate) fn blocks_for(&mut self, added: &[Item]) -> usize
         requires { IsLayout self.old }
         ensures layout { IsLayout self.new }
@@ -212,9 +212,9 @@ impl Layout {
         ensures slots { self.new.slots ≡ self.old.slots }
         ensures blocks { result ≡ blocks_for (table_in self.old) added.now }
     {
-        let blocks = mark_new(&mut self.greatest, added);
+        let blocks = flag_new(&mut self.greatest, added);
         if blocks > 0 {
-            unmark(&mut self.greatest, &self.rows, added);
+            unflag(&mut self.greatest, &self.rows, added);
         }
         blocks
     }
@@ -266,11 +266,11 @@ impl Layout {
     }
 }
 
-// Marks the owners of a list whose greatest version is 0, and answers how many they are.
-fn mark_new(greatest: &mut [u32], added: &[Item]) -> usize
+// Flags the owners of a list whose greatest version is 0, and answers how many they are.
+fn flag_new(greatest: &mut [u32], added: &[Item]) -> usize
     ensures blocks { result ≡ blocks_below (slice_index greatest.old) added.now (length greatest.old) }
     ensures none { result ≡ 0 → greatest.new ≡ greatest.old }
-    ensures marked { AreMarked added.now greatest.old greatest.new }
+    ensures flagged { AreFlagged added.now greatest.old greatest.new }
 {
     let mut blocks = 0;
     for item in added {
@@ -283,10 +283,10 @@ fn mark_new(greatest: &mut [u32], added: &[Item]) -> usize
     blocks
 }
 
-// Takes the marks of a list's owners away: those without an entry have greatest version 0.
-fn unmark(greatest: &mut [u32], rows: &[Row], added: &[Item])
+// Takes the flags of a list's owners away: those without an entry have greatest version 0.
+fn unflag(greatest: &mut [u32], rows: &[Row], added: &[Item])
     requires { length rows.now ≡ length greatest.old }
-    ensures { AreUnmarked rows.now added.now greatest.old greatest.new }
+    ensures { AreUnflagged rows.now added.now greatest.old greatest.new }
 {
     for item in added {
         let owner = item.owner as usize;

@@ -129,11 +129,12 @@ fn expect_done(rt: &impl Abort, case: Case, done: &Done, answer: Result<(), Faul
 #[test]
 fn jobs_whose_reads_fail(rt: HostRuntime) {
     for case in cases() {
-        for reads in 0..=case.text.len() {
+        let all = case.text.len().saturating_add(1);
+        for reads in 0..all {
             let done = done_until(&rt, case, Some(reads), ALL);
             expect_done(&rt, case, &done, Err(Fault::ReadFailed), 0);
         }
-        let done = done_until(&rt, case, Some(case.text.len() + 1), ALL);
+        let done = done_until(&rt, case, Some(all), ALL);
         expect_done(&rt, case, &done, Ok(()), case.out.len());
     }
 }

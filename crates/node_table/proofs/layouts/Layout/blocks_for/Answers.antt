@@ -5,10 +5,10 @@ use Rattle.bench_types.specs.declared.entries.Item.{Item}
 use Rattle.node_table.specs.Table.{greatest_version}
 use Rattle.node_table.specs.Entries.{AreGreatest}
 use Rattle.node_table.specs.NodeTableView.{blocks_below, blocks_for}
-use Rattle.node_table.specs.inner.Marks.{AreMarked, AreUnmarked}
+use Rattle.node_table.specs.inner.Flags.{AreFlagged, AreUnflagged}
 use Rattle.node_table.specs.inner.Layouts.{table_in, IsLayout}
 use Rattle.node_table.specs.declared.layouts.Layout.{Layout}
-use Rattle.node_table.proofs.Marks.{version_in, greatest_again}
+use Rattle.node_table.proofs.Flags.{version_in, greatest_again}
 use Rattle.node_table.proofs.Room.{blocks-same}
 use Rattle.node_table.proofs.layouts.Layout.blocks_for.Goals as goal
 
@@ -23,26 +23,26 @@ pub returns-then-blocks-gt0-clause-layout : goal.returns-then-blocks-gt0-clause-
 returns-then-blocks-gt0-clause-layout c =
     let l = c.args.self.now in
     let added = c.args.added.now in
-    let marked : List ℕ = c.mark_new-blocks.new.greatest in
-    let after : List ℕ = c.unmark.new.greatest in
-    let len : length marked ≡ length l.greatest.items = omega (arith, c.mark_new-blocks.auto.greatest, ap length c.deref_mut.ensures.value) in
+    let marked : List ℕ = c.flag_new-blocks.new.greatest in
+    let after : List ℕ = c.unflag.new.greatest in
+    let len : length marked ≡ length l.greatest.items = omega (arith, c.flag_new-blocks.auto.greatest, ap length c.deref_mut.ensures.value) in
     let marked_is = with_items_is l.greatest marked (omega (arith, len, l.greatest.ok.0)) in
     let lent = c.deref_mut-then-blocks-gt0.ensures.value ∙ marked_is in
-    let len' : length after ≡ length marked = omega (arith, c.unmark.auto.greatest, ap length lent) in
+    let len' : length after ≡ length marked = omega (arith, c.unflag.auto.greatest, ap length lent) in
     let after_is = with_items_is (with_items l.greatest marked) after (omega (arith, len, len', l.greatest.ok.0)) in
-    let are_marked = subst (λ xs. AreMarked added xs marked) c.deref_mut.ensures.value c.mark_new-blocks.ensures.marked in
-    let are_unmarked = subst (λ xs. AreUnmarked l.rows.items added xs after) lent (subst (λ rows. AreUnmarked rows added c.deref_mut-then-blocks-gt0.result.now after) c.deref.ensures.value c.unmark.ensures) in
+    let are_flagged = subst (λ xs. AreFlagged added xs marked) c.deref_mut.ensures.value c.flag_new-blocks.ensures.flagged in
+    let are_unflagged = subst (λ xs. AreUnflagged l.rows.items added xs after) lent (subst (λ rows. AreUnflagged rows added c.deref_mut-then-blocks-gt0.result.now after) c.deref.ensures.value c.unflag.ensures) in
     record {
       proper = c.requires.proper;
       laid = c.requires.laid;
-      greatest = subst (AreGreatest (table_in l)) (sym after_is) (greatest_again l c.requires added marked after are_marked are_unmarked len len');
+      greatest = subst (AreGreatest (table_in l)) (sym after_is) (greatest_again l c.requires added marked after are_flagged are_unflagged len len');
       generations = c.requires.generations;
       room = c.requires.room;
       counted = c.requires.counted;
     }
 
 pub returns-then-blocks-gt0-clause-blocks : goal.returns-then-blocks-gt0-clause-blocks
-returns-then-blocks-gt0-clause-blocks c = c.mark_new-blocks.ensures.blocks ∙ blocks_are c.args.self.now c.requires c.deref_mut.result.now c.args.added.now c.deref_mut.ensures.value
+returns-then-blocks-gt0-clause-blocks c = c.flag_new-blocks.ensures.blocks ∙ blocks_are c.args.self.now c.requires c.deref_mut.result.now c.args.added.now c.deref_mut.ensures.value
 
 pub returns-else-blocks-gt0-clause-blocks : goal.returns-else-blocks-gt0-clause-blocks
-returns-else-blocks-gt0-clause-blocks c = c.mark_new-blocks.ensures.blocks ∙ blocks_are c.args.self.now c.requires c.deref_mut.result.now c.args.added.now c.deref_mut.ensures.value
+returns-else-blocks-gt0-clause-blocks c = c.flag_new-blocks.ensures.blocks ∙ blocks_are c.args.self.now c.requires c.deref_mut.result.now c.args.added.now c.deref_mut.ensures.value

@@ -3,9 +3,9 @@ use Rattle.std.proofs.Math.ListN.{drop_of_length-le}
 use Rattle.node_table.specs.inner.Items.{no_item}
 use Rattle.node_table.specs.NodeTableView.{blocks_below}
 use Rattle.node_table.proofs.Room.{blocks-nil}
-use Rattle.node_table.proofs.Marks.{version_in, AreSet, set_none, set_one}
-use Rattle.node_table.proofs.layouts.mark_new.Goals as goal
-use Rattle.node_table.proofs.layouts.mark_new.Goals.{then-owner-greatest+then-greatest-owner-eq0, else-owner-greatest, else-owner-greatest-via-then-owner-greatest+else-greatest-owner-eq0, else-owner-greatest-via-else-owner-greatest}
+use Rattle.node_table.proofs.Flags.{version_in, AreSet, set_none, set_one}
+use Rattle.node_table.proofs.layouts.flag_new.Goals as goal
+use Rattle.node_table.proofs.layouts.flag_new.Goals.{then-owner-greatest+then-greatest-owner-eq0, else-owner-greatest, else-owner-greatest-via-then-owner-greatest+else-greatest-owner-eq0, else-owner-greatest-via-else-owner-greatest}
 
 pub loop-item-preserved : goal.loop-item-preserved
 loop-item-preserved c =

@@ -1,8 +1,8 @@
 use Rattle.std.proofs.Common.{◌≡◌, ◌+◌, length, sym, subst, inl, inr, arith}
 use Rattle.node_table.specs.declared.layouts.Row.{Row}
-use Rattle.node_table.proofs.Marks.{AreLeft, left_kept, left_cleared}
-use Rattle.node_table.proofs.layouts.unmark.Goals as goal
-use Rattle.node_table.proofs.layouts.unmark.Goals.{then-owner-rows+then-rows-owner-eq0, else-owner-rows, else-owner-rows-via-then-owner-rows+else-rows-owner-eq0, else-owner-rows-via-else-owner-rows}
+use Rattle.node_table.proofs.Flags.{AreLeft, left_kept, left_cleared}
+use Rattle.node_table.proofs.layouts.unflag.Goals as goal
+use Rattle.node_table.proofs.layouts.unflag.Goals.{then-owner-rows+then-rows-owner-eq0, else-owner-rows, else-owner-rows-via-then-owner-rows+else-rows-owner-eq0, else-owner-rows-via-else-owner-rows}
 
 pub loop-item-preserved : goal.loop-item-preserved
 loop-item-preserved c =

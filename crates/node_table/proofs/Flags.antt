@@ -1,5 +1,5 @@
 -- Marks in a list of greatest versions: each owner of whom nothing is held is counted once, and its mark goes again.
--- Serves `Layout::blocks_for`, `mark_new` and `unmark`.
+-- Serves `Layout::blocks_for`, `flag_new` and `unflag`.
 use Rattle.std.proofs.Common.{◌≡◌, ◌≢◌, ℕ, ◌+◌, ◌<◌, ◌≤◌, cond, List, [], ◌∷◌, length, get_or, set, drop, Some, ◌⊎◌, inl, inr, refl, sym, ap, ◌∙◌, arith, get_or-set_same, get_or-set_other}
 use Rattle.std.proofs.lemmas.Bool.{cases_lt, cases_eq, eq-eqb}
 use Rattle.std.proofs.lemmas.List.{drop_more, get_or_default}
@@ -13,7 +13,7 @@ use Rattle.node_table.specs.Entries.{AreGreatest}
 use Rattle.node_table.specs.inner.Items.{no_item}
 use Rattle.node_table.specs.NodeTableView.{blocks_below}
 use Rattle.node_table.specs.inner.Layouts.{row_at, entry_in, table_in, IsRow, IsLayout}
-use Rattle.node_table.specs.inner.Marks.{ComesWithin, AreMarked, AreUnmarked}
+use Rattle.node_table.specs.inner.Flags.{ComesWithin, AreFlagged, AreUnflagged}
 use Rattle.node_table.proofs.Room.{blocks-upto, blocks-came_held, blocks-came_new}
 use Rattle.node_table.proofs.Taking.{version-le-greatest}
 use Rattle.node_table.proofs.Laid.{row_at-get_or, length-entries_in_row}
@@ -135,8 +135,8 @@ module _ (l : Layout) (sound : IsLayout l) where
       omega (arith, version-le-greatest (table_in l) owner first.0.key sound.proper first.2, ap (λ h. (mark_held h).version) (entry_at-in l owner first.0.key ∙ first.1), first.3)
 
   -- once the marks are gone the list is what it was
-  pub greatest_again : (added : List Item) (marked after : List ℕ) → AreMarked added l.greatest.items marked → AreUnmarked l.rows.items added marked after → length marked ≡ length l.greatest.items → length after ≡ length marked → AreGreatest (table_in l) after
-  greatest_again added marked after are_marked are_unmarked len len' = record {
+  pub greatest_again : (added : List Item) (marked after : List ℕ) → AreFlagged added l.greatest.items marked → AreUnflagged l.rows.items added marked after → length marked ≡ length l.greatest.items → length after ≡ length marked → AreGreatest (table_in l) after
+  greatest_again added marked after are_flagged are_unflagged len len' = record {
     count = len' ∙ len ∙ sound.greatest.count;
     greatest = again;
   }
@@ -152,11 +152,11 @@ module _ (l : Layout) (sound : IsLayout l) where
           elim (cases_lt 0 (get_or l.rows.items owner no_row).len) [
             | inl some ↦
                 let held = held_from_row owner below (omega (arith, row_len)) in
-                are_unmarked.held owner no_row some ∙ are_marked.held owner (omega (arith, was, held)) ∙ was
+                are_unflagged.held owner no_row some ∙ are_flagged.held owner (omega (arith, was, held)) ∙ was
             | inr none ↦
                 let nothing : greatest_version (table_in l) owner ≡ 0 = elim (cases_lt 0 (greatest_version (table_in l) owner)) [
                   | inl held ↦ absurd (omega (arith, some_held l owner held, row_len))
                   | inr not_held ↦ omega arith
                 ] in
-                are_unmarked.new owner no_row (omega (arith, len, sound.greatest.count)) (omega arith) (are_marked.new owner (was ∙ nothing)) ∙ sym nothing
+                are_unflagged.new owner no_row (omega (arith, len, sound.greatest.count)) (omega arith) (are_flagged.new owner (was ∙ nothing)) ∙ sym nothing
           ]

@@ -1,6 +1,8 @@
 //! Reading the words of a command line.
 
-ghost use Rattle.std.specs.Prelude.{IfOk, IfSome};
+ghost use Rattle.std.specs.Prelude.{IfOk, MatchOption, ℕ};
+ghost use Rattle.clap.specs.Words.{found_of, rows_of, subcommand_rows_of};
+ghost use Rattle.command_words.specs.Jobs.{AreWorkersOf, AsksForNone, IsAskedFor};
 ghost use Rattle.command_words.specs.Workers.{AreLawfulWorkers, HasLawfulWorkers};
 
 use crate::commands::commands;
@@ -56,7 +58,8 @@ fn parse<'a, S: AsStr>(alloc: Global, words: &'a [S]) -> Result<Job<'a>, Error>
 // The job of words that were parsed. There is none where a command or a number of workers is unknown,
 // which the parser refuses before.
 fn asked_for<'a>(matches: &ArgMatches<'a>) -> Option<Job<'a>>
-    ensures { IfSome result HasLawfulWorkers }
+    ensures { MatchOption result (AsksForNone (subcommand_rows_of matches.now))
+        (IsAskedFor (subcommand_rows_of matches.now)) }
 {
     match matches.subcommand()? {
         ("check", _) => Some(Job::Check),
@@ -72,7 +75,9 @@ fn asked_for<'a>(matches: &ArgMatches<'a>) -> Option<Job<'a>>
 }
 
 fn workers_of(options: &ArgMatches) -> Option<u32>
-    ensures { IfSome result AreLawfulWorkers }
+    ensures { MatchOption result
+        ((workers : ℕ) → AreWorkersOf (rows_of (found_of options.now)) workers → AreLawfulWorkers workers → ⊥)
+        (λ workers. AreWorkersOf (rows_of (found_of options.now)) workers × AreLawfulWorkers workers) }
 {
     let workers = options.get_one("workers")?;
     if 1 <= workers && workers <= MOST_WORKERS {

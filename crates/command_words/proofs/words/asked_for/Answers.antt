@@ -1,0 +1,24 @@
+use Rattle.std.proofs.Common.{codes, rules, ◌∙◌}
+use Rattle.clap.specs.Words.{found_of}
+use Rattle.clap.proofs.WalkLemmas.{first_value-rows}
+use Rattle.command_words.proofs.Reading.{command_met, compare_asks_for_none, run_asks_for_none}
+use Rattle.command_words.proofs.words.asked_for.Goals as goal
+
+pub returns-in_err-workers_of-in-run-default : goal.returns-in_err-workers_of-in-run-default
+returns-in_err-workers_of-in-run-default c =
+    let met = command_met c.args.matches.now _ _ c.in_ok-subcommand.ensures.name c.in_ok-subcommand.ensures.rows in
+    rw (c.from_residual-in_err-workers_of-in-run-default.ensures, met)
+    (run_asks_for_none _ _ (search rules) c.in_err-workers_of-in-run-default.ensures)
+
+pub returns-in_err-workers_of-in-compare-default : goal.returns-in_err-workers_of-in-compare-default
+returns-in_err-workers_of-in-compare-default c =
+    let met = command_met c.args.matches.now _ _ c.in_ok-subcommand.ensures.name c.in_ok-subcommand.ensures.rows in
+    rw (c.from_residual-in_err-workers_of-in-compare-default.ensures, met)
+    (compare_asks_for_none _ _ (search rules) c.in_err-workers_of-in-compare-default.ensures)
+
+pub returns-in_ok-workers_of-in-run-default : goal.returns-in_ok-workers_of-in-run-default
+returns-in_ok-workers_of-in-run-default c =
+    let met = command_met c.args.matches.now _ _ c.in_ok-subcommand.ensures.name c.in_ok-subcommand.ensures.rows in
+    let read = c.in_ok-workers_of-in-run-default.ensures in
+    let trace = c.get_str.ensures ∙ first_value-rows (found_of c.in_ok-subcommand.field-0.1.now) (codes "trace") in
+    rw met ((search rules, trace, read.0), read.1)

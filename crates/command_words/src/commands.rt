@@ -1,11 +1,18 @@
 //! The program's commands, as clap has them.
 
+ghost use Rattle.std.specs.Prelude.{◌≡◌, IfOk, []};
+ghost use Rattle.clap.specs.Words.{app_of, rule_of, shape_of};
+ghost use Rattle.command_words.specs.Program.{check_command, compare_command, program, program_alone, run_command};
+ghost use Rattle.command_words.specs.Program.{trace_option, workers_option};
+
 use bench_types::limits::MOST_WORKERS;
 use clap::{Arg, Command, value_parser};
 use std::alloc::{AllocError, Global};
 
 // The program, with its commands.
-pub(crate) fn commands<'a>(alloc: Global) -> Result<Command<'a>, AllocError> {
+pub(crate) fn commands<'a>(alloc: Global) -> Result<Command<'a>, AllocError>
+    ensures { IfOk result (λ command. app_of command ≡ program) }
+{
     program(alloc)?
         .subcommand(check(alloc))?
         .subcommand(run(alloc)?)?
@@ -13,7 +20,9 @@ pub(crate) fn commands<'a>(alloc: Global) -> Result<Command<'a>, AllocError> {
 }
 
 // The program alone.
-fn program<'a>(alloc: Global) -> Result<Command<'a>, AllocError> {
+fn program<'a>(alloc: Global) -> Result<Command<'a>, AllocError>
+    ensures { IfOk result (λ command. app_of command ≡ record { top = program_alone; subs = [] }) }
+{
     Ok(
         Command::new(alloc, "gossip_bench")
             .about("Simulates anti-entropy gossip. Reads a scenario (TOML) on standard input.")
@@ -25,25 +34,33 @@ fn program<'a>(alloc: Global) -> Result<Command<'a>, AllocError> {
     )
 }
 
-fn check<'a>(alloc: Global) -> Command<'a> {
+fn check<'a>(alloc: Global) -> Command<'a>
+    ensures { shape_of result ≡ check_command }
+{
     Command::new(alloc, "check").about("Check the scenario and print ok")
 }
 
-fn run<'a>(alloc: Global) -> Result<Command<'a>, AllocError> {
+fn run<'a>(alloc: Global) -> Result<Command<'a>, AllocError>
+    ensures { IfOk result (λ command. shape_of command ≡ run_command) }
+{
     Command::new(alloc, "run")
         .about("Run the scenario and print its report, a row for each round")
         .arg(workers(alloc))?
         .arg(trace(alloc))
 }
 
-fn compare<'a>(alloc: Global) -> Result<Command<'a>, AllocError> {
+fn compare<'a>(alloc: Global) -> Result<Command<'a>, AllocError>
+    ensures { IfOk result (λ command. shape_of command ≡ compare_command) }
+{
     Command::new(alloc, "compare")
         .about("Run the scenario under each mode and print all rows")
         .arg(workers(alloc))
 }
 
 // The option for the number of workers.
-fn workers<'a>(alloc: Global) -> Arg<'a> {
+fn workers<'a>(alloc: Global) -> Arg<'a>
+    ensures { rule_of result ≡ workers_option }
+{
     Arg::new(alloc, "workers")
         .long("workers")
         .value_name("N")
@@ -53,7 +70,9 @@ fn workers<'a>(alloc: Global) -> Arg<'a> {
 }
 
 // The option for the file of a trace.
-fn trace<'a>(alloc: Global) -> Arg<'a> {
+fn trace<'a>(alloc: Global) -> Arg<'a>
+    ensures { rule_of result ≡ trace_option }
+{
     Arg::new(alloc, "trace")
         .long("trace")
         .value_name("FILE")

@@ -1,0 +1,31 @@
+-- What `clap` reads of a command that was added to.
+use Rattle.std.proofs.Common.{◌≡◌, ◌∙◌, true, false, not, is_some, ap}
+use Rattle.clap.specs.Walk.{is_empty, is_simple_arg}
+use Rattle.clap.specs.Words.{AddsArg, AddsSubcommand, Rule, Shape, app_of, rule_of, shape_of, with_rule, with_subcommand}
+use Rattle.clap.proofs.SimpleLemmas.{is_false, plain_fields}
+use Rattle.clap.proofs.WalkLemmas.{both}
+use Rattle.clap.specs.declared.builder.arg.Arg.{Arg}
+use Rattle.clap.specs.declared.builder.command.Command.{Command}
+
+simple_is_local : (a : Arg) → is_simple_arg a ≡ true → a.global ≡ false
+simple_is_local a e =
+    let p = both (is_empty a.overrides.items) _ e in
+    let q = both (is_empty a.default_vals_ifs.items) _ p.1 in
+    let r = both (is_empty a.groups.items) _ q.1 in
+    let s = both (not (is_some a.val_delim)) _ r.1 in
+    let t = both (not (is_some a.terminator)) _ s.1 in
+    let u = both (not a.allow_hyphen_values) _ t.1 in
+    let v = both (not a.allow_negative_numbers) _ u.1 in
+    let w = both (not a.require_equals) _ v.1 in
+    let x = both (not a.last) _ w.1 in
+    is_false a.global x.1
+
+pub arg_added : (old new : Command) (a : Arg) (rule : Rule) → AddsArg old a new → rule_of a ≡ rule → rule.is_simple ≡ true
+    → app_of new ≡ with_rule (app_of old) rule
+arg_added old new a rule added is simple =
+    added.shape (simple_is_local a (ap (λ (r : Rule). r.is_simple) is ∙ simple)) ∙ ap (with_rule (app_of old)) is
+
+pub subcommand_added : (old sub new : Command) (shape : Shape) → AddsSubcommand old sub new → shape_of sub ≡ shape
+    → shape.is_plain ≡ true → app_of new ≡ with_subcommand (app_of old) shape
+subcommand_added old sub new shape added is plain =
+    added.shape ((plain_fields sub (ap (λ (s : Shape). s.is_plain) is ∙ plain)).globals) ∙ ap (with_subcommand (app_of old)) is

@@ -1,2 +1,3 @@
 pub mod Additions
+pub mod Faults
 pub mod Reading

@@ -1,8 +1,10 @@
 //! Reading the words of a command line.
 
-ghost use Rattle.std.specs.Prelude.{IfOk, MatchOption, ℕ};
-ghost use Rattle.clap.specs.Words.{found_of, rows_of, subcommand_rows_of};
+ghost use Rattle.std.specs.Prelude.{IfOk, MatchOption, MatchResult, map, ℕ};
+ghost use Rattle.clap.specs.Words.{found_of, kind_of, rows_of, subcommand_rows_of};
 ghost use Rattle.command_words.specs.Jobs.{AreWorkersOf, AsksForNone, IsAskedFor};
+ghost use Rattle.command_words.specs.Words.{AskFor, HaveNoJob};
+ghost use Rattle.command_words.specs.inner.Errors.{IsKindAt, IsReason};
 ghost use Rattle.command_words.specs.Workers.{AreLawfulWorkers, HasLawfulWorkers};
 
 use crate::commands::commands;
@@ -26,7 +28,8 @@ pub enum NoJob {
 
 /// What the words ask for, without the program's name.
 pub fn job_of<'a, S: AsStr>(alloc: Global, words: &'a [S]) -> Result<Job<'a>, NoJob>
-    ensures { IfOk result HasLawfulWorkers }
+    ensures workers { IfOk result HasLawfulWorkers }
+    ensures answer { MatchResult result (AskFor (map S.text words.entry.now)) (HaveNoJob (map S.text words.entry.now)) }
 {
     match parse(alloc, words) {
         Ok(job) => Ok(job),
@@ -35,7 +38,9 @@ pub fn job_of<'a, S: AsStr>(alloc: Global, words: &'a [S]) -> Result<Job<'a>, No
 }
 
 // What an error of clap says.
-fn reason_of(alloc: Global, error: &Error) -> NoJob {
+fn reason_of(alloc: Global, error: &Error) -> NoJob
+    ensures { IsReason (kind_of error.now) result }
+{
     match format!(in alloc; "{error}") {
         _ if error.kind() == ErrorKind::OutOfMemory => NoJob::OutOfMemory,
         Err(_) => NoJob::OutOfMemory,
@@ -45,7 +50,8 @@ fn reason_of(alloc: Global, error: &Error) -> NoJob {
 }
 
 fn parse<'a, S: AsStr>(alloc: Global, words: &'a [S]) -> Result<Job<'a>, Error>
-    ensures { IfOk result HasLawfulWorkers }
+    ensures { MatchResult result (AskFor (map S.text words.entry.now))
+        (λ error. IsKindAt (map S.text words.entry.now) (kind_of error)) }
 {
     let mut commands = commands(alloc)?;
     let matches = commands.try_get_matches_from_mut(words)?;

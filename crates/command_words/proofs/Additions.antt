@@ -1,4 +1,5 @@
 -- What `clap` reads of a command that was added to.
+-- Serves `commands`, `compare` and `run`.
 use Rattle.std.proofs.Common.{◌≡◌, ◌∙◌, true, false, not, is_some, ap}
 use Rattle.clap.specs.Walk.{is_empty, is_simple_arg}
 use Rattle.clap.specs.Words.{AddsArg, AddsSubcommand, Rule, Shape, app_of, rule_of, shape_of, with_rule, with_subcommand}

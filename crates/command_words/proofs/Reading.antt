@@ -1,4 +1,5 @@
 -- What the options of a command say, by what `clap` reads of them.
+-- Serves `asked_for` and `workers_of`.
 use Rattle.std.proofs.Common.{◌≡◌, ◌≤◌, ℕ, List, Option, Some, None, Result, codes, option_map, refl, sym, arith, Box, Global, MatchOption, ◌∙◌}
 use Rattle.std.specs.Str.Parse.{ParsesUnsigned, ExplainsUnsignedError, HasUnsignedDigitsIfOk, IsNumeral, digits_value, without_leading_plus}
 use Rattle.clap.specs.Words.{ReadsOne, Row, Text, one_of, one_text, rows_of, subcommand_name_of, subcommand_rows, subcommand_rows_of}

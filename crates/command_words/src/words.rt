@@ -1,6 +1,6 @@
 //! Reading the words of a command line.
 
-ghost use Rattle.std.specs.Prelude.{IfOk, MatchOption, MatchResult, map, ℕ};
+ghost use Rattle.std.specs.Prelude.{◌↔◌, IfOk, IsTrue, MatchOption, MatchResult, map, ℕ};
 ghost use Rattle.clap.specs.Words.{found_of, kind_of, rows_of, subcommand_rows_of};
 ghost use Rattle.command_words.specs.Jobs.{AreWorkersOf, AsksForNone, IsAskedFor};
 ghost use Rattle.command_words.specs.Words.{AskFor, HaveNoJob};
@@ -85,10 +85,17 @@ fn workers_of(options: &ArgMatches) -> Option<u32>
         ((workers : ℕ) → AreWorkersOf (rows_of (found_of options.now)) workers → AreLawfulWorkers workers → ⊥)
         (λ workers. AreWorkersOf (rows_of (found_of options.now)) workers × AreLawfulWorkers workers) }
 {
-    let workers = options.get_one("workers")?;
-    if 1 <= workers && workers <= MOST_WORKERS {
+    let workers: u32 = options.get_one("workers")?;
+    if are_lawful(workers) {
         Some(workers)
     } else {
         None
     }
+}
+
+// Whether a job may have so many workers.
+fn are_lawful(workers: u32) -> bool
+    ensures { IsTrue result ↔ AreLawfulWorkers workers }
+{
+    1 <= workers && workers <= MOST_WORKERS
 }

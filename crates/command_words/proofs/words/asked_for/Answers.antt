@@ -1,4 +1,4 @@
-use Rattle.std.proofs.Common.{codes, rules, ◌∙◌}
+use Rattle.std.proofs.Common.{codes, ◌∙◌}
 use Rattle.clap.specs.Words.{found_of}
 use Rattle.clap.proofs.WalkLemmas.{first_value-rows}
 use Rattle.command_words.proofs.Reading.{command_met, compare_asks_for_none, run_asks_for_none}
@@ -8,17 +8,28 @@ pub returns-in_err-workers_of-in-run-default : goal.returns-in_err-workers_of-in
 returns-in_err-workers_of-in-run-default c =
     let met = command_met c.args.matches.now _ _ c.in_ok-subcommand.ensures.name c.in_ok-subcommand.ensures.rows in
     rw (c.from_residual-in_err-workers_of-in-run-default.ensures, met)
-    (run_asks_for_none _ _ (search rules) c.in_err-workers_of-in-run-default.ensures)
+    (run_asks_for_none _ _ c.in-run-default.is-run-0 c.in_err-workers_of-in-run-default.ensures)
 
 pub returns-in_err-workers_of-in-compare-default : goal.returns-in_err-workers_of-in-compare-default
 returns-in_err-workers_of-in-compare-default c =
     let met = command_met c.args.matches.now _ _ c.in_ok-subcommand.ensures.name c.in_ok-subcommand.ensures.rows in
     rw (c.from_residual-in_err-workers_of-in-compare-default.ensures, met)
-    (compare_asks_for_none _ _ (search rules) c.in_err-workers_of-in-compare-default.ensures)
+    (compare_asks_for_none _ _ c.in-compare-default.is-compare-0 c.in_err-workers_of-in-compare-default.ensures)
 
 pub returns-in_ok-workers_of-in-run-default : goal.returns-in_ok-workers_of-in-run-default
 returns-in_ok-workers_of-in-run-default c =
     let met = command_met c.args.matches.now _ _ c.in_ok-subcommand.ensures.name c.in_ok-subcommand.ensures.rows in
     let read = c.in_ok-workers_of-in-run-default.ensures in
     let trace = c.get_str.ensures ∙ first_value-rows (found_of c.in_ok-subcommand.field-0.1.now) (codes "trace") in
-    rw met ((search rules, trace, read.0), read.1)
+    rw met ((c.in-run-default.is-run-0, trace, read.0), read.1)
+
+pub returns-in_ok-workers_of-in-compare-default : goal.returns-in_ok-workers_of-in-compare-default
+returns-in_ok-workers_of-in-compare-default c =
+    let met = command_met c.args.matches.now _ _ c.in_ok-subcommand.ensures.name c.in_ok-subcommand.ensures.rows in
+    let read = c.in_ok-workers_of-in-compare-default.ensures in
+    rw met ((c.in-compare-default.is-compare-0, read.0), read.1)
+
+pub returns-in-check-default : goal.returns-in-check-default
+returns-in-check-default c =
+    let met = command_met c.args.matches.now _ _ c.in_ok-subcommand.ensures.name c.in_ok-subcommand.ensures.rows in
+    rw met (c.in-check-default.is-check-0, tt)

@@ -1,8 +1,9 @@
 //! Reading the words of a command line.
 
-ghost use Rattle.std.specs.Prelude.{◌↔◌, IfOk, IsTrue, MatchOption, MatchResult, map, ℕ};
-ghost use Rattle.clap.specs.Words.{found_of, kind_of, rows_of, subcommand_rows_of};
+ghost use Rattle.std.specs.Prelude.{◌≡◌, ◌↔◌, IfOk, IsTrue, MatchOption, MatchResult, map, ℕ};
+ghost use Rattle.clap.specs.Words.{app_of, found_of, kind_of, rows_of, subcommand_rows_of};
 ghost use Rattle.command_words.specs.Jobs.{AreWorkersOf, AsksForNone, IsAskedFor};
+ghost use Rattle.command_words.specs.Program.{program};
 ghost use Rattle.command_words.specs.Words.{AskFor, HaveNoJob};
 ghost use Rattle.command_words.specs.inner.Errors.{IsKindAt, IsReason};
 ghost use Rattle.command_words.specs.Workers.{AreLawfulWorkers, HasLawfulWorkers};
@@ -11,7 +12,7 @@ use crate::commands::commands;
 use crate::jobs::Job;
 use bench_types::limits::MOST_WORKERS;
 use clap::error::ErrorKind;
-use clap::{ArgMatches, Error};
+use clap::{ArgMatches, Command, Error};
 use std::alloc::Global;
 use std::convert::AsStr;
 
@@ -53,7 +54,15 @@ fn parse<'a, S: AsStr>(alloc: Global, words: &'a [S]) -> Result<Job<'a>, Error>
     ensures { MatchResult result (AskFor (map S.text words.entry.now))
         (λ error. IsKindAt (map S.text words.entry.now) (kind_of error)) }
 {
-    let mut commands = commands(alloc)?;
+    parse_by(&mut commands(alloc)?, words)
+}
+
+// Reads the words by the commands of the program.
+fn parse_by<'a, S: AsStr>(commands: &mut Command<'a>, words: &'a [S]) -> Result<Job<'a>, Error>
+    requires { app_of commands.old ≡ program }
+    ensures { MatchResult result (AskFor (map S.text words.entry.now))
+        (λ error. IsKindAt (map S.text words.entry.now) (kind_of error)) }
+{
     let matches = commands.try_get_matches_from_mut(words)?;
     match asked_for(&matches) {
         Some(job) => Ok(job),

@@ -1,3 +1,4 @@
 pub mod Additions
 pub mod Faults
 pub mod Reading
+pub mod Examples

@@ -1,4 +1,5 @@
 -- What some words come to, so that the definitions can be seen to say what they are to say.
+-- Serves no file: it is for readers.
 use Rattle.std.proofs.Common.{◌≡◌, List, [], ◌∷◌, Option, Some, None, codes, refl}
 use Rattle.clap.specs.Words.{Text, first_of, one_of}
 use Rattle.clap.proofs.OnLiterals.{clap_on_literals}

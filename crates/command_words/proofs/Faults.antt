@@ -1,5 +1,5 @@
 -- From what `clap` says of the program to what the words come to.
--- Serves `job_of` and `parse`.
+-- Serves `job_of` and `parse_by`.
 use Rattle.std.proofs.Common.{◌≡◌, ◌∙◌, List, [], Result, Ok, Err, true, ap, inl, inr, refl, subst, MatchResult, IsErrAnd}
 use Rattle.command_words.specs.declared.jobs.Job.{Job}
 use Rattle.clap.specs.Words.{App, FailsBy, HasKind, HasMatchesOf, Text, fault_of, is_simple, is_simple_and_free, kind_of, subcommand_of, subcommand_rows_of}

@@ -2,7 +2,8 @@
 # grid.sh [-o FOLDER] FIELD=VALUE,VALUE.. .. < SCENARIO
 # Runs the scenario with each choice of values, in all four modes where `mode` isn't among the fields. The folder,
 # `runs` where none is named, gets the scenario and the report of each run, as budget-600.mode-precise-oldest.csv.
-# A report that is there isn't made again. read_runs.py reads them.
+# A report that is there isn't made again. A folder takes runs of one scenario and of the same fields in the same order,
+# so that read_runs.py can read them.
 # The runs go at once on all cores, or JOBS of them, by GNU parallel where it is there, else by xargs. With GNU
 # parallel they also go to HOSTS, as in HOSTS=:,alpha,beta, where `:` is this machine: each has the program under the
 # same path, and rsync.
@@ -82,6 +83,11 @@ trap 'exit 143' TERM
 cat >"$room/scenario" || refuse "the scenario can't be read."
 if [ -f "$folder/scenario" ]; then
     cmp -s "$room/scenario" "$folder/scenario" || refuse "$folder has runs of another scenario: name a new folder."
+    # (the name of a run has its fields, as budget and mode in budget-600.mode-precise-oldest)
+    wanted=$(printf '%s\n' "$@" | sed 's/=.*//' | paste -s -d . -)
+    others=$(ls "$folder" | sed -n 's/\.toml$//p; s/\.csv$//p' | grep -e - | sed 's/-[^.]*//g' |
+        grep -Fvx "$wanted" | sed 's/\./, /g; q')
+    [ -z "$others" ] || refuse "$folder has runs of the fields $others: take these, in this order, or a new folder."
 elif [ -n "$(ls -A "$folder" 2>/dev/null)" ]; then
     refuse "$folder isn't empty and has no runs: name a new folder."
 fi

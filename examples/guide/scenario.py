@@ -54,7 +54,7 @@ def told(words):
             if text not in TEXTS[name]:
                 refuse(f"{name} is one of {', '.join(TEXTS[name])}.")
         elif not re.fullmatch(r"[0-9]+(\.[0-9]+)?" if name == "loss" else "[0-9]+", text):
-            refuse(f"{name} is a number, which '{text}' isn't.")
+            refuse(f"{name} is a {'' if name == 'loss' else 'whole '}number, which '{text}' isn't.")
         else:
             values[name] = Fraction(text)
     return values

@@ -1,4 +1,4 @@
--- What some words come to, so that the definitions can be seen to say what they are to say.
+-- What some words come to.
 -- Serves no file: it is for readers.
 use Rattle.std.proofs.Common.{◌≡◌, List, [], ◌∷◌, Option, Some, None, codes, refl}
 use Rattle.clap.specs.Words.{Text, first_of, one_of}

@@ -21,11 +21,11 @@ AsksFor name options (Run trace workers) = (name ≡ codes "run")
     × AreWorkersOf options workers
 AsksFor name options (Compare workers) = (name ≡ codes "compare") × AreWorkersOf options workers
 
--- the same of a command that there may be, where the number of workers is a lawful one
+-- there is a command, and it asks for the job, with a lawful number of workers
 abbrev pub IsAskedFor : Option (Text × List Row) → Job → Type 0
 IsAskedFor None job = ⊥
 IsAskedFor (Some command) job = AsksFor command.0 command.1 job × HasLawfulWorkers job
 
--- it asks for no such job
+-- there is none, or it asks for no such job
 abbrev pub AsksForNone : Option (Text × List Row) → Type 0
 AsksForNone command = (job : Job) → IsAskedFor command job → ⊥

@@ -204,7 +204,8 @@ fn linked_to(links: &[Link], version: u32) -> Option<Write>
     requires few { length links.now < 2 ^ 32 }
     requires within { version ≤ length links.now }
     ensures none { version ≡ 0 → result ≡ None }
-    ensures some { (d : Write) → 0 < version → result ≡ Some (slice_index_or (writes_linked links.now) (version - 1) d) }
+    ensures some { (d : Write) → 0 < version
+        → result ≡ Some (slice_index_or (writes_linked links.now) (version - 1) d) }
 {
     match version.checked_sub(1) {
         Some(at) => Some(write_at(links, at as usize)),

@@ -3,8 +3,8 @@
 #![tactic(auto)]
 
 mod copies;
-mod staleness;
 mod lists;
+mod staleness;
 
-pub use staleness::figures;
 pub use lists::{OwnerList, Write};
+pub use staleness::figures;

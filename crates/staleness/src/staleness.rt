@@ -159,7 +159,10 @@ fn staleness_of_owner(
     let mut total = NOTHING_STALE;
     for key in 0..tables[0].keys() {
         let seen = copies[start + key as usize];
-        total = joined(total, staleness_of_key(tables, lists, owner, key, seen, round));
+        total = joined(
+            total,
+            staleness_of_key(tables, lists, owner, key, seen, round),
+        );
     }
     total
 }

@@ -1,5 +1,5 @@
 -- A claim and the moves of tables keep the rule.
--- Serves `Board::claim`, `Finishing` and `Moving`.
+-- Serves `Finishing`, `Moving` and `Steps`.
 use Rattle.std.proofs.Common.{◌≡◌, ◌≢◌, ℕ, ◌+◌, ◌<◌, true, false, eqb, List, [], ◌∷◌, length, get_or, set, Some, inl, inr, refl, sym, ap, ◌∙◌, subst, arith, length-set, get_or-set_same, get_or-set_other}
 use Rattle.std.proofs.lemmas.Bool.{cases_eq}
 use mathlib.Core.Option.{some, none}
@@ -14,10 +14,10 @@ use Rattle.dependencies.specs.Sharing.{takes_part}
 use Rattle.dependencies.proofs.Sharers.{initiator_part, responder_part, not_initiator, not_responder, part_cases}
 use Rattle.board.specs.Weights.{total, only, times}
 use Rattle.board.specs.SeatView.{SeatView, with_told}
-use Rattle.board.specs.Plan.{BoardPlan, initiator_of, responder_of}
+use Rattle.board.specs.Plan.{BoardPlan, table_at, initiator_of, responder_of}
 use Rattle.board.specs.Rule.{Slot, Home, TAKEN, exchange_word, made_in, held_in, running_in, freed_in, owed_to, finished_in, Orderly}
 use Rattle.board.specs.Seats.{Sat, view, resting}
-use Rattle.board.specs.inner.Plays.{ClaimTells, TookOut, claimed}
+use Rattle.board.specs.inner.Plays.{ClaimTells, TookOut, slots_of, claimed}
 use Rattle.board.specs.declared.views.View.{View}
 use Rattle.board.proofs.Sums.{total-append, only-same, only-other, times-without, term_le}
 use Rattle.board.proofs.Parts.{order_claimed, words_claimed, freed_kept, tables_claimed}
@@ -130,12 +130,12 @@ module _ (plan : BoardPlan) (id : ℕ) (v : SeatView) (some_parts : 0 < v.parts)
         let a = table_there plan s o i in_list is p planned.initiator (initiator_part plan.list.exchanges i) in
         let b = table_there plan s o i in_list is q planned.responder (responder_part plan.list.exchanges i) in (
           w,
-          chain (takes p (Some a.0)) (takes q (Some b.0)),
-          (a.1, set_else s.homes p q none (λ e. planned.apart (sym e)) ∙ b.1),
+          chain (takes p (Some (table_at plan p i))) (takes q (Some (table_at plan q i))),
+          (a, set_else s.homes p q none (λ e. planned.apart (sym e)) ∙ b),
           won (set (set s.homes p none) q none) (length-set (set s.homes p none) q none ∙ length-set s.homes p none) (λ node out. ends_else plan i node s.homes none none out),
-          told_of plan v i (get_or s.words (i + 1) 0) (step n (i + 1) 0 TAKEN said) (w, (q, Some b.0) ∷ (p, Some a.0) ∷ []) refl (
+          told_of plan v i (get_or s.words (i + 1) 0) (step n (i + 1) 0 TAKEN said) (w, slots_of plan i) refl (
             claim_tells plan s o id (resting plan v) me refl refl i in_list,
-            (λ _. record { initiator = a.0; responder = b.0; seat = refl; first = a.2; second = b.2 }),
+            (λ _. refl),
             (λ taken. absurd (omega (arith, taken, is))),
             (λ not_ready. absurd (not_ready is)),
           ),

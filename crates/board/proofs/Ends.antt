@@ -7,7 +7,7 @@ use mathlib.Core.Option.{some, some-injective, some-ne-none}
 use lib.ListN.{get_elem?}
 use Rattle.atomic_table.specs.Table.{State, Splits, Joins, opening, Final, Seen}
 use Rattle.atomic_table.proofs.Lists.{at_set, at_snoc, at_map, set_else}
-use Rattle.node_table.specs.NodeTableView.{NodeTableView}
+use Rattle.node_table.specs.Table.{Table}
 use Rattle.dependencies.specs.Sharing.{takes_part}
 use Rattle.dependencies.specs.Neighbours.{predecessors, pending_of}
 use Rattle.cluster.specs.Tables.{table_of_node}
@@ -16,7 +16,7 @@ use Rattle.board.specs.SeatView.{SeatView, IsWhole, split_left, split_right, joi
 use Rattle.board.specs.inner.Plays.{spent_seat}
 use Rattle.board.specs.Plan.{BoardPlan, IsBoardPlan, table_at}
 use Rattle.board.specs.Rule.{Slot, exchange_word, made_in, held_in, running_in, freed_in, owed_from, owed_to, from_only, to_only, finished_in, IsSpent, OwesForMade, Orderly}
-use Rattle.board.specs.Seats.{view, resting, LookTells}
+use Rattle.board.specs.Seats.{resting, LookTells}
 use Rattle.board.specs.inner.Plays.{opened_view, is_odd}
 use Rattle.board.specs.declared.views.View.{View}
 use Rattle.board.proofs.Sums.{total-append, total-set, term_le, terms_le}
@@ -203,7 +203,7 @@ pub record IsOpening (plan : BoardPlan) (words : List ℕ) (slots : List Slot) :
   pub count : get_or words 0 0 ≡ 0
   pub waits : (i : ℕ) → i < length plan.list.exchanges → exchange_word words i ≡ pending_of plan.list.exchanges i
   pub size : length slots ≡ plan.list.nodes
-  pub tables : (node : ℕ) → node < plan.list.nodes → (kept : NodeTableView) × (get_elem? slots node ≡ some (Some kept)) × (kept.table ≡ table_of_node plan.tables node)
+  pub tables : (node : ℕ) → node < plan.list.nodes → get_elem? slots node ≡ some (Some (table_of_node plan.tables node))
 
 pub starts : (plan : BoardPlan) (words : List ℕ) (slots : List Slot) → IsBoardPlan plan → IsOpening plan words slots → Orderly plan (opening words slots (opened_view plan))
 starts plan words slots planned is = record {
@@ -226,14 +226,11 @@ starts plan words slots planned is = record {
   tables = record {
     size = length-map slots some ∙ is.size;
     home = λ node k in_node in_k below none.
-        let kept = is.tables node in_node in (
-          kept.0,
-          at_map some slots node (Some kept.0) kept.1,
-          kept.2 ∙ sym (table_quiet plan node 0 k (omega arith) in_k (λ j from less. elim (cases_Bool (takes_part plan.list.exchanges node j)) [
-            | inl part ↦ absurd (omega (arith, below j less part))
-            | inr out ↦ out
-          ])),
-        );
+        at_map some slots node (Some (table_of_node plan.tables node)) (is.tables node in_node)
+        ∙ ap (λ (t : Table). some (some (Some t))) (sym (table_quiet plan node 0 k (omega arith) in_k (λ j from less. elim (cases_Bool (takes_part plan.list.exchanges node j)) [
+          | inl part ↦ absurd (omega (arith, below j less part))
+          | inr out ↦ out
+        ])));
     away = λ i node holds. absurd (omega (arith, holds));
   };
   stop = 0;
@@ -266,7 +263,7 @@ starts plan words slots planned is = record {
 pub record EndTells (plan : BoardPlan) (v : SeatView) (words : List ℕ) (slots : List Slot) : Type 0 where
   pub tells : LookTells plan.list.exchanges v (get_or words 0 0 / 2) (is_odd (get_or words 0 0))
   pub whole : IsWhole v → get_or words 0 0 / 2 ≡ length plan.list.exchanges → (i : ℕ) → i < length plan.list.exchanges → times i v.made ≡ 1
-  pub tables : get_or words 0 0 / 2 ≡ length plan.list.exchanges → (node : ℕ) → node < plan.list.nodes → (kept : NodeTableView) × (get_elem? slots node ≡ some (Some kept)) × (kept.table ≡ table_at plan node (length plan.list.exchanges))
+  pub tables : get_or words 0 0 / 2 ≡ length plan.list.exchanges → (node : ℕ) → node < plan.list.nodes → get_elem? slots node ≡ some (Some (table_at plan node (length plan.list.exchanges)))
 
 pub ends : (plan : BoardPlan) (id : ℕ) (m : View) (v : SeatView) (words : List ℕ) (slots : List Slot) → m ≡ resting plan v → Final (Seen (Orderly plan) id m) words slots → EndTells plan v words slots
 ends plan id m v words slots e final =
@@ -279,6 +276,6 @@ ends plan id m v words slots e final =
       whole = λ whole all i within. sym (whole_made plan s o id (resting plan v) me whole i) ∙ all_finished plan s o (sym half ∙ ap (λ ws. get_or ws 0 0 / 2) final.2 ∙ all) i within;
       tables = λ all node in_node.
           let finished : finished_in s.views ≡ length plan.list.exchanges = sym half ∙ ap (λ ws. get_or ws 0 0 / 2) final.2 ∙ all in
-          let there = o.tables.home node (length plan.list.exchanges) in_node (omega arith) (λ j less part. all_finished plan s o finished j less) (λ j from part. o.in_order.within j from) in
-          (there.0, final.4 node (Some there.0) there.1, there.2);
+          final.4 node (Some (table_at plan node (length plan.list.exchanges)))
+          (o.tables.home node (length plan.list.exchanges) in_node (omega arith) (λ j less part. all_finished plan s o finished j less) (λ j from part. o.in_order.within j from));
     }

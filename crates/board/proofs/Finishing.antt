@@ -1,5 +1,5 @@
 -- A finish, a release, a look and a stop keep the rule.
--- Serves `Board::join`, `Board::look`, `Board::put_in`, `Board::release` and `Board::stop`.
+-- Serves `Steps`.
 use Rattle.std.proofs.Common.{◌≡◌, ◌≢◌, ℕ, ◌+◌, ◌-◌, ◌*◌, ◌/◌, ◌%◌, ◌<◌, ◌≤◌, Bool, true, ◌==◌, ◌^◌, if◌then◌else◌, List, [], ◌∷◌, ◌++◌, length, map, drop, eq-zero-or-pos, ◌↔◌, All, get_or, set, Some, inl, inr, refl, sym, ap, ◌∙◌, subst, arith, length-set, get_or-set_same, get_or-set_other}
 use Rattle.std.proofs.lemmas.Bool.{cases_eq, cases_lt, eq-eqb, ne_eqb, eqb-true}
 use mathlib.Core.Option.{some, none}
@@ -10,7 +10,7 @@ use lib.Seq.{set-get_or}
 use lib.Bits.{bit_or, or_shifted, or_add_and, and_mask}
 use Rattle.atomic_table.specs.Table.{step, keeps, gives, chain, Allows}
 use Rattle.atomic_table.proofs.Lists.{at_set}
-use Rattle.node_table.specs.NodeTableView.{NodeTableView}
+use Rattle.node_table.specs.Table.{Table}
 use Rattle.dependencies.specs.Sharing.{takes_part}
 use Rattle.dependencies.specs.Neighbours.{predecessors, pending_of}
 use Rattle.dependencies.proofs.Moves.{initiator_left, responder_left}
@@ -72,7 +72,7 @@ module _ (plan : BoardPlan) (id : ℕ) (v : SeatView) (some_parts : 0 < v.parts)
   odd_stop is = sym odd ∙ eqb-true (r % 2) 1 is
 
   -- a finish
-  module _ (i : ℕ) (a b : NodeTableView) (me : get_elem? s.views id ≡ some (view plan v (i ∷ []) [])) (first : a.table ≡ (exchanged_at plan i).initiator) (second : b.table ≡ (exchanged_at plan i).responder) where
+  module _ (i : ℕ) (a b : Table) (me : get_elem? s.views id ≡ some (view plan v (i ∷ []) [])) (first : a ≡ (exchanged_at plan i).initiator) (second : b ≡ (exchanged_at plan i).responder) where
     abbrev old : View
     old = view plan v (i ∷ []) []
 
@@ -116,10 +116,11 @@ module _ (plan : BoardPlan) (id : ℕ) (v : SeatView) (some_parts : 0 < v.parts)
     filled node part =
         let planned = planned_at plan o.planned i within in
         let among = subst (λ n. All (Rattle.bench_types.specs.Exchange.IsPlanned n) es) (sym o.planned.tables) o.planned.list.planned in
-        let there = ends_here (λ n x. (kept : NodeTableView) × (x ≡ some (Some kept)) × (kept.table ≡ table_at plan n (i + 1))) plan i s.homes (some (Some a)) (some (Some b)) planned.apart
+        let there = ends_here (λ n x. x ≡ some (Some (table_at plan n (i + 1)))) plan i s.homes (some (Some a)) (some (Some b)) planned.apart
         (omega (arith, o.tables.size, planned.initiator)) (omega (arith, o.tables.size, planned.responder))
-        (a, refl, first ∙ sym (initiator_left plan.rules plan.tables es among i within)) (b, refl, second ∙ sym (responder_left plan.rules plan.tables es among i within)) node part in
-        (there.2.0, there.1 ∙ ap some there.2.1, there.2.2)
+        (ap (λ (t : Table). some (Some t)) (first ∙ sym (initiator_left plan.rules plan.tables es among i within)))
+        (ap (λ (t : Table). some (Some t)) (second ∙ sym (responder_left plan.rules plan.tables es among i within))) node part in
+        there.1 ∙ ap some there.2
 
     new : Orderly plan record { words = set s.words 0 ((r + 2) % 2 ^ 64); homes = homes'; views = after }
     new = record {
@@ -166,8 +167,8 @@ module _ (plan : BoardPlan) (id : ℕ) (v : SeatView) (some_parts : 0 < v.parts)
           ),
     )
 
-pub finishes : (plan : BoardPlan) (n id : ℕ) (m : Sat) (v : SeatView) (i : ℕ) (a b : NodeTableView) → 0 < v.parts
-    → a.table ≡ (exchanged_at plan i).initiator → b.table ≡ (exchanged_at plan i).responder → m ≡ (view plan v (i ∷ []) [], (initiator_of plan i, Some a) ∷ (responder_of plan i, Some b) ∷ [])
+pub finishes : (plan : BoardPlan) (n id : ℕ) (m : Sat) (v : SeatView) (i : ℕ) (a b : Table) → 0 < v.parts
+    → a ≡ (exchanged_at plan i).initiator → b ≡ (exchanged_at plan i).responder → m ≡ (view plan v (i ∷ []) [], (initiator_of plan i, Some a) ∷ (responder_of plan i, Some b) ∷ [])
     → Allows (Orderly plan) n id m 0 (λ x. (x + 2) % 2 ^ 64) (finished (step n 0 2 0 none) m)
 finishes plan n id m v i a b some_parts first second e = subst (λ (x : Sat). Allows (Orderly plan) n id x 0 (λ y. (y + 2) % 2 ^ 64) (finished (step n 0 2 0 none) x)) (sym e)
     (λ s o wide me _. goes_finished plan id v some_parts s o i a b me first second n)

@@ -4,12 +4,15 @@ pub mod Parts
 pub mod Keeps
 pub mod Telling
 pub mod Claims
+pub mod Modelled
 pub mod Moving
 pub mod Finishing
+pub mod Steps
 pub mod Ends
 pub mod Calls
 pub mod Filling
 pub mod Scheduled
+pub mod Knowing
 pub mod Claimed
 pub mod Meeting
 pub mod Returning

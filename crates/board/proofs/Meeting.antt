@@ -2,20 +2,21 @@
 -- Serves `every_hold_may_be_exchanged` and `pool`.
 use Rattle.std.proofs.Common.{◌<◌, ◌∙◌, sym, subst}
 use Rattle.bench_types.specs.Exchange.{IsPlanned}
+use Rattle.node_table.specs.Table.{Table}
 use Rattle.cluster.specs.Tables.{table_of_node, IsTableOf}
 use Rattle.cluster.proofs.FoldLaws.{before_tables}
 use Rattle.dependencies.specs.Sharing.{exchange_at, no_exchange}
 use Rattle.board.specs.Laws.{EachHoldMayBeExchanged}
 
-pub may_be_exchanged : EachHoldMayBeExchanged
-may_be_exchanged plan i hold round cluster within found =
+pub may_be_exchanged : {T : Type 0} (table : T → Table) → EachHoldMayBeExchanged table
+may_be_exchanged table plan i hold round cluster within found =
     let nodes = plan.list.nodes in
     let keys = (table_of_node plan.tables 0).keys in
     let e = exchange_at plan.list.exchanges i in
     let planned : IsPlanned nodes e = round.planned i no_exchange within in
     let before = before_tables plan.rules nodes keys plan.list.exchanges plan.tables round.planned cluster i in
-    let p : IsTableOf nodes keys e.initiator hold.initiator.table = subst (IsTableOf nodes keys e.initiator) (sym found.initiator) (before.tables e.initiator planned.initiator) in
-    let q : IsTableOf nodes keys e.responder hold.responder.table = subst (IsTableOf nodes keys e.responder) (sym found.responder) (before.tables e.responder planned.responder) in record {
+    let p : IsTableOf nodes keys e.initiator (table hold.initiator) = subst (IsTableOf nodes keys e.initiator) (sym found.initiator) (before.tables e.initiator planned.initiator) in
+    let q : IsTableOf nodes keys e.responder (table hold.responder) = subst (IsTableOf nodes keys e.responder) (sym found.responder) (before.tables e.responder planned.responder) in record {
       first = p.node;
       second = q.node;
       nodes = p.nodes ∙ sym q.nodes;

@@ -1,5 +1,5 @@
 -- The moves of tables between two steps on words keep the rule.
--- Serves `Board::put_in`, `Board::take_out` and `Finishing`.
+-- Serves `Finishing` and `Steps`.
 use Rattle.std.proofs.Common.{◌≡◌, ℕ, ◌+◌, ◌*◌, ◌<◌, List, [], ◌∷◌, length, get_or, set, None, inl, inr, refl, sym, ap, ◌∙◌, subst, arith, length-set}
 use Rattle.std.proofs.lemmas.Bool.{cases_lt}
 use mathlib.Core.Option.{some, none}

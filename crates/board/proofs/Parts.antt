@@ -1,7 +1,7 @@
 -- What a claim, a move of tables, a finish and a release make of the parts of the rule. Here the lists of all seats stand
 -- as counts by index.
 -- Serves most of the crate.
-use Rattle.std.proofs.Common.{◌≡◌, ◌≢◌, ℕ, zero, suc, ◌+◌, ◌<◌, ◌≤◌, ◌⊎◌, true, false, List, length, None, inl, inr, sym, ap, ◌∙◌, subst, arith}
+use Rattle.std.proofs.Common.{◌≡◌, ◌≢◌, ℕ, zero, suc, ◌+◌, ◌<◌, ◌≤◌, ◌⊎◌, true, false, List, length, None, Some, inl, inr, sym, ap, ◌∙◌, subst, arith}
 use Rattle.std.proofs.lemmas.Bool.{cases_Bool, cases_eq, cases_lt, false≢true}
 use mathlib.Core.Option.{some}
 use lib.ListN.{get_elem?}
@@ -10,6 +10,7 @@ use Rattle.dependencies.specs.Sharing.{takes_part, share_node}
 use Rattle.dependencies.specs.Neighbours.{predecessors, pending_of}
 use Rattle.dependencies.proofs.Predecessors.{share_from}
 use Rattle.dependencies.proofs.Moves.{table_still}
+use Rattle.node_table.specs.Table.{Table}
 use Rattle.board.specs.Weights.{only, times}
 use Rattle.board.specs.Plan.{BoardPlan, table_at}
 use Rattle.board.specs.inner.Plays.{successor_list}
@@ -220,7 +221,7 @@ module _ (plan : BoardPlan) (made running held made' running' held' : ℕ → �
     ]
 
     other_home : (node m : ℕ) → node < plan.list.nodes → m ≤ length es → takes_part es node k ≡ false → AreFinishedBelow es made node m → NoneIsClaimedFrom es made running node m → HasTable homes' node (table_at plan node m)
-    other_home node m in_node in_m out below none = let was = tables.home node m in_node in_m below none in (was.0, others node out ∙ was.1, was.2)
+    other_home node m in_node in_m out below none = others node out ∙ tables.home node m in_node in_m below none
 
     pub tables_claimed : ((i : ℕ) → made' i ≡ made i) → ((i : ℕ) → running' i ≡ running i + only k i) → ((i : ℕ) → held' i ≡ held i) → made k + running k ≡ 0 → ((j : ℕ) → j < k → share_node es k j ≡ true → made j ≡ 1) → HasTables plan made' running' held' homes'
     tables_claimed same more as_held fresh earlier = record {
@@ -281,16 +282,13 @@ module _ (plan : BoardPlan) (made running held made' running' held' : ℕ → �
           | inl part ↦ elim (cases_lt k m) [
             | inr from ↦ absurd (omega (arith, none k from part, same k, runs_k))
             | inl less ↦
-                let was = here node part in (
-                  was.0,
-                  was.1,
-                  was.2 ∙ sym (table_quiet plan node (k + 1) m (omega (arith, less)) in_m (λ j after before. elim (cases_Bool (takes_part es node j)) [
-                    | inr out ↦ out
-                    | inl in_j ↦
-                        let made_j : made j ≡ 1 = omega (arith, below j before in_j, more j, only-other k j (λ e. omega (arith, e, after))) in
-                        absurd (omega (arith, order.free j k (omega (arith, made_j)) (omega (arith, after)) (share_from es node j k in_j part), unfinished))
-                  ])),
-                )
+                here node part
+                ∙ ap (λ (t : Table). some (some (Some t))) (sym (table_quiet plan node (k + 1) m (omega (arith, less)) in_m (λ j after before. elim (cases_Bool (takes_part es node j)) [
+                  | inr out ↦ out
+                  | inl in_j ↦
+                      let made_j : made j ≡ 1 = omega (arith, below j before in_j, more j, only-other k j (λ e. omega (arith, e, after))) in
+                      absurd (omega (arith, order.free j k (omega (arith, made_j)) (omega (arith, after)) (share_from es node j k in_j part), unfinished))
+                ])))
           ]
           | inr out ↦ other_home node m in_node in_m out (λ j less part. omega (arith, below j less part, more j, only-other k j (λ e. false≢true (sym out ∙ subst (λ n. takes_part es node n ≡ true) e part)))) (λ j from part. omega (arith, same j, none j from part))
         ];

@@ -1,6 +1,6 @@
 -- The lawful schedule at which a board stands.
 -- Serves `every_board_keeps_a_schedule`.
-use Rattle.std.proofs.Common.{◌≡◌, ℕ, zero, suc, ◌+◌, ◌<◌, ◌≤◌, ◌⊎◌, Bool, true, false, not, ◌&&◌, ◌||◌, if◌then◌else◌, nat_lt, List, length, All, Some, inl, inr, refl, sym, ap, ◌∙◌, subst, arith}
+use Rattle.std.proofs.Common.{◌≡◌, ℕ, zero, suc, ◌+◌, ◌<◌, ◌≤◌, ◌⊎◌, Bool, true, false, not, ◌&&◌, ◌||◌, if◌then◌else◌, nat_lt, List, length, All, inl, inr, refl, sym, ap, ◌∙◌, subst, arith}
 use Rattle.std.proofs.lemmas.Bool.{cases_Bool, cases_eq, cases_lt, false≢true, and_parts, and_from, lt-ltb, le-ltb}
 use Rattle.bench_types.specs.declared.exchanges.Exchange.{Exchange}
 use Rattle.bench_types.specs.Exchange.{IsPlanned}
@@ -13,7 +13,7 @@ use Rattle.dependencies.proofs.Predecessors.{predecessors_earlier, share_from}
 use Rattle.dependencies.proofs.Sets.{below, schedule_from}
 use Rattle.dependencies.proofs.Lawful.{in_list_order}
 use Rattle.atomic_table.specs.Table.{State}
-use Rattle.board.specs.Plan.{BoardPlan}
+use Rattle.board.specs.Plan.{BoardPlan, table_at}
 use Rattle.board.specs.Rule.{Slot, made_in, running_in, AreFinishedBelow, NoneIsClaimedFrom, Orderly}
 use Rattle.board.specs.Laws.{IsScheduled, EachKeepsASchedule}
 use Rattle.board.specs.declared.views.View.{View}
@@ -130,7 +130,7 @@ module _ (plan : BoardPlan) (s : State Slot View) (o : Orderly plan s) where
         ] in
         let there = o.tables.home node k in_node within finished_below none_from in
         let state = in_list_order plan.rules plan.tables es events among (schedule_from es first second closed).lawful in
-        (there.0, there.1, state.home node (omega (arith, in_node, o.planned.tables)) idle ∙ ap Some (sym there.2));
+        (table_at plan node k, there, state.home node (omega (arith, in_node, o.planned.tables)) idle);
   }
 
 pub keeps_a_schedule : EachKeepsASchedule

@@ -1,5 +1,5 @@
 -- What a seat may conclude from the rule.
--- Serves `every_whole_seat_knows_its_own`, `Claims`, `Ends`, `Finishing` and `Moving`.
+-- Serves `Claims`, `Ends`, `Finishing`, `Knowing` and `Moving`.
 use Rattle.std.proofs.Common.{◌≡◌, ◌≢◌, ℕ, ◌+◌, ◌*◌, ◌/◌, ◌%◌, ◌<◌, ◌≤◌, true, List, [], length, get_or, Option, None, Some, inl, inr, sym, ap, ◌∙◌, subst, arith, All}
 use Rattle.std.proofs.lemmas.Bool.{cases_Bool, cases_eq, cases_lt, eq-eqb, eqb-true}
 use Rattle.std.proofs.lemmas.List.{length-append}

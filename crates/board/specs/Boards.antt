@@ -1,19 +1,18 @@
 -- What the calls of a board say. Source: this project.
-use Rattle.std.specs.Prelude.{◌≡◌, ◌≢◌, ℕ, ◌+◌, ◌<◌, ◌≤◌, ◌↔◌, ◌⊎◌, Bool, true, List, ◌++◌, length, All, Option, None, Some}
+use Rattle.std.specs.Prelude.{◌≡◌, ◌≢◌, ℕ, ◌+◌, ◌<◌, ◌≤◌, ◌↔◌, ◌⊎◌, Bool, true, List, ◌++◌, length, map, All, Option, None, Some}
 use Rattle.round_plan.specs.Plan.{RoundListView}
 use Rattle.bench_types.specs.declared.exchanges.Rules.{Rules}
 use Rattle.bench_types.specs.declared.faults.Fault.{Fault}
 use Rattle.bench_types.specs.declared.faults.Fault.TheVariants.{Unfinished}
 use Rattle.atomic_table.specs.Seated.{TableId}
 use Rattle.bench_types.specs.declared.exchanges.Exchange.{Exchange}
-use Rattle.node_table.specs.NodeTableView.{NodeTableView}
+use Rattle.node_table.specs.Table.{Table}
 use Rattle.dependencies.specs.Neighbours.{predecessors, pending_of, successors}
 use Rattle.board.specs.Weights.{times, Has}
 use Rattle.board.specs.SeatView.{SeatView, IsWhole, with_held, with_told, without_held, with_made, freed_by, having_seen, having_stopped}
 use Rattle.board.specs.Plan.{BoardPlan, table_at, initiator_of, responder_of, exchanged_at}
 use Rattle.board.specs.Keys.{key_plan}
 use Rattle.board.specs.Seats.{Rests, LookTells}
-use Rattle.cluster.specs.Tables.{tables_in}
 use Rattle.cluster.specs.Folds.{fold_of}
 use Rattle.board.specs.declared.boards.Board.{Board}
 use Rattle.board.specs.declared.boards.Seat.{Seat}
@@ -23,24 +22,24 @@ use Rattle.board.specs.declared.boards.Claim.TheVariants.{Held, Taken, NotReady}
 use Rattle.board.specs.declared.boards.Freed.{Freed}
 use Rattle.board.specs.declared.boards.Progress.{Progress}
 
-abbrev pub board_id : Board → TableId
+abbrev pub board_id : {T : Type 0} → Board T → TableId
 board_id board = board.table.shared.table_id
 
 -- what the board was made of
-abbrev pub plan_of : Board → BoardPlan
-plan_of board = key_plan board.table.shared.key
+abbrev pub plan_of : {T : Type 0} → (T → Table) → Board T → BoardPlan
+plan_of table board = key_plan table board.table.shared.key
 
-abbrev pub exchanges_of : Board → List Exchange
-exchanges_of board = (plan_of board).list.exchanges
+abbrev pub exchanges_of : {T : Type 0} → Board T → List Exchange
+exchanges_of board = board.table.shared.key.list.value.exchanges
 
 -- what contracts see of a seat
-abbrev pub seat_view : Seat → SeatView
+abbrev pub seat_view : {T : Type 0} → Seat T → SeatView
 seat_view seat = seat.raw.me.0.seat
 
 -- the board made the seat, or another seat of it was split to make it
-pub record IsSeatOf (seat : Seat) (board : Board) : Type 0 where
+pub record IsSeatOf {T : Type 0} (table : T → Table) (seat : Seat T) (board : Board T) : Type 0 where
   pub id : seat.raw.table_id ≡ board_id board
-  pub plan : seat.raw.me.0.plan ≡ plan_of board
+  pub plan : seat.raw.me.0.plan ≡ plan_of table board
   pub rests : Rests seat.raw.me
   pub within : (i : ℕ) → Has seat.raw.me.0.seat.held i → i < length (exchanges_of board)
 
@@ -49,10 +48,10 @@ abbrev pub IsNewTo : SeatView → ℕ → Type 0
 IsNewTo v i = times i v.made + times i v.held + times i v.told + times i v.known ≡ 0
 
 -- a hold of an exchange, with the two tables that it finds in list order
-pub record IsHoldOf (plan : BoardPlan) (i : ℕ) (hold : Hold) : Type 0 where
+pub record IsHoldOf {T : Type 0} (table : T → Table) (plan : BoardPlan) (i : ℕ) (hold : Hold T) : Type 0 where
   pub index : hold.index ≡ i
-  pub initiator : hold.initiator.table ≡ table_at plan (initiator_of plan i) i
-  pub responder : hold.responder.table ≡ table_at plan (responder_of plan i) i
+  pub initiator : table hold.initiator ≡ table_at plan (initiator_of plan i) i
+  pub responder : table hold.responder ≡ table_at plan (responder_of plan i) i
 
 -- a claim that was refused since another has the exchange, and one that came too early
 pub record IsTooEarly (plan : BoardPlan) (v : SeatView) (i : ℕ) : Type 0 where
@@ -65,16 +64,16 @@ abbrev pub AreMade : BoardPlan → SeatView → ℕ → Type 0
 AreMade plan v i = All (Has v.made) (predecessors plan.list.exchanges i)
 
 -- what a claim answers, and what it makes of the seat
-abbrev pub Claims : BoardPlan → SeatView → ℕ → Claim → SeatView → Type 0
-Claims plan old i (Held hold) new = IsHoldOf plan i hold × (new ≡ with_held old i) × IsNewTo old i × (IsWhole old → AreMade plan old i)
-Claims plan old i Taken new = (new ≡ with_told old i) × (IsWhole old → Has (old.made ++ old.held) i)
-Claims plan old i NotReady new = (new ≡ old) × IsTooEarly plan old i
+abbrev pub Claims : {T : Type 0} → (T → Table) → BoardPlan → SeatView → ℕ → Claim T → SeatView → Type 0
+Claims table plan old i (Held hold) new = IsHoldOf table plan i hold × (new ≡ with_held old i) × IsNewTo old i × (IsWhole old → AreMade plan old i)
+Claims table plan old i Taken new = (new ≡ with_told old i) × (IsWhole old → Has (old.made ++ old.held) i)
+Claims table plan old i NotReady new = (new ≡ old) × IsTooEarly plan old i
 
 -- what put_back asks: the seat has claimed it, and the tables are those that the exchange leaves
-pub record MayPutBack (plan : BoardPlan) (v : SeatView) (hold : Hold) : Type 0 where
+pub record MayPutBack {T : Type 0} (table : T → Table) (plan : BoardPlan) (v : SeatView) (hold : Hold T) : Type 0 where
   pub held : Has v.held hold.index
-  pub initiator : hold.initiator.table ≡ (exchanged_at plan hold.index).initiator
-  pub responder : hold.responder.table ≡ (exchanged_at plan hold.index).responder
+  pub initiator : table hold.initiator ≡ (exchanged_at plan hold.index).initiator
+  pub responder : table hold.responder ≡ (exchanged_at plan hold.index).responder
 
 -- the answer names some of the successors, each in its place
 abbrev pub Among : Option ℕ → Option ℕ → Type 0
@@ -105,8 +104,8 @@ pub record HasStopped (old new : SeatView) : Type 0 where
   pub rises : old.seen ≤ seen
 
 -- the tables of list order, where all exchanges are finished
-abbrev pub AreLeft : BoardPlan → List NodeTableView → Type 0
-AreLeft plan tables = tables_in tables ≡ (fold_of plan.rules plan.tables plan.list.exchanges).tables
+abbrev pub AreLeft : {T : Type 0} → (T → Table) → BoardPlan → List T → Type 0
+AreLeft table plan tables = map table tables ≡ (fold_of plan.rules plan.tables plan.list.exchanges).tables
 
 -- fewer are finished than there are, and so the seat has seen fewer
 abbrev pub IsUnfinished : BoardPlan → SeatView → Fault → Type 0
@@ -117,5 +116,5 @@ abbrev pub HasMadeAll : BoardPlan → SeatView → Type 0
 HasMadeAll plan v = (length v.made ≡ length plan.list.exchanges) × ((i : ℕ) → i < length plan.list.exchanges → times i v.made ≡ 1)
 
 -- a board was made of these
-abbrev pub IsMadeOf : Rules → RoundListView → List NodeTableView → Board → Type 0
-IsMadeOf rules list tables board = plan_of board ≡ record { rules = rules; list = list; tables = tables_in tables }
+abbrev pub IsMadeOf : {T : Type 0} → (T → Table) → Rules → RoundListView → List T → Board T → Type 0
+IsMadeOf table rules list tables board = plan_of table board ≡ record { rules = rules; list = list; tables = map table tables }

@@ -3,12 +3,10 @@
 use Rattle.std.specs.Prelude.{◌≡◌, ℕ, ◌<◌, true, false, nat_lt, List, ◌++◌, length, Some}
 use mathlib.Core.Option.{some}
 use lib.ListN.{get_elem?}
-use Rattle.bench_types.specs.declared.exchanges.Exchange.{Exchange}
 use Rattle.bench_types.specs.declared.exchanges.Record.{Record}
 use Rattle.node_table.specs.Table.{Table}
-use Rattle.node_table.specs.NodeTableView.{NodeTableView}
 use Rattle.round_plan.specs.Plan.{IsRoundPlan}
-use Rattle.exchange.specs.Exchanged.{IsExchanged}
+use Rattle.exchange.specs.Exchanging.{MayBeExchanged, MakesOf}
 use Rattle.cluster.specs.Tables.{IsCluster}
 use Rattle.dependencies.specs.declared.events.Event.{Event}
 use Rattle.dependencies.specs.Sharing.{exchange_at, takes_part}
@@ -32,7 +30,7 @@ pub record IsScheduled (plan : BoardPlan) (s : State Slot View) : Type 0 where
   pub running : (i : ℕ) → i < length plan.list.exchanges → is_running events i ≡ nat_lt 0 (running_in s.views i)
   -- a node of which no exchange runs has its table of that schedule's state in its slot
   pub home : (node : ℕ) → node < plan.list.nodes → ((i : ℕ) → is_running events i ≡ true → takes_part plan.list.exchanges node i ≡ false)
-      → (kept : NodeTableView) × (get_elem? s.homes node ≡ some (some (Some kept))) × ((state_of plan.rules plan.tables plan.list.exchanges events).home node ≡ Some kept.table)
+      → (t : Table) × (get_elem? s.homes node ≡ some (some (Some t))) × ((state_of plan.rules plan.tables plan.list.exchanges events).home node ≡ Some t)
 
 abbrev pub EachKeepsASchedule : Type 0
 EachKeepsASchedule = (plan : BoardPlan) (s : State Slot View) → Orderly plan s → IsScheduled plan s
@@ -46,25 +44,18 @@ abbrev pub EachWholeSeatKnowsItsOwn : Type 0
 EachWholeSeatKnowsItsOwn = (plan : BoardPlan) (s : State Slot View) (k : ℕ) (v : SeatView) → Orderly plan s
     → get_elem? s.views k ≡ some (resting plan v) → IsWhole v → KnowsItsOwn v
 
--- the tables that an exchange may be carried out on: those of its two nodes, with as many owners and keys each, and its
--- rotation is one of the owners
-pub record MayBeExchanged (e : Exchange) (initiator responder : Table) : Type 0 where
-  pub first : initiator.node ≡ e.initiator
-  pub second : responder.node ≡ e.responder
-  pub nodes : initiator.nodes ≡ responder.nodes
-  pub keys : initiator.keys ≡ responder.keys
-  pub rotation : e.rotation < initiator.nodes
+module _ {T : Type 0} (table : T → Table) where
+  -- the exchange of each hold may be carried out on its tables, where a board was made of a round's list and the tables
+  -- of all its nodes
+  abbrev pub EachHoldMayBeExchanged : Type 0
+  EachHoldMayBeExchanged = (plan : BoardPlan) (i : ℕ) (hold : Hold T) → IsRoundPlan plan.list → IsCluster plan.list.nodes plan.tables → i < length plan.list.exchanges
+      → IsHoldOf table plan i hold → MayBeExchanged (exchange_at plan.list.exchanges i) (table hold.initiator) (table hold.responder)
 
--- and so may the tables of each hold, where a board was made of a round's list and the tables of all its nodes
-abbrev pub EachHoldMayBeExchanged : Type 0
-EachHoldMayBeExchanged = (plan : BoardPlan) (i : ℕ) (hold : Hold) → IsRoundPlan plan.list → IsCluster plan.list.nodes plan.tables → i < length plan.list.exchanges
-    → IsHoldOf plan i hold → MayBeExchanged (exchange_at plan.list.exchanges i) hold.initiator.table hold.responder.table
+  -- the exchange of a hold was carried out on its tables, which are left with this
+  abbrev pub IsCarriedOut : BoardPlan → Hold T → Hold T → Record → Type 0
+  IsCarriedOut plan hold left sent =
+      MakesOf table plan.rules (exchange_at plan.list.exchanges hold.index) hold.initiator hold.responder left.initiator left.responder sent
 
--- the exchange of a hold was carried out on its tables, which are left with this
-abbrev pub IsCarriedOut : BoardPlan → Hold → Hold → Record → Type 0
-IsCarriedOut plan hold left sent =
-    IsExchanged plan.rules (exchange_at plan.list.exchanges hold.index) hold.initiator hold.responder left.initiator left.responder sent
-
-abbrev pub EachMayBePutBack : Type 0
-EachMayBePutBack = (plan : BoardPlan) (v : SeatView) (hold left : Hold) (sent : Record)
-    → IsHoldOf plan hold.index hold → Has v.held hold.index → left.index ≡ hold.index → IsCarriedOut plan hold left sent → MayPutBack plan v left
+  abbrev pub EachMayBePutBack : Type 0
+  EachMayBePutBack = (plan : BoardPlan) (v : SeatView) (hold left : Hold T) (sent : Record)
+      → IsHoldOf table plan hold.index hold → Has v.held hold.index → left.index ≡ hold.index → IsCarriedOut plan hold left sent → MayPutBack table plan v left

@@ -4,6 +4,7 @@ pub mod Plan
 pub mod Rule
 pub mod Laws
 pub mod Seats
+pub mod Models
 pub mod Keys
 pub mod Boards
 pub mod inner

@@ -1,8 +1,6 @@
 -- What a board was made of. Source: this project.
 use Rattle.std.specs.Prelude.{◌≡◌, ℕ, List, length}
 use Rattle.bench_types.specs.declared.exchanges.Rules.{Rules}
-use Rattle.bench_types.specs.contracts.exchanges.Exchange as exchange_row
-use Rattle.bench_types.specs.contracts.exchanges.Rules as rules_row
 use Rattle.node_table.specs.Table.{Table}
 use Rattle.round_plan.specs.Plan.{RoundListView, IsRoundPlan}
 use Rattle.cluster.specs.Tables.{table_of_node}

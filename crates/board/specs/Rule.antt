@@ -1,12 +1,12 @@
 -- The board's rule: what holds at each moment, between any two steps of any threads. Word 0 counts the finished
 -- exchanges by twos, and is odd where a seat has called for a stop. Word i + 1 is that of exchange i. Slot n is that of
--- node n, and has its table unless an exchange of the node runs. Source: this project.
+-- node n, and has its table unless an exchange of the node runs. The rule sees each table in memory as the model's
+-- table. Source: this project.
 use Rattle.std.specs.Prelude.{◌≡◌, ℕ, ◌+◌, ◌*◌, ◌<◌, ◌≤◌, ◌⊎◌, true, false, List, [], length, slice_index, Option, Some, None}
 use mathlib.Core.Option.{some}
 use lib.ListN.{get_elem?}
 use Rattle.bench_types.specs.declared.exchanges.Exchange.{Exchange}
 use Rattle.node_table.specs.Table.{Table}
-use Rattle.node_table.specs.NodeTableView.{NodeTableView}
 use Rattle.dependencies.specs.Sharing.{takes_part, share_node}
 use Rattle.dependencies.specs.Neighbours.{predecessors, pending_of}
 use Rattle.atomic_table.specs.Table.{State}
@@ -94,13 +94,13 @@ pub record NamesFreed (es : List Exchange) (freed : ℕ → ℕ) (words : List �
 -- 4. Where a node's exchanges before k are finished and none from k on was claimed, its slot has its table of list order
 -- before k. Where an exchange was claimed and its tables aren't on their way, the slots of its nodes are empty.
 abbrev pub Slot : Type 0
-Slot = Option NodeTableView
+Slot = Option Table
 
 abbrev pub Home : Type 0
 Home = mathlib.Core.Option.Option Slot
 
 abbrev pub HasTable : List Home → ℕ → Table → Type 0
-HasTable homes node t = (kept : NodeTableView) × (get_elem? homes node ≡ some (some (Some kept))) × (kept.table ≡ t)
+HasTable homes node t = get_elem? homes node ≡ some (some (Some t))
 
 abbrev pub AreFinishedBelow : List Exchange → (ℕ → ℕ) → ℕ → ℕ → Type 0
 AreFinishedBelow es made node k = (j : ℕ) → j < k → takes_part es node j ≡ true → made j ≡ 1

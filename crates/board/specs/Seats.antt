@@ -19,7 +19,7 @@ view plan seat moving owes = record { plan = plan; seat = seat; moving = moving;
 abbrev pub resting : BoardPlan → SeatView → View
 resting plan seat = view plan seat [] []
 
-pub record Rests (m : Sat) : Type 0 where
+pub record Rests {S : Type 0} (m : Me S View) : Type 0 where
   pub slots : m.1 ≡ []
   pub moving : m.0.moving ≡ []
   pub owes : m.0.owes ≡ []

@@ -4,12 +4,10 @@ ghost use Rattle.bench_types.specs.declared.faults.Fault.TheVariants.{OutOfMemor
 ghost use Rattle.round_plan.specs.Plan.{IsRoundPlan};
 ghost use Rattle.dependencies.specs.inner.Slots.{in_place};
 ghost use Rattle.std.specs.Mem.Slots.{slots_items, slots_len, IsFull};
-ghost use Rattle.node_table.specs.NodeTableView.{NodeTableView};
 ghost use Rattle.bench_types.specs.declared.faults.Fault.TheVariants.{Unfinished};
-ghost use Rattle.cluster.specs.Tables.{tables_in, IsCluster};
+ghost use Rattle.cluster.specs.Tables.{IsCluster};
 ghost use Rattle.board.specs.SeatView.{IsWhole, first_seat, split_left, split_right, joined, with_held};
-ghost use Rattle.board.specs.Plan.{IsBoardPlan};
-ghost use Rattle.board.specs.Keys.{key_plan};
+ghost use Rattle.board.specs.Keys.{IsBoardKey};
 ghost use Rattle.board.specs.Seats.{resting, IsApart};
 ghost use Rattle.board.specs.inner.Plays.{HasOut, OwesNext, IsReleased, HasFinished, first_words_of};
 
@@ -20,11 +18,12 @@ use crate::views::View;
 use atomic_table::{Closed, Refused, Table};
 use bench_types::{Fault, Rules};
 use dependencies::Deps;
+use exchange::MemoryTable;
 use node_table::NodeTable;
 use std::alloc::Global;
 use std::snapshot::Snapshot;
 
-type Raw = atomic_table::Seat<Option<NodeTable>, View>;
+type Raw<T> = atomic_table::Seat<Option<T>, View>;
 
 // The word of an exchange: how many predecessors haven't released it, or `TAKEN`.
 const READY: u64 = 0;
@@ -38,22 +37,22 @@ const STOP: u64 = 1;
 
 /// What one thread uses a board with. It has no bytes.
 #[derive(Drop)]
-pub struct Seat {
-    raw: Raw,
+pub struct Seat<T = NodeTable> {
+    raw: Raw<T>,
 }
 
 /// A claimed exchange, and the tables of its two nodes, taken out of the board.
 #[derive(Drop)]
-pub struct Hold {
+pub struct Hold<T = NodeTable> {
     pub index: u32,
-    pub initiator: NodeTable,
-    pub responder: NodeTable,
+    pub initiator: T,
+    pub responder: T,
 }
 
 /// What came of a claim.
 #[derive(Drop)]
-pub enum Claim {
-    Held(Hold),
+pub enum Claim<T = NodeTable> {
+    Held(Hold<T>),
     /// The exchange was claimed before.
     Taken,
     /// An exchange that it waits for isn't put back yet.
@@ -77,18 +76,18 @@ pub struct Progress {
 
 /// The tables of all nodes, which threads take out two at a time and put back.
 #[derive(Drop)]
-pub struct Board {
-    table: Table<Option<NodeTable>, View, BoardKey, Order, Global>,
+pub struct Board<T: MemoryTable = NodeTable> {
+    table: Table<Option<T>, View, BoardKey<T>, Order<T>, Global>,
     deps: Deps,
     // Room for all tables, for `close`.
-    room: Vec<NodeTable>,
-    ghost planned: { IsBoardPlan (key_plan table.shared.key) × (deps ≡ (key_plan table.shared.key).list) },
+    room: Vec<T>,
+    ghost planned: { IsBoardKey table.shared.key × (deps ≡ table.shared.key.list.value) },
     ghost words: { table.shared.table_id.words ≡ length deps.exchanges + 1 },
     ghost slots: { table.shared.table_id.slots ≡ deps.nodes },
     ghost roomy: { (room.items ≡ []) × (deps.nodes ≤ vec_capacity room) },
 }
 
-impl Board {
+impl<T: MemoryTable> Board<T> {
     ghost use Rattle.board.specs.Boards.{IsMadeOf, board_id, plan_of, exchanges_of, seat_view, IsSeatOf, Claims, MayPutBack, IsPutBack, IsHoldOf, Looks, HasStopped, AreLeft, IsUnfinished, HasMadeAll};
 
     /// A board of a list's exchanges and the tables of its nodes, in order, and the first seat, which has
@@ -98,11 +97,11 @@ impl Board {
         alloc: Global,
         deps: Deps,
         rules: Rules,
-        tables: Vec<NodeTable>,
-    ) -> Result<(Board, Seat), Fault>
-        requires cluster { IsCluster deps.nodes (tables_in tables.items) }
-        ensures plan { IfOk result (λ made. IsMadeOf rules deps tables.items made.0) }
-        ensures seat { IfOk result (λ made. IsSeatOf made.1 made.0 × (seat_view made.1 ≡ first_seat)) }
+        tables: Vec<T>,
+    ) -> Result<(Board<T>, Seat<T>), Fault>
+        requires cluster { IsCluster deps.nodes (map T.table tables.items) }
+        ensures plan { IfOk result (λ made. IsMadeOf T.table rules deps tables.items made.0) }
+        ensures seat { IfOk result (λ made. IsSeatOf T.table made.1 made.0 × (seat_view made.1 ≡ first_seat)) }
         ensures only { IsOkUnless result OutOfMemory }
     {
         let key = BoardKey {
@@ -120,11 +119,11 @@ impl Board {
 
     /// Claims an exchange of the list. Costs a compare-and-exchange, and where it is held two moves of
     /// a table's head and a load.
-    pub fn claim(&self, seat: &mut Seat, i: u32) -> Claim
+    pub fn claim(&self, seat: &mut Seat<T>, i: u32) -> Claim<T>
         requires within { i < length (exchanges_of self.now) }
-        requires seat { IsSeatOf seat.old self.now }
-        ensures seat { IsSeatOf seat.new self.now }
-        ensures claim { Claims (plan_of self.now) (seat_view seat.old) i result (seat_view seat.new) }
+        requires seat { IsSeatOf T.table seat.old self.now }
+        ensures seat { IsSeatOf T.table seat.new self.now }
+        ensures claim { Claims T.table (plan_of T.table self.now) (seat_view seat.old) i result (seat_view seat.new) }
     {
         let word = i as usize + 1;
         let found = self
@@ -141,13 +140,13 @@ impl Board {
     }
 
     // The tables of a claimed exchange leave its slots.
-    fn take_out(&self, raw: &mut Raw, i: u32) -> Hold
+    fn take_out(&self, raw: &mut Raw<T>, i: u32) -> Hold<T>
         requires within { i < length (exchanges_of self.now) }
         requires id { raw.old.table_id ≡ board_id self.now }
-        requires out { HasOut (plan_of self.now) i raw.old.me }
+        requires out { HasOut T.table (plan_of T.table self.now) i raw.old.me }
         ensures id { raw.new.table_id ≡ raw.old.table_id }
-        ensures seat { raw.new.me ≡ (resting (plan_of self.now) (with_held raw.old.me.0.seat i), []) }
-        ensures hold { IsHoldOf (plan_of self.now) i result }
+        ensures seat { raw.new.me ≡ (resting (plan_of T.table self.now) (with_held raw.old.me.0.seat i), []) }
+        ensures hold { IsHoldOf T.table (plan_of T.table self.now) i result }
     {
         let exchange = self.deps.exchange(i);
         let shared = &self.table.shared;
@@ -168,11 +167,12 @@ impl Board {
     /// Puts back the tables that a claimed exchange leaves, and releases the exchanges that wait for it.
     /// Names those that this made ready. Costs an addition and at most two subtractions, beside a load
     /// and two moves of a table's head.
-    pub fn put_back(&self, seat: &mut Seat, hold: Hold) -> Freed
-        requires seat { IsSeatOf seat.old self.now }
-        requires hold { MayPutBack (plan_of self.now) (seat_view seat.old) hold }
-        ensures seat { IsSeatOf seat.new self.now }
-        ensures put_back { IsPutBack (plan_of self.now) (seat_view seat.old) hold.index result (seat_view seat.new) }
+    pub fn put_back(&self, seat: &mut Seat<T>, hold: Hold<T>) -> Freed
+        requires seat { IsSeatOf T.table seat.old self.now }
+        requires hold { MayPutBack T.table (plan_of T.table self.now) (seat_view seat.old) hold }
+        ensures seat { IsSeatOf T.table seat.new self.now }
+        ensures put_back { let plan = plan_of T.table self.now in
+            IsPutBack plan (seat_view seat.old) hold.index result (seat_view seat.new) }
     {
         let i = hold.index;
         self.put_in(&mut seat.raw, hold);
@@ -183,14 +183,14 @@ impl Board {
     }
 
     // The tables of a held exchange go back into its slots, and it counts as finished.
-    fn put_in(&self, raw: &mut Raw, hold: Hold)
+    fn put_in(&self, raw: &mut Raw<T>, hold: Hold<T>)
         requires within { hold.index < length (exchanges_of self.now) }
         requires id { raw.old.table_id ≡ board_id self.now }
-        requires rests { raw.old.me ≡ (resting (plan_of self.now) raw.old.me.0.seat, []) }
+        requires rests { raw.old.me ≡ (resting (plan_of T.table self.now) raw.old.me.0.seat, []) }
         requires parts { 0 < raw.old.me.0.seat.parts }
-        requires hold { MayPutBack (plan_of self.now) raw.old.me.0.seat hold }
+        requires hold { MayPutBack T.table (plan_of T.table self.now) raw.old.me.0.seat hold }
         ensures id { raw.new.table_id ≡ raw.old.table_id }
-        ensures seat { HasFinished (plan_of self.now) raw.old.me.0.seat hold.index raw.new.me }
+        ensures seat { HasFinished (plan_of T.table self.now) raw.old.me.0.seat hold.index raw.new.me }
     {
         let Hold {
             index,
@@ -207,12 +207,12 @@ impl Board {
     }
 
     // Releases an exchange, if there is one. Names it where this made it ready.
-    fn release(&self, raw: &mut Raw, next: Option<u32>) -> Option<u32>
+    fn release(&self, raw: &mut Raw<T>, next: Option<u32>) -> Option<u32>
         requires id { raw.old.table_id ≡ board_id self.now }
-        requires owes { OwesNext (plan_of self.now) raw.old.me next }
+        requires owes { OwesNext (plan_of T.table self.now) raw.old.me next }
         ensures id { raw.new.table_id ≡ raw.old.table_id }
         ensures none { next ≡ None → (result ≡ None) × (raw.new.me ≡ raw.old.me) }
-        ensures released { IfSome next (λ j. IsReleased (plan_of self.now) raw.old.me j result raw.new.me) }
+        ensures released { IfSome next (λ j. IsReleased (plan_of T.table self.now) raw.old.me j result raw.new.me) }
     {
         let j = next?;
         let found = self
@@ -223,10 +223,10 @@ impl Board {
     }
 
     /// How many exchanges are put back, and whether a stop was called. Costs a load.
-    pub fn look(&self, seat: &mut Seat) -> Progress
-        requires seat { IsSeatOf seat.old self.now }
-        ensures seat { IsSeatOf seat.new self.now }
-        ensures progress { Looks (plan_of self.now) (seat_view seat.old) result (seat_view seat.new) }
+    pub fn look(&self, seat: &mut Seat<T>) -> Progress
+        requires seat { IsSeatOf T.table seat.old self.now }
+        ensures seat { IsSeatOf T.table seat.new self.now }
+        ensures progress { Looks (plan_of T.table self.now) (seat_view seat.old) result (seat_view seat.new) }
     {
         let word = self.table.shared.load::<Look>(&mut seat.raw, 0);
         Progress {
@@ -236,19 +236,19 @@ impl Board {
     }
 
     /// Calls for a stop, which all later looks answer. Costs one atomic step.
-    pub fn stop(&self, seat: &mut Seat)
-        requires seat { IsSeatOf seat.old self.now }
-        ensures seat { IsSeatOf seat.new self.now }
+    pub fn stop(&self, seat: &mut Seat<T>)
+        requires seat { IsSeatOf T.table seat.old self.now }
+        ensures seat { IsSeatOf T.table seat.new self.now }
         ensures stopped { HasStopped (seat_view seat.old) (seat_view seat.new) }
     {
         self.table.shared.fetch_or::<Halt>(&mut seat.raw, 0, STOP);
     }
 
     /// A second seat, for another thread. Costs a load.
-    pub fn split(&self, seat: &mut Seat) -> Seat
-        requires seat { IsSeatOf seat.old self.now }
+    pub fn split(&self, seat: &mut Seat<T>) -> Seat<T>
+        requires seat { IsSeatOf T.table seat.old self.now }
         requires parts { 2 ≤ (seat_view seat.old).parts }
-        ensures seats { IsSeatOf seat.new self.now × IsSeatOf result self.now }
+        ensures seats { IsSeatOf T.table seat.new self.now × IsSeatOf T.table result self.now }
         ensures left { seat_view seat.new ≡ split_left (seat_view seat.old) }
         ensures right { seat_view result ≡ split_right (seat_view seat.old) }
     {
@@ -258,9 +258,9 @@ impl Board {
     }
 
     /// Takes in another seat. Costs two loads.
-    pub fn join(&self, seat: &mut Seat, other: Seat)
-        requires seats { IsSeatOf seat.old self.now × IsSeatOf other self.now }
-        ensures seat { IsSeatOf seat.new self.now }
+    pub fn join(&self, seat: &mut Seat<T>, other: Seat<T>)
+        requires seats { IsSeatOf T.table seat.old self.now × IsSeatOf T.table other self.now }
+        ensures seat { IsSeatOf T.table seat.new self.now }
         ensures joined { seat_view seat.new ≡ joined (seat_view seat.old) (seat_view other) }
         ensures apart { IsApart (exchanges_of self.now) (seat_view seat.new) }
     {
@@ -272,11 +272,12 @@ impl Board {
 
     /// The tables of all nodes, in order, where all exchanges are put back. Else they are given up
     /// (`Unfinished`). Takes no memory. Costs a step for each node.
-    pub fn close(self, seat: Seat) -> Result<Vec<NodeTable>, Fault>
-        requires seat { IsSeatOf seat self }
-        ensures tables { IfOk result (λ tables. AreLeft (plan_of self) tables.items) }
-        ensures unfinished { IfErr result (IsUnfinished (plan_of self) (seat_view seat)) }
-        ensures whole { IfOk result (λ _. IsWhole (seat_view seat) → HasMadeAll (plan_of self) (seat_view seat)) }
+    pub fn close(self, seat: Seat<T>) -> Result<Vec<T>, Fault>
+        requires seat { IsSeatOf T.table seat self }
+        ensures tables { IfOk result (λ tables. AreLeft T.table (plan_of T.table self) tables.items) }
+        ensures unfinished { IfErr result (IsUnfinished (plan_of T.table self) (seat_view seat)) }
+        ensures whole { IfOk result
+            (λ _. IsWhole (seat_view seat) → HasMadeAll (plan_of T.table self) (seat_view seat)) }
     {
         let Board { table, deps, room } = self;
         let closed = table.close_with(seat.raw);
@@ -304,10 +305,7 @@ fn first_words(alloc: Global, deps: &Deps) -> Result<Vec<u64>, Fault>
 }
 
 // Each table in a slot of its own, and the emptied vector.
-fn into_slots(
-    alloc: Global,
-    mut tables: Vec<NodeTable>,
-) -> Result<(Vec<Option<NodeTable>>, Vec<NodeTable>), Fault>
+fn into_slots<T: Drop>(alloc: Global, mut tables: Vec<T>) -> Result<(Vec<Option<T>>, Vec<T>), Fault>
     ensures slots { IfOk result (λ p. p.0.items ≡ map in_place tables.items) }
     ensures room { IfOk result (λ p. (p.1.items ≡ []) × (length tables.items ≤ vec_capacity p.1)) }
     ensures only { IsOkUnless result OutOfMemory }
@@ -323,13 +321,10 @@ fn into_slots(
 }
 
 // The tables of all slots, in a vector that has room for them.
-fn all_out(
-    mut closed: Closed<Option<NodeTable>, Global>,
-    mut room: Vec<NodeTable>,
-) -> Vec<NodeTable>
+fn all_out<T: Drop>(mut closed: Closed<Option<T>, Global>, mut room: Vec<T>) -> Vec<T>
     requires full { IsFull closed.slots }
     requires room { (room.items ≡ []) × (slots_len closed.slots ≤ vec_capacity room) }
-    ensures { (kept : List NodeTableView) → slots_items closed.slots ≡ map in_place kept → result.items ≡ kept }
+    ensures { (kept : List T) → slots_items closed.slots ≡ map in_place kept → result.items ≡ kept }
 {
     for i in 0..closed.slot_count() {
         if let Some(table) = closed.take(i) {

@@ -2,6 +2,8 @@
 
 ghost use Rattle.board.specs.Laws.{EachKeepsASchedule, EachWholeSeatKnowsItsOwn, EachHoldMayBeExchanged, EachMayBePutBack};
 
+use exchange::MemoryTable;
+
 /// At each moment what seats have put back and what they hold are the finished and the running exchanges
 /// of some lawful schedule, and the table of a node of which none runs is the one of its state.
 pub fn every_board_keeps_a_schedule()
@@ -15,11 +17,11 @@ pub fn every_whole_seat_knows_its_own()
 {}
 
 /// The exchange of a hold may be carried out on its tables.
-pub fn every_hold_may_be_exchanged()
-    ensures { EachHoldMayBeExchanged }
+pub fn every_hold_may_be_exchanged<T: MemoryTable>()
+    ensures { EachHoldMayBeExchanged T.table }
 {}
 
 /// What an exchange leaves of a hold's tables may be put back.
-pub fn every_exchange_may_be_put_back()
-    ensures { EachMayBePutBack }
+pub fn every_exchange_may_be_put_back<T: MemoryTable>()
+    ensures { EachMayBePutBack T.table }
 {}

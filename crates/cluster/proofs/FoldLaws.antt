@@ -11,7 +11,8 @@ use Rattle.bench_types.specs.declared.exchanges.Rules.{Rules}
 use Rattle.node_table.specs.Table.{Table, empty_table, entry_at, IsProper}
 use Rattle.reconcile.specs.Candidates.{IsScuttleMode}
 use Rattle.exchange.specs.Exchanged.{Exchanged, exchanged}
-use Rattle.cluster.specs.Tables.{table_of_node, AreTablesInOrder, IsTableOf, AreProper}
+use Rattle.exchange.specs.Exchanging.{MayBeExchanged, IsKeptByExchanges}
+use Rattle.cluster.specs.Tables.{table_of_node, AreTablesInOrder, IsTableOf, HoldsOfEach, AreProper}
 use Rattle.cluster.specs.Folds.{Folded, exchange_in, fold_of, tables_before}
 use Rattle.exchange.specs.Laws.{MayMeet, NoMarkFalls}
 use Rattle.exchange.specs.Copies.{OwnParts, Generations, WritesBy, IsLastOf, AreLastOf, HoldsWrites, HasNoGap}
@@ -88,6 +89,21 @@ module _ (rules : Rules) (nodes keys : ℕ) (s : Folded) (e : Exchange) (planned
   -- the tables stay those of all nodes
   pub step_tables : AreTablesInOrder nodes keys (exchange_in rules s e).tables
   step_tables = still_in_order nodes keys s.tables (exchange_in rules s e).tables (step_size rules s e) step_keeps_own tables
+
+  -- what an exchange keeps of both tables, it keeps of each
+  pub step_keeps_each : (P : Table → Type 0) → IsKeptByExchanges P → HoldsOfEach P s.tables → HoldsOfEach P (exchange_in rules s e).tables
+  step_keeps_each P kept holds n lt =
+      let first = tables.tables e.initiator planned.initiator in
+      let second = tables.tables e.responder planned.responder in
+      let may_be : MayBeExchanged e p q = record {
+        first = first.node;
+        second = second.node;
+        nodes = first.nodes ∙ sym second.nodes;
+        keys = first.keys ∙ sym second.keys;
+        rotation = subst (λ m. e.rotation < m) (sym first.nodes) planned.rotation;
+      } in
+      let both = kept rules e p q may_be (holds e.initiator (omega (arith, tables.size, planned.initiator))) (holds e.responder (omega (arith, tables.size, planned.responder))) in
+      each (λ m t. m < length s.tables → P t) (λ _. both.0) (λ _. both.1) holds n (omega (arith, lt, step_size rules s e))
 
   module _ (proper : AreProper s.tables) where
     proper_at : (n : ℕ) → n < nodes → IsProper (table_of_node s.tables n)
@@ -215,6 +231,10 @@ module _ (rules : Rules) (nodes keys : ℕ) (es : List Exchange) (ts : List Tabl
     -- and proper
     pub before_proper : AreProper ts → (i : ℕ) → AreProper (tables_before rules ts es i)
     before_proper proper i = fold_proper rules nodes keys (take i es) ts (ahead i) tables proper
+
+    -- what exchanges keep of both tables holds of each, as before the first
+    pub before_keeps_each : (P : Table → Type 0) → IsKeptByExchanges P → HoldsOfEach P ts → (i : ℕ) → HoldsOfEach P (tables_before rules ts es i)
+    before_keeps_each P kept holds i = on_tables rules nodes keys (HoldsOfEach P) (λ s e is still. step_keeps_each rules nodes keys s e is still P kept) (take i es) ts (ahead i) tables holds
 
     -- no node's own part has changed
     pub before_keeps_own : (i : ℕ) → KeepOwnParts ts (tables_before rules ts es i)

@@ -1,5 +1,5 @@
 -- The tables of all nodes, in order: how they are read, written and made, and that they stay so where each keeps its own part.
--- Serves `FoldLaws` and the crates above.
+-- Serves `FoldLaws`, `planner`, `pool`, `simulation` and `staleness`.
 use Rattle.std.proofs.Common.{◌≡◌, ◌≢◌, ℕ, zero, suc, ◌<◌, List, length, map, get_or, set, ap, sym, ◌∙◌, subst, arith}
 use Rattle.std.specs.List.{range_with_len}
 use Rattle.std.proofs.Math.ListN.{get_or-map}

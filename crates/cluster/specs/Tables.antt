@@ -24,5 +24,9 @@ pub record AreTablesInOrder (nodes keys : ℕ) (ts : List Table) : Type 0 where
 abbrev pub IsCluster : ℕ → List Table → Type 0
 IsCluster nodes ts = AreTablesInOrder nodes (table_of_node ts 0).keys ts
 
+-- a fact of each of the tables
+abbrev pub HoldsOfEach : (Table → Type 0) → List Table → Type 0
+HoldsOfEach P ts = (n : ℕ) → n < length ts → P (table_of_node ts n)
+
 abbrev pub AreProper : List Table → Type 0
-AreProper ts = (n : ℕ) → n < length ts → IsProper (table_of_node ts n)
+AreProper = HoldsOfEach IsProper

@@ -1,4 +1,5 @@
 pub mod Exchanged
+pub mod Exchanging
 pub mod Laws
 pub mod Copies
 pub mod inner

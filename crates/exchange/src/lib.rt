@@ -2,6 +2,8 @@
 #![tactic(auto)]
 
 mod exchanges;
+mod exchanging;
 pub mod laws;
 
 pub use exchanges::exchange;
+pub use exchanging::{Exchanging, MemoryTable};

@@ -4,18 +4,20 @@ use Rattle.std.proofs.Common.{◌≡◌, ℕ, ◌<◌, List, length, Option, Non
 use Rattle.bench_types.specs.declared.exchanges.Exchange.{Exchange}
 use Rattle.bench_types.specs.declared.exchanges.Record.{Record}
 use Rattle.bench_types.specs.declared.exchanges.Rules.{Rules}
-use Rattle.node_table.specs.NodeTableView.{NodeTableView}
+use Rattle.bench_types.specs.Exchange.{IsPlanned}
+use Rattle.node_table.specs.Table.{Table}
 use Rattle.round_plan.specs.Plan.{RoundListView, IsRoundPlan}
-use Rattle.exchange.specs.Exchanged.{Exchanged, exchanged, IsExchanged}
-use Rattle.cluster.specs.Tables.{IsCluster}
-use Rattle.dependencies.specs.Sharing.{exchange_at}
+use Rattle.exchange.specs.Exchanged.{Exchanged, exchanged}
+use Rattle.exchange.specs.Exchanging.{MayBeExchanged, MakesOf, IsKeptByExchanges}
+use Rattle.cluster.specs.Tables.{table_of_node, IsCluster}
+use Rattle.cluster.proofs.FoldLaws.{before_tables, before_keeps_each}
+use Rattle.dependencies.specs.Sharing.{exchange_at, no_exchange}
 use Rattle.dependencies.specs.Neighbours.{as_list, successors}
 use Rattle.board.specs.Weights.{Has, times, only}
 use Rattle.board.specs.SeatView.{SeatView}
-use Rattle.board.specs.Plan.{BoardPlan, table_at, responder_of, exchanged_at}
+use Rattle.board.specs.Plan.{BoardPlan, table_at, initiator_of, responder_of, exchanged_at}
 use Rattle.board.specs.Boards.{plan_of, IsHoldOf, MayPutBack, Among, IsPutBack}
-use Rattle.board.specs.Laws.{MayBeExchanged, IsCarriedOut}
-use Rattle.board.specs.declared.boards.Board.{Board}
+use Rattle.board.specs.Laws.{IsCarriedOut}
 use Rattle.board.specs.declared.boards.Freed.{Freed}
 use Rattle.board.specs.declared.boards.Hold.{Hold}
 use Rattle.board.proofs.Meeting.{may_be_exchanged}
@@ -24,34 +26,52 @@ use Rattle.board.proofs.Releases.{successor_within}
 use Rattle.board.proofs.Sums.{total-append, only-same}
 use Rattle.pool.specs.inner.Workshops.{IsWorkshop}
 use Rattle.pool.specs.inner.Returns.{AreOfList}
+use Rattle.pool.specs.declared.workers.Workshop.{Workshop}
 
-module _ (board : Board) (list : RoundListView) (rules : Rules) (shop : IsWorkshop board list rules) (es : List Exchange) (read : es ≡ list.exchanges) (hold : Hold) (found : IsHoldOf (plan_of board) hold.index hold) where
+module _ {T G S : Type 0} (table : T → Table) (fits : S → Table → Type 0) (shop : Workshop T G S) (is : IsWorkshop table fits shop) (es : List Exchange) (read : es ≡ shop.list.now.exchanges) (hold : Hold T) (found : IsHoldOf table (plan_of table shop.board.now) hold.index hold) where
   abbrev plan : BoardPlan
-  plan = plan_of board
+  plan = plan_of table shop.board.now
 
   same_exchange : exchange_at plan.list.exchanges hold.index ≡ exchange_at es hold.index
-  same_exchange = ap (λ (l : RoundListView). exchange_at l.exchanges hold.index) shop.same_list ∙ ap (λ xs. exchange_at xs hold.index) (sym read)
+  same_exchange = ap (λ (l : RoundListView). exchange_at l.exchanges hold.index) is.same_list ∙ ap (λ xs. exchange_at xs hold.index) (sym read)
 
-  pub hold_meets : IsRoundPlan list → hold.index < length plan.list.exchanges → MayBeExchanged (exchange_at es hold.index) hold.initiator.table hold.responder.table
-  hold_meets round within =
-      subst (λ (e : Exchange). MayBeExchanged e hold.initiator.table hold.responder.table) same_exchange
-      (may_be_exchanged plan hold.index hold (subst IsRoundPlan (sym shop.same_list) round) (subst (λ (l : RoundListView). IsCluster l.nodes plan.tables) (sym shop.same_list) shop.cluster) within found)
+  module _ (round : IsRoundPlan shop.list.now) (within : hold.index < length plan.list.exchanges) where
+    of_round : IsRoundPlan plan.list
+    of_round = subst IsRoundPlan (sym is.same_list) round
 
-  module _ (p q : NodeTableView) (sent : Record) (done : IsExchanged rules (exchange_at es hold.index) hold.initiator hold.responder p q sent) where
-    carried_out : IsCarriedOut plan hold (record { index = hold.index; initiator = p; responder = q }) sent
+    of_cluster : IsCluster plan.list.nodes plan.tables
+    of_cluster = subst (λ (l : RoundListView). IsCluster l.nodes plan.tables) (sym is.same_list) is.cluster
+
+    pub hold_meets : MayBeExchanged (exchange_at es hold.index) (table hold.initiator) (table hold.responder)
+    hold_meets = subst (λ (e : Exchange). MayBeExchanged e (table hold.initiator) (table hold.responder)) same_exchange (may_be_exchanged table plan hold.index hold of_round of_cluster within found)
+
+    -- and what its tables owe to what all share holds
+    pub hold_fits : IsKeptByExchanges (fits shop.shared.now) → fits shop.shared.now (table hold.initiator) × fits shop.shared.now (table hold.responder)
+    hold_fits kept =
+        let nodes = plan.list.nodes in
+        let keys = (table_of_node plan.tables 0).keys in
+        let planned : IsPlanned nodes (exchange_at plan.list.exchanges hold.index) = of_round.planned hold.index no_exchange within in
+        let before = before_tables plan.rules nodes keys plan.list.exchanges plan.tables of_round.planned of_cluster hold.index in
+        let each = before_keeps_each plan.rules nodes keys plan.list.exchanges plan.tables of_round.planned of_cluster (fits shop.shared.now) kept is.each_fits hold.index in (
+          subst (fits shop.shared.now) (sym found.initiator) (each (initiator_of plan hold.index) (omega (arith, planned.initiator, before.size))),
+          subst (fits shop.shared.now) (sym found.responder) (each (responder_of plan hold.index) (omega (arith, planned.responder, before.size))),
+        )
+
+  module _ (p q : T) (sent : Record) (done : MakesOf table shop.rules.now (exchange_at es hold.index) hold.initiator hold.responder p q sent) where
+    carried_out : IsCarriedOut table plan hold (record { index = hold.index; initiator = p; responder = q }) sent
     carried_out =
-        subst (λ (r : Rules). IsExchanged r (exchange_at plan.list.exchanges hold.index) hold.initiator hold.responder p q sent) (sym shop.same_rules)
-        (subst (λ (e : Exchange). IsExchanged rules e hold.initiator hold.responder p q sent) (sym same_exchange) done)
+        subst (λ (r : Rules). MakesOf table r (exchange_at plan.list.exchanges hold.index) hold.initiator hold.responder p q sent) (sym is.same_rules)
+        (subst (λ (e : Exchange). MakesOf table shop.rules.now e hold.initiator hold.responder p q sent) (sym same_exchange) done)
 
-    pub hold_returns : (v : SeatView) → Has v.held hold.index → MayPutBack plan v (record { index = hold.index; initiator = p; responder = q })
-    hold_returns v held = may_be_put_back plan v hold (record { index = hold.index; initiator = p; responder = q }) sent found held refl carried_out
+    pub hold_returns : (v : SeatView) → Has v.held hold.index → MayPutBack table plan v (record { index = hold.index; initiator = p; responder = q })
+    hold_returns v held = may_be_put_back table plan v hold (record { index = hold.index; initiator = p; responder = q }) sent found held refl carried_out
 
     pub sent_in_order : sent ≡ (exchanged_at plan hold.index).sent
     sent_in_order =
         let e = exchange_at plan.list.exchanges hold.index in
         sym (
         ap (λ t. (exchanged plan.rules e t (table_at plan (responder_of plan hold.index) hold.index)).sent) (sym found.initiator)
-        ∙ ap (λ t. (exchanged plan.rules e hold.initiator.table t).sent) (sym found.responder)
+        ∙ ap (λ t. (exchanged plan.rules e (table hold.initiator) t).sent) (sym found.responder)
         ∙ ap (λ (x : Exchanged). x.sent) carried_out
         )
 

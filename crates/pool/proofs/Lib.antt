@@ -3,4 +3,5 @@ pub mod Holds
 pub mod Pairs
 pub mod Turns
 pub mod Collecting
+pub mod Joining
 pub mod Ordered

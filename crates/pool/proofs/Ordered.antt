@@ -11,9 +11,8 @@ use Rattle.std.proofs.lemmas.Bool.{cases_Bool}
 use Rattle.bench_types.specs.declared.exchanges.Exchange.{Exchange}
 use Rattle.bench_types.specs.declared.exchanges.Record.{Record}
 use Rattle.bench_types.specs.declared.exchanges.Rules.{Rules}
-use Rattle.node_table.specs.NodeTableView.{NodeTableView}
+use Rattle.node_table.specs.Table.{Table}
 use Rattle.round_plan.specs.Plan.{RoundListView}
-use Rattle.cluster.specs.Tables.{tables_in}
 use Rattle.cluster.specs.Folds.{fold_of}
 use Rattle.cluster.proofs.FoldLaws.{fold_counts_records}
 use Rattle.dependencies.specs.Neighbours.{is_first_ready, first_ready_of}
@@ -44,9 +43,9 @@ ready_below es =
     all_filter (λ i. i < length es) (is_first_ready es) (range_with_len 0 (length es))
     (λ k d lt. omega (arith, lt, length-range_with_len 0 (length es), get_or-range_with_len 0 (length es) k d (omega (arith, lt, length-range_with_len 0 (length es)))))
 
-module _ (rules : Rules) (list : RoundListView) (old : List NodeTableView) (v : SeatView) (stamps : List Stamped) (records : List Record) where
+module _ (rules : Rules) (list : RoundListView) (old : List Table) (v : SeatView) (stamps : List Stamped) (records : List Record) where
   abbrev made_of : BoardPlan
-  made_of = record { rules = rules; list = list; tables = tables_in old }
+  made_of = record { rules = rules; list = list; tables = old }
 
   abbrev es : List Exchange
   es = list.exchanges
@@ -61,22 +60,22 @@ module _ (rules : Rules) (list : RoundListView) (old : List NodeTableView) (v : 
       let found = stamp_of Stands stamps i (λ k d below. (of_seat.sent k d below, ordered.each k d below)) some in
       ap (slice_get records) (sym found.1) ∙ found.2.1 ∙ ap Some found.2.0 ∙ ap (λ k. Some (exchanged_at made_of k).sent) found.1
 
-  records_same : AreRecordsOf made_of v stamps → HasMadeAll made_of v → AreInListOrder (length es) stamps records → (fold_of rules (tables_in old) es).records ≡ records
+  records_same : AreRecordsOf made_of v stamps → HasMadeAll made_of v → AreInListOrder (length es) stamps records → (fold_of rules (old) es).records ≡ records
   records_same of_seat all ordered =
-      let count = fold_counts_records rules es (record { tables = tables_in old; records = [] }) in
-      same_lists (fold_of rules (tables_in old) es).records records (omega (arith, count, ordered.size)) (λ k d lt.
+      let count = fold_counts_records rules es (record { tables = old; records = [] }) in
+      same_lists (fold_of rules (old) es).records records (omega (arith, count, ordered.size)) (λ k d lt.
       let below : k < length es = omega (arith, lt, count) in
-      get_or_from_slice_get (fold_of rules (tables_in old) es).records k (exchanged_at made_of k).sent d (record_kept rules (tables_in old) es k below)
+      get_or_from_slice_get (fold_of rules (old) es).records k (exchanged_at made_of k).sent d (record_kept rules (old) es k below)
       ∙ sym (get_or_from_slice_get records k (exchanged_at made_of k).sent d (record_at of_seat all ordered k below)))
 
 -- tables and records of list order
-pub all_exchanged : (rules : Rules) (list : RoundListView) (old new : List NodeTableView) (plan : BoardPlan) (v : SeatView) (stamps : List Stamped) (records : List Record) (n : ℕ)
-    → plan ≡ record { rules = rules; list = list; tables = tables_in old } → n ≡ length list.exchanges
-    → AreRecordsOf plan v stamps → HasMadeAll plan v → AreInListOrder n stamps records → AreLeft plan new → AreExchanged rules list.exchanges old new records
-all_exchanged rules list old new plan v stamps records n is size of_seat all ordered left =
+pub all_exchanged : {T : Type 0} (table : T → Table) (rules : Rules) (list : RoundListView) (old new : List T) (plan : BoardPlan) (v : SeatView) (stamps : List Stamped) (records : List Record) (n : ℕ)
+    → plan ≡ record { rules = rules; list = list; tables = map table old } → n ≡ length list.exchanges
+    → AreRecordsOf plan v stamps → HasMadeAll plan v → AreInListOrder n stamps records → AreLeft table plan new → AreExchanged table rules list.exchanges old new records
+all_exchanged table rules list old new plan v stamps records n is size of_seat all ordered left =
     let of_seat' = subst (λ p. AreRecordsOf p v stamps) is of_seat in
     let all' = subst (λ p. HasMadeAll p v) is all in
     let ordered' = subst (λ m. AreInListOrder m stamps records) size ordered in
-    let left' = subst (λ p. AreLeft p new) is left in
-    let same = records_same rules list old v stamps records of_seat' all' ordered' in
+    let left' = subst (λ p. AreLeft table p new) is left in
+    let same = records_same rules list (map table old) v stamps records of_seat' all' ordered' in
     λ i. record { tables = sym left' i; records = same i }

@@ -1,16 +1,14 @@
 -- An exchange of two tables of a list that is split between them.
 -- Serves `exchange_pair`.
-use Rattle.std.proofs.Common.{◌≡◌, ◌≢◌, ℕ, zero, suc, ◌+◌, ◌-◌, ◌<◌, List, [], ◌∷◌, ◌++◌, length, get_or, set, refl, sym, ap, ◌∙◌, subst, arith}
-use Rattle.std.proofs.lemmas.List.{set-append_left, set-append_right, get_or_append_left, get_or-append-add, length-set, map-append}
+use Rattle.std.proofs.Common.{◌≡◌, ◌≢◌, ℕ, zero, suc, ◌+◌, ◌-◌, ◌<◌, List, [], ◌∷◌, ◌++◌, length, map, get_or, set, refl, sym, ap, ◌∙◌, subst, arith}
+use Rattle.std.proofs.lemmas.List.{set-append_left, set-append_right, get_or_append_left, get_or-append-add, length-set, length-map, map-set, map-append}
 use Rattle.bench_types.specs.declared.exchanges.Exchange.{Exchange}
 use Rattle.bench_types.specs.declared.exchanges.Record.{Record}
 use Rattle.bench_types.specs.declared.exchanges.Rules.{Rules}
 use Rattle.node_table.specs.Table.{Table, empty_table}
-use Rattle.node_table.specs.NodeTableView.{NodeTableView}
 use Rattle.exchange.specs.Exchanged.{Exchanged, exchanged}
-use Rattle.cluster.specs.Tables.{tables_in, table_of_node, IsTableOf, AreTablesInOrder}
+use Rattle.cluster.specs.Tables.{table_of_node, IsTableOf, AreTablesInOrder, HoldsOfEach}
 use Rattle.cluster.specs.Folds.{Folded, exchange_in}
-use Rattle.cluster.proofs.Tables.{length-tables_in, table_read, tables_in-set}
 
 -- to write on both sides of a split is to write twice
 set_both : {X : Type 0} (a b : List X) (m p : ℕ) (x y : X) → length a ≡ m → p < m → set a p x ++ set b 0 y ≡ set (set (a ++ b) p x) m y
@@ -53,36 +51,49 @@ module _ (rules : Rules) (e : Exchange) (a b : List Table) (t u : Table) (r : Re
       ∙ (λ i. record { tables = (set_swapped (a ++ b) e.initiator e.responder u t (λ same. absurd (omega arith)) ∙ sym (set_both a b e.initiator e.responder t u is lt)) i; records = records ++ r ∷ [] })
 
 -- with the tables as the code reads and writes them
-module _ (xs a b : List NodeTableView) (split : xs ≡ a ++ b) where
-  before : tables_in xs ≡ tables_in a ++ tables_in b
-  before = ap tables_in split ∙ map-append (λ (k : NodeTableView). k.table) a b
+module _ {T : Type 0} (table : T → Table) where
+  table_read : (ks : List T) (n : ℕ) (d : T) → n < length ks → table (get_or ks n d) ≡ table_of_node (map table ks) n
+  table_read [] n d lt = absurd (omega arith)
+  table_read (k ∷ ks) zero d lt = refl
+  table_read (k ∷ ks) (suc n) d lt = table_read ks n d (omega arith)
 
-  module _ (nodes keys : ℕ) (tables : AreTablesInOrder nodes keys (tables_in xs)) (d : NodeTableView) where
-    pub front_table : (p : ℕ) → p < length a → p < nodes → IsTableOf nodes keys p (get_or a p d).table
-    front_table p lt below =
-        subst (IsTableOf nodes keys p) (ap (λ ts. table_of_node ts p) before ∙ front (tables_in a) (tables_in b) p (omega (arith, lt, length-tables_in a)) ∙ sym (table_read a p d lt)) (tables.tables p below)
+  module _ (xs a b : List T) (split : xs ≡ a ++ b) where
+    before : map table xs ≡ map table a ++ map table b
+    before = ap (map table) split ∙ map-append table a b
 
-    pub back_table : (p : ℕ) → length a ≡ p → 0 < length b → p < nodes → IsTableOf nodes keys p (get_or b 0 d).table
-    back_table p is in_b below =
-        subst (IsTableOf nodes keys p) (ap (λ ts. table_of_node ts p) before ∙ back (tables_in a) (tables_in b) p (length-tables_in a ∙ is) ∙ sym (table_read b 0 d in_b)) (tables.tables p below)
+    module _ (nodes keys : ℕ) (tables : AreTablesInOrder nodes keys (map table xs)) (d : T) where
+      pub front_table : (p : ℕ) → p < length a → p < nodes → IsTableOf nodes keys p (table (get_or a p d))
+      front_table p lt below =
+          subst (IsTableOf nodes keys p) (ap (λ ts. table_of_node ts p) before ∙ front (map table a) (map table b) p (omega (arith, lt, length-map a table)) ∙ sym (table_read a p d lt)) (tables.tables p below)
 
-module _ (rules : Rules) (e : Exchange) (xs a b : List NodeTableView) (split : xs ≡ a ++ b) (in_b : 0 < length b) (d1 d2 x y : NodeTableView) (r : Record) where
-  abbrev At : (p q : ℕ) → Type 0
-  At p q = (records : List Record) → exchange_in rules (record { tables = tables_in xs; records = records }) e ≡ record { tables = tables_in (set a p x ++ set b q y); records = records ++ r ∷ [] }
+      pub back_table : (p : ℕ) → length a ≡ p → 0 < length b → p < nodes → IsTableOf nodes keys p (table (get_or b 0 d))
+      back_table p is in_b below =
+          subst (IsTableOf nodes keys p) (ap (λ ts. table_of_node ts p) before ∙ back (map table a) (map table b) p (length-map a table ∙ is) ∙ sym (table_read b 0 d in_b)) (tables.tables p below)
 
-  after : (p : ℕ) → tables_in (set a p x ++ set b 0 y) ≡ set (tables_in a) p x.table ++ set (tables_in b) 0 y.table
-  after p = map-append (λ (k : NodeTableView). k.table) (set a p x) (set b 0 y) ∙ (λ i. tables_in-set a p x i ++ tables_in-set b 0 y i)
+    module _ (Fits : Table → Type 0) (fits : HoldsOfEach Fits (map table xs)) (d : T) where
+      pub front_fits : (p : ℕ) → p < length a → p < length xs → Fits (table (get_or a p d))
+      front_fits p lt below = subst Fits (ap (λ ts. table_of_node ts p) before ∙ front (map table a) (map table b) p (omega (arith, lt, length-map a table)) ∙ sym (table_read a p d lt)) (fits p (omega (arith, below, length-map xs table)))
 
-  pub exchanged_low : length a ≡ e.responder → e.initiator < e.responder → exchanged rules e (get_or a e.initiator d1).table (get_or b 0 d2).table ≡ record { initiator = x.table; responder = y.table; sent = r } → At e.initiator 0
-  exchanged_low is lt done records =
-      (λ i. exchange_in rules (record { tables = before xs a b split i; records = records }) e)
-      ∙ low rules e (tables_in a) (tables_in b) x.table y.table r (length-tables_in a ∙ is) lt
-      ((λ i. exchanged rules e (sym (table_read a e.initiator d1 (omega (arith, is))) i) (sym (table_read b 0 d2 in_b) i)) ∙ done) records
-      ∙ (λ i. record { tables = sym (after e.initiator) i; records = records ++ r ∷ [] })
+      pub back_fits : (p : ℕ) → length a ≡ p → 0 < length b → p < length xs → Fits (table (get_or b 0 d))
+      back_fits p is in_b below = subst Fits (ap (λ ts. table_of_node ts p) before ∙ back (map table a) (map table b) p (length-map a table ∙ is) ∙ sym (table_read b 0 d in_b)) (fits p (omega (arith, below, length-map xs table)))
 
-  pub exchanged_high : length a ≡ e.initiator → e.responder < e.initiator → exchanged rules e (get_or b 0 d2).table (get_or a e.responder d1).table ≡ record { initiator = y.table; responder = x.table; sent = r } → At e.responder 0
-  exchanged_high is lt done records =
-      (λ i. exchange_in rules (record { tables = before xs a b split i; records = records }) e)
-      ∙ high rules e (tables_in a) (tables_in b) x.table y.table r (length-tables_in a ∙ is) lt
-      ((λ i. exchanged rules e (sym (table_read b 0 d2 in_b) i) (sym (table_read a e.responder d1 (omega (arith, is))) i)) ∙ done) records
-      ∙ (λ i. record { tables = sym (after e.responder) i; records = records ++ r ∷ [] })
+  module _ (rules : Rules) (e : Exchange) (xs a b : List T) (split : xs ≡ a ++ b) (in_b : 0 < length b) (d1 d2 x y : T) (r : Record) where
+    abbrev At : (p q : ℕ) → Type 0
+    At p q = (records : List Record) → exchange_in rules (record { tables = map table xs; records = records }) e ≡ record { tables = map table (set a p x ++ set b q y); records = records ++ r ∷ [] }
+
+    after : (p : ℕ) → map table (set a p x ++ set b 0 y) ≡ set (map table a) p (table x) ++ set (map table b) 0 (table y)
+    after p = map-append table (set a p x) (set b 0 y) ∙ (λ i. map-set table a p x i ++ map-set table b 0 y i)
+
+    pub exchanged_low : length a ≡ e.responder → e.initiator < e.responder → exchanged rules e (table (get_or a e.initiator d1)) (table (get_or b 0 d2)) ≡ record { initiator = table x; responder = table y; sent = r } → At e.initiator 0
+    exchanged_low is lt done records =
+        (λ i. exchange_in rules (record { tables = before xs a b split i; records = records }) e)
+        ∙ low rules e (map table a) (map table b) (table x) (table y) r (length-map a table ∙ is) lt
+        ((λ i. exchanged rules e (sym (table_read a e.initiator d1 (omega (arith, is))) i) (sym (table_read b 0 d2 in_b) i)) ∙ done) records
+        ∙ (λ i. record { tables = sym (after e.initiator) i; records = records ++ r ∷ [] })
+
+    pub exchanged_high : length a ≡ e.initiator → e.responder < e.initiator → exchanged rules e (table (get_or b 0 d2)) (table (get_or a e.responder d1)) ≡ record { initiator = table y; responder = table x; sent = r } → At e.responder 0
+    exchanged_high is lt done records =
+        (λ i. exchange_in rules (record { tables = before xs a b split i; records = records }) e)
+        ∙ high rules e (map table a) (map table b) (table x) (table y) r (length-map a table ∙ is) lt
+        ((λ i. exchanged rules e (sym (table_read b 0 d2 in_b) i) (sym (table_read a e.responder d1 (omega (arith, is))) i)) ∙ done) records
+        ∙ (λ i. record { tables = sym (after e.responder) i; records = records ++ r ∷ [] })

@@ -1,17 +1,16 @@
 -- What carrying out a list comes to. Source: this project.
-use Rattle.std.specs.Prelude.{◌≡◌, ℕ, ◌<◌, ◌⊎◌, List}
+use Rattle.std.specs.Prelude.{◌≡◌, ℕ, ◌<◌, ◌⊎◌, List, map}
 use Rattle.bench_types.specs.declared.exchanges.Exchange.{Exchange}
 use Rattle.bench_types.specs.declared.exchanges.Record.{Record}
 use Rattle.bench_types.specs.declared.exchanges.Rules.{Rules}
 use Rattle.bench_types.specs.declared.faults.Fault.{Fault}
 use Rattle.bench_types.specs.declared.faults.Fault.TheVariants.{OutOfMemory, NoThread}
-use Rattle.node_table.specs.NodeTableView.{NodeTableView}
-use Rattle.cluster.specs.Tables.{tables_in}
+use Rattle.node_table.specs.Table.{Table}
 use Rattle.cluster.specs.Folds.{fold_of}
 
 -- these are the tables and the records of list order
-abbrev pub AreExchanged : Rules → List Exchange → List NodeTableView → List NodeTableView → List Record → Type 0
-AreExchanged rules es old new records = fold_of rules (tables_in old) es ≡ record { tables = tables_in new; records = records }
+abbrev pub AreExchanged : {T : Type 0} → (T → Table) → Rules → List Exchange → List T → List T → List Record → Type 0
+AreExchanged table rules es old new records = fold_of rules (map table old) es ≡ record { tables = map table new; records = records }
 
 -- memory was refused, or one of several threads couldn't be started
 abbrev pub IsPoolFault : ℕ → Fault → Type 0

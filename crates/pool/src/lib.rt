@@ -11,4 +11,4 @@ mod threads;
 mod workers;
 
 pub use gates::{FreeGate, Gate};
-pub use runs::run_list;
+pub use runs::{run_list, run_list_with};

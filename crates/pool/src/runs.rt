@@ -1,8 +1,9 @@
 //! Carrying out the exchanges of a list.
 
-ghost use Rattle.std.specs.Prelude.{◌≤◌, IfOk, IfErr};
+ghost use Rattle.std.specs.Prelude.{◌≤◌, map, IfOk, IfErr};
 ghost use Rattle.bench_types.specs.Budget.{IsLawfulBudget};
-ghost use Rattle.cluster.specs.Tables.{tables_in, IsCluster};
+ghost use Rattle.cluster.specs.Tables.{tables_in, IsCluster, HoldsOfEach};
+ghost use Rattle.exchange.specs.Exchanging.{kept_table};
 ghost use Rattle.pool.specs.Runs.{AreExchanged, IsPoolFault};
 ghost use Rattle.bench_types.specs.declared.limits.TheConstants.{MOST_WORKERS};
 
@@ -11,6 +12,7 @@ use crate::in_order::exchange_all;
 use crate::threads::exchange_in_threads;
 use bench_types::limits::MOST_WORKERS;
 use bench_types::{Fault, Record, Rules};
+use exchange::Exchanging;
 use node_table::NodeTable;
 use round_plan::RoundList;
 use std::alloc::Global;
@@ -35,7 +37,7 @@ pub fn run_list<R: Threads + Wait + Sync, G: Gate + Sync>(
     rt: &R,
     alloc: Global,
     list: &RoundList,
-    mut tables: Vec<NodeTable>,
+    tables: Vec<NodeTable>,
     workers: u32,
     gate: &G,
     rules: &Rules,
@@ -44,13 +46,38 @@ pub fn run_list<R: Threads + Wait + Sync, G: Gate + Sync>(
     requires many { workers ≤ MOST_WORKERS }
     requires cluster { IsCluster list.now.nodes (tables_in tables.items) }
     requires budget { IsLawfulBudget rules.now.budget }
-    ensures exchanged { IfOk result (λ p. AreExchanged rules.now list.now.exchanges tables.items p.0.items p.1.items) }
+    ensures exchanged { IfOk result
+        (λ p. AreExchanged kept_table rules.now list.now.exchanges tables.items p.0.items p.1.items) }
+    ensures fault { IfErr result (IsPoolFault workers) }
+{
+    run_list_with(rt, alloc, &(), list, tables, workers, gate, rules)
+}
+
+/// Carries out the exchanges of a list on tables of any representation, as `run_list` does it. What the
+/// tables share is read while it runs.
+pub fn run_list_with<R: Threads + Wait + Sync, T: Exchanging + Send + Sync, G: Gate + Sync>(
+    rt: &R,
+    alloc: Global,
+    shared: &T::Shared,
+    list: &RoundList,
+    mut tables: Vec<T>,
+    workers: u32,
+    gate: &G,
+    rules: &Rules,
+) -> Result<(Vec<T>, Vec<Record>), Fault>
+    requires few { 1 ≤ workers }
+    requires many { workers ≤ MOST_WORKERS }
+    requires cluster { IsCluster list.now.nodes (map T.table tables.items) }
+    requires fits { HoldsOfEach (T.fits shared.now) (map T.table tables.items) }
+    requires budget { IsLawfulBudget rules.now.budget }
+    ensures exchanged { IfOk result
+        (λ p. AreExchanged T.table rules.now list.now.exchanges tables.items p.0.items p.1.items) }
     ensures fault { IfErr result (IsPoolFault workers) }
 {
     if workers == 1 {
-        let records = exchange_all(alloc, &mut tables, list, gate, rules)?;
+        let records = exchange_all(alloc, shared, &mut tables, list, gate, rules)?;
         Ok((tables, records))
     } else {
-        exchange_in_threads::<Brand, R, G>(rt, alloc, list, tables, workers, gate, rules)
+        exchange_in_threads::<Brand, R, T, G>(rt, alloc, shared, list, tables, workers, gate, rules)
     }
 }

@@ -1,14 +1,15 @@
 //! Several workers, each a thread of its own.
 
-ghost use Rattle.std.specs.Prelude.{◌≡◌, ◌+◌, ◌<◌, ◌≤◌, [], All, length, IfOk, IfErr, IsOk, IsOkUnless, OnOk, vec_len, vec_capacity};
+ghost use Rattle.std.specs.Prelude.{◌≡◌, ◌+◌, ◌<◌, ◌≤◌, [], All, length, map, IfOk, IfErr, IsOk, IsOkUnless, OnOk, vec_len, vec_capacity};
 ghost use Rattle.bench_types.specs.declared.faults.Fault.TheVariants.{OutOfMemory, NoThread};
 ghost use Rattle.bench_types.specs.declared.limits.TheConstants.{MOST_WORKERS};
 ghost use Rattle.bench_types.specs.Budget.{IsLawfulBudget};
-ghost use Rattle.cluster.specs.Tables.{tables_in, IsCluster};
+ghost use Rattle.cluster.specs.Tables.{IsCluster, HoldsOfEach};
 ghost use Rattle.board.specs.Boards.{seat_view, IsSeatOf};
 ghost use Rattle.pool.specs.Runs.{AreExchanged, IsPoolFault};
 ghost use Rattle.pool.specs.inner.Returns.{IsFreshSeat, IsReturned};
 ghost use Rattle.pool.specs.inner.Starts.{MaySplit};
+ghost use Rattle.pool.specs.inner.Workshops.{IsWorkshop};
 ghost use Rattle.pool.specs.inner.Joined.{HasTakenIn, HasSeenAll, IsOfBoard, AreTogether};
 
 use crate::deques::{Limit, Tasks, deal};
@@ -20,7 +21,7 @@ use bench_types::{Fault, Record, Rules};
 use board::{Board, Seat};
 use collector::Stamped;
 use dependencies::Deps;
-use node_table::NodeTable;
+use exchange::{Exchanging, MemoryTable};
 use round_plan::RoundList;
 use std::alloc::Global;
 use std::snapshot::Snapshot;
@@ -30,30 +31,38 @@ use std::thread::{Promise, PromisedHandle, Scope, Threads};
 
 // What the thread of a worker promises: the returned of a seat of one part.
 #[derive(Drop)]
-pub(crate) struct Back(Snapshot<Board>);
+pub(crate) struct Back<T: MemoryTable>(Snapshot<Board<T>>);
 
-impl Promise<Returned> for Back {
-    ghost kept_by = { λ back returned. IsReturned back.0.value 1 returned };
+impl<T: MemoryTable> Promise<Returned<T>> for Back<T> {
+    ghost kept_by = { λ back returned. IsReturned T.table back.0.value 1 returned };
 }
 
-type Handle = PromisedHandle<Returned, Back>;
+type Handle<T> = PromisedHandle<Returned<T>, Back<T>>;
 
 /// Carries out the exchanges of a list by so many workers, each in a thread. A type knows how long the list is.
-pub(crate) fn exchange_in_threads<L: Limit + Send + Sync, R: Threads + Wait + Sync, G: Gate + Sync>(
+pub(crate) fn exchange_in_threads<
+    L: Limit + Send + Sync,
+    R: Threads + Wait + Sync,
+    T: Exchanging + Send + Sync,
+    G: Gate + Sync,
+>(
     rt: &R,
     alloc: Global,
+    shared: &T::Shared,
     list: &RoundList,
-    tables: Vec<NodeTable>,
+    tables: Vec<T>,
     workers: u32,
     gate: &G,
     rules: &Rules,
-) -> Result<(Vec<NodeTable>, Vec<Record>), Fault>
+) -> Result<(Vec<T>, Vec<Record>), Fault>
     requires limit { L.limit ≡ length list.now.exchanges }
     requires several { 2 ≤ workers }
     requires many { workers ≤ MOST_WORKERS }
-    requires cluster { IsCluster list.now.nodes (tables_in tables.items) }
+    requires cluster { IsCluster list.now.nodes (map T.table tables.items) }
+    requires fits { HoldsOfEach (T.fits shared.now) (map T.table tables.items) }
     requires budget { IsLawfulBudget rules.now.budget }
-    ensures exchanged { IfOk result (λ p. AreExchanged rules.now list.now.exchanges tables.items p.0.items p.1.items) }
+    ensures exchanged { IfOk result
+        (λ p. AreExchanged T.table rules.now list.now.exchanges tables.items p.0.items p.1.items) }
     ensures fault { IfErr result (IsPoolFault workers) }
 {
     let deps = Deps::new(alloc, list)?;
@@ -62,6 +71,7 @@ pub(crate) fn exchange_in_threads<L: Limit + Send + Sync, R: Threads + Wait + Sy
     let shop = Workshop {
         alloc,
         board: &board,
+        shared,
         list,
         rules,
         gate,
@@ -75,40 +85,55 @@ pub(crate) fn exchange_in_threads<L: Limit + Send + Sync, R: Threads + Wait + Sy
 }
 
 // Starts a thread for each worker and joins them all. Answers the whole seat, and the records of the workers.
-fn run_workers<L: Limit + Send + Sync, R: Threads + Wait + Sync, G: Gate + Sync>(
+fn run_workers<
+    L: Limit + Send + Sync,
+    R: Threads + Wait + Sync,
+    T: Exchanging + Send + Sync,
+    G: Gate + Sync,
+>(
     rt: &R,
-    shop: &Workshop<G>,
-    seat: Seat,
+    shop: &Workshop<T, G>,
+    seat: Seat<T>,
     tasks: Vec<Tasks<L>>,
-) -> Result<(Seat, Vec<Stamped>), Fault>
+) -> Result<(Seat<T>, Vec<Stamped>), Fault>
+    requires shop { IsWorkshop T.table T.fits shop.now }
     requires limit { L.limit ≡ length shop.now.list.now.exchanges }
-    requires begin { MaySplit shop.now.board.now seat (vec_len tasks) }
-    ensures made { IfOk result (λ p. HasSeenAll shop.now.board.now p.0 p.1.items) }
+    requires begin { MaySplit T.table shop.now.board.now seat (vec_len tasks) }
+    ensures made { IfOk result (λ p. HasSeenAll T.table shop.now.board.now p.0 p.1.items) }
     ensures fault { IfErr result (IsPoolFault (vec_len tasks)) }
 {
     thread::scope(
         thread::scope_env(),
         rt,
-        |scope| -> Result<(Seat, Vec<Stamped>), Fault>
+        |scope| -> Result<(Seat<T>, Vec<Stamped>), Fault>
+            requires shop { IsWorkshop T.table T.fits shop.now }
             requires limit { L.limit ≡ length shop.now.list.now.exchanges }
-            requires begin { MaySplit shop.now.board.now seat (vec_len tasks) }
-            ensures made { IfOk result (λ p. HasSeenAll shop.entry.now.board.now p.0 p.1.items) }
+            requires begin { MaySplit T.table shop.now.board.now seat (vec_len tasks) }
+            ensures made { IfOk result (λ p. HasSeenAll T.table shop.entry.now.board.now p.0 p.1.items) }
             ensures fault { IfErr result (IsPoolFault (vec_len tasks)) }
         { run_in_scope(scope, rt, shop, seat, tasks) },
     )
 }
 
 // The same, in an open scope.
-fn run_in_scope<'s, 'e: 's, L: Limit + Send + Sync + 'e, R: Threads + Wait + Sync, G: Gate + Sync>(
+fn run_in_scope<
+    's,
+    'e: 's,
+    L: Limit + Send + Sync + 'e,
+    R: Threads + Wait + Sync,
+    T: Exchanging + Send + Sync,
+    G: Gate + Sync,
+>(
     scope: &Scope<'s, &'e ()>,
     rt: &'e R,
-    shop: &'e Workshop<'e, G>,
-    mut seat: Seat,
+    shop: &'e Workshop<'e, T, G>,
+    mut seat: Seat<T>,
     tasks: Vec<Tasks<L>>,
-) -> Result<(Seat, Vec<Stamped>), Fault>
+) -> Result<(Seat<T>, Vec<Stamped>), Fault>
+    requires shop { IsWorkshop T.table T.fits shop.now }
     requires limit { L.limit ≡ length shop.now.list.now.exchanges }
-    requires begin { MaySplit shop.now.board.now seat (vec_len tasks) }
-    ensures made { IfOk result (λ p. HasSeenAll shop.now.board.now p.0 p.1.items) }
+    requires begin { MaySplit T.table shop.now.board.now seat (vec_len tasks) }
+    ensures made { IfOk result (λ p. HasSeenAll T.table shop.now.board.now p.0 p.1.items) }
     ensures fault { IfErr result (IsPoolFault (vec_len tasks)) }
 {
     let mut handles = Vec::with_capacity(shop.alloc, tasks.len())?;
@@ -137,20 +162,28 @@ fn outcome_of(
 }
 
 // Starts a thread for each worker, with a seat of its own.
-fn start_all<'s, 'e: 's, L: Limit + Send + Sync + 'e, R: Threads + Wait + Sync, G: Gate + Sync>(
+fn start_all<
+    's,
+    'e: 's,
+    L: Limit + Send + Sync + 'e,
+    R: Threads + Wait + Sync,
+    T: Exchanging + Send + Sync,
+    G: Gate + Sync,
+>(
     scope: &Scope<'s, &'e ()>,
     rt: &'e R,
-    shop: &'e Workshop<'e, G>,
-    seat: &mut Seat,
+    shop: &'e Workshop<'e, T, G>,
+    seat: &mut Seat<T>,
     tasks: Vec<Tasks<L>>,
-    handles: &mut Vec<Handle>,
+    handles: &mut Vec<Handle<T>>,
 ) -> Result<(), Fault>
+    requires shop { IsWorkshop T.table T.fits shop.now }
     requires limit { L.limit ≡ length shop.now.list.now.exchanges }
-    requires seat { IsFreshSeat shop.now.board.now seat.old }
+    requires seat { IsFreshSeat T.table shop.now.board.now seat.old }
     requires parts { vec_len tasks < (seat_view seat.old).parts }
     requires none { handles.old.items ≡ [] }
     requires room { vec_len tasks ≤ vec_capacity handles.old }
-    ensures seat { IsFreshSeat shop.now.board.now seat.new }
+    ensures seat { IsFreshSeat T.table shop.now.board.now seat.new }
     ensures parts { OnOk result ((seat_view seat.new).parts + vec_len handles.new ≡ (seat_view seat.old).parts) }
     ensures count { OnOk result (vec_len handles.new ≡ vec_len tasks) }
     ensures promised { All (IsOfBoard shop.now.board.now) handles.new.items }
@@ -161,10 +194,11 @@ fn start_all<'s, 'e: 's, L: Limit + Send + Sync + 'e, R: Threads + Wait + Sync, 
         let back = Back(Snapshot::of(shop.board));
         let started = scope.spawn_with(
             back,
-            move || -> Returned
+            move || -> Returned<T>
+                requires shop { IsWorkshop T.table T.fits shop.now }
                 requires limit { L.limit ≡ length shop.now.list.now.exchanges }
-                requires seat { IsFreshSeat shop.now.board.now part }
-                ensures { IsReturned shop.entry.now.board.now (seat_view part).parts result }
+                requires seat { IsFreshSeat T.table shop.now.board.now part }
+                ensures { IsReturned T.table shop.entry.now.board.now (seat_view part).parts result }
             { shop.work(rt, part, own) },
         );
         match started {
@@ -176,19 +210,20 @@ fn start_all<'s, 'e: 's, L: Limit + Send + Sync + 'e, R: Threads + Wait + Sync, 
 }
 
 // Joins the threads, and their seats to another. Answers the records of all, in the order of joining.
-fn join_all<R: Threads>(
+fn join_all<R: Threads, T: Exchanging>(
     rt: &R,
     alloc: Global,
-    board: &Board,
-    seat: &mut Seat,
-    handles: Vec<Handle>,
+    board: &Board<T>,
+    seat: &mut Seat<T>,
+    handles: Vec<Handle<T>>,
 ) -> Result<Vec<Stamped>, Fault>
-    requires seat { IsSeatOf seat.old board.now }
+    requires seat { IsSeatOf T.table seat.old board.now }
     requires made { (seat_view seat.old).made ≡ [] }
     requires promised { All (IsOfBoard board.now) handles.items }
-    ensures seat { IsSeatOf seat.new board.now }
+    ensures seat { IsSeatOf T.table seat.new board.now }
     ensures parts { (seat_view seat.new).parts ≡ (seat_view seat.old).parts + vec_len handles }
-    ensures joined { IfOk result (λ stamps. HasTakenIn board.now (vec_len handles) seat.old seat.new stamps.items) }
+    ensures joined { IfOk result
+        (λ stamps. HasTakenIn T.table board.now (vec_len handles) seat.old seat.new stamps.items) }
     ensures fault { IfErr result (λ f. f ≡ OutOfMemory) }
 {
     let mut all = Ok(Vec::new(alloc));

@@ -4,7 +4,6 @@ ghost use Rattle.std.specs.Prelude.{◌≡◌, ◌<◌, ◌↔◌, length, IfOk,
 ghost use Rattle.bench_types.specs.declared.faults.Fault.TheVariants.{OutOfMemory};
 ghost use Rattle.board.specs.Weights.{Has};
 ghost use Rattle.board.specs.Boards.{plan_of, seat_view, IsSeatOf, IsHoldOf};
-ghost use Rattle.pool.specs.inner.Workshops.{IsWorkshop};
 
 use crate::deques::{Limit, Tasks};
 use crate::gates::Gate;
@@ -12,31 +11,32 @@ use bench_types::{Fault, Rules};
 use board::{Board, Claim, Freed, Hold, Seat};
 use collector::Stamped;
 use crossbeam_utils::Backoff;
-use exchange::exchange;
+use exchange::Exchanging;
 use round_plan::RoundList;
 use std::alloc::Global;
 use std::sync::Wait;
 
 /// What all workers of a list share.
 #[derive(Drop)]
-pub(crate) struct Workshop<'a, G> {
+pub(crate) struct Workshop<'a, T: Exchanging, G> {
     pub alloc: Global,
-    pub board: &'a Board,
+    pub board: &'a Board<T>,
+    pub shared: &'a T::Shared,
     pub list: &'a RoundList,
     pub rules: &'a Rules,
     pub gate: &'a G,
-    ghost planned: { IsWorkshop board.now list.now rules.now },
 }
 
 /// What a worker comes back with: its seat, and the records of the exchanges that it has put back, or
 /// lack of memory.
 #[derive(Drop)]
-pub(crate) struct Returned {
-    pub seat: Seat,
+pub(crate) struct Returned<T> {
+    pub seat: Seat<T>,
     pub outcome: Result<Vec<Stamped>, Fault>,
 }
 
-impl<'a, G: Gate> Workshop<'a, G> {
+impl<'a, T: Exchanging, G: Gate> Workshop<'a, T, G> {
+    ghost use Rattle.pool.specs.inner.Workshops.{IsWorkshop};
     ghost use Rattle.pool.specs.inner.Returns.{HasDone, AreRecordsOf, IsFreshSeat, IsReturned, SeesTheEnd, StaysAtWork};
 
     /// Carries out exchanges of the list until it sees that all are finished or that a stop was called. On
@@ -44,12 +44,13 @@ impl<'a, G: Gate> Workshop<'a, G> {
     pub(crate) fn work<L: Limit, R: Wait>(
         &self,
         rt: &R,
-        mut seat: Seat,
+        mut seat: Seat<T>,
         mut tasks: Tasks<L>,
-    ) -> Returned
+    ) -> Returned<T>
+        requires shop { IsWorkshop T.table T.fits self.now }
         requires limit { L.limit ≡ length self.now.list.now.exchanges }
-        requires seat { IsFreshSeat self.now.board.now seat }
-        ensures { IsReturned self.now.board.now (seat_view seat).parts result }
+        requires seat { IsFreshSeat T.table self.now.board.now seat }
+        ensures { IsReturned T.table self.now.board.now (seat_view seat).parts result }
     {
         let outcome = self.carry_out_all(rt, &mut seat, &mut tasks);
         if outcome.is_err() {
@@ -62,16 +63,17 @@ impl<'a, G: Gate> Workshop<'a, G> {
     fn carry_out_all<L: Limit, R: Wait>(
         &self,
         rt: &R,
-        seat: &mut Seat,
+        seat: &mut Seat<T>,
         tasks: &mut Tasks<L>,
     ) -> Result<Vec<Stamped>, Fault>
+        requires shop { IsWorkshop T.table T.fits self.now }
         requires limit { L.limit ≡ length self.now.list.now.exchanges }
-        requires seat { IsFreshSeat self.now.board.now seat.old }
-        ensures seat { IsSeatOf seat.new self.now.board.now }
+        requires seat { IsFreshSeat T.table self.now.board.now seat.old }
+        ensures seat { IsSeatOf T.table seat.new self.now.board.now }
         ensures stays { StaysAtWork (seat_view seat.old) (seat_view seat.new) }
         ensures records { IfOk result
-            (λ stamps. AreRecordsOf (plan_of self.now.board.now) (seat_view seat.new) stamps.items) }
-        ensures ends { OnOk result (SeesTheEnd (plan_of self.now.board.now) (seat_view seat.new)) }
+            (λ stamps. AreRecordsOf (plan_of T.table self.now.board.now) (seat_view seat.new) stamps.items) }
+        ensures ends { OnOk result (SeesTheEnd (plan_of T.table self.now.board.now) (seat_view seat.new)) }
         ensures only { IsOkUnless result OutOfMemory }
     {
         let mut stamps = Vec::new(self.alloc);
@@ -90,12 +92,13 @@ impl<'a, G: Gate> Workshop<'a, G> {
     }
 
     // Whether all exchanges are put back, or a stop was called.
-    fn sees_the_end(&self, seat: &mut Seat) -> bool
-        requires seat { IsSeatOf seat.old self.now.board.now }
-        ensures seat { IsSeatOf seat.new self.now.board.now }
+    fn sees_the_end(&self, seat: &mut Seat<T>) -> bool
+        requires shop { IsWorkshop T.table T.fits self.now }
+        requires seat { IsSeatOf T.table seat.old self.now.board.now }
+        ensures seat { IsSeatOf T.table seat.new self.now.board.now }
         ensures made { (seat_view seat.new).made ≡ (seat_view seat.old).made }
         ensures stays { StaysAtWork (seat_view seat.old) (seat_view seat.new) }
-        ensures ends { IsTrue result ↔ SeesTheEnd (plan_of self.now.board.now) (seat_view seat.new) }
+        ensures ends { IsTrue result ↔ SeesTheEnd (plan_of T.table self.now.board.now) (seat_view seat.new) }
     {
         let progress = self.board.look(seat);
         progress.stopped || progress.finished == self.list.len()
@@ -105,19 +108,20 @@ impl<'a, G: Gate> Workshop<'a, G> {
     // goes on the worker's own deque.
     fn try_one<L: Limit>(
         &self,
-        seat: &mut Seat,
+        seat: &mut Seat<T>,
         tasks: &mut Tasks<L>,
         stamps: &mut Vec<Stamped>,
         i: u32,
     ) -> Result<(), Fault>
+        requires shop { IsWorkshop T.table T.fits self.now }
         requires limit { L.limit ≡ length self.now.list.now.exchanges }
         requires within { i < L.limit }
-        requires seat { IsSeatOf seat.old self.now.board.now }
-        requires records { AreRecordsOf (plan_of self.now.board.now) (seat_view seat.old) stamps.old.items }
-        ensures seat { IsSeatOf seat.new self.now.board.now }
+        requires seat { IsSeatOf T.table seat.old self.now.board.now }
+        requires records { AreRecordsOf (plan_of T.table self.now.board.now) (seat_view seat.old) stamps.old.items }
+        ensures seat { IsSeatOf T.table seat.new self.now.board.now }
         ensures stays { StaysAtWork (seat_view seat.old) (seat_view seat.new) }
         ensures records { OnOk result
-            (AreRecordsOf (plan_of self.now.board.now) (seat_view seat.new) stamps.new.items) }
+            (AreRecordsOf (plan_of T.table self.now.board.now) (seat_view seat.new) stamps.new.items) }
         ensures only { IsOkUnless result OutOfMemory }
     {
         let Claim::Held(hold) = self.board.claim(seat, i) else {
@@ -139,15 +143,16 @@ impl<'a, G: Gate> Workshop<'a, G> {
     /// and the hold is given up.
     pub(crate) fn carry_out(
         &self,
-        seat: &mut Seat,
-        mut hold: Hold,
+        seat: &mut Seat<T>,
+        mut hold: Hold<T>,
     ) -> Result<(Stamped, Freed), Fault>
-        requires seat { IsSeatOf seat.old self.now.board.now }
+        requires shop { IsWorkshop T.table T.fits self.now }
+        requires seat { IsSeatOf T.table seat.old self.now.board.now }
         requires held { Has (seat_view seat.old).held hold.index }
-        requires hold { IsHoldOf (plan_of self.now.board.now) hold.index hold }
-        ensures seat { IsSeatOf seat.new self.now.board.now }
-        ensures done { IfOk result (λ done.
-            HasDone (plan_of self.now.board.now) (seat_view seat.old) hold.index done.0 done.1 (seat_view seat.new)) }
+        requires hold { IsHoldOf T.table (plan_of T.table self.now.board.now) hold.index hold }
+        ensures seat { IsSeatOf T.table seat.new self.now.board.now }
+        ensures done { IfOk result (λ done. let plan = plan_of T.table self.now.board.now in
+            HasDone plan (seat_view seat.old) hold.index done.0 done.1 (seat_view seat.new)) }
         ensures err { OnErr result (seat_view seat.new ≡ seat_view seat.old) }
         ensures only { IsOkUnless result OutOfMemory }
     {
@@ -155,7 +160,14 @@ impl<'a, G: Gate> Workshop<'a, G> {
         let plan = self.list.exchanges()[index as usize];
         self.gate.enter(index);
         let (initiator, responder) = (&mut hold.initiator, &mut hold.responder);
-        let outcome = exchange(self.alloc, initiator, responder, &plan, self.rules)?;
+        let outcome = T::exchange(
+            self.alloc,
+            self.shared,
+            initiator,
+            responder,
+            &plan,
+            self.rules,
+        )?;
         let freed = self.board.put_back(seat, hold);
         self.gate.leave(index);
         Ok((Stamped { index, outcome }, freed))

@@ -11,7 +11,7 @@ use Rattle.bench_types.specs.declared.entries.Mark.{Mark}
 use Rattle.bench_types.specs.Mark.{IsUpTo}
 use Rattle.node_table.specs.Table.{Table, greatest_mark, IsProper}
 use Rattle.node_table.specs.Entries.{StandsBefore, AreAbove, AreGenerations, AreGreatest}
-use Rattle.reconcile.specs.Digests.{DigestView, Greatest, version_in, mark_told}
+use Rattle.reconcile.specs.Digests.{DigestView, Greatest, told_up_to, told_mark_at}
 use Rattle.reconcile.specs.inner.Newer.{AreCandidates, item_with}
 use Rattle.reconcile.specs.inner.Suffixes.{suffix_items, items_of_suffixes, OwnersRise, AreSuffixes}
 use Rattle.reconcile.specs.declared.suffixes.Suffix.{Suffix}
@@ -39,10 +39,10 @@ none_there (n ∷ numbers) k none = absurd (omega arith)
 -- the mark of a generation and a version that stand in lists
 module _ (owner : ℕ) (mark : Mark) (generations versions : List ℕ) (generation : mark.generation ≡ get_or generations owner 0) (version : mark.version ≡ get_or versions owner 0) where
   -- is told of all keys of an owner, where a digest has these
-  pub told_alike : (told : DigestView) → told.generations ≡ generations → told.versions ≡ Greatest versions → (key : ℕ) → mark_told told owner key ≡ mark
+  pub told_alike : (told : DigestView) → told.generations ≡ generations → told.versions ≡ Greatest versions → (key : ℕ) → told_mark_at told owner key ≡ mark
   told_alike told gs vs key i = record {
     generation = (ap (λ ns. get_or ns owner 0) gs ∙ sym generation) i;
-    version = (ap (λ k. version_in told.keys k owner key) vs ∙ sym version) i;
+    version = (ap (λ k. told_up_to told.keys k owner key) vs ∙ sym version) i;
   }
 
   -- and is the greatest one, where these are a table's
@@ -69,7 +69,7 @@ module _ (t : Table) (told : DigestView) (receiver : ℕ) where
     pub found-own : bound ≡ receiver → AreFound t told receiver (bound + 1) suffixes
     found-own own = record { all = candidates-own t told receiver bound (items_of_suffixes suffixes) own so_far.all; rise = so_far.rise; are = so_far.are; below = wider }
 
-    module _ (mark : Mark) (entries : List Entry) (other : bound ≢ receiver) (same : (key : ℕ) → mark_told told bound key ≡ mark) (above : AreAbove t bound mark entries) where
+    module _ (mark : Mark) (entries : List Entry) (other : bound ≢ receiver) (same : (key : ℕ) → told_mark_at told bound key ≡ mark) (above : AreAbove t bound mark entries) where
       more : AreCandidates t told receiver (bound + 1) (items_of_suffixes suffixes ++ map (item_with bound) entries)
       more = subst (λ is. AreCandidates t told receiver (bound + 1) (items_of_suffixes suffixes ++ is)) (newer_items-above t told bound mark entries same above)
           (candidates-more t told receiver bound (items_of_suffixes suffixes) entries other so_far.all (newer-above t told bound mark entries same above))
@@ -98,7 +98,7 @@ module _ (t : Table) (told : DigestView) (receiver : ℕ) where
               ∙ sym (flat_map-append suffix_items suffixes (r ∷ []))
 
     -- or none, where the greatest mark is told
-    pub found-none : (mark : Mark) → bound ≢ receiver → ((key : ℕ) → mark_told told bound key ≡ mark) → IsProper t → IsUpTo (greatest_mark t bound) mark → AreFound t told receiver (bound + 1) suffixes
+    pub found-none : (mark : Mark) → bound ≢ receiver → ((key : ℕ) → told_mark_at told bound key ≡ mark) → IsProper t → IsUpTo (greatest_mark t bound) mark → AreFound t told receiver (bound + 1) suffixes
     found-none mark other same proper most = record {
       all = subst (AreCandidates t told receiver (bound + 1)) (append-nil (items_of_suffixes suffixes)) (more mark [] other same (above-none t bound mark proper most));
       rise = so_far.rise;

@@ -23,7 +23,7 @@ use Rattle.node_table.proofs.Items.{IsApart, apart-items_of, entry_at-items_of, 
 use Rattle.node_table.proofs.Laws.{tied-stands_at}
 use Rattle.node_table.proofs.Greatest.{mark_at-up_to_greatest}
 use Rattle.reconcile.specs.Candidates.{items_above}
-use Rattle.reconcile.specs.Digests.{DigestView, told_generation, mark_told, told_mark}
+use Rattle.reconcile.specs.Digests.{DigestView, told_generation, told_mark_at, told_mark}
 use Rattle.reconcile.specs.inner.Newer.{AreNewer, item_with, newer_items, version_order, IsCandidate, AreCandidates}
 use Rattle.reconcile.specs.inner.Keys.{item_in, items_in}
 use Rattle.reconcile.specs.declared.candidates.Candidate.{Candidate}
@@ -34,7 +34,7 @@ version_total = then_total (on_total (λ (i : Item). i.owner) nat_cmp_total) (th
 
 module _ (t : Table) (told : DigestView) (owner : ℕ) where
   -- where one mark is told of all keys of an owner, the entries above it aren't known
-  pub newer-above : (mark : Mark) (entries : List Entry) → ((key : ℕ) → mark_told told owner key ≡ mark) → AreAbove t owner mark entries → AreNewer t told owner entries
+  pub newer-above : (mark : Mark) (entries : List Entry) → ((key : ℕ) → told_mark_at told owner key ≡ mark) → AreAbove t owner mark entries → AreNewer t told owner entries
   newer-above mark entries same above = record {
     rising = above.rising;
     held = λ e there. (above.held e there).0;
@@ -68,12 +68,12 @@ filter-none p [] each = refl
 filter-none p (x ∷ xs) each = ap (λ b. cond b (x ∷ filter p xs) (filter p xs)) (All-head (λ y. p y ≡ false) x xs each) ∙ filter-none p xs (All-tail (λ y. p y ≡ false) x xs each)
 
 -- entries above what is told are all newer
-pub newer_items-above : (t : Table) (told : DigestView) (owner : ℕ) (mark : Mark) (entries : List Entry) → ((key : ℕ) → mark_told told owner key ≡ mark) → AreAbove t owner mark entries → newer_items told owner entries ≡ map (item_with owner) entries
+pub newer_items-above : (t : Table) (told : DigestView) (owner : ℕ) (mark : Mark) (entries : List Entry) → ((key : ℕ) → told_mark_at told owner key ≡ mark) → AreAbove t owner mark entries → newer_items told owner entries ≡ map (item_with owner) entries
 newer_items-above t told owner mark entries same above =
     filter-all (λ (i : Item). is_before (told_mark told i) (mark_of i.entry)) (map (item_with owner) entries)
     (All-map (λ (i : Item). is_before (told_mark told i) (mark_of i.entry) ≡ true) (item_with owner) entries
     (λ k d lt. let e = get_or entries k d in
-    before-yes (mark_told told owner e.key) (mark_of e) (subst (λ m. IsBefore m (mark_of e)) (sym (same e.key)) (above.held e (Contains-get_or entries k d lt)).1)))
+    before-yes (told_mark_at told owner e.key) (mark_of e) (subst (λ m. IsBefore m (mark_of e)) (sym (same e.key)) (above.held e (Contains-get_or entries k d lt)).1)))
 
 -- of an older generation than is told none is newer
 pub newer_items-older : (told : DigestView) (owner generation : ℕ) (entries : List Entry) → All (λ (e : Entry). e.generation ≡ generation) entries → generation < told_generation told owner → newer_items told owner entries ≡ []
@@ -81,7 +81,7 @@ newer_items-older told owner generation entries alike older =
     filter-none (λ (i : Item). is_before (told_mark told i) (mark_of i.entry)) (map (item_with owner) entries)
     (All-map (λ (i : Item). is_before (told_mark told i) (mark_of i.entry) ≡ false) (item_with owner) entries
     (λ k d lt. let e = get_or entries k d in
-    before-no (mark_told told owner e.key) (mark_of e) (record { generation = omega (arith, older, alike k d lt); version = λ same. absurd (omega (arith, same, older, alike k d lt)) })))
+    before-no (told_mark_at told owner e.key) (mark_of e) (record { generation = omega (arith, older, alike k d lt); version = λ same. absurd (omega (arith, same, older, alike k d lt)) })))
 
 -- the keys of a proper table's entries are in range
 pub row-keys : (t : Table) (owner : ℕ) (mark : Mark) (entries : List Entry) → IsProper t → AreAbove t owner mark entries → All (λ (e : Entry). e.key < t.keys) entries
@@ -105,21 +105,21 @@ module _ (told : DigestView) (owner : ℕ) (entries : List Entry) (n : ℕ) (bef
       ∙ sym (append_assoc before (newer_items told owner (take n entries)) (newer_items told owner (get_or entries n d ∷ [])))
 
   -- and isn't known
-  pub newer_items-more : (c : Candidate) → c.item ≡ item_with owner (get_or entries n d) → IsBefore (mark_told told owner (get_or entries n d).key) (mark_of (get_or entries n d)) → items_in (found ++ c ∷ []) ≡ before ++ newer_items told owner (take (n + 1) entries)
+  pub newer_items-more : (c : Candidate) → c.item ≡ item_with owner (get_or entries n d) → IsBefore (told_mark_at told owner (get_or entries n d).key) (mark_of (get_or entries n d)) → items_in (found ++ c ∷ []) ≡ before ++ newer_items told owner (take (n + 1) entries)
   newer_items-more c is newer =
       let e = get_or entries n d in
       map-append item_in found (c ∷ [])
       ∙ (λ i. so_far i ++ is i ∷ [])
-      ∙ ap (λ b. (before ++ newer_items told owner (take n entries)) ++ cond b (item_with owner e ∷ []) []) (sym (before-yes (mark_told told owner e.key) (mark_of e) newer))
+      ∙ ap (λ b. (before ++ newer_items told owner (take n entries)) ++ cond b (item_with owner e ∷ []) []) (sym (before-yes (told_mark_at told owner e.key) (mark_of e) newer))
       ∙ sym one_more
 
   -- or is known
-  pub newer_items-known : IsUpTo (mark_of (get_or entries n d)) (mark_told told owner (get_or entries n d).key) → items_in found ≡ before ++ newer_items told owner (take (n + 1) entries)
+  pub newer_items-known : IsUpTo (mark_of (get_or entries n d)) (told_mark_at told owner (get_or entries n d).key) → items_in found ≡ before ++ newer_items told owner (take (n + 1) entries)
   newer_items-known known =
       let e = get_or entries n d in
       so_far
       ∙ sym (append-nil (before ++ newer_items told owner (take n entries)))
-      ∙ ap (λ b. (before ++ newer_items told owner (take n entries)) ++ cond b (item_with owner e ∷ []) []) (sym (before-no (mark_told told owner e.key) (mark_of e) known))
+      ∙ ap (λ b. (before ++ newer_items told owner (take n entries)) ++ cond b (item_with owner e ∷ []) []) (sym (before-no (told_mark_at told owner e.key) (mark_of e) known))
       ∙ sym one_more
 
 module _ (t : Table) (told : DigestView) (receiver : ℕ) where
@@ -190,7 +190,7 @@ module _ (t : Table) (told : DigestView) (receiver : ℕ) where
         among i is at =
             let same : item_with bound i.entry ≡ i = λ n. record { owner = sym at n; entry = i.entry } in
             Contains-filter is_newer (map (item_with bound) entries) i
-            (subst (Contains (map (item_with bound) entries)) same (Contains-map (item_with bound) entries i.entry (newer.all i.entry.key i.entry (subst (λ o. entry_at t o i.entry.key ≡ Some i.entry) at is.held) (subst (λ o. IsBefore (mark_told told o i.entry.key) (mark_of i.entry)) at is.newer))))
+            (subst (Contains (map (item_with bound) entries)) same (Contains-map (item_with bound) entries i.entry (newer.all i.entry.key i.entry (subst (λ o. entry_at t o i.entry.key ≡ Some i.entry) at is.held) (subst (λ o. IsBefore (told_mark_at told o i.entry.key) (mark_of i.entry)) at is.newer))))
             (before-yes (told_mark told i) (mark_of i.entry) is.newer)
 
   -- all of them are the definition's, in another order

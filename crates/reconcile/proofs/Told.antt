@@ -20,7 +20,7 @@ use Rattle.node_table.specs.Table.{IsItemInPlace}
 use Rattle.node_table.specs.NodeTableView.{IsFor}
 use Rattle.node_table.proofs.Proper.{items_sound}
 use Rattle.reconcile.specs.Candidates.{items_above, candidates, known_mark}
-use Rattle.reconcile.specs.Digests.{DigestView, ToldVersions, Greatest, Each, kind_told, IsDigestOf, greatest_in, each_in, version_in, mark_with, told_generation, told_mark}
+use Rattle.reconcile.specs.Digests.{DigestView, ToldVersions, Greatest, Each, kind_told, IsDigestOf, greatest_in, each_in, told_up_to, mark_with, told_generation, told_mark}
 use Rattle.reconcile.specs.Deltas.{DeltaView, item_share, delta_of, delta_between, answer_of, IsDeltaToReceiver}
 use Rattle.reconcile.specs.Order.{sending_order}
 use Rattle.reconcile.specs.Picks.{at_place, fits, sent}
@@ -34,13 +34,13 @@ filter-same p q (x ∷ xs) same =
     ∙ ap (λ ys. cond (q x) (x ∷ ys) ys) (filter-same p q xs (All-tail (λ (i : Item). p i ≡ q i) x xs same))
 
 -- what a digest knows of an item, by its kind
-pub version_in-greatest : (k : ToldVersions) (keys owner key : ℕ) → kind_told k ≡ kinds.Scuttle → version_in keys k owner key ≡ greatest_in k owner
-version_in-greatest (Greatest gs) keys owner key is = refl
-version_in-greatest (Each vs) keys owner key is = cc
+pub told_up_to-greatest : (k : ToldVersions) (keys owner key : ℕ) → kind_told k ≡ kinds.Scuttle → told_up_to keys k owner key ≡ greatest_in k owner
+told_up_to-greatest (Greatest gs) keys owner key is = refl
+told_up_to-greatest (Each vs) keys owner key is = cc
 
-pub version_in-each : (k : ToldVersions) (keys owner key : ℕ) → kind_told k ≡ kinds.Precise → version_in keys k owner key ≡ each_in keys k owner key
-version_in-each (Greatest gs) keys owner key is = cc
-version_in-each (Each vs) keys owner key is = refl
+pub told_up_to-each : (k : ToldVersions) (keys owner key : ℕ) → kind_told k ≡ kinds.Precise → told_up_to keys k owner key ≡ each_in keys k owner key
+told_up_to-each (Greatest gs) keys owner key is = cc
+told_up_to-each (Each vs) keys owner key is = refl
 
 -- the version of a mark, which has none where it is 0
 pub version-mark_with : (generation version : ℕ) → (mark_with generation version).version ≡ version
@@ -52,12 +52,12 @@ version-mark_with generation version = elim (eqb version 0) as (λ b. eqb versio
 -- a table's digest knows what the table does
 pub told_mark-known : (kind : DigestKind) (to : Table) (told : DigestView) (i : Item) → IsDigestOf kind to told → i.owner < to.nodes → i.entry.key < to.keys → told_mark told i ≡ known_mark kind to i
 told_mark-known kinds.Scuttle to told i is lt fits =
-    ap (λ v. record { generation = told_generation told i.owner; version = v }) (version_in-greatest told.versions told.keys i.owner i.entry.key is.of_kind)
+    ap (λ v. record { generation = told_generation told i.owner; version = v }) (told_up_to-greatest told.versions told.keys i.owner i.entry.key is.of_kind)
     ∙ is.tells i.owner lt
 told_mark-known kinds.Precise to told i is lt fits =
     λ n. record {
       generation = is.generations i.owner lt n;
-      version = (version_in-each told.versions told.keys i.owner i.entry.key is.of_kind ∙ sym (version-mark_with (told_generation told i.owner) (each_in told.keys told.versions i.owner i.entry.key)) ∙ ap (λ (m : Mark). m.version) (is.tells i.owner i.entry.key lt fits)) n;
+      version = (told_up_to-each told.versions told.keys i.owner i.entry.key is.of_kind ∙ sym (version-mark_with (told_generation told i.owner) (each_in told.keys told.versions i.owner i.entry.key)) ∙ ap (λ (m : Mark). m.version) (is.tells i.owner i.entry.key lt fits)) n;
     }
 
 -- what a table's digest does not tell are the candidates to that table

@@ -83,14 +83,14 @@ pub record IsDigestOf (kind : DigestKind) (t : Table) (told : DigestView) : Type
   pub tells : Tells kind t told
 
 -- the version up to which a digest knows what an owner's key has
-abbrev pub version_in : ℕ → ToldVersions → ℕ → ℕ → ℕ
-version_in keys (Greatest gs) owner key = slice_index gs owner
-version_in keys (Each vs) owner key = slice_index vs (version_index keys owner key)
+abbrev pub told_up_to : ℕ → ToldVersions → ℕ → ℕ → ℕ
+told_up_to keys (Greatest gs) owner key = slice_index gs owner
+told_up_to keys (Each vs) owner key = slice_index vs (version_index keys owner key)
 
 -- and the mark
-abbrev pub mark_told : DigestView → ℕ → ℕ → Mark
-mark_told told owner key =
-    record { generation = told_generation told owner; version = version_in told.keys told.versions owner key }
+abbrev pub told_mark_at : DigestView → ℕ → ℕ → Mark
+told_mark_at told owner key =
+    record { generation = told_generation told owner; version = told_up_to told.keys told.versions owner key }
 
 abbrev pub told_mark : DigestView → Item → Mark
-told_mark told i = mark_told told i.owner i.entry.key
+told_mark told i = told_mark_at told i.owner i.entry.key

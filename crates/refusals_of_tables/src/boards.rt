@@ -1,6 +1,7 @@
 //! Boards, and what collects records.
 
 ghost use Rattle.std.specs.Prelude.{IfOk};
+ghost use Rattle.exchange.specs.Exchanging.{kept_table};
 ghost use Rattle.board.specs.Boards.{IsSeatOf};
 
 use crate::schedules::{ALL_ENTRIES, FOUR, crossing, deps_of};
@@ -15,7 +16,7 @@ const SECOND: Record = sent!(2, 2, 2, 2, 0, 0);
 
 // A board of four nodes with fresh tables. Where memory is refused these are given up.
 fn board_of<R: Eprint + AllocGlobal>(rt: &R) -> Result<Result<(Board, Seat), Fault>, Failure>
-    ensures { IfOk result (λ answer. IfOk answer (λ made. IsSeatOf made.1 made.0)) }
+    ensures { IfOk result (λ answer. IfOk answer (λ made. IsSeatOf kept_table made.1 made.0)) }
 {
     let alloc = rt.alloc();
     let list = crossing(rt)?;
@@ -26,7 +27,7 @@ fn board_of<R: Eprint + AllocGlobal>(rt: &R) -> Result<Result<(Board, Seat), Fau
 
 // A board is closed before any exchange is finished.
 fn check_unfinished(board: Board, seat: Seat) -> Result<(), Failure>
-    requires { IsSeatOf seat board }
+    requires { IsSeatOf kept_table seat board }
 {
     match board.close(seat) {
         Err(Fault::Unfinished) => Ok(()),

@@ -6,6 +6,7 @@ ghost use Rattle.bench_types.specs.Budget.{IsLawfulBudget};
 ghost use Rattle.exchange.specs.Exchanged.{IsExchanged};
 ghost use Rattle.board.specs.Weights.{Has};
 ghost use Rattle.board.specs.SeatView.{first_seat};
+ghost use Rattle.exchange.specs.Exchanging.{kept_table};
 ghost use Rattle.board.specs.Boards.{plan_of, IsSeatOf, IsHoldOf, seat_view};
 
 use crate::small_boards::board_of;
@@ -23,8 +24,8 @@ pub(crate) struct Job {
     pub board: Board,
     pub list: RoundList,
     pub rules: Rules,
-    ghost same_list: { (plan_of board).list ≡ list },
-    ghost same_rules: { (plan_of board).rules ≡ rules },
+    ghost same_list: { (plan_of kept_table board).list ≡ list },
+    ghost same_rules: { (plan_of kept_table board).rules ≡ rules },
     ghost budget: { IsLawfulBudget rules.budget },
 }
 
@@ -39,7 +40,7 @@ impl Job {
         requires keys { (1 ≤ keys) × (keys ≤ MOST_KEYS) }
         requires budget { IsLawfulBudget rules.budget }
         ensures list { IfOk result (λ made. made.0.list ≡ list) }
-        ensures seat { IfOk result (λ made. IsSeatOf made.1 made.0.board × (seat_view made.1 ≡ first_seat)) }
+        ensures seat { IfOk result (λ made. IsSeatOf kept_table made.1 made.0.board × (seat_view made.1 ≡ first_seat)) }
     {
         let (board, seat) = board_of(rt, &list, keys, &rules)?;
         Ok((Job { board, list, rules }, seat))
@@ -52,10 +53,10 @@ impl Job {
         seat: &mut Seat,
         mut hold: Hold,
     ) -> Result<Freed, Fault>
-        requires seat { IsSeatOf seat.old self.now.board }
+        requires seat { IsSeatOf kept_table seat.old self.now.board }
         requires held { Has (seat_view seat.old).held hold.index }
-        requires hold { IsHoldOf (plan_of self.now.board) hold.index hold }
-        ensures seat { IsSeatOf seat.new self.now.board }
+        requires hold { IsHoldOf kept_table (plan_of kept_table self.now.board) hold.index hold }
+        ensures seat { IsSeatOf kept_table seat.new self.now.board }
     {
         let (initiator, responder) = (&mut hold.initiator, &mut hold.responder);
         let plan = self

@@ -1,6 +1,7 @@
 //! Two threads of a scope that share a board.
 
 ghost use Rattle.std.specs.Prelude.{◌≤◌, ◌<◌, length};
+ghost use Rattle.exchange.specs.Exchanging.{kept_table};
 ghost use Rattle.board.specs.Boards.{exchanges_of, IsSeatOf};
 
 use crate::jobs::Job;
@@ -22,7 +23,7 @@ use std::thread::{Promise, Scope, Threads};
 struct SeatOf(Snapshot<Board>);
 
 impl Promise<Worked> for SeatOf {
-    ghost kept_by = { λ promise worked. IsSeatOf worked.seat promise.0.value };
+    ghost kept_by = { λ promise worked. IsSeatOf kept_table worked.seat promise.0.value };
 }
 
 // Claims an exchange, does it and puts it back, which makes another ready, and then the same with that one,
@@ -36,8 +37,8 @@ fn do_both(
 ) -> Worked
     requires first { first < length (exchanges_of job.now.board) }
     requires second { second < length (exchanges_of job.now.board) }
-    requires seat { IsSeatOf seat job.now.board }
-    ensures seat { IsSeatOf result.seat job.now.board }
+    requires seat { IsSeatOf kept_table seat job.now.board }
+    ensures seat { IsSeatOf kept_table result.seat job.now.board }
 {
     let hold = held(rt, &job.board, &mut seat, first);
     expect_next(rt, job, &mut seat, hold, Some(second)).expect(rt, "memory");
@@ -55,18 +56,18 @@ fn do_all<R: Abort + AllocGlobal + Threads + Wait + Sync>(
     second: Seat,
 ) -> Worked
     requires four { 4 ≤ length (exchanges_of job.now.board) }
-    requires first { IsSeatOf first job.now.board }
-    requires second { IsSeatOf second job.now.board }
-    ensures seat { IsSeatOf result.seat job.now.board }
+    requires first { IsSeatOf kept_table first job.now.board }
+    requires second { IsSeatOf kept_table second job.now.board }
+    ensures seat { IsSeatOf kept_table result.seat job.now.board }
 {
     thread::scope(
         thread::scope_env(),
         rt,
         |scope| -> Worked
             requires four { 4 ≤ length (exchanges_of job.now.board) }
-            requires first { IsSeatOf first job.now.board }
-            requires second { IsSeatOf second job.now.board }
-            ensures seat { IsSeatOf result.seat job.entry.now.board }
+            requires first { IsSeatOf kept_table first job.now.board }
+            requires second { IsSeatOf kept_table second job.now.board }
+            ensures seat { IsSeatOf kept_table result.seat job.entry.now.board }
         { do_all_in_scope(scope, rt, job, first, second) },
     )
 }
@@ -80,24 +81,24 @@ fn do_all_in_scope<'s, 'e: 's, R: Abort + AllocGlobal + Threads + Sync>(
     second: Seat,
 ) -> Worked
     requires four { 4 ≤ length (exchanges_of job.now.board) }
-    requires first { IsSeatOf first job.now.board }
-    requires second { IsSeatOf second job.now.board }
-    ensures seat { IsSeatOf result.seat job.now.board }
+    requires first { IsSeatOf kept_table first job.now.board }
+    requires second { IsSeatOf kept_table second job.now.board }
+    ensures seat { IsSeatOf kept_table result.seat job.now.board }
 {
     let one = scope.spawn_with(
         SeatOf(Snapshot::of(&job.board)),
         move || -> Worked
             requires four { 4 ≤ length (exchanges_of job.now.board) }
-            requires seat { IsSeatOf first job.now.board }
-            ensures seat { IsSeatOf result.seat job.entry.now.board }
+            requires seat { IsSeatOf kept_table first job.now.board }
+            ensures seat { IsSeatOf kept_table result.seat job.entry.now.board }
         { do_both(rt, job, first, 0, 2) },
     );
     let two = scope.spawn_with(
         SeatOf(Snapshot::of(&job.board)),
         move || -> Worked
             requires four { 4 ≤ length (exchanges_of job.now.board) }
-            requires seat { IsSeatOf second job.now.board }
-            ensures seat { IsSeatOf result.seat job.entry.now.board }
+            requires seat { IsSeatOf kept_table second job.now.board }
+            ensures seat { IsSeatOf kept_table result.seat job.entry.now.board }
         { do_both(rt, job, second, 1, 3) },
     );
     let (Ok(one), Ok(two)) = (one, two) else {

@@ -2,6 +2,7 @@
 
 ghost use Rattle.std.specs.Prelude.{ℕ, ◌≡◌, ◌<◌, length};
 ghost use Rattle.board.specs.Weights.{Has};
+ghost use Rattle.exchange.specs.Exchanging.{kept_table};
 ghost use Rattle.board.specs.Boards.{exchanges_of, IsSeatOf, seat_view};
 
 use crate::small_boards::{ONE_ENTRY, TWICE, board_of, expect_owners, list_of};
@@ -21,8 +22,8 @@ fn answer_to(claim: &Claim) -> &'static str {
 
 pub(crate) fn expect_claim(rt: &impl Abort, board: &Board, seat: &mut Seat, i: u32, answer: &str)
     requires within { i < length (exchanges_of board.now) }
-    requires seat { IsSeatOf seat.old board.now }
-    ensures seat { IsSeatOf seat.new board.now }
+    requires seat { IsSeatOf kept_table seat.old board.now }
+    ensures seat { IsSeatOf kept_table seat.new board.now }
     ensures parts { (seat_view seat.new).parts ≡ (seat_view seat.old).parts }
     ensures held { (k : ℕ) → Has (seat_view seat.old).held k → Has (seat_view seat.new).held k }
 {
@@ -33,8 +34,8 @@ pub(crate) fn expect_claim(rt: &impl Abort, board: &Board, seat: &mut Seat, i: u
 // It is held with the tables of these two nodes, each of which has its own entry alone.
 fn expect_fresh(rt: &impl Abort, board: &Board, seat: &mut Seat, i: u32, nodes: (u32, u32))
     requires within { i < length (exchanges_of board.now) }
-    requires seat { IsSeatOf seat.old board.now }
-    ensures seat { IsSeatOf seat.new board.now }
+    requires seat { IsSeatOf kept_table seat.old board.now }
+    ensures seat { IsSeatOf kept_table seat.new board.now }
     ensures parts { (seat_view seat.new).parts ≡ (seat_view seat.old).parts }
 {
     let Claim::Held(hold) = board.claim(seat, i) else {
@@ -47,7 +48,7 @@ fn expect_fresh(rt: &impl Abort, board: &Board, seat: &mut Seat, i: u32, nodes: 
 }
 
 fn expect_unfinished(rt: &impl Abort, board: Board, seat: Seat)
-    requires seat { IsSeatOf seat board }
+    requires seat { IsSeatOf kept_table seat board }
 {
     match board.close(seat) {
         Ok(_) => panic!(rt; "closed"),

@@ -4,6 +4,7 @@ ghost use Rattle.std.specs.Prelude.{◌≡◌, ◌≤◌, ◌<◌, length, IfOk}
 ghost use Rattle.bench_types.specs.declared.exchanges.Exchange.{Exchange};
 ghost use Rattle.bench_types.specs.declared.limits.TheConstants.{MOST_NODES, MOST_KEYS};
 ghost use Rattle.cluster.specs.Tables.{tables_in, IsCluster, IsTableOf};
+ghost use Rattle.exchange.specs.Exchanging.{kept_table};
 ghost use Rattle.board.specs.Boards.{plan_of, IsSeatOf, seat_view};
 ghost use Rattle.board.specs.SeatView.{first_seat};
 
@@ -123,9 +124,9 @@ pub(crate) fn board_of(
     rules: &Rules,
 ) -> Result<(Board, Seat), Fault>
     requires keys { (1 ≤ keys) × (keys ≤ MOST_KEYS) }
-    ensures list { IfOk result (λ made. (plan_of made.0).list ≡ list.now) }
-    ensures rules { IfOk result (λ made. (plan_of made.0).rules ≡ rules.now) }
-    ensures seat { IfOk result (λ made. IsSeatOf made.1 made.0 × (seat_view made.1 ≡ first_seat)) }
+    ensures list { IfOk result (λ made. (plan_of kept_table made.0).list ≡ list.now) }
+    ensures rules { IfOk result (λ made. (plan_of kept_table made.0).rules ≡ rules.now) }
+    ensures seat { IfOk result (λ made. IsSeatOf kept_table made.1 made.0 × (seat_view made.1 ≡ first_seat)) }
 {
     let tables = tables_of(rt, rt.alloc(), list.nodes(), keys)?;
     Board::new(rt.alloc(), Deps::new(rt.alloc(), list)?, *rules, tables)

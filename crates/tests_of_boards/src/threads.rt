@@ -1,6 +1,7 @@
 //! Threads that share a board.
 
 ghost use Rattle.std.specs.Prelude.{◌<◌, length};
+ghost use Rattle.exchange.specs.Exchanging.{kept_table};
 ghost use Rattle.board.specs.Boards.{exchanges_of, IsSeatOf};
 
 use crate::jobs::Job;
@@ -46,8 +47,8 @@ impl Order {
 
 fn try_one(rt: &(impl Abort + AllocGlobal), job: &Job, worked: &mut Worked, i: u32)
     requires within { i < length (exchanges_of job.now.board) }
-    requires seat { IsSeatOf worked.old.seat job.now.board }
-    ensures seat { IsSeatOf worked.new.seat job.now.board }
+    requires seat { IsSeatOf kept_table worked.old.seat job.now.board }
+    ensures seat { IsSeatOf kept_table worked.new.seat job.now.board }
 {
     if let Claim::Held(hold) = job.board.claim(&mut worked.seat, i) {
         job.carry_out(rt, &mut worked.seat, hold)
@@ -57,8 +58,8 @@ fn try_one(rt: &(impl Abort + AllocGlobal), job: &Job, worked: &mut Worked, i: u
 }
 
 fn try_each(rt: &(impl Abort + AllocGlobal), job: &Job, worked: &mut Worked, order: Order)
-    requires seat { IsSeatOf worked.old.seat job.now.board }
-    ensures seat { IsSeatOf worked.new.seat job.now.board }
+    requires seat { IsSeatOf kept_table worked.old.seat job.now.board }
+    ensures seat { IsSeatOf kept_table worked.new.seat job.now.board }
 {
     let len = job.list.len();
     for place in 0..len {
@@ -68,8 +69,8 @@ fn try_each(rt: &(impl Abort + AllocGlobal), job: &Job, worked: &mut Worked, ord
 
 // Goes through the list until all exchanges are put back.
 fn work(rt: &(impl Abort + AllocGlobal), job: &Job, seat: Seat, order: Order) -> Worked
-    requires seat { IsSeatOf seat job.now.board }
-    ensures seat { IsSeatOf result.seat job.now.board }
+    requires seat { IsSeatOf kept_table seat job.now.board }
+    ensures seat { IsSeatOf kept_table result.seat job.now.board }
 {
     let mut worked = Worked {
         seat,
@@ -86,8 +87,8 @@ fn work(rt: &(impl Abort + AllocGlobal), job: &Job, seat: Seat, order: Order) ->
 
 /// Joins what two threads came back with.
 pub(crate) fn together(rt: &impl Abort, board: &Board, mut first: Worked, second: Worked) -> Worked
-    requires seats { IsSeatOf first.seat board.now × IsSeatOf second.seat board.now }
-    ensures seat { IsSeatOf result.seat board.now }
+    requires seats { IsSeatOf kept_table first.seat board.now × IsSeatOf kept_table second.seat board.now }
+    ensures seat { IsSeatOf kept_table result.seat board.now }
 {
     board.join(&mut first.seat, second.seat);
     first
@@ -104,19 +105,19 @@ pub(crate) fn work_in_two<R: Abort + AllocGlobal + Threads + Sync>(
     seats: (Seat, Seat),
     order: Order,
 ) -> Worked
-    requires seats { IsSeatOf seats.0 job.now.board × IsSeatOf seats.1 job.now.board }
-    ensures seat { IsSeatOf result.seat job.now.board }
+    requires seats { IsSeatOf kept_table seats.0 job.now.board × IsSeatOf kept_table seats.1 job.now.board }
+    ensures seat { IsSeatOf kept_table result.seat job.now.board }
 {
     let (first, second) = seats;
     let (one, two) = thread::join(
         rt,
         move || -> Worked
-            requires seat { IsSeatOf first job.now.board }
-            ensures seat { IsSeatOf result.seat job.entry.now.board }
+            requires seat { IsSeatOf kept_table first job.now.board }
+            ensures seat { IsSeatOf kept_table result.seat job.entry.now.board }
         { work(rt, job, first, order) },
         move || -> Worked
-            requires seat { IsSeatOf second job.now.board }
-            ensures seat { IsSeatOf result.seat job.entry.now.board }
+            requires seat { IsSeatOf kept_table second job.now.board }
+            ensures seat { IsSeatOf kept_table result.seat job.entry.now.board }
         { work(rt, job, second, Order::Descending) },
     );
     together(rt, &job.board, one, two)
@@ -129,19 +130,19 @@ pub(crate) fn work_in_three<R: Abort + AllocGlobal + Threads + Sync>(
     first: Seat,
     others: (Seat, Seat),
 ) -> Worked
-    requires first { IsSeatOf first job.now.board }
-    requires others { IsSeatOf others.0 job.now.board × IsSeatOf others.1 job.now.board }
-    ensures seat { IsSeatOf result.seat job.now.board }
+    requires first { IsSeatOf kept_table first job.now.board }
+    requires others { IsSeatOf kept_table others.0 job.now.board × IsSeatOf kept_table others.1 job.now.board }
+    ensures seat { IsSeatOf kept_table result.seat job.now.board }
 {
     let (one, two) = thread::join(
         rt,
         move || -> Worked
-            requires seat { IsSeatOf first job.now.board }
-            ensures seat { IsSeatOf result.seat job.entry.now.board }
+            requires seat { IsSeatOf kept_table first job.now.board }
+            ensures seat { IsSeatOf kept_table result.seat job.entry.now.board }
         { work(rt, job, first, Order::Shuffled) },
         move || -> Worked
-            requires seats { IsSeatOf others.0 job.now.board × IsSeatOf others.1 job.now.board }
-            ensures seat { IsSeatOf result.seat job.entry.now.board }
+            requires seats { IsSeatOf kept_table others.0 job.now.board × IsSeatOf kept_table others.1 job.now.board }
+            ensures seat { IsSeatOf kept_table result.seat job.entry.now.board }
         { work_in_two(rt, job, others, Order::Ascending) },
     );
     together(rt, &job.board, one, two)
@@ -154,19 +155,19 @@ pub(crate) fn work_in_four<R: Abort + AllocGlobal + Threads + Sync>(
     firsts: (Seat, Seat),
     others: (Seat, Seat),
 ) -> Worked
-    requires firsts { IsSeatOf firsts.0 job.now.board × IsSeatOf firsts.1 job.now.board }
-    requires others { IsSeatOf others.0 job.now.board × IsSeatOf others.1 job.now.board }
-    ensures seat { IsSeatOf result.seat job.now.board }
+    requires firsts { IsSeatOf kept_table firsts.0 job.now.board × IsSeatOf kept_table firsts.1 job.now.board }
+    requires others { IsSeatOf kept_table others.0 job.now.board × IsSeatOf kept_table others.1 job.now.board }
+    ensures seat { IsSeatOf kept_table result.seat job.now.board }
 {
     let (one, two) = thread::join(
         rt,
         move || -> Worked
-            requires seats { IsSeatOf firsts.0 job.now.board × IsSeatOf firsts.1 job.now.board }
-            ensures seat { IsSeatOf result.seat job.entry.now.board }
+            requires seats { IsSeatOf kept_table firsts.0 job.now.board × IsSeatOf kept_table firsts.1 job.now.board }
+            ensures seat { IsSeatOf kept_table result.seat job.entry.now.board }
         { work_in_two(rt, job, firsts, Order::Ascending) },
         move || -> Worked
-            requires seats { IsSeatOf others.0 job.now.board × IsSeatOf others.1 job.now.board }
-            ensures seat { IsSeatOf result.seat job.entry.now.board }
+            requires seats { IsSeatOf kept_table others.0 job.now.board × IsSeatOf kept_table others.1 job.now.board }
+            ensures seat { IsSeatOf kept_table result.seat job.entry.now.board }
         { work_in_two(rt, job, others, Order::Shuffled) },
     );
     together(rt, &job.board, one, two)

@@ -2,6 +2,7 @@
 
 ghost use Rattle.std.specs.Prelude.{◌≡◌, ◌<◌, length};
 ghost use Rattle.board.specs.Weights.{Has};
+ghost use Rattle.exchange.specs.Exchanging.{kept_table};
 ghost use Rattle.board.specs.Boards.{plan_of, exchanges_of, IsSeatOf, IsHoldOf, seat_view};
 
 use crate::jobs::Job;
@@ -18,11 +19,11 @@ const PAIR: &[(u32, u32)] = &[(0, 1), (1, 0)];
 /// An exchange that is held by the seat now.
 pub(crate) fn held(rt: &impl Abort, board: &Board, seat: &mut Seat, i: u32) -> Hold
     requires within { i < length (exchanges_of board.now) }
-    requires seat { IsSeatOf seat.old board.now }
-    ensures seat { IsSeatOf seat.new board.now }
+    requires seat { IsSeatOf kept_table seat.old board.now }
+    ensures seat { IsSeatOf kept_table seat.new board.now }
     ensures parts { (seat_view seat.new).parts ≡ (seat_view seat.old).parts }
     ensures held { Has (seat_view seat.new).held result.index }
-    ensures hold { IsHoldOf (plan_of board.now) result.index result }
+    ensures hold { IsHoldOf kept_table (plan_of kept_table board.now) result.index result }
 {
     match board.claim(seat, i) {
         Claim::Held(hold) => hold,
@@ -38,10 +39,10 @@ pub(crate) fn expect_next(
     hold: Hold,
     next: Option<u32>,
 ) -> Result<(), Fault>
-    requires seat { IsSeatOf seat.old job.now.board }
+    requires seat { IsSeatOf kept_table seat.old job.now.board }
     requires held { Has (seat_view seat.old).held hold.index }
-    requires hold { IsHoldOf (plan_of job.now.board) hold.index hold }
-    ensures seat { IsSeatOf seat.new job.now.board }
+    requires hold { IsHoldOf kept_table (plan_of kept_table job.now.board) hold.index hold }
+    ensures seat { IsSeatOf kept_table seat.new job.now.board }
 {
     let freed = Freed {
         first: next,
@@ -69,7 +70,7 @@ fn takes_turns(rt: &(impl Abort + AllocGlobal)) -> Result<(), Fault> {
 }
 
 fn expect_both_entries(rt: &impl Abort, board: Board, seat: Seat) -> Result<(), Fault>
-    requires seat { IsSeatOf seat board }
+    requires seat { IsSeatOf kept_table seat board }
 {
     let tables = board.close(seat)?;
     assert!(rt; tables.len() == 2 && tables[0].count() == 2 && tables[1].count() == 2);

@@ -1,14 +1,12 @@
 -- What each step on a board tells: of the step, the seat before, the number found and the seat after. Source: this project.
 use Rattle.std.specs.Prelude.{◌≡◌, ℕ, List, ◌++◌, length, ◌+◌, Bool, true, false, ◌==◌, if◌then◌else◌, Option, [], ◌∷◌, IfSome, ◌≢◌, ◌/◌, ◌%◌, ◌<◌, ◌≤◌, ◌↔◌, map, drop, ◌⊎◌, All, None, Some}
 use Rattle.bench_types.specs.declared.exchanges.Exchange.{Exchange}
-use Rattle.bench_types.specs.contracts.exchanges.Exchange as exchange_row
-use Rattle.bench_types.specs.contracts.exchanges.Rules as rules_row
 use Rattle.dependencies.specs.Neighbours.{as_list, successors, predecessors, pending_of}
 use Rattle.board.specs.Plan.{BoardPlan, initiator_of, responder_of, table_at}
 use Rattle.board.specs.SeatView.{IsWhole, SeatView, first_seat, freed_by, having_seen, having_stopped, joined, split_left, split_right, with_held, with_made, with_told, without_held}
 use Rattle.std.specs.List.{range_with_len}
-use Rattle.node_table.specs.NodeTableView.{NodeTableView}
-use Rattle.atomic_table.specs.Table.{Step}
+use Rattle.node_table.specs.Table.{Table}
+use Rattle.atomic_table.specs.Table.{Step, Me}
 use Rattle.board.specs.Weights.{times, Has}
 use Rattle.board.specs.Rule.{Slot, TAKEN}
 use Rattle.board.specs.declared.views.View.{View}
@@ -41,12 +39,15 @@ pub record ClaimTells (es : List Exchange) (i : ℕ) (v : SeatView) (r : ℕ) : 
   pub whole_taken : IsWhole v → r ≡ TAKEN → 0 < times i v.made + times i v.held
   pub whole_ready : IsWhole v → r ≡ 0 → All (λ j. 0 < times j v.made) (predecessors es i)
 
-pub record TookOut (m : Sat) (i : ℕ) (n : Sat) : Type 0 where
-  pub initiator : NodeTableView
-  pub responder : NodeTableView
-  pub seat : n ≡ (view m.0.plan m.0.seat (i ∷ []) [], (responder_of m.0.plan i, Some responder) ∷ (initiator_of m.0.plan i, Some initiator) ∷ [])
-  pub first : initiator.table ≡ table_at m.0.plan (initiator_of m.0.plan i) i
-  pub second : responder.table ≡ table_at m.0.plan (responder_of m.0.plan i) i
+-- the slots of an exchange with the tables that it finds in list order, its responder's first
+abbrev pub slots_of : BoardPlan → ℕ → List (ℕ × Slot)
+slots_of plan i =
+    (responder_of plan i, Some (table_at plan (responder_of plan i) i))
+    ∷ (initiator_of plan i, Some (table_at plan (initiator_of plan i) i))
+    ∷ []
+
+abbrev pub TookOut : Sat → ℕ → Sat → Type 0
+TookOut m i n = n ≡ (view m.0.plan m.0.seat (i ∷ []) [], slots_of m.0.plan i)
 
 abbrev pub claimed : Step Slot → Sat → ℕ → Sat → Type 0
 claimed st m r n =
@@ -110,29 +111,29 @@ abbrev pub spent : View
 spent = resting no_plan spent_seat
 
 -- the tables of an exchange are out with the seat
-pub record HasOut (plan : BoardPlan) (i : ℕ) (m : Sat) : Type 0 where
-  pub initiator : NodeTableView
-  pub responder : NodeTableView
+pub record HasOut {T : Type 0} (table : T → Table) (plan : BoardPlan) (i : ℕ) (m : Me (Option T) View) : Type 0 where
+  pub initiator : T
+  pub responder : T
   pub seat : m ≡ (view plan m.0.seat (i ∷ []) [], (responder_of plan i, Some responder) ∷ (initiator_of plan i, Some initiator) ∷ [])
-  pub first : initiator.table ≡ table_at plan (initiator_of plan i) i
-  pub second : responder.table ≡ table_at plan (responder_of plan i) i
+  pub first : table initiator ≡ table_at plan (initiator_of plan i) i
+  pub second : table responder ≡ table_at plan (responder_of plan i) i
   pub parts : 0 < m.0.seat.parts
 
 -- the first release that the seat owes is of the exchange j
-pub record OwesTo (plan : BoardPlan) (m : Sat) (j : ℕ) : Type 0 where
+pub record OwesTo {S : Type 0} (plan : BoardPlan) (m : Me S View) (j : ℕ) : Type 0 where
   pub by : ℕ
   pub more : List (ℕ × ℕ)
   pub seat : m ≡ (view plan m.0.seat [] ((by, j) ∷ more), [])
   pub parts : 0 < m.0.seat.parts
 
 -- it is made, and was the last that j waited for, or not
-pub record IsReleased (plan : BoardPlan) (m : Sat) (j : ℕ) (named : Option ℕ) (n : Sat) : Type 0 where
+pub record IsReleased {S : Type 0} (plan : BoardPlan) (m : Me S View) (j : ℕ) (named : Option ℕ) (n : Me S View) : Type 0 where
   pub seat : n ≡ (view plan (freed_by m.0.seat named) [] (drop 1 m.0.owes), [])
   pub among : (named ≡ None) ⊎ (named ≡ Some j)
   pub whole : IsWhole m.0.seat → times j (map (λ release. release.1) (drop 1 m.0.owes)) ≡ 0 → (named ≡ Some j) ↔ All (Has m.0.seat.made) (predecessors plan.list.exchanges j)
 
 -- an exchange is put back, and its releases are owed
-pub record HasFinished (plan : BoardPlan) (v : SeatView) (i : ℕ) (n : Sat) : Type 0 where
+pub record HasFinished {S : Type 0} (plan : BoardPlan) (v : SeatView) (i : ℕ) (n : Me S View) : Type 0 where
   pub seen : ℕ
   pub is_stopped : Bool
   pub seat : n ≡ (view plan (with_made (without_held v i) i seen is_stopped) [] (releases_by i (successor_list plan.list.exchanges i)), [])
@@ -140,7 +141,7 @@ pub record HasFinished (plan : BoardPlan) (v : SeatView) (i : ℕ) (n : Sat) : T
   pub stays : v.is_stopped ≡ true → is_stopped ≡ true
 
 -- of a successor, if there is one
-abbrev pub OwesNext : BoardPlan → Sat → Option ℕ → Type 0
+abbrev pub OwesNext : {S : Type 0} → BoardPlan → Me S View → Option ℕ → Type 0
 OwesNext plan m next = IfSome next (λ j. (j < length plan.list.exchanges) × OwesTo plan m j)
 
 -- the words of a new board

@@ -1,7 +1,6 @@
 -- Tables in their slots. Source: this project.
 use Rattle.std.specs.Prelude.{Option, Some}
-use Rattle.node_table.specs.NodeTableView.{NodeTableView}
 
--- a table in its place, kept with its room
-abbrev pub in_place : NodeTableView → Option NodeTableView
+-- a table in its place, whatever its representation is
+abbrev pub in_place : {T : Type 0} → T → Option T
 in_place kept = Some kept

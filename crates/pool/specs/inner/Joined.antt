@@ -3,6 +3,7 @@ use Rattle.std.specs.Prelude.{◌≡◌, ℕ, ◌<◌, ◌≤◌, ◌⊎◌, ◌
 use Rattle.std.specs.declared.alloc.Global.{Global}
 use Rattle.std.specs.declared.thread.PromisedHandle.{PromisedHandle}
 use Rattle.bench_types.specs.declared.faults.Fault.{Fault}
+use Rattle.node_table.specs.Table.{Table}
 use Rattle.board.specs.SeatView.{SeatView, IsWhole}
 use Rattle.board.specs.Plan.{BoardPlan}
 use Rattle.board.specs.Boards.{plan_of, exchanges_of, seat_view, IsSeatOf}
@@ -14,7 +15,7 @@ use Rattle.pool.specs.declared.workers.Returned.{Returned}
 use Rattle.pool.specs.declared.threads.Back.{Back}
 
 -- the thread promises a returned of this board
-abbrev pub IsOfBoard : Board → PromisedHandle Returned Back → Type 0
+abbrev pub IsOfBoard : {T : Type 0} → Board T → PromisedHandle (Returned T) (Back T) → Type 0
 IsOfBoard board handle = handle.promise.0.value ≡ board
 
 -- the stamps of both
@@ -28,12 +29,12 @@ pub record IsJoined (plan : BoardPlan) (workers : ℕ) (old new : SeatView) (sta
   pub halted : new.is_halted ≡ old.is_halted
   pub ends : 0 < workers → (length plan.list.exchanges ≤ new.seen) ⊎ (new.is_stopped ≡ true)
 
-abbrev pub HasTakenIn : Board → ℕ → Seat → Seat → List Stamped → Type 0
-HasTakenIn board workers old new stamps = IsJoined (plan_of board) workers (seat_view old) (seat_view new) stamps
+abbrev pub HasTakenIn : {T : Type 0} → (T → Table) → Board T → ℕ → Seat T → Seat T → List Stamped → Type 0
+HasTakenIn table board workers old new stamps = IsJoined (plan_of table board) workers (seat_view old) (seat_view new) stamps
 
 -- a whole seat has seen that all exchanges are finished, and these are their records
-pub record HasSeenAll (board : Board) (seat : Seat) (stamps : List Stamped) : Type 0 where
-  pub of_board : IsSeatOf seat board
+pub record HasSeenAll {T : Type 0} (table : T → Table) (board : Board T) (seat : Seat T) (stamps : List Stamped) : Type 0 where
+  pub of_board : IsSeatOf table seat board
   pub whole : IsWhole (seat_view seat)
   pub seen : (seat_view seat).seen ≡ length (exchanges_of board)
-  pub records : AreRecordsOf (plan_of board) (seat_view seat) stamps
+  pub records : AreRecordsOf (plan_of table board) (seat_view seat) stamps

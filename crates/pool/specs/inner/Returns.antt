@@ -1,6 +1,7 @@
 -- What one exchange comes to, and what a worker comes back with. Source: this project.
 use Rattle.std.specs.Prelude.{◌≡◌, ℕ, ◌<◌, ◌⊎◌, true, false, List, [], length, map, All, IfOk, IfErr, IfSome}
 use Rattle.bench_types.specs.declared.faults.Fault.TheVariants.{OutOfMemory}
+use Rattle.node_table.specs.Table.{Table}
 use Rattle.board.specs.SeatView.{SeatView}
 use Rattle.board.specs.Plan.{BoardPlan, exchanged_at}
 use Rattle.board.specs.Boards.{plan_of, seat_view, IsSeatOf, IsPutBack}
@@ -27,8 +28,8 @@ pub record StaysAtWork (old new : SeatView) : Type 0 where
   pub is_halted : new.is_halted ≡ old.is_halted
 
 -- a seat of the board that has put nothing back and hasn't called for a stop
-pub record IsFreshSeat (board : Board) (seat : Seat) : Type 0 where
-  pub of_board : IsSeatOf seat board
+pub record IsFreshSeat {T : Type 0} (table : T → Table) (board : Board T) (seat : Seat T) : Type 0 where
+  pub of_board : IsSeatOf table seat board
   pub made : (seat_view seat).made ≡ []
   pub unhalted : (seat_view seat).is_halted ≡ false
 
@@ -47,9 +48,9 @@ pub record HasNoMoreToDo (plan : BoardPlan) (v : SeatView) : Type 0 where
   pub ends : SeesTheEnd plan v
 
 -- a worker that was given a seat with so many parts
-pub record IsReturned (board : Board) (parts : ℕ) (returned : Returned) : Type 0 where
-  pub of_board : IsSeatOf returned.seat board
+pub record IsReturned {T : Type 0} (table : T → Table) (board : Board T) (parts : ℕ) (returned : Returned T) : Type 0 where
+  pub of_board : IsSeatOf table returned.seat board
   pub same_parts : (seat_view returned.seat).parts ≡ parts
-  pub records : IfOk returned.outcome (λ stamps. AreRecordsOf (plan_of board) (seat_view returned.seat) stamps.items × HasNoMoreToDo (plan_of board) (seat_view returned.seat))
+  pub records : IfOk returned.outcome (λ stamps. AreRecordsOf (plan_of table board) (seat_view returned.seat) stamps.items × HasNoMoreToDo (plan_of table board) (seat_view returned.seat))
   pub fault : IfErr returned.outcome (λ f. f ≡ OutOfMemory)
   pub halted : IfErr returned.outcome (λ _. (seat_view returned.seat).is_halted ≡ true)

@@ -9,7 +9,7 @@ use Rattle.bench_types.specs.declared.entries.Item.{Item}
 use Rattle.bench_types.specs.Mark.{mark_of, is_before, IsBefore}
 use Rattle.node_table.specs.Table.{Table, entry_at}
 use Rattle.node_table.specs.Entries.{StandsBefore}
-use Rattle.reconcile.specs.Digests.{DigestView, mark_told, told_mark}
+use Rattle.reconcile.specs.Digests.{DigestView, told_mark_at, told_mark}
 use Rattle.reconcile.specs.inner.Keys.{items_in}
 use Rattle.reconcile.specs.declared.candidates.Candidate.{Candidate}
 
@@ -17,7 +17,7 @@ use Rattle.reconcile.specs.declared.candidates.Candidate.{Candidate}
 pub record AreNewer (t : Table) (told : DigestView) (owner : ℕ) (entries : List Entry) : Type 0 where
   pub rising : AllPairs StandsBefore entries
   pub held : (e : Entry) → Contains entries e → entry_at t owner e.key ≡ Some e
-  pub all : (key : ℕ) (e : Entry) → entry_at t owner key ≡ Some e → IsBefore (mark_told told owner key) (mark_of e)
+  pub all : (key : ℕ) (e : Entry) → entry_at t owner key ≡ Some e → IsBefore (told_mark_at told owner key) (mark_of e)
       → Contains entries e
 
 abbrev pub item_with : ℕ → Entry → Item

@@ -1,4 +1,6 @@
-use Rattle.std.proofs.Common.{rules, arith, ap, sym, ◌∙◌, ◌∷◌, ◌++◌, [], ◌≡◌, length, vec_capacity, take, ℕ, suc, ◌+◌}
+use Rattle.std.proofs.Common.{arith, ap, sym, ◌∙◌, ◌∷◌, ◌++◌, [], ◌≡◌, ◌<◌, length, vec_capacity, take, set, get_or, get_or-set_same, get_or-set_other, false, inl, inr, ℕ, suc, ◌+◌}
+use Rattle.std.proofs.lemmas.Bool.{cases_eq}
+use Rattle.std.specs.Mem.Slots.{slots_filled, slots_counts}
 use Rattle.std.proofs.lemmas.List.{length_push}
 use Rattle.std.proofs.lemmas.Option.{same_Some}
 use lib.ListN.{get_elem?}
@@ -7,14 +9,20 @@ use Rattle.board.proofs.boards.all_out.Goals as goal
 use Rattle.board.proofs.boards.all_out.Goals.{in-Some, in_default}
 
 pub loop-i-preserved : goal.loop-i-preserved
-loop-i-preserved c =
+loop-i-preserved g c =
     let i = c.loop-i.i in
     let inv = c.loop-i.invariant in
-    let next : suc i ≡ i + 1 = omega arith in (
-      search rules,
-      search rules,
-      search rules,
-      search rules,
+    let next : suc i ≡ i + 1 = omega arith in
+    let filled = slots_filled c.loop-i.closed.slots in
+    let within : i < length filled = omega (arith, (slots_counts c.loop-i.closed.slots).1, inv.3) in
+    let gone : (k : ℕ) → get_or (slots_filled c.take.new.self.slots) k false ≡ get_or (set filled i false) k false = λ k. ap (λ fs. get_or fs k false) c.take.ensures.others.1 in (
+      λ k from below. gone k ∙ get_or-set_other filled i k false false (λ e. omega (arith, e, from)) ∙ inv.0 k (omega (arith, from)) (omega (arith, below, c.take.ensures.others.2)),
+      λ k below. gone k ∙ elim (cases_eq k i) [
+        | inl here ↦ ap (λ j. get_or (set filled i false) j false) here ∙ get_or-set_same filled i false false within
+        | inr other ↦ get_or-set_other filled i k false false other ∙ inv.1 k (omega (arith, below, other))
+      ],
+      c.take.ensures.others.0 ∙ inv.2,
+      c.take.ensures.others.2 ∙ inv.3,
       elim c.match-take.branch [
         | in-Some w ↦ omega (arith, inv.4, ap (λ r. length r.items) w.room-is, ap length w.push_reserved.ensures.items, length_push c.loop-i.room.items w.in-Some.table)
         | in_default w ↦ omega (arith, inv.4, ap (λ r. length r.items) w.room-is)

@@ -1,16 +1,15 @@
 use Rattle.std.proofs.Common.{List, ◌≡◌, ◌<◌, ◌≤◌, ℕ, length, map, take, get_or, false, vec_capacity}
 use Rattle.std.specs.Mem.Slots.{slots_items, slots_filled, slots_len}
 use Rattle.std.specs.Mem.Slots.Ownership.{Filled}
-use Rattle.node_table.specs.NodeTableView.{NodeTableView}
 use Rattle.dependencies.specs.inner.Slots.{in_place}
 use Rattle.board.proofs.boards.all_out.Given as goal
 
 abbrev pub invariant-loop-i : goal.invariant-loop-i
-invariant-loop-i l =
+invariant-loop-i g l =
     Filled (slots_filled l.closed.slots) l.i (slots_len l.closed.slots)
     × ((k : ℕ) → k < l.i → get_or (slots_filled l.closed.slots) k false ≡ false)
     × (slots_items l.closed.slots ≡ slots_items l.fn.closed.slots)
     × (slots_len l.closed.slots ≡ slots_len l.fn.closed.slots)
     × (length l.room.items ≤ l.i)
     × (vec_capacity l.room ≡ vec_capacity l.fn.room)
-    × ((kept : List NodeTableView) → slots_items l.fn.closed.slots ≡ map in_place kept → l.room.items ≡ take l.i kept)
+    × ((kept : List g.row.T.Denot) → slots_items l.fn.closed.slots ≡ map in_place kept → l.room.items ≡ take l.i kept)

@@ -3,7 +3,7 @@ use Rattle.dependencies.specs.inner.Slots.{in_place}
 use Rattle.board.proofs.boards.into_slots.Given as goal
 
 abbrev pub invariant-loop : goal.invariant-loop
-invariant-loop l =
+invariant-loop g l =
     (map in_place l.fn.tables.items ≡ map in_place l.tables.items ++ reverse l.slots.items)
     × (vec_capacity l.tables ≡ vec_capacity l.fn.tables)
     × (length l.tables.items + l.counter ≡ length l.fn.tables.items)

@@ -1,8 +1,9 @@
-use Rattle.std.proofs.Common.{◌≡◌, ◌+◌, ◌<◌, ◌++◌, ◌∷◌, [], length, take, get_or, sym, ap, subst, ◌∙◌, arith}
-use Rattle.std.proofs.lemmas.List.{take_all}
-use Rattle.cluster.specs.Folds.{exchange_in, fold_of}
-use Rattle.cluster.specs.Tables.{tables_in, table_of_node, IsCluster}
-use Rattle.cluster.proofs.Tables.{length-tables_in, cluster_of}
+use Rattle.std.proofs.Common.{◌≡◌, ◌+◌, ◌<◌, ◌++◌, ◌∷◌, [], length, map, take, get_or, sym, ap, subst, ◌∙◌, arith}
+use Rattle.std.proofs.lemmas.List.{take_all, length-map}
+use Rattle.cluster.specs.Folds.{Folded, exchange_in, fold_of}
+use Rattle.cluster.specs.Tables.{table_of_node, IsCluster, HoldsOfEach}
+use Rattle.cluster.proofs.Tables.{cluster_of}
+use Rattle.cluster.proofs.FoldLaws.{before_keeps_each}
 use Rattle.dependencies.specs.Sharing.{no_exchange}
 use Rattle.pool.proofs.Turns.{IsTurned, turned_none, turned_more, still_tables}
 use Rattle.pool.proofs.in_order.exchange_all.Goals as goal
@@ -12,9 +13,9 @@ loop-i-preserved g c =
     let rules = c.args.rules.now in
     let es = c.args.list.now.exchanges in
     let i = c.loop-i.i in
-    let old = tables_in c.args.tables.now in
-    let new = tables_in c.loop-i.tables in
-    let new' = tables_in c.exchange_pair.new.tables in
+    let old = map g.T.MemoryTable.table c.args.tables.now in
+    let new = map g.T.MemoryTable.table c.loop-i.tables in
+    let new' = map g.T.MemoryTable.table c.exchange_pair.new.tables in
     let r = c.in_ok-sent.sent in
     let value = c.exchanges-plan-items.ensures.value in
     subst (λ records. IsTurned rules es old new' records (i + 1)) (sym c.in_ok-push.ensures.items)
@@ -24,17 +25,17 @@ loop-i-preserved g c =
 pub exchange_pair-requires-clause-tables : goal.exchange_pair-requires-clause-tables
 exchange_pair-requires-clause-tables g c =
     let nodes = c.args.list.now.nodes in
-    let old = tables_in c.args.tables.now in
+    let old = map g.T.MemoryTable.table c.args.tables.now in
     let keys = (table_of_node old 0).keys in
     let new = c.loop-i.tables in
-    let still = still_tables c.args.rules.now nodes keys c.args.list.now.exchanges old (tables_in new) c.loop-i.records.items c.exchanges-plan-items.ensures.kept.planned c.requires.tables c.loop-i.i c.loop-i.invariant in
-    subst (λ n. IsCluster n (tables_in new)) (sym still.size ∙ length-tables_in new) (cluster_of nodes keys (tables_in new) still)
+    let still = still_tables c.args.rules.now nodes keys c.args.list.now.exchanges old (map g.T.MemoryTable.table new) c.loop-i.records.items c.exchanges-plan-items.ensures.kept.planned c.requires.tables c.loop-i.i c.loop-i.invariant in
+    λ _ _. subst (λ n. IsCluster n (map g.T.MemoryTable.table new)) (sym still.size ∙ length-map new g.T.MemoryTable.table) (cluster_of nodes keys (map g.T.MemoryTable.table new) still)
 
 pub loop-i-init : goal.loop-i-init
 loop-i-init g c =
     let rules = c.args.rules.now in
     let es = c.args.list.now.exchanges in
-    let old = tables_in c.args.tables.now in
+    let old = map g.T.MemoryTable.table c.args.tables.now in
     subst (λ records. IsTurned rules es old old records 0) (sym c.in_ok-records.ensures.items) (turned_none rules es old)
 
 pub returns-clause-exchanged : goal.returns-clause-exchanged
@@ -42,4 +43,12 @@ returns-clause-exchanged g c =
     let es = c.args.list.now.exchanges in
     let i = c.loop-i.i in
     let all : take i es ≡ es = take_all i es (omega (arith, c.loop-i-test.false, ap length c.exchanges-plan-items.ensures.value)) in
-    sym (ap (fold_of c.args.rules.now (tables_in c.args.tables.now)) all) ∙ c.loop-i.invariant.folded
+    sym (ap (fold_of c.args.rules.now (map g.T.MemoryTable.table c.args.tables.now)) all) ∙ c.loop-i.invariant.folded
+
+pub exchange_pair-requires-clause-fits : goal.exchange_pair-requires-clause-fits
+exchange_pair-requires-clause-fits g c =
+    let old = map g.T.MemoryTable.table c.args.tables.now in
+    let keys = (table_of_node old 0).keys in
+    let shared = c.args.shared.now in
+    λ _ _. subst (λ (s : Folded). HoldsOfEach (g.T.Exchanging.fits shared) s.tables) c.loop-i.invariant.folded
+    (before_keeps_each c.args.rules.now c.args.list.now.nodes keys c.args.list.now.exchanges old c.exchanges-plan-items.ensures.kept.planned c.requires.tables (g.T.Exchanging.fits shared) (g.met.T.Exchanging.stays_fit shared) c.requires.fits c.loop-i.i)

@@ -1,54 +1,68 @@
-use Rattle.std.proofs.Common.{◌<◌, length, sym, ◌∙◌, subst, arith}
+use Rattle.std.proofs.Common.{◌<◌, length, map, sym, ◌∙◌, subst, arith}
 use Rattle.std.proofs.lemmas.Result.{IfOk-weaker}
-use Rattle.cluster.specs.Tables.{tables_in, table_of_node}
-use Rattle.pool.proofs.Pairs.{front_table, back_table, exchanged_low, exchanged_high}
+use Rattle.cluster.specs.Tables.{table_of_node}
+use Rattle.pool.proofs.Pairs.{front_table, back_table, front_fits, back_fits, exchanged_low, exchanged_high}
 use Rattle.pool.proofs.in_order.exchange_pair.Goals as goal
 
 pub returns-then-initiator-responder-clause-exchanged : goal.returns-then-initiator-responder-clause-exchanged
-returns-then-initiator-responder-clause-exchanged c =
+returns-then-initiator-responder-clause-exchanged g c =
     let split = c.split_at_mut-below in
     IfOk-weaker c.exchange.result _ _
-    (λ r done records. exchanged_low c.args.rules.now c.args.plan.now c.args.tables.now split.result.0.now split.result.1.now split.ensures.value (omega (arith, split.ensures.back_len, c.requires.planned.responder)) _ _ c.exchange.new.initiator c.exchange.new.responder r split.ensures.front_len c.if-initiator-responder.true done records)
+    (λ r done records. exchanged_low g.T.MemoryTable.table c.args.rules.now c.args.plan.now c.args.tables.now split.result.0.now split.result.1.now split.ensures.value (omega (arith, split.ensures.back_len, c.requires.planned.responder)) _ _ c.exchange.new.initiator c.exchange.new.responder r split.ensures.front_len c.if-initiator-responder.true done records)
     c.exchange.ensures.ok
 
 pub returns-else-initiator-responder-clause-exchanged : goal.returns-else-initiator-responder-clause-exchanged
-returns-else-initiator-responder-clause-exchanged c =
+returns-else-initiator-responder-clause-exchanged g c =
     let split = c.split_at_mut-below-else-initiator-responder in
     let after = c.exchange-else-initiator-responder in
     IfOk-weaker after.result _ _
-    (λ r done records. exchanged_high c.args.rules.now c.args.plan.now c.args.tables.now split.result.0.now split.result.1.now split.ensures.value (omega (arith, split.ensures.back_len, c.requires.planned.initiator)) _ _ after.new.responder after.new.initiator r split.ensures.front_len (omega (arith, c.if-initiator-responder.false, c.requires.planned.apart)) done records)
+    (λ r done records. exchanged_high g.T.MemoryTable.table c.args.rules.now c.args.plan.now c.args.tables.now split.result.0.now split.result.1.now split.ensures.value (omega (arith, split.ensures.back_len, c.requires.planned.initiator)) _ _ after.new.responder after.new.initiator r split.ensures.front_len (omega (arith, c.if-initiator-responder.false, c.requires.planned.apart)) done records)
     after.ensures.ok
 
 pub exchange-requires : goal.exchange-requires
-exchange-requires c =
+exchange-requires g c =
     let xs = c.args.tables.now in
     let split = c.split_at_mut-below in
+    let fits = g.T.Exchanging.fits c.args.shared.now in
     let nodes = length xs in
-    let keys = (table_of_node (tables_in xs) 0).keys in
-    let first = front_table xs split.result.0.now split.result.1.now split.ensures.value nodes keys c.requires.tables c.index-below-initiator.result c.args.plan.now.initiator (omega (arith, split.ensures.front_len, c.if-initiator-responder.true)) c.requires.planned.initiator in
-    let second = back_table xs split.result.0.now split.result.1.now split.ensures.value nodes keys c.requires.tables c.index-from-0.result c.args.plan.now.responder split.ensures.front_len (omega (arith, split.ensures.back_len, c.requires.planned.responder)) c.requires.planned.responder in
+    let keys = (table_of_node (map g.T.MemoryTable.table xs) 0).keys in
+    let first = front_table g.T.MemoryTable.table xs split.result.0.now split.result.1.now split.ensures.value nodes keys c.requires.tables c.index-below-initiator.result c.args.plan.now.initiator (omega (arith, split.ensures.front_len, c.if-initiator-responder.true)) c.requires.planned.initiator in
+    let second = back_table g.T.MemoryTable.table xs split.result.0.now split.result.1.now split.ensures.value nodes keys c.requires.tables c.index-from-0.result c.args.plan.now.responder split.ensures.front_len (omega (arith, split.ensures.back_len, c.requires.planned.responder)) c.requires.planned.responder in
     record {
       budget = c.requires.budget;
-      initiator = first.node;
-      responder = second.node;
-      nodes = first.nodes ∙ sym second.nodes;
-      keys = first.keys ∙ sym second.keys;
-      rotation = subst (λ n. c.args.plan.now.rotation < n) (sym first.nodes) c.requires.planned.rotation;
+      tables = record {
+        first = first.node;
+        second = second.node;
+        nodes = first.nodes ∙ sym second.nodes;
+        keys = first.keys ∙ sym second.keys;
+        rotation = subst (λ n. c.args.plan.now.rotation < n) (sym first.nodes) c.requires.planned.rotation;
+      };
+      fits = (
+        front_fits g.T.MemoryTable.table xs split.result.0.now split.result.1.now split.ensures.value fits c.requires.fits c.index-below-initiator.result c.args.plan.now.initiator (omega (arith, split.ensures.front_len, c.if-initiator-responder.true)) c.requires.planned.initiator,
+        back_fits g.T.MemoryTable.table xs split.result.0.now split.result.1.now split.ensures.value fits c.requires.fits c.index-from-0.result c.args.plan.now.responder split.ensures.front_len (omega (arith, split.ensures.back_len, c.requires.planned.responder)) c.requires.planned.responder,
+      );
     }
 
 pub exchange-requires-else-initiator-responder : goal.exchange-requires-else-initiator-responder
-exchange-requires-else-initiator-responder c =
+exchange-requires-else-initiator-responder g c =
     let xs = c.args.tables.now in
     let split = c.split_at_mut-below-else-initiator-responder in
+    let fits = g.T.Exchanging.fits c.args.shared.now in
     let nodes = length xs in
-    let keys = (table_of_node (tables_in xs) 0).keys in
-    let first = back_table xs split.result.0.now split.result.1.now split.ensures.value nodes keys c.requires.tables c.index-from-0-else-initiator-responder.result c.args.plan.now.initiator split.ensures.front_len (omega (arith, split.ensures.back_len, c.requires.planned.initiator)) c.requires.planned.initiator in
-    let second = front_table xs split.result.0.now split.result.1.now split.ensures.value nodes keys c.requires.tables c.index-below-responder.result c.args.plan.now.responder (omega (arith, split.ensures.front_len, c.if-initiator-responder.false, c.requires.planned.apart)) c.requires.planned.responder in
+    let keys = (table_of_node (map g.T.MemoryTable.table xs) 0).keys in
+    let first = back_table g.T.MemoryTable.table xs split.result.0.now split.result.1.now split.ensures.value nodes keys c.requires.tables c.index-from-0-else-initiator-responder.result c.args.plan.now.initiator split.ensures.front_len (omega (arith, split.ensures.back_len, c.requires.planned.initiator)) c.requires.planned.initiator in
+    let second = front_table g.T.MemoryTable.table xs split.result.0.now split.result.1.now split.ensures.value nodes keys c.requires.tables c.index-below-responder.result c.args.plan.now.responder (omega (arith, split.ensures.front_len, c.if-initiator-responder.false, c.requires.planned.apart)) c.requires.planned.responder in
     record {
       budget = c.requires.budget;
-      initiator = first.node;
-      responder = second.node;
-      nodes = first.nodes ∙ sym second.nodes;
-      keys = first.keys ∙ sym second.keys;
-      rotation = subst (λ n. c.args.plan.now.rotation < n) (sym first.nodes) c.requires.planned.rotation;
+      tables = record {
+        first = first.node;
+        second = second.node;
+        nodes = first.nodes ∙ sym second.nodes;
+        keys = first.keys ∙ sym second.keys;
+        rotation = subst (λ n. c.args.plan.now.rotation < n) (sym first.nodes) c.requires.planned.rotation;
+      };
+      fits = (
+        back_fits g.T.MemoryTable.table xs split.result.0.now split.result.1.now split.ensures.value fits c.requires.fits c.index-from-0-else-initiator-responder.result c.args.plan.now.initiator split.ensures.front_len (omega (arith, split.ensures.back_len, c.requires.planned.initiator)) c.requires.planned.initiator,
+        front_fits g.T.MemoryTable.table xs split.result.0.now split.result.1.now split.ensures.value fits c.requires.fits c.index-below-responder.result c.args.plan.now.responder (omega (arith, split.ensures.front_len, c.if-initiator-responder.false, c.requires.planned.apart)) c.requires.planned.responder,
+      );
     }

@@ -1,6 +1,5 @@
-use Rattle.std.proofs.Common.{length, sym, ap, subst, ◌∙◌}
+use Rattle.std.proofs.Common.{length, map, sym, ap, subst, ◌∙◌}
 use Rattle.dependencies.specs.Neighbours.{first_ready_of}
-use Rattle.cluster.specs.Tables.{tables_in}
 use Rattle.board.specs.Boards.{plan_of, seat_view}
 use Rattle.pool.specs.inner.Deques.{AllBelow}
 use Rattle.pool.specs.inner.Gathering.{AreInListOrder}
@@ -20,8 +19,8 @@ returns-clause-exchanged g c =
     let old = c.args.tables.items in
     let board = c.in_ok-board.board in
     let seen = c.in_ok-seat.ensures.made in
-    all_exchanged rules list old c.in-Ok.tables.items (plan_of board) (seat_view c.in_ok-seat.seat) c.in_ok-seat.stamps.items c.in_ok-records.records.items c.len.result
-    (c.in_ok-board.ensures.plan ∙ ap (λ l. record { rules = rules; list = l; tables = tables_in old }) c.in_ok-deps.ensures.value)
+    all_exchanged g.T.MemoryTable.table rules list old c.in-Ok.tables.items (plan_of g.T.MemoryTable.table board) (seat_view c.in_ok-seat.seat) c.in_ok-seat.stamps.items c.in_ok-records.records.items c.len.result
+    (c.in_ok-board.ensures.plan ∙ ap (λ l. record { rules = rules; list = l; tables = map g.T.MemoryTable.table old }) c.in_ok-deps.ensures.value)
     c.len.ensures.value seen.records (c.in-Ok.ensures.whole seen.whole)
     (subst (λ stamps. AreInListOrder c.len.result stamps c.in_ok-records.records.items) c.deref.ensures.value c.in_ok-records.ensures.records)
     c.in-Ok.ensures.tables

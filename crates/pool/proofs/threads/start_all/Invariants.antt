@@ -8,7 +8,7 @@ use Rattle.pool.proofs.threads.start_all.Given as goal
 abbrev pub invariant-loop-own : goal.invariant-loop-own
 invariant-loop-own g l =
     record {
-      seat : IsFreshSeat l.shop.board.now l.seat;
+      seat : IsFreshSeat g.T.MemoryTable.table l.shop.board.now l.seat;
       parts : (seat_view l.seat).parts + vec_len l.handles ≡ (seat_view l.fn.seat).parts;
       count : vec_len l.handles + into_iter_len l.own-iterator ≡ into_iter_len l.initial.own-iterator;
       room : vec_capacity l.handles ≡ vec_capacity l.fn.handles;

@@ -3,11 +3,11 @@ use Rattle.std.proofs.lemmas.List.{append-nil}
 use Rattle.std.proofs.lemmas.List.Elements.{All-push}
 use Rattle.bench_types.specs.declared.entries.Entry.{Entry}
 use Rattle.bench_types.specs.Mark.{mark_of, IsBefore}
-use Rattle.reconcile.specs.Digests.{told_generation, mark_told}
+use Rattle.reconcile.specs.Digests.{told_generation, told_mark_at}
 use Rattle.reconcile.specs.inner.Keys.{items_in, IsSet, AllSet}
 use Rattle.reconcile.specs.inner.Newer.{newer_items}
 use Rattle.reconcile.proofs.Newer.{newer_items-more, newer_items-known, newer_items-older}
-use Rattle.reconcile.proofs.Told.{version_in-each}
+use Rattle.reconcile.proofs.Told.{told_up_to-each}
 use Rattle.reconcile.proofs.candidates.push_newer.Goals as goal
 use Rattle.reconcile.proofs.candidates.push_newer.Goals.{then-told-generation+in_ok-push, then-told-generation-via-then-told-generation, then-told-generation-via-else-told-generation+then-versions-entry, else-told-generation+else-versions-entry}
 
@@ -30,11 +30,11 @@ loop-entry-preserved c =
     let e = get_or row at none in
     let told = c.generation-told.ensures in
     let alike = c.requires.generation at none lt in
-    let known = c.versions_of-versions.ensures.each e.key (c.requires.keys at none lt) ∙ sym (version_in-each digest.versions digest.keys owner e.key c.requires.kind) in
+    let known = c.versions_of-versions.ensures.each e.key (c.requires.keys at none lt) ∙ sym (told_up_to-each digest.versions digest.keys owner e.key c.requires.kind) in
     elim c.if-told-generation.branch [
       | then-told-generation+in_ok-push w ↦
           let pushed = sym (ap (λ v. v.items) w.found-is ∙ w.in_ok-push.ensures.items) in
-          let newer : IsBefore (mark_told digest owner e.key) (mark_of e) =
+          let newer : IsBefore (told_mark_at digest owner e.key) (mark_of e) =
           elim w.then-told-generation.branch [
             | then-told-generation-via-then-told-generation w' ↦ record {
               generation = omega (arith, w'.if-told-generation.true, told, alike);

@@ -1,36 +1,42 @@
-use Rattle.std.proofs.Common.{arith, ap, sym, ◌∙◌, length, ◌≡◌, ◌∷◌, map, ◌+◌, subst}
+use Rattle.std.proofs.Common.{arith, ap, sym, ◌∙◌, length, ◌∷◌, map, subst}
 use Rattle.std.specs.List.{range_with_len}
+use Rattle.std.proofs.lemmas.List.{length-map}
+use Rattle.std.proofs.lemmas.List.FromFn.{length-map-range_with_len}
 use Rattle.round_plan.specs.Plan.{RoundListView}
-use Rattle.cluster.specs.Tables.{tables_in}
-use Rattle.cluster.proofs.Tables.{length-tables_in}
 use Rattle.dependencies.specs.Neighbours.{pending_of}
-use Rattle.board.specs.Plan.{IsBoardPlan}
-use Rattle.board.specs.Keys.{key_plan}
+use Rattle.dependencies.specs.inner.Slots.{in_place}
+use Rattle.board.specs.Rule.{Orderly}
+use Rattle.board.specs.Keys.{IsBoardKey, key_plan}
+use Rattle.board.specs.Models.{slot_model}
+use Rattle.board.specs.inner.Plays.{opened_view}
 use Rattle.board.specs.declared.plays.BoardKey.{BoardKey}
 use Rattle.board.proofs.Ends.{starts}
-use Rattle.board.proofs.Filling.{opening_of, planned_of}
+use Rattle.board.proofs.Modelled.{opening_model}
+use Rattle.board.proofs.Filling.{key_is, planned_by, opening_of, placed_models}
 use Rattle.board.proofs.boards.Board.new.Goals as goal
 
 pub new-requires : goal.new-requires
-new-requires c =
-    let plan = key_plan (record { rules = c.args.rules; list = c.of.result; tables = c.of-2.result }) in
-    let tables_are : plan.tables ≡ tables_in c.args.tables.items = ap (λ v. tables_in v.items) c.of-2.ensures in
-    let planned = planned_of plan c.args.tables.items c.args.deps c.of.ensures tables_are c.first_words.ensures.kept c.requires.cluster in
+new-requires g c =
+    let table = g.T.MemoryTable.table in
+    let key : BoardKey g.row.T.Denot = record { rules = c.args.rules; list = c.of.result; tables = c.of-2.result } in
+    let plan = key_plan table key in
+    let is = key_is table key c.args.deps c.args.tables c.of.ensures c.of-2.ensures c.first_words.ensures.kept c.requires.cluster in
     let words_are = c.deref.ensures.value ∙ c.in_ok-words.ensures.words ∙ ap (λ (l : RoundListView). 0 ∷ map (pending_of l.exchanges) (range_with_len 0 (length l.exchanges))) (sym c.of.ensures) in
-    starts plan c.deref.result.now c.in_ok-slots.slots.items planned (opening_of plan c.args.tables.items c.deref.result.now c.in_ok-slots.slots.items planned tables_are words_are c.in_ok-slots.ensures.slots)
+    let slots = map (slot_model table) c.in_ok-slots.slots.items in
+    let slots_are = ap (map (slot_model table)) c.in_ok-slots.ensures.slots ∙ placed_models table c.args.tables.items ∙ ap (λ v. map in_place (map table v.items)) (sym c.of-2.ensures) in
+    opening_model table (Orderly plan) c.deref.result.now c.in_ok-slots.slots.items (opened_view plan)
+    (starts plan c.deref.result.now slots (planned_by table key is) (opening_of plan c.deref.result.now slots (planned_by table key is) words_are slots_are))
 
 pub invariant_of-result : goal.invariant_of-result
-invariant_of-result c =
-    let key : BoardKey = record { rules = c.args.rules; list = c.of.result; tables = c.of-2.result } in
-    let plan = key_plan key in
-    let tables_are : plan.tables ≡ tables_in c.args.tables.items = ap (λ v. tables_in v.items) c.of-2.ensures in
-    let planned = planned_of plan c.args.tables.items c.args.deps c.of.ensures tables_are c.first_words.ensures.kept c.requires.cluster in
-    let words_are = c.deref.ensures.value ∙ c.in_ok-words.ensures.words ∙ ap (λ (l : RoundListView). 0 ∷ map (pending_of l.exchanges) (range_with_len 0 (length l.exchanges))) (sym c.of.ensures) in
-    let opens = opening_of plan c.args.tables.items c.deref.result.now c.in_ok-slots.slots.items planned tables_are words_are c.in_ok-slots.ensures.slots in
+invariant_of-result g c =
+    let table = g.T.MemoryTable.table in
+    let key : BoardKey g.row.T.Denot = record { rules = c.args.rules; list = c.of.result; tables = c.of-2.result } in
+    let is = key_is table key c.args.deps c.args.tables c.of.ensures c.of-2.ensures c.first_words.ensures.kept c.requires.cluster in
+    let words_are = c.deref.ensures.value ∙ c.in_ok-words.ensures.words in
     let made = c.in-Ok.ensures.ok in
     record {
-      planned = (subst (λ k. IsBoardPlan (key_plan k)) (sym made.5) planned, sym (ap (λ k. k.list.value) made.5 ∙ c.of.ensures));
-      words = made.0 ∙ opens.long ∙ ap (λ (l : RoundListView). length l.exchanges + 1) c.of.ensures;
-      slots = made.1 ∙ opens.size ∙ ap (λ (l : RoundListView). l.nodes) c.of.ensures;
-      roomy = (c.in_ok-slots.ensures.room.0, omega (arith, c.in_ok-slots.ensures.room.1, length-tables_in c.args.tables.items, c.requires.cluster.size));
+      planned = (subst IsBoardKey (sym made.5) is, sym (ap (λ k. k.list.value) made.5 ∙ c.of.ensures));
+      words = made.0 ∙ ap length words_are ∙ omega (arith, length-map-range_with_len (pending_of c.args.deps.exchanges) 0 (length c.args.deps.exchanges));
+      slots = made.1 ∙ ap length c.in_ok-slots.ensures.slots ∙ length-map c.args.tables.items in_place ∙ sym (length-map c.args.tables.items table) ∙ c.requires.cluster.size;
+      roomy = (c.in_ok-slots.ensures.room.0, omega (arith, c.in_ok-slots.ensures.room.1, length-map c.args.tables.items table, c.requires.cluster.size));
     }

@@ -1,25 +1,24 @@
 use Rattle.std.proofs.Common.{rules, ap, sym, ◌∙◌, ◌<◌, subst, length, IfSome}
 use Rattle.dependencies.specs.Neighbours.{successors}
 use Rattle.board.specs.Boards.{plan_of, seat_view, exchanges_of, IsPutBack}
-use Rattle.board.specs.Seats.{Sat}
 use Rattle.board.specs.inner.Plays.{OwesTo, IsReleased}
-use Rattle.board.proofs.Calls.{at_rest, owes_first, owes_second, after_second, put_back_seat}
+use Rattle.board.proofs.Calls.{at_rest, seat_of_me, owes_first, owes_second, after_second, put_back_seat}
 use Rattle.board.proofs.boards.Board.put_back.Goals as goal
 
 pub put_in-requires-clause-rests : goal.put_in-requires-clause-rests
-put_in-requires-clause-rests c = at_rest (plan_of c.args.self.now) c.args.seat.now.raw.me c.requires.seat.plan c.requires.seat.rests
+put_in-requires-clause-rests g c = at_rest (plan_of g.T.MemoryTable.table c.args.self.now) c.args.seat.now.raw.me c.requires.seat.plan c.requires.seat.rests
 
 pub release-first-requires-clause-owes : goal.release-first-requires-clause-owes
-release-first-requires-clause-owes c =
-    let plan = plan_of c.args.self.now in
+release-first-requires-clause-owes g c =
+    let plan = plan_of g.T.MemoryTable.table c.args.self.now in
     let i = c.args.hold.index in
     let after = c.after-after.ensures ∙ ap (λ l. successors l.exchanges i) c.args.self.now.planned.1 in
     subst (λ x. IfSome x (λ j. (j < length (exchanges_of c.args.self.now)) × OwesTo plan c.put_in.new.raw.me j)) (sym (ap (λ a. a.first) after))
     (owes_first plan (seat_view c.args.seat.now) i c.put_in.new.raw.me c.put_in.ensures.seat c.requires.seat.rests.parts (c.requires.seat.within i c.requires.hold.held))
 
 pub release-second-requires-clause-owes : goal.release-second-requires-clause-owes
-release-second-requires-clause-owes c =
-    let plan = plan_of c.args.self.now in
+release-second-requires-clause-owes g c =
+    let plan = plan_of g.T.MemoryTable.table c.args.self.now in
     let i = c.args.hold.index in
     let after = c.after-after.ensures ∙ ap (λ l. successors l.exchanges i) c.args.self.now.planned.1 in
     subst (λ x. IfSome x (λ j. (j < length (exchanges_of c.args.self.now)) × OwesTo plan c.release-first.new.raw.me j)) (sym (ap (λ a. a.second) after))
@@ -27,21 +26,21 @@ release-second-requires-clause-owes c =
     (λ none. c.release-first.ensures.none (ap (λ a. a.first) after ∙ none)) (subst (λ x. IfSome x (λ j. IsReleased plan c.put_in.new.raw.me j c.release-first.result c.release-first.new.raw.me)) (ap (λ a. a.first) after) c.release-first.ensures.released))
 
 pub returns-clause-seat : goal.returns-clause-seat
-returns-clause-seat c =
-    let plan = plan_of c.args.self.now in
+returns-clause-seat g c =
+    let plan = plan_of g.T.MemoryTable.table c.args.self.now in
     let i = c.args.hold.index in
     let after = c.after-after.ensures ∙ ap (λ l. successors l.exchanges i) c.args.self.now.planned.1 in
     let both = after_second plan (seat_view c.args.seat.now) i c.put_in.new.raw.me c.put_in.ensures.seat c.requires.seat.rests.parts (c.requires.seat.within i c.requires.hold.held) c.release-first.new.raw.me c.release-first.result
     (λ none. c.release-first.ensures.none (ap (λ a. a.first) after ∙ none)) (subst (λ x. IfSome x (λ j. IsReleased plan c.put_in.new.raw.me j c.release-first.result c.release-first.new.raw.me)) (ap (λ a. a.first) after) c.release-first.ensures.released)
     c.release-second.new.raw.me c.release-second.result (λ none. c.release-second.ensures.none (ap (λ a. a.second) after ∙ none)) (subst (λ x. IfSome x (λ j. IsReleased plan c.release-first.new.raw.me j c.release-second.result c.release-second.new.raw.me)) (ap (λ a. a.second) after) c.release-second.ensures.released) in
-    put_back_seat c.args.self.now c.args.seat.now (record { raw = c.release-second.new.raw }) i _ _ c.release-first.result c.release-second.result c.requires.seat c.requires.hold.held (search rules) both.0
+    put_back_seat g.T.MemoryTable.table c.args.self.now c.args.seat.now (record { raw = c.release-second.new.raw }) i _ _ c.release-first.result c.release-second.result c.requires.seat c.requires.hold.held (search rules) both.0
 
 pub returns-clause-put_back : goal.returns-clause-put_back
-returns-clause-put_back c =
-    let plan = plan_of c.args.self.now in
+returns-clause-put_back g c =
+    let plan = plan_of g.T.MemoryTable.table c.args.self.now in
     let i = c.args.hold.index in
     let after = c.after-after.ensures ∙ ap (λ l. successors l.exchanges i) c.args.self.now.planned.1 in
     let both = after_second plan (seat_view c.args.seat.now) i c.put_in.new.raw.me c.put_in.ensures.seat c.requires.seat.rests.parts (c.requires.seat.within i c.requires.hold.held) c.release-first.new.raw.me c.release-first.result
     (λ none. c.release-first.ensures.none (ap (λ a. a.first) after ∙ none)) (subst (λ x. IfSome x (λ j. IsReleased plan c.put_in.new.raw.me j c.release-first.result c.release-first.new.raw.me)) (ap (λ a. a.first) after) c.release-first.ensures.released)
     c.release-second.new.raw.me c.release-second.result (λ none. c.release-second.ensures.none (ap (λ a. a.second) after ∙ none)) (subst (λ x. IfSome x (λ j. IsReleased plan c.release-first.new.raw.me j c.release-second.result c.release-second.new.raw.me)) (ap (λ a. a.second) after) c.release-second.ensures.released) in
-    subst (IsPutBack plan (seat_view c.args.seat.now) i (record { first = c.release-first.result; second = c.release-second.result })) (sym (ap (λ (m : Sat). m.0.seat) both.0)) both.1
+    subst (IsPutBack plan (seat_view c.args.seat.now) i (record { first = c.release-first.result; second = c.release-second.result })) (sym (seat_of_me c.release-second.new.raw.me plan _ both.0)) both.1

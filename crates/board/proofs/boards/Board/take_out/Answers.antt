@@ -1,15 +1,17 @@
 use Rattle.std.proofs.Common.{rules, ap, ◌∙◌, refl, ◌∷◌, [], None, Some}
+use mathlib.Core.Option.{none}
+use Rattle.atomic_table.specs.Table.{step}
 use Rattle.board.specs.Boards.{plan_of}
 use Rattle.board.specs.Plan.{initiator_of, responder_of}
 use Rattle.board.specs.Seats.{view}
 use Rattle.dependencies.specs.Sharing.{exchange_at}
-use Rattle.board.proofs.Moving.{empties}
-use Rattle.board.proofs.Calls.{word_zero, first_out, second_out, both_out}
+use Rattle.board.proofs.Steps.{empty_allowed}
+use Rattle.board.proofs.Calls.{word_zero, first_out, second_out, both_out, emptied_of}
 use Rattle.board.proofs.boards.Board.take_out.Goals as goal
 
 pub exchange-responder-requires : goal.exchange-responder-requires
-exchange-responder-requires c =
-    let plan = plan_of c.args.self.now in
+exchange-responder-requires g c =
+    let plan = plan_of g.T.MemoryTable.table c.args.self.now in
     let out = c.requires.out in
     let found = c.exchange-exchange.ensures.value ∙ ap (λ l. exchange_at l.exchanges c.args.i) c.args.self.now.planned.1 in (
       c.requires.id,
@@ -18,8 +20,8 @@ exchange-responder-requires c =
     )
 
 pub exchange-initiator-requires : goal.exchange-initiator-requires
-exchange-initiator-requires c =
-    let plan = plan_of c.args.self.now in
+exchange-initiator-requires g c =
+    let plan = plan_of g.T.MemoryTable.table c.args.self.now in
     let out = c.requires.out in
     let found = c.exchange-exchange.ensures.value ∙ ap (λ l. exchange_at l.exchanges c.args.i) c.args.self.now.planned.1 in (
       search rules,
@@ -28,13 +30,23 @@ exchange-initiator-requires c =
     )
 
 pub load-requires : goal.load-requires
-load-requires c =
-    let plan = plan_of c.args.self.now in
+load-requires g c =
+    let plan = plan_of g.T.MemoryTable.table c.args.self.now in
     let out = c.requires.out in
     let found = c.exchange-exchange.ensures.value ∙ ap (λ l. exchange_at l.exchanges c.args.i) c.args.self.now.planned.1 in (
       search rules,
       word_zero c.args.self.now,
-      empties plan _ _ c.exchange-initiator.new.seat.me c.args.raw.now.me.0.seat c.args.i out.parts
+      empty_allowed g.T.MemoryTable.table plan _ _ c.exchange-initiator.new.seat.me c.args.raw.now.me.0.seat out.parts c.args.i
           (both_out (view plan c.args.raw.now.me.0.seat (c.args.i ∷ []) []) (initiator_of plan c.args.i) (responder_of plan c.args.i) c.exchange-exchange.result.initiator c.exchange-exchange.result.responder (Some out.initiator) (Some out.responder) None c.args.raw.now.me c.exchange-responder.new.seat.me c.turn.new.self.me
           out.seat (ap (λ e. e.initiator) found) (ap (λ e. e.responder) found) c.exchange-responder.ensures.3 c.turn.ensures.2 None c.exchange-initiator.new.seat.me c.exchange-initiator.ensures.3),
     )
+
+pub returns-clause-seat : goal.returns-clause-seat
+returns-clause-seat g c =
+    let plan = plan_of g.T.MemoryTable.table c.args.self.now in
+    let out = c.requires.out in
+    let found = c.exchange-exchange.ensures.value ∙ ap (λ l. exchange_at l.exchanges c.args.i) c.args.self.now.planned.1 in
+    emptied_of g.T.MemoryTable.table plan c.args.raw.now.me.0.seat c.args.i c.load.result c.exchange-initiator.new.seat.me c.load.new.seat.me (step c.args.self.now.table.shared.table_id.slots 0 0 0 none) _
+    (both_out (view plan c.args.raw.now.me.0.seat (c.args.i ∷ []) []) (initiator_of plan c.args.i) (responder_of plan c.args.i) c.exchange-exchange.result.initiator c.exchange-exchange.result.responder (Some out.initiator) (Some out.responder) None c.args.raw.now.me c.exchange-responder.new.seat.me c.turn.new.self.me
+    out.seat (ap (λ e. e.initiator) found) (ap (λ e. e.responder) found) c.exchange-responder.ensures.3 c.turn.ensures.2 None c.exchange-initiator.new.seat.me c.exchange-initiator.ensures.3)
+    c.load.ensures.2

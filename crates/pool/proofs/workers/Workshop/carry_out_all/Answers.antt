@@ -9,5 +9,5 @@ pub returns-clause-ends : goal.returns-clause-ends
 returns-clause-ends g c = elim c.match-next.branch [
   | in-None w ↦ search rules
   | in-Some+in_default+then-sees_the_end w ↦
-      subst (λ (s : Seat). SeesTheEnd (plan_of c.args.self.now.board.now) (seat_view s)) (sym w.seat-is) (w.sees_the_end.ensures.ends.0 w.if-sees_the_end.true)
+      subst (λ (s : Seat g.row.T.Denot). SeesTheEnd (plan_of g.T.MemoryTable.table c.args.self.now.board.now) (seat_view s)) (sym w.seat-is) (w.sees_the_end.ensures.ends.0 w.if-sees_the_end.true)
 ]

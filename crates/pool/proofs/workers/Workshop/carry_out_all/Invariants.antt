@@ -6,7 +6,7 @@ abbrev pub invariant-loop : goal.invariant-loop
 invariant-loop g l = record {
   more : (goal.iterator-loop g).can_next l.iterator';
   finite : (goal.iterator-loop g).is_finite l.iterator';
-  seat : IsSeatOf l.seat l.self.board.now;
+  seat : IsSeatOf g.T.MemoryTable.table l.seat l.self.board.now;
   stays : StaysAtWork (seat_view l.fn.seat) (seat_view l.seat);
-  records : AreRecordsOf (plan_of l.self.board.now) (seat_view l.seat) l.stamps.items;
+  records : AreRecordsOf (plan_of g.T.MemoryTable.table l.self.board.now) (seat_view l.seat) l.stamps.items;
 }

@@ -27,9 +27,9 @@ one_more_record plan old claimed new stamps more i stamped freed same pushed so_
 }
 
 pub carry_out-requires-clause-held : goal.carry_out-requires-clause-held
-carry_out-requires-clause-held g c = now_held (plan_of c.args.self.now.board.now) (seat_view c.args.seat.now) c.args.i c.in-Held.hold (seat_view c.claim.new.seat) c.in-Held.ensures.claim
+carry_out-requires-clause-held g c = λ _ _. now_held g.T.MemoryTable.table (plan_of g.T.MemoryTable.table c.args.self.now.board.now) (seat_view c.args.seat.now) c.args.i c.in-Held.hold (seat_view c.claim.new.seat) c.in-Held.ensures.claim
 
 pub returns-clause-records : goal.returns-clause-records
 returns-clause-records g c =
-    one_more_record (plan_of c.args.self.now.board.now) (seat_view c.args.seat.now) (seat_view c.claim.new.seat) (seat_view c.carry_out.new.seat) c.args.stamps.now.items c.push-2.new.self.items c.in-Held.hold.index c.in_ok-stamped.stamped c.in_ok-stamped.freed
+    one_more_record (plan_of g.T.MemoryTable.table c.args.self.now.board.now) (seat_view c.args.seat.now) (seat_view c.claim.new.seat) (seat_view c.carry_out.new.seat) c.args.stamps.now.items c.push-2.new.self.items c.in-Held.hold.index c.in_ok-stamped.stamped c.in_ok-stamped.freed
     (ap (λ (v : SeatView). v.made) c.in-Held.ensures.claim.1) c.in_ok-push-3.ensures.items c.requires.records c.in_ok-stamped.ensures.done

@@ -9,11 +9,10 @@ use crate::counting::Counter;
 use crate::trials::Trial;
 use bench_types::limits::{MOST_KEYS, MOST_NODES, MOST_WORKERS};
 use bench_types::{Fault, Mode, Record, Rules};
+use fixtures::{Writers, list_of, tables_of};
 use node_table::NodeTable;
 use pool::run_list;
-use refusals::{
-    Failure, Writers, check, check_budget, list_of, pass, refused_with, retried, tables_of,
-};
+use refusals::{Failure, check, check_budget, pass, refused_with, retried};
 use round_plan::RoundList;
 use std::sync::Wait;
 use std::thread::Threads;

@@ -16,7 +16,7 @@ use std::thread::Threads;
 
 fn scenario_of<R: Eprint + AllocGlobal>(rt: &R, case: &Case) -> Result<Scenario, Failure> {
     let alloc = rt.alloc();
-    Ok(retried!(rt, "read", read(alloc, case.text.as_bytes())))
+    Ok(retried!(rt, "read", read(alloc, case.texts.scenario.as_bytes())))
 }
 
 // Whether a scenario is that of a case.

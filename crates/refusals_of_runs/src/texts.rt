@@ -52,8 +52,8 @@ impl Job {
     // What must be written of a case.
     fn texts(self, case: &Case) -> (&'static str, &'static str) {
         match self {
-            Job::Run => (case.report, case.trace),
-            Job::Compare => (case.comparison, ""),
+            Job::Run => (case.texts.report, case.texts.trace),
+            Job::Compare => (case.texts.comparison, ""),
         }
     }
 
@@ -69,7 +69,7 @@ impl Job {
         let alloc = rt.alloc();
         let mut report = retried!(rt, "room", writer(alloc));
         let mut trace = retried!(rt, "room", writer(alloc));
-        let reader = &mut Pull::new(case.text.as_bytes());
+        let reader = &mut Pull::new(case.texts.scenario.as_bytes());
         let answer = match self {
             Job::Run => run(rt, alloc, reader, &mut report, &mut trace, workers),
             Job::Compare => compare(rt, alloc, reader, &mut report, workers),
@@ -141,7 +141,7 @@ pub(crate) fn try_texts<R: Print + Eprint + AllocGlobal + Threads + Wait + Sync>
 
 /// A text is read whole, and checked.
 pub(crate) fn try_input<R: Eprint + AllocGlobal>(rt: &R, case: &Case) -> Result<(), Failure> {
-    let (alloc, text) = (rt.alloc(), case.text.as_bytes());
+    let (alloc, text) = (rt.alloc(), case.texts.scenario.as_bytes());
     let bytes = retried!(rt, "read_all", read_all(alloc, &mut Pull::new(text)));
     check(bytes.as_slice() == text, "read_all")?;
     let scenario = retried!(rt, "check_input", check_input(alloc, &mut Pull::new(text)));

@@ -8,7 +8,8 @@ use crate::schedules::{ALL_ENTRIES, FOUR, crossing, deps_of};
 use bench_types::{Fault, Record};
 use board::{Board, Seat};
 use collector::{Collector, Stamped};
-use refusals::{Failure, check, pass, refused, retried, sent, tables_of};
+use fixtures::{sent, tables_of};
+use refusals::{Failure, check, pass, refused, retried};
 
 const FIRST: Record = sent!(1, 1, 1, 1, 0, 0);
 

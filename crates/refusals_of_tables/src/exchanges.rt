@@ -3,8 +3,9 @@
 use crate::tables::written;
 use bench_types::{Budget, Exchange, Fate, Item, Mode, Record, Rules};
 use exchange::exchange;
+use fixtures::{between, holds, item};
 use node_table::NodeTable;
-use refusals::{Failure, between, check, holds, item, pass, retried};
+use refusals::{Failure, check, pass, retried};
 use std::alloc::Global;
 
 const OWN: Item = item!(0, 0, 1, 0, 1);

@@ -1,12 +1,14 @@
 //! An owner that wrote its one key in three rounds, and a copy that holds the first version.
 
 ghost use Rattle.std.specs.Prelude.{◌≡◌, ◌≤◌, IfOk, OnOk};
-ghost use Rattle.staleness.specs.Writes.{AreBornBy};
+ghost use Rattle.owner_lists.specs.OwnerListView.{written};
+ghost use Rattle.owner_lists.specs.Writes.{AreBornBy};
 
 use crate::tables::{new_table, take, write};
 use bench_types::{Figures, Item};
+use fixtures::item;
 use node_table::NodeTable;
-use refusals::{Failure, check, item, pass, retried};
+use refusals::{Failure, check, pass, retried};
 use staleness::{OwnerList, figures};
 use std::thread::Threads;
 
@@ -26,8 +28,8 @@ const STALE: Figures = Figures {
 // The owner writes its key in a round.
 fn push(rt: &impl Eprint, list: &mut OwnerList, born: u32) -> Result<(), Failure>
     requires born { born ≤ 3 }
-    requires earlier { AreBornBy 3 list.old }
-    ensures { OnOk result (AreBornBy 3 list.new) }
+    requires earlier { AreBornBy 3 (written list.old) }
+    ensures { OnOk result (AreBornBy 3 (written list.new)) }
 {
     let before = list.len();
     check(before < 9, "OwnerList::len")?;
@@ -41,7 +43,7 @@ fn push(rt: &impl Eprint, list: &mut OwnerList, born: u32) -> Result<(), Failure
 }
 
 fn owner_list<R: Eprint + AllocGlobal>(rt: &R) -> Result<OwnerList, Failure>
-    ensures { IfOk result (AreBornBy 3) }
+    ensures { IfOk result (λ list. AreBornBy 3 (written list)) }
 {
     let mut list = OwnerList::new(rt.alloc());
     push(rt, &mut list, 1)?;

@@ -3,7 +3,8 @@
 ghost use Rattle.std.specs.Prelude.{◌≡◌, IfOk};
 
 use bench_types::{Fault, Mode, Push, Record, Row};
-use refusals::{Failure, check, list_of, pass, refused, retried, sent};
+use fixtures::{list_of, sent};
+use refusals::{Failure, check, pass, refused, retried};
 use report::{
     compare_header, report_header, trace_header, write_compare_row, write_report_row,
     write_trace_rows,

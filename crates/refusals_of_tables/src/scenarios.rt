@@ -3,7 +3,7 @@
 ghost use Rattle.std.specs.Prelude.{◌≤◌};
 
 use bench_types::{Budget, Exchange, Fault, Field, Mode, TableName};
-use refusals::{Failure, between, check, pass, refused, retried};
+use refusals::{Failure, check, pass, refused, retried};
 use round_plan::round_list;
 use scenario::{Scenario, read};
 use std::thread::Threads;

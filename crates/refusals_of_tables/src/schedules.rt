@@ -3,11 +3,10 @@
 ghost use Rattle.std.specs.Prelude.{◌≡◌, IfOk};
 
 use bench_types::{Budget, Fault, Item, Mode, Record, Rules};
+use fixtures::{Writers, holds, item, list_of, sent, tables_of};
 use node_table::NodeTable;
 use planner::{After, Deps, Event, Schedule, play};
-use refusals::{
-    Failure, Writers, check, holds, item, list_of, pass, refused, retried, sent, tables_of,
-};
+use refusals::{Failure, check, pass, refused, retried};
 use round_plan::RoundList;
 
 /// Two pairs of nodes, and then one node of each pair with one of the other.
@@ -54,10 +53,10 @@ const RECORDS: &[Record] = &[
 ];
 
 const LEFT: &[Item] = &[
-    item!(0, 0, 1, 0, 1),
-    item!(1, 0, 1, 0, 1),
-    item!(2, 0, 1, 0, 1),
-    item!(3, 0, 1, 0, 1),
+    item!(0, 0, 1, 7, 1),
+    item!(1, 0, 1, 7, 1),
+    item!(2, 0, 1, 7, 1),
+    item!(3, 0, 1, 7, 1),
 ];
 
 /// Whether these are the dependencies of the crossing list.

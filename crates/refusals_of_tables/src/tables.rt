@@ -4,8 +4,9 @@ ghost use Rattle.std.specs.Prelude.{◌≡◌, ◌<◌, ◌≤◌, IfOk};
 ghost use Rattle.node_table.specs.Table.{empty_table};
 
 use bench_types::{Item, Mark};
+use fixtures::{holds, item};
 use node_table::NodeTable;
-use refusals::{Failure, check, holds, item, pass, retried};
+use refusals::{Failure, check, pass, retried};
 
 // What each of two nodes writes of its one key, and what the first writes then.
 const OWN: Item = item!(0, 0, 1, 0, 1);

@@ -1,6 +1,6 @@
 -- How far the nodes have begun their round, by node.
 -- Serves `begin_round` and `Soundness`.
-use Rattle.std.proofs.Common.{◌≡◌, ◌≢◌, ℕ, ◌+◌, ◌-◌, ◌<◌, ◌≤◌, List, [], length, get_or, set, inl, inr, refl, sym, ap, ◌∙◌, subst, arith}
+use Rattle.std.proofs.Common.{◌≡◌, ◌≢◌, ℕ, ◌+◌, ◌-◌, ◌<◌, ◌≤◌, List, length, get_or, set, inl, inr, refl, sym, ap, ◌∙◌, subst, arith}
 use Rattle.std.proofs.lemmas.Bool.{cases_eq}
 use Rattle.std.proofs.lemmas.List.{get_or-set_same, get_or-set_other, get_or_default, length-set}
 use Rattle.std.proofs.lemmas.List.FromFn.{length-map-range_with_len}
@@ -8,8 +8,7 @@ use Rattle.node_table.specs.Table.{Table, with_own_writes}
 use Rattle.node_table.specs.NodeTableView.{NodeTableView}
 use Rattle.round_plan.specs.Writes.{count_before, own_writes}
 use Rattle.scenario.specs.Settings.{Settings}
-use Rattle.staleness.specs.declared.lists.Write.{Write}
-use Rattle.staleness.specs.Figures.{writes_of_owner}
+use Rattle.owner_lists.specs.OwnerListView.{OwnerListView, no_writes, list_of_owner}
 use Rattle.cluster.specs.Tables.{tables_in, table_of_node}
 use Rattle.simulation.specs.Rounds.{restarted_table, restarted, written_table, begun}
 use Rattle.simulation.specs.inner.Steps.{begun_table}
@@ -17,13 +16,13 @@ use Rattle.simulation.specs.Standing.{IsOwner, StandAfterRound}
 use Rattle.cluster.proofs.Tables.{length-tables_in, table_read, tables_in-set, table_of_node-set_same, table_of_node-set_other, table_of_node-made, same_tables}
 
 -- the nodes below n have begun the round
-pub record HaveBegun (s : Settings) (round : ℕ) (old new : List Table) (lists : List (List Write)) (n : ℕ) : Type 0 where
+pub record HaveBegun (s : Settings) (round : ℕ) (old new : List Table) (lists : List OwnerListView) (n : ℕ) : Type 0 where
   pub table_count : length new ≡ s.nodes
   pub list_count : length lists ≡ s.nodes
-  pub done : (p : ℕ) → p < n → p < s.nodes → (table_of_node new p ≡ begun_table s round p (table_of_node old p)) × IsOwner s round p (table_of_node new p) (writes_of_owner lists p)
-  pub rest : (p : ℕ) → n ≤ p → p < s.nodes → (table_of_node new p ≡ table_of_node old p) × IsOwner s (round - 1) p (table_of_node new p) (writes_of_owner lists p)
+  pub done : (p : ℕ) → p < n → p < s.nodes → (table_of_node new p ≡ begun_table s round p (table_of_node old p)) × IsOwner s round p (table_of_node new p) (list_of_owner lists p)
+  pub rest : (p : ℕ) → n ≤ p → p < s.nodes → (table_of_node new p ≡ table_of_node old p) × IsOwner s (round - 1) p (table_of_node new p) (list_of_owner lists p)
 
-pub begun_none : (s : Settings) (round : ℕ) (tables : List Table) (lists : List (List Write)) → StandAfterRound s (round - 1) tables lists → HaveBegun s round tables tables lists 0
+pub begun_none : (s : Settings) (round : ℕ) (tables : List Table) (lists : List OwnerListView) → StandAfterRound s (round - 1) tables lists → HaveBegun s round tables tables lists 0
 begun_none s round tables lists standing = record {
   table_count = standing.table_count;
   list_count = standing.list_count;
@@ -32,36 +31,36 @@ begun_none s round tables lists standing = record {
 }
 
 -- one more node has
-module _ (s : Settings) (round : ℕ) (old new : List Table) (lists : List (List Write)) (n : ℕ) (so_far : HaveBegun s round old new lists n) (below : n < s.nodes) where
-  pub begun_more : (t : Table) (ws : List Write) → t ≡ begun_table s round n (table_of_node new n) → IsOwner s round n t ws → HaveBegun s round old (set new n t) (set lists n ws) (n + 1)
+module _ (s : Settings) (round : ℕ) (old new : List Table) (lists : List OwnerListView) (n : ℕ) (so_far : HaveBegun s round old new lists n) (below : n < s.nodes) where
+  pub begun_more : (t : Table) (ws : OwnerListView) → t ≡ begun_table s round n (table_of_node new n) → IsOwner s round n t ws → HaveBegun s round old (set new n t) (set lists n ws) (n + 1)
   begun_more t ws is own = record {
     table_count = length-set new n t ∙ so_far.table_count;
     list_count = length-set lists n ws ∙ so_far.list_count;
     done = λ p lt in_range. elim (cases_eq p n) [
       | inr other ↦ moved p (λ u w. (u ≡ begun_table s round p (table_of_node old p)) × IsOwner s round p u w) other (so_far.done p (omega arith) in_range)
       | inl this ↦
-          subst (λ q. (table_of_node (set new n t) q ≡ begun_table s round q (table_of_node old q)) × IsOwner s round q (table_of_node (set new n t) q) (writes_of_owner (set lists n ws) q)) (sym this)
-          (subst (λ u. (u ≡ begun_table s round n (table_of_node old n)) × IsOwner s round n u (writes_of_owner (set lists n ws) n)) (sym (table_of_node-set_same new n t (omega (arith, so_far.table_count))))
-          (is ∙ ap (begun_table s round n) (so_far.rest n (omega arith) below).0, subst (IsOwner s round n t) (sym (get_or-set_same lists n ws [] (omega (arith, so_far.list_count)))) own))
+          subst (λ q. (table_of_node (set new n t) q ≡ begun_table s round q (table_of_node old q)) × IsOwner s round q (table_of_node (set new n t) q) (list_of_owner (set lists n ws) q)) (sym this)
+          (subst (λ u. (u ≡ begun_table s round n (table_of_node old n)) × IsOwner s round n u (list_of_owner (set lists n ws) n)) (sym (table_of_node-set_same new n t (omega (arith, so_far.table_count))))
+          (is ∙ ap (begun_table s round n) (so_far.rest n (omega arith) below).0, subst (IsOwner s round n t) (sym (get_or-set_same lists n ws no_writes (omega (arith, so_far.list_count)))) own))
     ];
     rest = λ p le in_range. moved p (λ u w. (u ≡ table_of_node old p) × IsOwner s (round - 1) p u w) (λ e. absurd (omega arith)) (so_far.rest p (omega arith) in_range);
   }
     where
-      moved : (p : ℕ) (P : Table → List Write → Type 0) → p ≢ n → P (table_of_node new p) (writes_of_owner lists p) → P (table_of_node (set new n t) p) (writes_of_owner (set lists n ws) p)
-      moved p P other x = subst (λ w. P (table_of_node (set new n t) p) w) (sym (get_or-set_other lists n p ws [] other)) (subst (λ u. P u (writes_of_owner lists p)) (sym (table_of_node-set_other new n p t other)) x)
+      moved : (p : ℕ) (P : Table → OwnerListView → Type 0) → p ≢ n → P (table_of_node new p) (list_of_owner lists p) → P (table_of_node (set new n t) p) (list_of_owner (set lists n ws) p)
+      moved p P other x = subst (λ w. P (table_of_node (set new n t) p) w) (sym (get_or-set_other lists n p ws no_writes other)) (subst (λ u. P u (list_of_owner lists p)) (sym (table_of_node-set_other new n p t other)) x)
 
 -- with the table and the list as the code reads and writes them
-module _ (s : Settings) (round : ℕ) (old : List Table) (new : List NodeTableView) (lists : List (List Write)) (n : ℕ) (so_far : HaveBegun s round old (tables_in new) lists n) (below : n < s.nodes) (d : NodeTableView) (e : List Write) where
+module _ (s : Settings) (round : ℕ) (old : List Table) (new : List NodeTableView) (lists : List OwnerListView) (n : ℕ) (so_far : HaveBegun s round old (tables_in new) lists n) (below : n < s.nodes) (d : NodeTableView) (e : OwnerListView) where
   table_is : (get_or new n d).table ≡ table_of_node (tables_in new) n
   table_is = table_read new n d (omega (arith, so_far.table_count, length-tables_in new))
 
-  list_is : get_or lists n e ≡ writes_of_owner lists n
-  list_is = get_or_default lists n e [] (omega (arith, so_far.list_count))
+  list_is : get_or lists n e ≡ list_of_owner lists n
+  list_is = get_or_default lists n e no_writes (omega (arith, so_far.list_count))
 
   pub owner_next : IsOwner s (round - 1) n (get_or new n d).table (get_or lists n e)
   owner_next = subst (λ t. IsOwner s (round - 1) n t (get_or lists n e)) (sym table_is) (subst (IsOwner s (round - 1) n (table_of_node (tables_in new) n)) (sym list_is) (so_far.rest n (omega arith) below).1)
 
-  pub begun_next : (k : NodeTableView) (ws : List Write) → k.table ≡ begun_table s round n (get_or new n d).table → IsOwner s round n k.table ws → HaveBegun s round old (tables_in (set new n k)) (set lists n ws) (n + 1)
+  pub begun_next : (k : NodeTableView) (ws : OwnerListView) → k.table ≡ begun_table s round n (get_or new n d).table → IsOwner s round n k.table ws → HaveBegun s round old (tables_in (set new n k)) (set lists n ws) (n + 1)
   begun_next k ws table own =
       subst (λ ts. HaveBegun s round old ts (set lists n ws) (n + 1)) (sym (tables_in-set new n k))
       (begun_more s round old (tables_in new) lists n so_far below k.table ws (table ∙ ap (begun_table s round n) table_is) own)
@@ -73,7 +72,7 @@ begun_at s round ts n lt =
     ∙ ap (λ t. with_own_writes t (own_writes s n round (count_before s n round))) (table_of_node-made (restarted_table s round ts) s.nodes n lt)
 
 -- all have
-pub begun_all : (s : Settings) (round : ℕ) (old new : List Table) (lists : List (List Write)) → HaveBegun s round old new lists s.nodes → (new ≡ begun s round old) × StandAfterRound s round new lists
+pub begun_all : (s : Settings) (round : ℕ) (old new : List Table) (lists : List OwnerListView) → HaveBegun s round old new lists s.nodes → (new ≡ begun s round old) × StandAfterRound s round new lists
 begun_all s round old new lists so_far = (tables, record { table_count = so_far.table_count; list_count = so_far.list_count; owners = λ n lt. (so_far.done n lt lt).1 })
   where
     tables : new ≡ begun s round old

@@ -15,7 +15,7 @@ use Rattle.cluster.proofs.Tables.{length-tables_in, cluster_of}
 use Rattle.round_plan.specs.Plan.{RoundListView, IsRoundPlan, round_list_of}
 use Rattle.scenario.specs.Settings.{Settings}
 use Rattle.staleness.specs.Figures.{figures_of}
-use Rattle.staleness.specs.declared.lists.Write.{Write}
+use Rattle.owner_lists.specs.OwnerListView.{OwnerListView, lists_in}
 use Rattle.simulation.specs.Outcomes.{played_with}
 use Rattle.simulation.specs.inner.Steps.{IsPlayedFrom}
 use Rattle.simulation.specs.RoundView.{RoundView}
@@ -23,11 +23,11 @@ use Rattle.simulation.specs.Rounds.{begun, rules_of, round_of}
 use Rattle.simulation.specs.Standing.{StandAfterRound}
 use Rattle.simulation.proofs.Standing.{standing_kept}
 
-stand_in_order : (s : Settings) (round : ℕ) (ts : List Table) (lists : List (List Write)) → StandAfterRound s round ts lists → AreTablesInOrder s.nodes s.keys ts
+stand_in_order : (s : Settings) (round : ℕ) (ts : List Table) (lists : List OwnerListView) → StandAfterRound s round ts lists → AreTablesInOrder s.nodes s.keys ts
 stand_in_order s round ts lists is = record { size = is.table_count; tables = λ n lt. (is.owners n lt).table }
 
 -- what the figures ask of tables and lists
-module _ (s : Settings) (round : ℕ) (tables : List NodeTableView) (lists : List (List Write)) (is : StandAfterRound s round (tables_in tables) lists) where
+module _ (s : Settings) (round : ℕ) (tables : List NodeTableView) (lists : List OwnerListView) (is : StandAfterRound s round (tables_in tables) lists) where
   as_many : s.nodes ≡ length tables
   as_many = sym is.table_count ∙ length-tables_in tables
 
@@ -42,7 +42,7 @@ module _ (s : Settings) (round : ℕ) (list : RoundListView) (plan : IsRoundPlan
   pub one_record_each : length records ≡ length list.exchanges
   one_record_each = omega (arith, ap (λ (f : Folded). length f.records) exchanged, fold_counts_records rules list.exchanges (record { tables = old; records = [] }))
 
-  module _ (lists : List (List Write)) (standing : StandAfterRound s round old lists) where
+  module _ (lists : List OwnerListView) (standing : StandAfterRound s round old lists) where
     planned : All (IsPlanned s.nodes) list.exchanges
     planned = subst (λ n. All (IsPlanned n) list.exchanges) (ap (λ (l : RoundListView). l.nodes) list_is) plan.planned
 
@@ -64,8 +64,8 @@ module _ (s : Settings) (round : ℕ) (list : RoundListView) (plan : IsRoundPlan
     round_is = (λ i. fold_of (sym rules_are i) (sym begun_is i) (sym list_is i).exchanges) ∙ exchanged
 
 -- all that a round came to
-pub played_is : (s : Settings) (round : ℕ) (old new : List NodeTableView) (lists : List (List Write)) (list : RoundListView) (records : List Record) (lag : Figures) (played : RoundView)
-    → list ≡ round_list_of s round → round_of s round (tables_in old) ≡ record { tables = tables_in new; records = records } → lag ≡ figures_of round (tables_in new) lists
+pub played_is : (s : Settings) (round : ℕ) (old new : List NodeTableView) (lists : List OwnerListView) (list : RoundListView) (records : List Record) (lag : Figures) (played : RoundView)
+    → list ≡ round_list_of s round → round_of s round (tables_in old) ≡ record { tables = tables_in new; records = records } → lag ≡ figures_of round (tables_in new) (lists_in lists)
     → played ≡ played_with round list records lag → IsPlayedFrom s round old new lists played
 played_is s round old new lists list records lag played list_is round_was lag_is is =
     is ∙ (λ i. played_with round (list_is i) (sym round_was i).records (lag_is i))

@@ -2,7 +2,7 @@
 -- Serves the functions of `clusters` and `sims`, `Playing` and `Soundness`.
 use Rattle.std.proofs.Common.{◌≡◌, ℕ, ◌+◌, ◌-◌, ◌<◌, ◌≤◌, true, false, if◌then◌else◌, All, List, [], ◌∷◌, ◌++◌, length, map, refl, sym, ap, ◌∙◌, subst, arith, length-append}
 use Rattle.std.specs.List.{range_with_len}
-use Rattle.std.proofs.lemmas.List.{get_or_default, length-map, map-append}
+use Rattle.std.proofs.lemmas.List.{append_assoc, append-nil, length-map}
 use Rattle.std.proofs.lemmas.List.FromFn.{length-map-range_with_len}
 use Rattle.bench_types.specs.declared.entries.Entry.{Entry}
 use Rattle.bench_types.specs.declared.entries.Mark.{Mark}
@@ -14,14 +14,13 @@ use Rattle.node_table.proofs.ProperLaws.{proper-empty_table, proper-without_all,
 use Rattle.round_plan.specs.declared.owners.OwnWrite.{OwnWrite}
 use Rattle.round_plan.specs.Generations.{generation_upto}
 use Rattle.round_plan.specs.Outages.{forgets_now}
-use Rattle.round_plan.specs.Writes.{born_in, count_before, own_writes, writes_before, writes_upto}
+use Rattle.round_plan.specs.Writes.{born_in, count_before, own_writes, writes_before, writes_upto, written_upto}
 use Rattle.round_plan.proofs.Generations.{generation_upto-same, generation_upto-next}
-use Rattle.round_plan.proofs.Growth.{length-writes_before, writes_before-grown, writes_upto-grown}
+use Rattle.round_plan.proofs.Growth.{length-writes_before, writes_before-grown, writes_upto-grown, written_upto-grown}
 use Rattle.scenario.specs.Settings.{Settings}
-use Rattle.staleness.specs.declared.lists.Write.{Write}
-use Rattle.staleness.specs.OwnParts.{write_of_entry}
-use Rattle.staleness.specs.Figures.{writes_of_owner}
-use Rattle.staleness.specs.Writes.{AreBornBy}
+use Rattle.owner_lists.specs.OwnerListView.{OwnerListView, entries_of, no_writes, begun_generation, list_of_owner, lists_in}
+use Rattle.owner_lists.proofs.Owners.{length-lists_in, list_read}
+use Rattle.owner_lists.specs.Writes.{write_of_entry, AreBornBy}
 use Rattle.staleness.proofs.OwnParts.{own_part-empty}
 use Rattle.exchange.specs.inner.Owns.{KeepsOwn}
 use Rattle.simulation.specs.Rounds.{opening_tables}
@@ -45,23 +44,25 @@ keys-with_own_writes : (t : Table) (es : List Entry) → (with_own_writes t es).
 keys-with_own_writes t [] = refl
 keys-with_own_writes t (e ∷ es) = keys-with_own_writes (with_own_write t e.key e.value e.born) es
 
-owner_opening : (s : Settings) (n : ℕ) (t : Table) (ws : List Write) → IsProper t → t ≡ empty_table n s.nodes s.keys → ws ≡ [] → IsOwner s 0 n t ws
-owner_opening s n t ws proper table list = subst (λ u. IsOwner s 0 n u ws) (sym table) (subst (IsOwner s 0 n (empty_table n s.nodes s.keys)) (sym list) (record {
+owner_opening : (s : Settings) (n : ℕ) (t : Table) (v : OwnerListView) → IsProper t → t ≡ empty_table n s.nodes s.keys → v ≡ no_writes → IsOwner s 0 n t v
+owner_opening s n t v proper table list = subst (λ u. IsOwner s 0 n u v) (sym table) (subst (IsOwner s 0 n (empty_table n s.nodes s.keys)) (sym list) (record {
   table = record { node = refl; nodes = refl; keys = refl };
   proper = subst IsProper table proper;
   generation = refl;
+  list_generation = refl;
   writes = refl;
+  all = refl;
   few = omega arith;
   greatest = ap (λ (m : Mark). m.version) (greatest_mark-empty_table n s.nodes s.keys n);
   own_part = own_part-empty n s.nodes s.keys;
   born = λ k d lt. absurd (omega arith);
 }))
 
-pub standing_opening : (s : Settings) (ts : List Table) (lists : List (List Write)) → AreProper ts → ts ≡ opening_tables s → length lists ≡ s.nodes → ((n : ℕ) → writes_of_owner lists n ≡ []) → StandAfterRound s 0 ts lists
+pub standing_opening : (s : Settings) (ts : List Table) (lists : List OwnerListView) → AreProper ts → ts ≡ opening_tables s → length lists ≡ s.nodes → ((n : ℕ) → list_of_owner lists n ≡ no_writes) → StandAfterRound s 0 ts lists
 standing_opening s ts lists proper opening count none = record {
   table_count = size;
   list_count = count;
-  owners = λ n lt. owner_opening s n (table_of_node ts n) (writes_of_owner lists n) (proper n (omega (arith, lt, size))) (ap (λ us. table_of_node us n) opening ∙ table_of_node-made (λ m. empty_table m s.nodes s.keys) s.nodes n lt) (none n);
+  owners = λ n lt. owner_opening s n (table_of_node ts n) (list_of_owner lists n) (proper n (omega (arith, lt, size))) (ap (λ us. table_of_node us n) opening ∙ table_of_node-made (λ m. empty_table m s.nodes s.keys) s.nodes n lt) (none n);
 }
   where
     size : length ts ≡ s.nodes
@@ -73,32 +74,36 @@ opening_proper s most some_key few_keys n lt =
     let below : n < s.nodes = omega (arith, lt, length-map-range_with_len (λ m. empty_table m s.nodes s.keys) 0 s.nodes) in
     subst IsProper (sym (table_of_node-made (λ m. empty_table m s.nodes s.keys) s.nodes n below)) (proper-empty_table n s.nodes s.keys below most some_key few_keys)
 
-owner_kept : (s : Settings) (n generation : ℕ) (writes : List Entry) (round : ℕ) (t u : Table) (ws : List Write) → KeepsOwn t u → IsProper u → IsOwnerOf s n generation writes round t ws → IsOwnerOf s n generation writes round u ws
-owner_kept s n generation writes round t u ws own proper is = record {
+owner_kept : (s : Settings) (n generation : ℕ) (writes all : List Entry) (round : ℕ) (t u : Table) (v : OwnerListView) → KeepsOwn t u → IsProper u → IsOwnerOf s n generation writes all round t v → IsOwnerOf s n generation writes all round u v
+owner_kept s n generation writes all round t u v own proper is = record {
   table = still_table_of own is.table;
   proper = proper;
   generation = own.generation ∙ is.generation;
+  list_generation = is.list_generation;
   writes = is.writes;
+  all = is.all;
   few = is.few;
   greatest = ap (λ (m : Mark). m.version) (ap (greatest_mark u) own.node ∙ own.greatest) ∙ is.greatest;
   own_part = λ key. ap (Rattle.std.specs.Option.option_map write_of_entry) (ap (λ o. entry_at u o key) own.node ∙ own.own_part key) ∙ is.own_part key;
   born = is.born;
 }
 
-pub standing_kept : (s : Settings) (round : ℕ) (old new : List Table) (lists : List (List Write)) → length new ≡ length old → KeepOwnParts old new → AreProper new → StandAfterRound s round old lists → StandAfterRound s round new lists
+pub standing_kept : (s : Settings) (round : ℕ) (old new : List Table) (lists : List OwnerListView) → length new ≡ length old → KeepOwnParts old new → AreProper new → StandAfterRound s round old lists → StandAfterRound s round new lists
 standing_kept s round old new lists size own proper is = record {
   table_count = size ∙ is.table_count;
   list_count = is.list_count;
-  owners = λ n lt. owner_kept s n (generation_upto s n round) (writes_upto s n round) round (table_of_node old n) (table_of_node new n) (writes_of_owner lists n) (own n) (proper n (omega (arith, lt, size, is.table_count))) (is.owners n lt);
+  owners = λ n lt. owner_kept s n (generation_upto s n round) (writes_upto s n round) (written_upto s n round) round (table_of_node old n) (table_of_node new n) (list_of_owner lists n) (own n) (proper n (omega (arith, lt, size, is.table_count))) (is.owners n lt);
 }
 
 -- after its restarts a node has its own part, but where it forgets
-owner_forgot : (s : Settings) (n generation : ℕ) (writes : List Entry) (round : ℕ) (t : Table) (ws : List Write) → IsOwnerOf s n generation writes round t ws → IsOwnerOf s n (generation + 1) [] round (without_all t) []
-owner_forgot s n generation writes round t ws is = record {
+owner_forgot : (s : Settings) (n generation : ℕ) (writes all : List Entry) (round : ℕ) (t : Table) (v : OwnerListView) → IsOwnerOf s n generation writes all round t v → IsOwnerOf s n (generation + 1) [] all round (without_all t) (begun_generation v)
+owner_forgot s n generation writes all round t v is = record {
   table = record { node = is.table.node; nodes = is.table.nodes; keys = is.table.keys };
   proper = proper-without_all t is.proper;
   generation = ap (λ g. g + 1) is.generation;
+  list_generation = ap (λ g. g + 1) is.list_generation;
   writes = refl;
+  all = append-nil (entries_of v) ∙ is.all;
   few = omega arith;
   greatest = ap (λ (m : Mark). m.version) (greatest_mark-without_all t t.node);
   own_part = λ key. ap (Rattle.std.specs.Option.option_map write_of_entry) (entry_at-without_all t t.node key);
@@ -115,30 +120,30 @@ keeps_own_forgotten t = record {
   greatest = greatest_mark-without_others_own t;
 }
 
-module _ (s : Settings) (round n : ℕ) (first : 1 ≤ round) (t : Table) (ws : List Write) (is : IsOwner s (round - 1) n t ws) where
+module _ (s : Settings) (round n : ℕ) (first : 1 ≤ round) (t : Table) (v : OwnerListView) (is : IsOwner s (round - 1) n t v) where
   before_is : forgets_now s n round ≡ false → writes_upto s n (round - 1) ≡ writes_before s n round
   before_is stays = sym (writes_before-grown s n round first ∙ ap (λ b. if b then [] else writes_upto s n (round - 1)) stays)
 
-  of_round : (u : Table) → forgets_now s n round ≡ false → IsOwnerOf s n (generation_upto s n (round - 1)) (writes_upto s n (round - 1)) (round - 1) u ws → HasRestarted s round n u ws
+  of_round : (u : Table) → forgets_now s n round ≡ false → IsOwnerOf s n (generation_upto s n (round - 1)) (writes_upto s n (round - 1)) (written_upto s n (round - 1)) (round - 1) u v → HasRestarted s round n u v
   of_round u stays own =
-      subst (λ g. IsOwnerOf s n g (writes_before s n round) (round - 1) u ws) (sym (generation_upto-same s n round first stays))
-      (subst (λ es. IsOwnerOf s n (generation_upto s n (round - 1)) es (round - 1) u ws) (before_is stays) own)
+      subst (λ g. IsOwnerOf s n g (writes_before s n round) (written_upto s n (round - 1)) (round - 1) u v) (sym (generation_upto-same s n round first stays))
+      (subst (λ es. IsOwnerOf s n (generation_upto s n (round - 1)) es (written_upto s n (round - 1)) (round - 1) u v) (before_is stays) own)
 
-  pub restarted_forgot : forgets_now s n round ≡ true → HasRestarted s round n (without_all t) []
+  pub restarted_forgot : forgets_now s n round ≡ true → HasRestarted s round n (without_all t) (begun_generation v)
   restarted_forgot forgets =
-      subst (λ g. IsOwnerOf s n g (writes_before s n round) (round - 1) (without_all t) []) (sym (generation_upto-next s n round first forgets))
-      (subst (λ es. IsOwnerOf s n (generation_upto s n (round - 1) + 1) es (round - 1) (without_all t) []) (sym (writes_before-grown s n round first ∙ ap (λ b. if b then [] else writes_upto s n (round - 1)) forgets))
-      (owner_forgot s n (generation_upto s n (round - 1)) (writes_upto s n (round - 1)) (round - 1) t ws is))
+      subst (λ g. IsOwnerOf s n g (writes_before s n round) (written_upto s n (round - 1)) (round - 1) (without_all t) (begun_generation v)) (sym (generation_upto-next s n round first forgets))
+      (subst (λ es. IsOwnerOf s n (generation_upto s n (round - 1) + 1) es (written_upto s n (round - 1)) (round - 1) (without_all t) (begun_generation v)) (sym (writes_before-grown s n round first ∙ ap (λ b. if b then [] else writes_upto s n (round - 1)) forgets))
+      (owner_forgot s n (generation_upto s n (round - 1)) (writes_upto s n (round - 1)) (written_upto s n (round - 1)) (round - 1) t v is))
 
-  pub restarted_kept : forgets_now s n round ≡ false → HasRestarted s round n (without_others t) ws
-  restarted_kept stays = of_round (without_others t) stays (owner_kept s n (generation_upto s n (round - 1)) (writes_upto s n (round - 1)) (round - 1) t (without_others t) ws (keeps_own_forgotten t) (proper-without_others t is.proper) is)
+  pub restarted_kept : forgets_now s n round ≡ false → HasRestarted s round n (without_others t) v
+  restarted_kept stays = of_round (without_others t) stays (owner_kept s n (generation_upto s n (round - 1)) (writes_upto s n (round - 1)) (written_upto s n (round - 1)) (round - 1) t (without_others t) v (keeps_own_forgotten t) (proper-without_others t is.proper) is)
 
-  pub restarted_same : forgets_now s n round ≡ false → HasRestarted s round n t ws
+  pub restarted_same : forgets_now s n round ≡ false → HasRestarted s round n t v
   restarted_same stays = of_round t stays is
 
 -- and after its writes it is the round's
-pub owner_written : (s : Settings) (round n : ℕ) (t u : Table) (ws ws' : List Write) (writes : List OwnWrite) → 1 ≤ round → length writes ≤ 8 → HasRestarted s round n t ws → HasWritten round writes t u ws ws' → map (born_in round (generation_upto s n round)) writes ≡ own_writes s n round (length ws) → IsOwner s round n u ws' × (u ≡ with_own_writes t (own_writes s n round (count_before s n round)))
-owner_written s round n t u ws ws' writes first small is written made = (
+pub owner_written : (s : Settings) (round n : ℕ) (t u : Table) (v v' : OwnerListView) (writes : List OwnWrite) → 1 ≤ round → length writes ≤ 8 → HasRestarted s round n t v → HasWritten round writes t u v v' → map (born_in round (generation_upto s n round)) writes ≡ own_writes s n round (length v.current) → IsOwner s round n u v' × (u ≡ with_own_writes t (own_writes s n round (count_before s n round)))
+owner_written s round n t u v v' writes first small is written made = (
   record {
     table = record {
       node = ap (λ (v : Table). v.node) written.table ∙ node-with_own_writes t entries ∙ is.table.node;
@@ -147,8 +152,15 @@ owner_written s round n t u ws ws' writes first small is written made = (
     };
     proper = written.proper;
     generation = ap (λ (v : Table). v.generation) written.table ∙ generation-written entries t ∙ is.generation;
-    writes = written.list ∙ (λ i. is.writes i ++ map write_of_entry (now i)) ∙ sym (map-append write_of_entry (writes_before s n round) (own_writes s n round (count_before s n round))) ∙ ap (map write_of_entry) (sym (writes_upto-grown s n round (count_before s n round) first (length-writes_before s n round)));
-    few = omega (arith, ap length written.list, length-append ws (map write_of_entry entries), length-map entries write_of_entry, length-map writes (born_in round t.generation), small, is.few, first);
+    list_generation = ap (λ (w : OwnerListView). w.generation) written.list ∙ is.list_generation;
+    writes = current
+        ∙ (λ i. is.writes i ++ now i)
+        ∙ sym (writes_upto-grown s n round (count_before s n round) first (length-writes_before s n round));
+    all = ap entries_of written.list
+        ∙ sym (append_assoc v.earlier v.current entries)
+        ∙ (λ i. is.all i ++ now i)
+        ∙ sym (written_upto-grown s n round (count_before s n round) first refl);
+    few = omega (arith, ap length current, length-append v.current entries, length-map writes (born_in round t.generation), small, is.few, first);
     greatest = written.greatest;
     own_part = written.own_part;
     born = written.born;
@@ -159,12 +171,17 @@ owner_written s round n t u ws ws' writes first small is written made = (
     entries : List Entry
     entries = map (born_in round t.generation) writes
 
-    counted : length ws ≡ count_before s n round
-    counted = ap length is.writes ∙ length-map (writes_before s n round) write_of_entry ∙ length-writes_before s n round
+    current : v'.current ≡ v.current ++ entries
+    current = ap (λ (w : OwnerListView). w.current) written.list
+
+    counted : length v.current ≡ count_before s n round
+    counted = ap length is.writes ∙ length-writes_before s n round
 
     now : entries ≡ own_writes s n round (count_before s n round)
     now = ap (λ g. map (born_in round g) writes) is.generation ∙ made ∙ ap (own_writes s n round) counted
 
 -- no list has a write that was born after the round
-pub all_born : (s : Settings) (round : ℕ) (ts : List Table) (lists : List (List Write)) → StandAfterRound s round ts lists → All (AreBornBy round) lists
-all_born s round ts lists is k d lt = subst (AreBornBy round) (get_or_default lists k [] d lt) (is.owners k (omega (arith, is.list_count))).born
+pub all_born : (s : Settings) (round : ℕ) (ts : List Table) (lists : List OwnerListView) → StandAfterRound s round ts lists → All (AreBornBy round) (lists_in lists)
+all_born s round ts lists is k d lt =
+    let below : k < length lists = omega (arith, lt, length-lists_in lists) in
+    subst (AreBornBy round) (sym (list_read lists k no_writes d below)) (is.owners k (omega (arith, below, is.list_count))).born

@@ -1,11 +1,13 @@
 -- A step that carries out the next round.
 -- Serves `Sim::step`.
-use Rattle.std.proofs.Common.{◌≡◌, ℕ, ◌<◌, List, [], length, get_or, sym, ◌∙◌, arith, suc, ◌+◌, ◌-◌, false, Option, Some, refl, ap, subst}
+use Rattle.std.proofs.Common.{◌≡◌, ℕ, ◌<◌, List, [], length, map, get_or, sym, ◌∙◌, arith, suc, ◌+◌, ◌-◌, false, Option, Some, refl, ap, subst}
 use Rattle.std.proofs.lemmas.List.{ext_get_or}
 use Rattle.std.proofs.lemmas.List.FromFn.{get_or-map-range_with_len, length-map-range_with_len}
 use Rattle.node_table.specs.Table.{Table}
 use Rattle.scenario.specs.Settings.{Settings, IsLawfulScenario}
-use Rattle.staleness.specs.declared.lists.Write.{Write}
+use Rattle.owner_lists.specs.OwnerListView.{OwnerListView, no_writes, lists_in}
+use Rattle.owner_lists.specs.Writes.{write_of_entry}
+use Rattle.owner_lists.proofs.Owners.{length-lists_in, list_read}
 use Rattle.staleness.specs.Figures.{figures_of}
 use Rattle.simulation.specs.Rounds.{tables_after, round_of, records_in}
 use Rattle.simulation.specs.Lists.{list_after, lists_after}
@@ -23,19 +25,19 @@ use Rattle.simulation.proofs.Soundness.{sound_run, round_rises}
 
 -- the lists are those of the definition
 -- The figures of a simulation's tables and lists are those of the definition.
-lists_are : (s : Settings) (round : ℕ) (ts : List Table) (lists : List (List Write)) → StandAfterRound s round ts lists → lists ≡ lists_after s round
+lists_are : (s : Settings) (round : ℕ) (ts : List Table) (lists : List OwnerListView) → StandAfterRound s round ts lists → lists_in lists ≡ lists_after s round
 lists_are s round ts lists standing =
-    ext_get_or [] lists (lists_after s round) (standing.list_count ∙ sym there) at_each
+    ext_get_or [] (lists_in lists) (lists_after s round) (length-lists_in lists ∙ standing.list_count ∙ sym there) at_each
   where
     there : length (lists_after s round) ≡ s.nodes
     there = length-map-range_with_len (list_after s round) 0 s.nodes
 
-    at_each : (n : ℕ) → n < length lists → get_or lists n [] ≡ get_or (lists_after s round) n []
+    at_each : (n : ℕ) → n < length (lists_in lists) → get_or (lists_in lists) n [] ≡ get_or (lists_after s round) n []
     at_each n lt =
-        let below : n < s.nodes = omega (arith, standing.list_count) in
-        (standing.owners n below).writes ∙ sym (get_or-map-range_with_len (list_after s round) 0 s.nodes n n [] below (omega arith))
+        let below : n < s.nodes = omega (arith, lt, length-lists_in lists, standing.list_count) in
+        list_read lists n no_writes [] (omega (arith, lt, length-lists_in lists)) ∙ ap (map write_of_entry) (standing.owners n below).writes ∙ sym (get_or-map-range_with_len (list_after s round) 0 s.nodes n n [] below (omega arith))
 
-figures_are : (s : Settings) (round : ℕ) (ts : List Table) (lists : List (List Write)) → StandAfterRound s round ts lists → ts ≡ tables_after s round → figures_of round ts lists ≡ figures_in s round
+figures_are : (s : Settings) (round : ℕ) (ts : List Table) (lists : List OwnerListView) → StandAfterRound s round ts lists → ts ≡ tables_after s round → figures_of round ts (lists_in lists) ≡ figures_in s round
 figures_are s round ts lists standing is = λ i. figures_of round (is i) (lists_are s round ts lists standing i)
 
 unfolded : (s : Settings) (done : ℕ) → tables_after s (suc done) ≡ (round_of s (suc done) (tables_after s done)).tables

@@ -16,7 +16,8 @@ pub use Rattle.round_plan.specs.Plan
 pub use Rattle.round_plan.specs.Writes
 pub use Rattle.staleness.specs.Figures
 pub use Rattle.staleness.specs.OwnParts
-pub use Rattle.staleness.specs.Writes as OwnerLists
+pub use Rattle.owner_lists.specs.Writes as OwnerLists
+pub use Rattle.owner_lists.specs.OwnerListView
 pub use Rattle.scenario.specs.Settings
 pub use Rattle.node_table.specs.Table
 pub use Rattle.node_table.specs.NodeTableView

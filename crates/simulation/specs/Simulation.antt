@@ -2,12 +2,12 @@
 -- Source: this project.
 use Rattle.std.specs.Prelude.{◌≡◌, ℕ, ◌+◌, ◌<◌, ◌⊎◌, Bool, true, false, List}
 use Rattle.scenario.specs.contracts.scenarios.Scenario as scenario
-use Rattle.staleness.specs.contracts.lists.OwnerList as owner_list
+use Rattle.owner_lists.specs.contracts.lists.OwnerList as owner_list
 use Rattle.bench_types.specs.declared.faults.Fault.{Fault}
 use Rattle.bench_types.specs.declared.faults.Fault.TheVariants.{Broken, Finished}
 use Rattle.node_table.specs.NodeTableView.{NodeTableView}
 use Rattle.scenario.specs.Settings.{Settings}
-use Rattle.staleness.specs.declared.lists.Write.{Write}
+use Rattle.owner_lists.specs.OwnerListView.{OwnerListView}
 use Rattle.simulation.specs.RoundView.{RoundView}
 use Rattle.cluster.specs.Tables.{tables_in}
 use Rattle.pool.specs.Runs.{IsPoolFault}
@@ -21,7 +21,7 @@ pub record SimView : Type 0 where
   pub rounds_done : ℕ
   pub broken : Bool
   pub tables : List NodeTableView
-  pub lists : List (List Write)
+  pub lists : List OwnerListView
 
 -- these are the tables of the definition, unless a round has failed
 abbrev pub AreTablesAfter : SimView → List NodeTableView → Type 0

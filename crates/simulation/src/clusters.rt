@@ -4,9 +4,9 @@ ghost use Rattle.std.specs.Prelude.{◌≡◌, ℕ, ◌+◌, ◌-◌, ◌^◌, �
 ghost use Rattle.bench_types.specs.declared.faults.Fault.TheVariants.{OutOfMemory};
 ghost use Rattle.bench_types.specs.Entry.{AreNextAfter};
 ghost use Rattle.node_table.specs.Table.{greatest_version, IsProper};
-ghost use Rattle.staleness.specs.Figures.{writes_of_owner};
+ghost use Rattle.owner_lists.specs.OwnerListView.{written, no_writes, list_of_owner};
 ghost use Rattle.staleness.specs.OwnParts.{OwnPartIsLastWrites};
-ghost use Rattle.staleness.specs.Writes.{AreBornBy};
+ghost use Rattle.owner_lists.specs.Writes.{AreBornBy};
 ghost use Rattle.round_plan.specs.Writes.{born_in};
 ghost use Rattle.cluster.specs.Tables.{tables_in, AreProper};
 ghost use Rattle.simulation.specs.Rounds.{opening_tables, after_restart, begun};
@@ -40,7 +40,7 @@ pub(crate) fn empty_tables(alloc: Global, scenario: &Scenario) -> Result<Vec<Nod
 /// A list for each owner, with nothing written.
 pub(crate) fn empty_lists(alloc: Global, scenario: &Scenario) -> Result<Vec<OwnerList>, Fault>
     ensures count { IfOk result (λ v. length v.items ≡ scenario.now.nodes) }
-    ensures lists { IfOk result (λ v. (n : ℕ) → writes_of_owner v.items n ≡ []) }
+    ensures lists { IfOk result (λ v. (n : ℕ) → list_of_owner v.items n ≡ no_writes) }
     ensures only { IsOkUnless result OutOfMemory }
 {
     let mut lists = Vec::with_capacity(alloc, scenario.nodes() as usize)?;
@@ -103,7 +103,7 @@ fn restart(scenario: &Scenario, node: u32, table: &mut NodeTable, list: &mut Own
 {
     if forgets_now(scenario, node, round) {
         table.forget_all();
-        list.forget();
+        list.begin_generation();
     } else if restarts_now(scenario, node, round) {
         table.forget_others();
     }
@@ -118,18 +118,19 @@ fn write_own(
 ) -> Result<(), Fault>
     requires proper { IsProper table.old.table }
     requires keys { All (λ w. w.key < table.old.table.keys) writes.now }
-    requires next { AreNextAfter table.old.table.generation (length list.old)
+    requires next { AreNextAfter table.old.table.generation (length list.old.current)
         (map (born_in round table.old.table.generation) writes.now) }
-    requires fits { length list.old + length writes.now + 1 < 2 ^ 32 }
-    requires greatest { greatest_version table.old.table table.old.table.node ≡ length list.old }
-    requires own_part { OwnPartIsLastWrites table.old.table list.old }
-    requires born { AreBornBy round list.old }
+    requires generation { list.old.generation ≡ table.old.table.generation }
+    requires fits { length list.old.current + length writes.now + 1 < 2 ^ 32 }
+    requires greatest { greatest_version table.old.table table.old.table.node ≡ length list.old.current }
+    requires own_part { OwnPartIsLastWrites table.old.table (written list.old) }
+    requires born { AreBornBy round (written list.old) }
     ensures written { OnOk result (HasWritten round writes.now table.old.table table.new.table list.old list.new) }
     ensures only { IsOkUnless result OutOfMemory }
 {
     for write in writes {
         table.write_own(write.key, write.value, round)?;
-        list.push(write.key, round)?;
+        list.write(write.key, write.value, round)?;
     }
     Ok(())
 }

@@ -1,44 +1,21 @@
 -- Lists whose writes stand in the order of their rounds: a copy with a greater version isn't staler.
--- Serves `OwnerList::push`, `comes_in_order` and `Seen`.
+-- Serves `Seen`.
 use Rattle.std.proofs.Common.{◌≡◌, ◌≢◌, ℕ, zero, suc, ◌+◌, ◌-◌, ◌<◌, ◌≤◌, Bool, true, false, cond, eqb, ltb, leb, ◌&&◌, List, [], ◌∷◌, ◌++◌, length, get_or, Option, Some, None, All, option_map, inl, inr, refl, sym, ap, ◌∙◌, subst, arith, leb-true, lt-ltb, le-ltb}
 use Rattle.std.specs.List.{find}
 use Rattle.std.proofs.lemmas.Bool.{cases_lt}
 use Rattle.std.proofs.lemmas.List.Elements.{All-head, All-tail}
-use Rattle.staleness.specs.declared.lists.Write.{Write}
-use Rattle.staleness.specs.Writes.{IsNumbered, last_write}
-use Rattle.staleness.specs.inner.Missed.{is_missed, first_missed, last_born, in_order_from, born_in_order}
-use Rattle.staleness.specs.inner.Linked.{version_or_zero}
+use Rattle.owner_lists.specs.declared.lists.Write.{Write}
+use Rattle.owner_lists.specs.Writes.{IsNumbered, last_write}
+use Rattle.owner_lists.specs.inner.Missed.{is_missed, first_missed, last_born, in_order_from, born_in_order}
+use Rattle.owner_lists.specs.inner.Linked.{version_or_zero}
 use Rattle.staleness.specs.inner.Copies.{version_staleness}
 use Rattle.staleness.specs.Figures.{stale_count, rounds_behind}
-use Rattle.staleness.proofs.Last.{fresh}
-use Rattle.staleness.proofs.Linking.{last_placed, missed_some}
+use Rattle.owner_lists.proofs.Last.{fresh}
+use Rattle.owner_lists.proofs.Linking.{last_placed, missed_some}
 
 and_parts : (a b : Bool) → (a && b) ≡ true → (a ≡ true) × (b ≡ true)
 and_parts true b is = (refl, is)
 and_parts false b is = cc
-
-and_turned : (a : Bool) → (a && true) ≡ (true && a)
-and_turned true = refl
-and_turned false = refl
-
-and_grouped : (a b c : Bool) → (a && (b && c)) ≡ ((a && b) && c)
-and_grouped true b c = refl
-and_grouped false b c = refl
-
--- a write at the end has to be born no earlier than the last one
-pub in_order-push : (born : ℕ) (ws : List Write) (w : Write) → in_order_from born (ws ++ w ∷ []) ≡ (in_order_from born ws && leb (last_born born ws) w.born)
-in_order-push born [] w = and_turned (leb born w.born)
-in_order-push born (x ∷ ws) w = ap (λ b. leb born x.born && b) (in_order-push x.born ws w) ∙ and_grouped (leb born x.born) (in_order_from x.born ws) (leb (last_born x.born ws) w.born)
-
-pub last_born-at : (born : ℕ) (ws : List Write) (d : Write) → 0 < length ws → last_born born ws ≡ (get_or ws (length ws - 1) d).born
-last_born-at born [] d some = absurd (omega arith)
-last_born-at born (w ∷ []) d some = refl
-last_born-at born (w ∷ x ∷ ws) d some =
-    let here : suc (length ws) - 1 ≡ length ws = omega arith in
-    let there : suc (length ws) ≡ suc (suc (length ws)) - 1 = omega arith in
-    last_born-at w.born (x ∷ ws) d (omega arith)
-    ∙ ap (λ n. (get_or (x ∷ ws) n d).born) here
-    ∙ ap (λ n. (get_or (w ∷ x ∷ ws) n d).born) there
 
 all_after : (born : ℕ) (ws : List Write) → in_order_from born ws ≡ true → All (λ w. born ≤ w.born) ws
 all_after born [] in_order k d lt = absurd (omega arith)

@@ -8,7 +8,7 @@ use Rattle.std.proofs.lemmas.Slice.Zip.{AllZip-long}
 use Rattle.bench_types.specs.declared.rows.Figures.{Figures}
 use Rattle.node_table.specs.Table.{Table}
 use Rattle.cluster.specs.Tables.{table_of_node, IsCluster}
-use Rattle.staleness.specs.declared.lists.Write.{Write}
+use Rattle.owner_lists.specs.declared.lists.Write.{Write}
 use Rattle.staleness.specs.Figures.{sum_below, most_below, staleness_at, stale_count, rounds_behind, figures_of}
 use Rattle.staleness.specs.inner.Copies.{owner_staleness, node_leftover, part_figures}
 use Rattle.staleness.specs.inner.Parts.{AreFewTriples, IsCounted, AreCounted, found_at}

@@ -1,6 +1,3 @@
-pub mod Rising
-pub mod Last
-pub mod Linking
 pub mod Births
 pub mod Sums
 pub mod Rows

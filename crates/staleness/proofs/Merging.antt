@@ -12,7 +12,7 @@ use Rattle.bench_types.specs.declared.limits.TheConstants.{MOST_NODES}
 use Rattle.node_table.specs.Table.{Table, entry_at}
 use Rattle.cluster.specs.Tables.{table_of_node}
 use Rattle.staleness.specs.declared.copies.Copies.{Copies}
-use Rattle.staleness.specs.declared.lists.Write.{Write}
+use Rattle.owner_lists.specs.declared.lists.Write.{Write}
 use Rattle.staleness.specs.Figures.{generation_at}
 use Rattle.staleness.specs.inner.Copies.{no_copies, version_known, with_copy, seen_in, current_of, copies_of, copies_from, merged, MayCountBoth, AreSeen}
 use Rattle.staleness.specs.inner.Parts.{IsSeenInPart, AreSeenInParts}

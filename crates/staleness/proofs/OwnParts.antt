@@ -8,11 +8,11 @@ use Rattle.bench_types.specs.declared.entries.Item.{Item}
 use Rattle.node_table.specs.Table.{place_cmp, Table, empty_table, entry_at, greatest_version, applied, own_write, with_own_write, without_others, without_all}
 use Rattle.node_table.proofs.Order.{place_total}
 use Rattle.node_table.proofs.Laws.{frame-applied, entry_at-applied_other, entry_at-without_others_own, entry_at-without_all}
-use Rattle.staleness.specs.declared.lists.Write.{Write}
-use Rattle.staleness.specs.Writes.{next_write, is_write_of, AreBornBy}
-use Rattle.staleness.specs.OwnParts.{write_of_entry, OwnPartIsLastWrites}
+use Rattle.owner_lists.specs.declared.lists.Write.{Write}
+use Rattle.owner_lists.specs.Writes.{write_of_entry, next_write, is_write_of, AreBornBy}
+use Rattle.staleness.specs.OwnParts.{OwnPartIsLastWrites}
 use Rattle.node_table.proofs.Comparing.{nat_cmp-equal}
-use Rattle.staleness.proofs.Last.{same_key, with_version, last_write-push}
+use Rattle.owner_lists.proofs.Last.{same_key, with_version, last_write-push}
 
 -- nothing is held, and nothing was written
 pub own_part-empty : (node nodes keys : ℕ) → OwnPartIsLastWrites (empty_table node nodes keys) []

@@ -6,13 +6,13 @@ use Rattle.std.specs.Prelude.{unwrap_or}
 use Rattle.node_table.specs.Table.{Table, entry_at, mark_at}
 use Rattle.cluster.specs.Tables.{table_of_node}
 use Rattle.staleness.specs.declared.copies.Copies.{Copies}
-use Rattle.staleness.specs.declared.lists.Write.{Write}
-use Rattle.staleness.specs.Writes.{IsNumbered, last_write}
-use Rattle.staleness.specs.inner.Missed.{born_in_order}
-use Rattle.staleness.specs.inner.Linked.{version_or_zero}
+use Rattle.owner_lists.specs.declared.lists.Write.{Write}
+use Rattle.owner_lists.specs.Writes.{IsNumbered, last_write}
+use Rattle.owner_lists.specs.inner.Missed.{born_in_order}
+use Rattle.owner_lists.specs.inner.Linked.{version_or_zero}
 use Rattle.staleness.specs.Figures.{sum_below, most_below, writes_of_owner, generation_at, staleness_of, staleness_at, stale_count, rounds_behind}
 use Rattle.staleness.specs.inner.Copies.{version_known, version_staleness, with_copy, current_of, copies_of, least_of, stale_of}
-use Rattle.staleness.proofs.Linking.{last_placed}
+use Rattle.owner_lists.proofs.Linking.{last_placed}
 use Rattle.staleness.proofs.Sums.{sum_below-none}
 use Rattle.staleness.proofs.Births.{staleness_falls, not_stale, is_stale}
 use Rattle.staleness.proofs.Known.{staleness_known}

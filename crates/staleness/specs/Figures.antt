@@ -10,8 +10,8 @@ use Rattle.bench_types.specs.declared.entries.Mark.{Mark}
 use Rattle.bench_types.specs.declared.rows.Figures.{Figures}
 use Rattle.node_table.specs.Table.{Table, entry_at, mark_at}
 use Rattle.cluster.specs.Tables.{table_of_node}
-use Rattle.staleness.specs.declared.lists.Write.{Write}
-use Rattle.staleness.specs.Writes.{first_above}
+use Rattle.owner_lists.specs.declared.lists.Write.{Write}
+use Rattle.owner_lists.specs.Writes.{first_above}
 
 -- the sum and the greatest of what f gives below a bound
 abbrev pub sum_below : ℕ → (ℕ → ℕ) → ℕ

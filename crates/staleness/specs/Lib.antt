@@ -1,4 +1,3 @@
-pub mod Writes
 pub mod Figures
 pub mod OwnParts
 pub mod inner
@@ -6,3 +5,5 @@ pub use Rattle.node_table.specs.Table
 pub use Rattle.node_table.specs.Entries
 pub use Rattle.node_table.specs.NodeTableView
 pub use Rattle.cluster.specs.Tables
+pub use Rattle.owner_lists.specs.Writes
+pub use Rattle.owner_lists.specs.OwnerListView

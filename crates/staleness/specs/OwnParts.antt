@@ -1,14 +1,9 @@
 -- Only the owner writes its own state, so its own part of its table is, for each key, the last write with that
 -- key in its list, which is of its generation. Source: this project.
 use Rattle.std.specs.Prelude.{◌≡◌, ℕ, List, option_map}
-use Rattle.bench_types.specs.declared.entries.Entry.{Entry}
 use Rattle.node_table.specs.Table.{Table, entry_at}
-use Rattle.staleness.specs.declared.lists.Write.{Write}
-use Rattle.staleness.specs.Writes.{last_write}
-
--- an entry as a write, which leaves out the value
-abbrev pub write_of_entry : Entry → Write
-write_of_entry e = record { key = e.key; version = e.version; born = e.born }
+use Rattle.owner_lists.specs.declared.lists.Write.{Write}
+use Rattle.owner_lists.specs.Writes.{write_of_entry, last_write}
 
 -- a node's own part is the last write of each key, in key, version and born
 abbrev pub OwnPartIsLastWrites : Table → List Write → Type 0

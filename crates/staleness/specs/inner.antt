@@ -1,5 +1,2 @@
-pub mod Latest
-pub mod Linked
 pub mod Copies
 pub mod Parts
-pub mod Missed

@@ -4,14 +4,15 @@ ghost use Rattle.std.specs.Prelude.{◌≡◌, ℕ, ◌+◌, ◌*◌, ◌^◌, �
 ghost use Rattle.bench_types.specs.declared.limits.TheConstants.{MOST_NODES, MOST_KEYS};
 ghost use Rattle.node_table.specs.Table.{entry_at, generation_held, IsProper};
 ghost use Rattle.cluster.specs.Tables.{tables_in, table_of_node};
+ghost use Rattle.owner_lists.specs.OwnerListView.{lists_in, written};
 ghost use Rattle.staleness.specs.inner.Parts.{MayBegin};
-ghost use Rattle.staleness.specs.inner.Latest.{write_of, KeysRise, IsFrontForKey};
-ghost use Rattle.staleness.specs.declared.lists.Write.{Write};
+ghost use Rattle.owner_lists.specs.inner.Latest.{write_of, KeysRise, IsFrontForKey};
+ghost use Rattle.owner_lists.specs.declared.lists.Write.{Write};
 ghost use Rattle.staleness.specs.declared.copies.Copies.{Copies};
 ghost use Rattle.staleness.specs.inner.Copies.{generations_in, least_known, at_least, version_known, with_version, with_copy, seen_in, no_copies, current_of, copies_from, merged, MayCountOne, MayCountBoth, StayOutside, AreSeen, AreSeenOnce, AreAdded};
 
-use crate::lists::{OwnerList, Write};
 use node_table::NodeTable;
+use owner_lists::{OwnerList, Write};
 use std::alloc::{AllocError, Global};
 
 /// What was seen of the copies of one key.
@@ -147,7 +148,7 @@ fn see_table(copies: &mut [Copies], table: &NodeTable, generations: &[u32])
 
 // An owner's keys, before any table is gone over: one walk over the last writes of its keys.
 fn add_keys(copies: &mut Vec<Copies>, list: &OwnerList, keys: u32) -> Result<(), AllocError>
-    ensures { OnOk result (AreAdded list.now keys copies.old.items copies.new.items) }
+    ensures { OnOk result (AreAdded (written list.now) keys copies.old.items copies.new.items) }
 {
     let latest = list.latest();
     let mut next = 0;
@@ -193,7 +194,7 @@ pub(crate) fn no_copies(
     requires few { length lists.now ≤ MOST_NODES }
     requires limit { keys ≤ MOST_KEYS }
     ensures { IfOk result
-        (λ v. AreSeen (length lists.now) keys (λ owner key. no_copies (current_of lists.now owner key)) v.items) }
+        (λ v. AreSeen (length lists.now) keys (λ owner key. no_copies (current_of (lists_in lists.now) owner key)) v.items) }
 {
     let mut copies = Vec::with_capacity(alloc, lists.len() * keys as usize)?;
     for list in lists {

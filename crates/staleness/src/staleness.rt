@@ -3,8 +3,9 @@
 ghost use Rattle.std.specs.Prelude.{◌≡◌, ℕ, ◌+◌, ◌*◌, ◌/◌, ◌^◌, ◌<◌, ◌≤◌, max, All, IfOk, IsFalse, IsOkUnless, length, slice_index_or, unwrap_or};
 ghost use Rattle.bench_types.specs.declared.faults.Fault.TheVariants.{OutOfMemory};
 ghost use Rattle.bench_types.specs.declared.limits.TheConstants.{MOST_NODES, MOST_KEYS, MOST_ROUNDS};
+ghost use Rattle.owner_lists.specs.OwnerListView.{lists_in, written};
 ghost use Rattle.staleness.specs.declared.copies.Copies.{Copies};
-ghost use Rattle.staleness.specs.Writes.{AreBornBy, IsNumbered};
+ghost use Rattle.owner_lists.specs.Writes.{AreBornBy, IsNumbered};
 ghost use Rattle.node_table.specs.Table.{entry_at};
 ghost use Rattle.staleness.specs.Figures.{sum_below, most_below, writes_of_owner, staleness_at, rounds_behind, figures_of};
 ghost use Rattle.staleness.specs.inner.Copies.{generations_in, version_known, version_staleness, copies_of, key_staleness, owner_staleness, owners_staleness, copy_leftover, node_leftover, nodes_leftover};
@@ -14,9 +15,9 @@ ghost use Rattle.staleness.specs.inner.Parts.{AreCountable, AreFewTriples, IsCou
 use crate::copies::{
     Copies, copies_from, generation_in, generations_of, least_known, merge, no_copies,
 };
-use crate::lists::OwnerList;
 use bench_types::{Fault, Figures};
 use node_table::NodeTable;
+use owner_lists::OwnerList;
 use rayon::current_num_threads;
 use rayon::prelude::*;
 use std::alloc::{AllocError, Global};
@@ -50,8 +51,8 @@ fn joined(one: Staleness, other: Staleness) -> Staleness
 // For how many rounds a version of a key has been behind its owner's list, 0 where it isn't.
 fn rounds_behind(list: &OwnerList, key: u32, version: u32, round: u32) -> u32
     requires round { round ≤ MOST_ROUNDS }
-    requires born { AreBornBy round list.now }
-    ensures { result ≡ rounds_behind (version_staleness round list.now key version) }
+    requires born { AreBornBy round (written list.now) }
+    ensures { result ≡ rounds_behind (version_staleness round (written list.now) key version) }
 {
     match list.first_missed(key, version) {
         Some(missed) => round - missed.born + 1,
@@ -67,12 +68,12 @@ fn most_rounds_behind(
     key: u32,
     round: u32,
 ) -> u32
-    requires countable { AreCountable round (tables_in tables.now) lists.now }
+    requires countable { AreCountable round (tables_in tables.now) (lists_in lists.now) }
     requires owner { owner < length tables.now }
-    requires numbered { IsNumbered (writes_of_owner lists.now owner) }
-    requires few { length (writes_of_owner lists.now owner) < 2 ^ 32 }
+    requires numbered { IsNumbered (writes_of_owner (lists_in lists.now) owner) }
+    requires few { length (writes_of_owner (lists_in lists.now) owner) < 2 ^ 32 }
     ensures { result ≡ most_below (length tables.now)
-        (λ p. rounds_behind (staleness_at round (tables_in tables.now) lists.now p owner key)) }
+        (λ p. rounds_behind (staleness_at round (tables_in tables.now) (lists_in lists.now) p owner key)) }
 {
     let list = &lists[owner as usize];
     let generation = tables[owner as usize].generation();
@@ -109,10 +110,10 @@ fn staleness_of_key(
     copies: Copies,
     round: u32,
 ) -> Staleness
-    requires countable { AreCountable round (tables_in tables.now) lists.now }
+    requires countable { AreCountable round (tables_in tables.now) (lists_in lists.now) }
     requires owner { owner < length tables.now }
-    requires copies { copies ≡ copies_of (tables_in tables.now) lists.now owner key (length tables.now) }
-    ensures { result ≡ key_staleness round (tables_in tables.now) lists.now owner key }
+    requires copies { copies ≡ copies_of (tables_in tables.now) (lists_in lists.now) owner key (length tables.now) }
+    ensures { result ≡ key_staleness round (tables_in tables.now) (lists_in lists.now) owner key }
 {
     let list = &lists[owner as usize];
     let in_order = list.is_in_order();
@@ -147,13 +148,13 @@ fn staleness_of_owner(
     start: usize,
     round: u32,
 ) -> Staleness
-    requires countable { AreCountable round (tables_in tables.now) lists.now }
+    requires countable { AreCountable round (tables_in tables.now) (lists_in lists.now) }
     requires owner { owner < length tables.now }
     requires within { start + (table_of_node (tables_in tables.now) 0).keys ≤ length copies.now }
     requires copies { (key : ℕ) (d : Copies) → key < (table_of_node (tables_in tables.now) 0).keys
         → slice_index_or copies.now (start + key) d
-        ≡ copies_of (tables_in tables.now) lists.now owner key (length tables.now) }
-    ensures staleness { result ≡ owner_staleness round (tables_in tables.now) lists.now owner }
+        ≡ copies_of (tables_in tables.now) (lists_in lists.now) owner key (length tables.now) }
+    ensures staleness { result ≡ owner_staleness round (tables_in tables.now) (lists_in lists.now) owner }
     ensures bound { result.stale ≤ MOST_NODES * MOST_KEYS }
 {
     let mut total = NOTHING_STALE;
@@ -176,10 +177,10 @@ fn staleness_of_owners(
     owners: usize,
     round: u32,
 ) -> Staleness
-    requires countable { AreCountable round (tables_in tables.now) lists.now }
+    requires countable { AreCountable round (tables_in tables.now) (lists_in lists.now) }
     requires owners { from + owners ≤ length tables.now }
-    requires copies { AreAllSeen (tables_in tables.now) lists.now copies.now }
-    ensures staleness { result ≡ owners_staleness round (tables_in tables.now) lists.now from owners }
+    requires copies { AreAllSeen (tables_in tables.now) (lists_in lists.now) copies.now }
+    ensures staleness { result ≡ owners_staleness round (tables_in tables.now) (lists_in lists.now) from owners }
     ensures bound { result.stale ≤ MOST_NODES * MOST_NODES * MOST_KEYS }
 {
     let keys = match tables.first() {
@@ -310,8 +311,8 @@ pub fn figures(
     requires cluster { IsCluster (length tables.now) (tables_in tables.now) }
     requires one_list_each { length lists.now ≡ length tables.now }
     requires round { round ≤ MOST_ROUNDS }
-    requires born { All (AreBornBy round) lists.now }
-    ensures figures { IfOk result (λ f. f ≡ figures_of round (tables_in tables.now) lists.now) }
+    requires born { All (AreBornBy round) (lists_in lists.now) }
+    ensures figures { IfOk result (λ f. f ≡ figures_of round (tables_in tables.now) (lists_in lists.now)) }
     ensures only { IsOkUnless result OutOfMemory }
 {
     let size = nodes_of_a_thread(rt, tables);
@@ -336,7 +337,7 @@ fn all_copies(
     requires cluster { IsCluster (length tables.now) (tables_in tables.now) }
     requires one_list_each { length lists.now ≡ length tables.now }
     requires few { length tables.now ≤ MOST_NODES }
-    ensures seen { IfOk result (λ v. AreAllSeen (tables_in tables.now) lists.now v.items) }
+    ensures seen { IfOk result (λ v. AreAllSeen (tables_in tables.now) (lists_in lists.now) v.items) }
     ensures only { IsOkUnless result OutOfMemory }
 {
     let keys = match tables.first() {
@@ -416,10 +417,10 @@ fn figures_of_parts(
 ) -> Result<Vec<Figures>, AllocError>
     requires some { 1 ≤ size }
     requires generations { generations.now ≡ generations_in (tables_in tables.now) }
-    requires countable { AreCountable round (tables_in tables.now) lists.now }
-    requires copies { AreAllSeen (tables_in tables.now) lists.now copies.now }
+    requires countable { AreCountable round (tables_in tables.now) (lists_in lists.now) }
+    requires copies { AreAllSeen (tables_in tables.now) (lists_in lists.now) copies.now }
     ensures { IfOk result
-        (λ v. AreCounted round (tables_in tables.now) lists.now size (length tables.now / size + 1) v.items) }
+        (λ v. AreCounted round (tables_in tables.now) (lists_in lists.now) size (length tables.now / size + 1) v.items) }
 {
     (0..tables.len() / size + 1)
         .into_par_iter()
@@ -427,9 +428,9 @@ fn figures_of_parts(
         .map(
             |part: usize| -> Figures
                 requires { (generations.now ≡ generations_in (tables_in tables.now))
-                    × AreCountable round (tables_in tables.now) lists.now × (1 ≤ size)
-                    × (part ≤ length tables.now / size) × AreAllSeen (tables_in tables.now) lists.now copies.now }
-                ensures { IsCounted round (tables_in tables.entry.now) lists.entry.now size part result }
+                    × AreCountable round (tables_in tables.now) (lists_in lists.now) × (1 ≤ size)
+                    × (part ≤ length tables.now / size) × AreAllSeen (tables_in tables.now) (lists_in lists.now) copies.now }
+                ensures { IsCounted round (tables_in tables.entry.now) (lists_in lists.entry.now) size part result }
             { figures_of_part(tables, lists, generations, copies, size, part, round) },
         )
         .collect(rt, alloc)
@@ -448,9 +449,9 @@ fn figures_of_part(
     requires some { 1 ≤ size }
     requires part { part ≤ length tables.now / size }
     requires generations { generations.now ≡ generations_in (tables_in tables.now) }
-    requires countable { AreCountable round (tables_in tables.now) lists.now }
-    requires copies { AreAllSeen (tables_in tables.now) lists.now copies.now }
-    ensures { IsCounted round (tables_in tables.now) lists.now size part result }
+    requires countable { AreCountable round (tables_in tables.now) (lists_in lists.now) }
+    requires copies { AreAllSeen (tables_in tables.now) (lists_in lists.now) copies.now }
+    ensures { IsCounted round (tables_in tables.now) (lists_in lists.now) size part result }
 {
     let from = part * size;
     let nodes = size.min(tables.len() - from);

@@ -7,10 +7,10 @@ ghost use Rattle.tests_of_boards.specs.declared.long_lists.TheConstants.{NODES};
 
 use crate::jobs::{Job, checked_exchange};
 use crate::pools::run_fresh;
-use crate::small_boards::tables_of;
 use crate::threads::{Order, Worked, work_in_four, work_in_three, work_in_two};
 use bench_types::limits::MOST_WORKERS;
 use bench_types::{Budget, Exchange, Fault, Mode, Record, Rules};
+use fixtures::{Writers, tables_of};
 use node_table::NodeTable;
 use pool::FreeGate;
 use round_plan::RoundList;
@@ -89,7 +89,7 @@ fn in_list_order(
 ) -> Result<Left, Fault>
     requires budget { IsLawfulBudget rules.now.budget }
 {
-    let mut tables = tables_of(rt, rt.alloc(), NODES, KEYS)?;
+    let mut tables = tables_of(rt.alloc(), Writers::all(NODES, KEYS))?;
     let mut records = Vec::new(rt.alloc());
     for plan in list.exchanges() {
         records.push(exchange_two(rt, &mut tables, plan, rules)?)?;

@@ -5,9 +5,10 @@ ghost use Rattle.bench_types.specs.declared.limits.TheConstants.{MOST_WORKERS, M
 ghost use Rattle.bench_types.specs.Budget.{IsLawfulBudget};
 
 use crate::gates::{Call, Gathering, Handover, Meeting, Notes, Theft};
-use crate::small_boards::{CROSSING, ONE_ENTRY, TWICE, list_of, tables_of};
+use crate::small_boards::{CROSSING, ONE_ENTRY, TWICE, list_of};
 use bench_types::limits::{MOST_KEYS, MOST_WORKERS};
 use bench_types::{Fault, Record, Rules};
+use fixtures::{Writers, tables_of};
 use node_table::NodeTable;
 use pool::{FreeGate, Gate, run_list};
 use round_plan::RoundList;
@@ -38,7 +39,7 @@ pub(crate) fn run_fresh<R: Abort + AllocGlobal + Threads + Wait + Sync, G: Gate 
     requires workers { (1 ≤ workers) × (workers ≤ MOST_WORKERS) }
     requires budget { IsLawfulBudget rules.now.budget }
 {
-    let tables = tables_of(rt, rt.alloc(), list.nodes(), keys)?;
+    let tables = tables_of(rt.alloc(), Writers::all(list.nodes(), keys))?;
     run_list(rt, rt.alloc(), list, tables, workers, gate, rules)
 }
 

@@ -1,9 +1,8 @@
 //! Ends that go byte by byte and fail at each place of a run of two rounds.
 
-use crate::ends::{ALL, Drip, Halting, Taking, Team};
-use crate::texts::RESTART_WITHOUT_DOWNTIME;
 use bench::run;
 use bench_types::{Fault, Field, Pull, Push};
+use fixtures::{ALL, Drip, Halting, RESTART_WITHOUT_DOWNTIME, Taking, Team};
 use std::alloc::{AllocError, AllocGlobal, Global};
 use std::io::ErrorKind;
 use std::process::Abort;

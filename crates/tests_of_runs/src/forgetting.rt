@@ -1,9 +1,9 @@
 //! Simulations of two nodes of which one forgets, round by round.
 
 use crate::steps::sim_of;
-use crate::texts::changed;
 use bench::{FreeGate, Sim};
 use bench_types::{Fault, Figures};
+use fixtures::changed;
 use node_table::NodeTable;
 use std::alloc::Global;
 use std::process::Abort;

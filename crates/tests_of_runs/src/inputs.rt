@@ -1,12 +1,11 @@
 //! Inputs read whole: lengths about the limit, and readers that go byte by byte, fail or never end.
 
-use crate::ends::{Endless, Halting};
-use crate::texts::{TWO_NODES, TWO_NODES_REPORT};
 use bench::{check_input, read_all, run};
 use bench_types::limits::MOST_BYTES;
 use bench_types::{Discard, Fault, Field, Pull, Push};
+use fixtures::{Halting, TWO_NODES, TWO_NODES_REPORT};
 use std::alloc::{AllocError, Global};
-use std::io::ErrorKind;
+use std::io::{self, ErrorKind, Read};
 use std::process::Abort;
 
 // So many bytes, none of which equals its neighbours.
@@ -89,6 +88,20 @@ fn readers_that_fail(rt: HostRuntime) -> Result<(), Fault> {
         assert!(rt; read_all(rt.alloc(), &mut reader)?.as_slice() == bytes.as_slice());
     }
     Ok(())
+}
+
+// Fills each buffer whole, and counts the bytes that it gave.
+#[derive(Drop)]
+struct Endless {
+    given: usize,
+}
+
+impl Read for Endless {
+    fn read(&mut self, buf: &mut [u8]) -> io::Result<usize> {
+        self.given = self.given.saturating_add(buf.len());
+        buf.fill(b' ');
+        Ok(buf.len())
+    }
 }
 
 #[test]

@@ -1,8 +1,8 @@
 //! Simulations, step by step.
 
-use crate::texts::{TWO_NODES, changed};
 use bench::{FreeGate, Round, Sim};
-use bench_types::{Exchange, Fate, Fault, Figures, Mark, Record, Row};
+use bench_types::{Fault, Figures, Mark, Row};
+use fixtures::{RING_OF_FOUR, TWO_NODES, between, sent};
 use node_table::NodeTable;
 use scenario::read;
 use std::alloc::Global;
@@ -13,30 +13,6 @@ pub(crate) fn sim_of(alloc: Global, text: &str) -> Result<Sim, Fault> {
     match Sim::new(alloc, read(alloc, text.as_bytes())?) {
         Ok(sim) => Ok(sim),
         Err((fault, _)) => Err(fault),
-    }
-}
-
-fn between(initiator: u32, responder: u32) -> Exchange {
-    Exchange {
-        initiator,
-        responder,
-        lost1: false,
-        lost2: false,
-        lost3: false,
-        rotation: 0,
-    }
-}
-
-// What an exchange sent that lost and cut nothing: the sizes of its digests, and entries back and forth.
-fn sent(digest1: u32, digest2: u32, back: u32, forth: u32) -> Record {
-    Record {
-        digest1,
-        digest2,
-        back,
-        forth,
-        back_cut: 0,
-        forth_cut: 0,
-        fate: Fate::Ok,
     }
 }
 
@@ -52,7 +28,7 @@ fn expect_exchanges(rt: &impl Abort, round: &Round) {
     let list = round.list();
     assert_eq!(rt; list.exchanges(), [between(0, 1), between(1, 0)].as_slice());
     assert_eq!(rt; (list.nodes(), list.unreached()), (2, 0));
-    let records = [sent(1, 1, 1, 1), sent(2, 2, 0, 0)];
+    let records = [sent!(1, 1, 1, 1, 0, 0), sent!(2, 2, 0, 0, 0, 0)];
     assert_eq!(rt; round.records(), records.as_slice());
 }
 
@@ -121,8 +97,7 @@ fn expect_missed(rt: &impl Abort, table: &NodeTable, missed: u32) {
 // At the end each node misses one owner.
 #[test]
 fn ring_of_four(rt: HostRuntime) -> Result<(), Fault> {
-    let text = changed(rt.alloc(), &[("nodes = 2", "nodes = 4")], "")?;
-    let mut sim = sim_of(rt.alloc(), text.as_str())?;
+    let mut sim = sim_of(rt.alloc(), RING_OF_FOUR.scenario)?;
     sim.step(&rt, 1, &FreeGate)?;
     assert_eq!(rt; sim.step(&rt, 1, &FreeGate).err(), Some(Fault::Finished));
     assert_eq!(rt; sim.tables().len(), 4);

@@ -1,7 +1,7 @@
 //! What an accepted scenario says.
 
-use crate::texts::changed;
 use bench_types::{Budget, Fault, Field, Mode};
+use fixtures::changed;
 use scenario::{Choice, Load, Partition, Peers, Restart, Rotation, Scenario, read};
 use std::process::Abort;
 

@@ -4,10 +4,12 @@ ghost use Rattle.std.specs.Prelude.{◌≤◌};
 ghost use Rattle.bench_types.specs.declared.limits.TheConstants.{MOST_WORKERS};
 
 use crate::steps::sim_of;
-use crate::texts::{RESTART_WITHOUT_DOWNTIME, TWO_NODES, changed};
 use bench::{FreeGate, Round, Sim};
 use bench_types::limits::MOST_WORKERS;
 use bench_types::{Fault, Row};
+use fixtures::{
+    A_NODE_DOWN, RESTART_WITHOUT_DOWNTIME, RING_OF_FOUR, TWO_NODES, TWO_NODES_CUT, changed,
+};
 use node_table::NodeTable;
 use std::alloc::AllocGlobal;
 use std::process::Abort;
@@ -76,37 +78,17 @@ fn steps_with_workers(rt: HostRuntime) -> Result<(), Fault> {
 
 #[test]
 fn a_ring_of_four_with_workers(rt: HostRuntime) -> Result<(), Fault> {
-    let text = changed(rt.alloc(), &[("nodes = 2", "nodes = 4")], "")?;
-    expect_same_with_any(&rt, text.as_str())
+    expect_same_with_any(&rt, RING_OF_FOUR.scenario)
 }
 
 #[test]
 fn cut_by_the_budget_with_workers(rt: HostRuntime) -> Result<(), Fault> {
-    let lines = [("keys = 1", "keys = 2"), ("writes = 1", "writes = 2")];
-    let text = changed(rt.alloc(), &lines, "")?;
-    expect_same_with_any(&rt, text.as_str())
+    expect_same_with_any(&rt, TWO_NODES_CUT.scenario)
 }
-
-const DOWN_FOR_TWO_ROUNDS: &str = "\
-[[restart]]
-node = 2
-round = 1
-down = 2
-[[load]]
-from = 2
-to = 2
-writes = 0
-";
 
 #[test]
 fn a_node_down_for_two_rounds_with_workers(rt: HostRuntime) -> Result<(), Fault> {
-    let lines = [
-        ("nodes = 2", "nodes = 3"),
-        ("rounds = 1", "rounds = 2"),
-        ("budget = 1", "budget = 10"),
-    ];
-    let text = changed(rt.alloc(), &lines, DOWN_FOR_TWO_ROUNDS)?;
-    expect_same_with_any(&rt, text.as_str())
+    expect_same_with_any(&rt, A_NODE_DOWN.scenario)
 }
 
 // Nodes that forget, one of them twice in one round and while it is down.

@@ -1,6 +1,6 @@
 //! Tests of the crates that work on nodes' tables, and nothing else: tables by hand, also of nodes that
-//! forgot, the deltas and exchanges between them, how far their copies lag, and the records of exchanges
-//! in list order.
+//! forgot, the deltas and exchanges between them, what owners wrote, how far their copies lag, and the
+//! records of exchanges in list order.
 #![tactic(auto)]
 
 #[cfg(test)]
@@ -17,6 +17,8 @@ mod generations;
 mod listed;
 #[cfg(test)]
 mod model;
+#[cfg(test)]
+mod owner_entries;
 #[cfg(test)]
 mod records;
 #[cfg(test)]

@@ -2,7 +2,8 @@
 //! those copies are stale, and since when, and how many are left over where the node forgot.
 
 ghost use Rattle.std.specs.Prelude.{◌≡◌, ℕ, None, Some, ◌+◌, ◌<◌, ◌≤◌};
-ghost use Rattle.staleness.specs.Writes.{AreBornBy};
+ghost use Rattle.owner_lists.specs.OwnerListView.{written};
+ghost use Rattle.owner_lists.specs.Writes.{AreBornBy};
 ghost use Rattle.tests_of_tables.specs.Missed.{missed, missed_in};
 
 use crate::fixtures::{item, may_take, new_table};
@@ -18,7 +19,7 @@ fn write_both(rt: &impl Abort, table: &mut NodeTable, list: &mut OwnerList, key:
     ensures node { table.new.table.node ≡ table.old.table.node }
     ensures nodes { table.new.table.nodes ≡ table.old.table.nodes }
     ensures keys { table.new.table.keys ≡ table.old.table.keys }
-    ensures born { (round : ℕ) → born ≤ round → AreBornBy round list.old → AreBornBy round list.new }
+    ensures born { (round : ℕ) → born ≤ round → AreBornBy round (written list.old) → AreBornBy round (written list.new) }
 {
     assert!(rt; key < table.keys());
     assert!(rt; list.len() < 1000);
@@ -27,16 +28,17 @@ fn write_both(rt: &impl Abort, table: &mut NodeTable, list: &mut OwnerList, key:
     list.push(key, born).expect(rt, "memory");
 }
 
-// A node forgets what is in its table and its list.
+// A node forgets what is in its table, and begins its next generation in both.
 fn forget_both(rt: &impl Abort, table: &mut NodeTable, list: &mut OwnerList)
     ensures node { table.new.table.node ≡ table.old.table.node }
     ensures nodes { table.new.table.nodes ≡ table.old.table.nodes }
     ensures keys { table.new.table.keys ≡ table.old.table.keys }
-    ensures born { (round : ℕ) → AreBornBy round list.new }
+    ensures born { (round : ℕ) → AreBornBy round (written list.new) }
 {
     assert!(rt; table.generation() < 1000);
+    assert!(rt; list.generation() < 1000);
     table.forget_all();
-    list.forget();
+    list.begin_generation();
 }
 
 // A node of two that has forgotten so often, each time one write, and the list of its writes.
@@ -54,7 +56,7 @@ fn forgetter(
     ensures node { result.0.table.node ≡ node }
     ensures nodes { result.0.table.nodes ≡ 2 }
     ensures keys { result.0.table.keys ≡ keys }
-    ensures born { AreBornBy round result.1 }
+    ensures born { AreBornBy round (written result.1) }
 {
     let mut table = new_table(rt, alloc, node, 2, keys);
     let mut list = OwnerList::new(alloc);
@@ -81,7 +83,7 @@ fn writer(
     ensures node { result.0.table.node ≡ node }
     ensures nodes { result.0.table.nodes ≡ 2 }
     ensures keys { result.0.table.keys ≡ keys }
-    ensures born { AreBornBy round result.1 }
+    ensures born { AreBornBy round (written result.1) }
 {
     let (mut table, mut list) = forgetter(rt, alloc, node, keys, forgets, round);
     for (key, born) in writes {
@@ -105,7 +107,7 @@ fn reader(
     ensures node { result.0.table.node ≡ 1 }
     ensures nodes { result.0.table.nodes ≡ 2 }
     ensures keys { result.0.table.keys ≡ keys }
-    ensures born { AreBornBy round result.1 }
+    ensures born { AreBornBy round (written result.1) }
 {
     let (mut table, list) = forgetter(rt, alloc, 1, keys, forgets, round);
     table.reserve_for(held).expect(rt, "memory");

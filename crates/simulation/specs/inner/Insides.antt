@@ -2,13 +2,13 @@
 use Rattle.std.specs.Prelude.{◌≡◌, ℕ, ◌≤◌, Bool, false, List, [], Option, Some, None, is_none, refl}
 use Rattle.std.specs.Coded.{Coded, code_by, coded×, coded_ℕ, coded_bool, coded_list}
 use Rattle.scenario.specs.contracts.scenarios.Scenario as scenario
-use Rattle.staleness.specs.contracts.lists.OwnerList as owner_list
+use Rattle.owner_lists.specs.contracts.lists.OwnerList as owner_list
 use Rattle.simulation.specs.declared.sims.Cluster.{Cluster}
 use Rattle.node_table.specs.Table.{Table}
 use Rattle.node_table.specs.NodeTableView.{NodeTableView}
 use Rattle.node_table.specs.inner.Codes.{kept_code}
 use Rattle.scenario.specs.Settings.{Settings}
-use Rattle.staleness.specs.declared.lists.Write.{Write}
+use Rattle.owner_lists.specs.OwnerListView.{OwnerListView}
 use Rattle.simulation.specs.RoundView.{RoundView}
 use Rattle.cluster.specs.Tables.{tables_in}
 use Rattle.simulation.specs.inner.Steps.{IsPlayedFrom}
@@ -17,20 +17,20 @@ use Rattle.simulation.specs.Simulation.{AreTablesAfter, SimView}
 
 abbrev pub simulation_code : Coded SimView
 simulation_code =
-    code_by (Settings × (ℕ × (Bool × (List NodeTableView × List (List Write))))) (coded× (scenario.the_row).coded (coded× coded_ℕ (coded× coded_bool (coded× (coded_list kept_code) (coded_list (owner_list.the_row).coded))))) (λ s. (s.settings, (s.rounds_done, (s.broken, (s.tables, s.lists))))) (λ p. record { settings = p.0; rounds_done = p.1.0; broken = p.1.1.0; tables = p.1.1.1.0; lists = p.1.1.1.1 }) (λ _. refl)
+    code_by (Settings × (ℕ × (Bool × (List NodeTableView × List OwnerListView)))) (coded× (scenario.the_row).coded (coded× coded_ℕ (coded× coded_bool (coded× (coded_list kept_code) (coded_list (owner_list.the_row).coded))))) (λ s. (s.settings, (s.rounds_done, (s.broken, (s.tables, s.lists))))) (λ p. record { settings = p.0; rounds_done = p.1.0; broken = p.1.1.0; tables = p.1.1.1.0; lists = p.1.1.1.1 }) (λ _. refl)
 
 -- what the nodes hold, and the lists of their writes
 abbrev pub tables_of : Cluster → List Table
 tables_of c = tables_in c.tables.items
 
-abbrev pub lists_of : Cluster → List (List Write)
+abbrev pub lists_of : Cluster → List OwnerListView
 lists_of c = c.lists.items
 
 abbrev pub tables_held : Option Cluster → List NodeTableView
 tables_held (Some c) = c.tables.items
 tables_held None = []
 
-abbrev pub lists_held : Option Cluster → List (List Write)
+abbrev pub lists_held : Option Cluster → List OwnerListView
 lists_held (Some c) = c.lists.items
 lists_held None = []
 

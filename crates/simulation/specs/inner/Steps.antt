@@ -5,23 +5,23 @@ use Rattle.cluster.specs.Tables.{tables_in}
 use Rattle.round_plan.specs.Plan.{round_list_of}
 use Rattle.scenario.specs.Settings.{Settings}
 use Rattle.staleness.specs.Figures.{figures_of}
-use Rattle.staleness.specs.declared.lists.Write.{Write}
+use Rattle.owner_lists.specs.OwnerListView.{OwnerListView, written, lists_in}
 use Rattle.simulation.specs.RoundView.{RoundView}
 use Rattle.simulation.specs.Rounds.{round_of, after_restart}
 use Rattle.simulation.specs.Outcomes.{played_with}
 use Rattle.node_table.specs.Table.{Table, with_own_writes, greatest_version, IsProper}
-use Rattle.round_plan.specs.Writes.{count_before, own_writes, born_in, writes_before}
+use Rattle.round_plan.specs.Writes.{count_before, own_writes, born_in, writes_before, written_upto}
 use Rattle.round_plan.specs.declared.owners.OwnWrite.{OwnWrite}
 use Rattle.round_plan.specs.Generations.{generation_upto}
-use Rattle.staleness.specs.OwnParts.{write_of_entry, OwnPartIsLastWrites}
-use Rattle.staleness.specs.Writes.{AreBornBy}
+use Rattle.staleness.specs.OwnParts.{OwnPartIsLastWrites}
+use Rattle.owner_lists.specs.Writes.{AreBornBy}
 use Rattle.simulation.specs.Standing.{IsOwnerOf}
 
 -- and from the tables before it, and the tables and lists after it
-abbrev pub played_from : Settings → ℕ → List NodeTableView → List NodeTableView → List (List Write) → RoundView
-played_from s round old new lists = played_with round (round_list_of s round) (round_of s round (tables_in old)).records (figures_of round (tables_in new) lists)
+abbrev pub played_from : Settings → ℕ → List NodeTableView → List NodeTableView → List OwnerListView → RoundView
+played_from s round old new lists = played_with round (round_list_of s round) (round_of s round (tables_in old)).records (figures_of round (tables_in new) (lists_in lists))
 
-abbrev pub IsPlayedFrom : Settings → ℕ → List NodeTableView → List NodeTableView → List (List Write) → RoundView → Type 0
+abbrev pub IsPlayedFrom : Settings → ℕ → List NodeTableView → List NodeTableView → List OwnerListView → RoundView → Type 0
 IsPlayedFrom s round old new lists played = played ≡ played_from s round old new lists
 
 -- what a round begins with: for one node, and for all
@@ -29,14 +29,14 @@ abbrev pub begun_table : Settings → ℕ → ℕ → Table → Table
 begun_table s round n t = with_own_writes (after_restart s round n t) (own_writes s n round (count_before s n round))
 
 -- these writes of a round were made, and added to the list
-pub record HasWritten (round : ℕ) (writes : List OwnWrite) (old new : Table) (ws ws' : List Write) : Type 0 where
+pub record HasWritten (round : ℕ) (writes : List OwnWrite) (old new : Table) (v v' : OwnerListView) : Type 0 where
   pub table : new ≡ with_own_writes old (map (born_in round old.generation) writes)
-  pub list : ws' ≡ ws ++ map write_of_entry (map (born_in round old.generation) writes)
+  pub list : v' ≡ record v { current = v.current ++ map (born_in round old.generation) writes }
   pub proper : IsProper new
-  pub greatest : greatest_version new new.node ≡ length ws'
-  pub own_part : OwnPartIsLastWrites new ws'
-  pub born : AreBornBy round ws'
+  pub greatest : greatest_version new new.node ≡ length v'.current
+  pub own_part : OwnPartIsLastWrites new (written v')
+  pub born : AreBornBy round (written v')
 
 -- and after the restarts of one, before its writes
-abbrev pub HasRestarted : Settings → ℕ → ℕ → Table → List Write → Type 0
-HasRestarted s round n t ws = IsOwnerOf s n (generation_upto s n round) (writes_before s n round) (round - 1) t ws
+abbrev pub HasRestarted : Settings → ℕ → ℕ → Table → OwnerListView → Type 0
+HasRestarted s round n t v = IsOwnerOf s n (generation_upto s n round) (writes_before s n round) (written_upto s n (round - 1)) (round - 1) t v

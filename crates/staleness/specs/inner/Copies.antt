@@ -11,10 +11,10 @@ use Rattle.node_table.specs.Table.{Table, entry_at}
 use Rattle.cluster.specs.Tables.{table_of_node}
 use Rattle.staleness.specs.declared.copies.Copies.{Copies}
 use Rattle.staleness.specs.declared.staleness.Staleness.{Staleness}
-use Rattle.staleness.specs.declared.lists.Write.{Write}
-use Rattle.staleness.specs.Writes.{last_write}
-use Rattle.staleness.specs.inner.Missed.{first_missed}
-use Rattle.staleness.specs.inner.Linked.{version_or_zero}
+use Rattle.owner_lists.specs.declared.lists.Write.{Write}
+use Rattle.owner_lists.specs.Writes.{last_write}
+use Rattle.owner_lists.specs.inner.Missed.{first_missed}
+use Rattle.owner_lists.specs.inner.Linked.{version_or_zero}
 use Rattle.staleness.specs.Figures.{sum_below, most_below, writes_of_owner, generation_at, staleness_at, leftover_at, stale_count, rounds_behind}
 
 -- the generations of all nodes, in order

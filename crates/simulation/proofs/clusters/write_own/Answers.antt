@@ -23,10 +23,10 @@ loop-write-preserved c =
     let done = map as_entry (take i writes) in
     let count : length done ≡ i = length-map (take i writes) as_entry ∙ length-take-le i writes (omega arith) in
     let next = c.requires.next i (as_entry no_write) (omega (arith, lt, length-map writes as_entry)) in
-    let version : w.version ≡ next_version (length c.loop-write.list) =
+    let version : w.version ≡ next_version (length c.loop-write.list.current) =
     omega (arith, ap (λ e. e.version) (get_or-map as_entry writes i no_write (as_entry no_write) lt), next.1, so_far.count, count) in
     let longer : map as_entry (take (i + 1) writes) ≡ done ++ as_entry w ∷ [] =
     ap (map as_entry) (take_more writes i no_write lt) ∙ map-append as_entry (take i writes) (w ∷ []) in
-    subst (IsWriting round c.args.table.now.table c.write_own.new.self.table c.args.list.now c.push.new.self) (sym longer)
-    (writing_more round c.args.table.now.table c.loop-write.table.table c.write_own.new.self.table c.args.list.now c.loop-write.list c.push.new.self done (as_entry w) so_far (refl, version) (omega arith)
-    (subst (λ k. w.key < k) (sym so_far.keys) (c.requires.keys i no_write lt)) c.in_ok-write_own.ensures.ok c.in_ok-push.ensures.ok)
+    subst (IsWriting round c.args.table.now.table c.write_own.new.self.table c.args.list.now c.write.new.self) (sym longer)
+    (writing_more round c.args.table.now.table c.loop-write.table.table c.write_own.new.self.table c.args.list.now c.loop-write.list c.write.new.self done (as_entry w) so_far c.requires.generation (refl, version) (omega arith)
+    (subst (λ k. w.key < k) (sym so_far.keys) (c.requires.keys i no_write lt)) c.in_ok-write_own.ensures.ok c.in_ok-write.ensures.ok)

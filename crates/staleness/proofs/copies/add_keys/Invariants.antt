@@ -1,9 +1,10 @@
+use Rattle.owner_lists.specs.OwnerListView.{written}
 use Rattle.staleness.specs.inner.Copies.{AreAdded}
-use Rattle.staleness.specs.inner.Latest.{IsFrontForKey}
+use Rattle.owner_lists.specs.inner.Latest.{IsFrontForKey}
 use Rattle.staleness.proofs.copies.add_keys.Given as goal
 
 abbrev pub invariant-loop-key : goal.invariant-loop-key
 invariant-loop-key l = record {
-  added : AreAdded l.list l.key l.fn.copies.items l.copies.items;
+  added : AreAdded (written l.list) l.key l.fn.copies.items l.copies.items;
   front : IsFrontForKey l.latest l.key l.next;
 }

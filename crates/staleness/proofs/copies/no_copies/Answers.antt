@@ -1,8 +1,9 @@
 use Rattle.std.proofs.Common.{◌≡◌, ◌+◌, ◌*◌, get_or, [], inl, inr, sym, ap, ◌∙◌, arith}
 use Rattle.std.proofs.lemmas.Bool.{cases_lt}
-use Rattle.std.proofs.lemmas.List.{get_or_default}
-use Rattle.staleness.specs.Writes.{last_write}
-use Rattle.staleness.specs.inner.Linked.{version_or_zero}
+use Rattle.owner_lists.specs.Writes.{last_write}
+use Rattle.owner_lists.specs.inner.Linked.{version_or_zero}
+use Rattle.owner_lists.specs.OwnerListView.{written, lists_in}
+use Rattle.owner_lists.proofs.Owners.{length-lists_in, list_read}
 use Rattle.staleness.specs.Figures.{writes_of_owner}
 use Rattle.staleness.specs.inner.Copies.{no_copies}
 use Rattle.staleness.proofs.Places.{within, one_more}
@@ -12,11 +13,11 @@ pub loop-list-preserved : goal.loop-list-preserved
 loop-list-preserved c =
     let at = c.loop-list.list-index in
     let keys = c.args.keys in
-    let lists = c.args.lists.now in
+    let lists = lists_in c.args.lists.now in
     let so_far = c.loop-list.invariant in
     let after = c.add_keys.new.copies.items in
     let added = c.in_ok-add_keys.ensures in
-    let writes_is = c.list-item.is ∙ get_or_default lists at c.list-item.result [] c.loop-list-test.true in
+    let writes_is = ap written c.list-item.is ∙ sym (list_read c.args.lists.now at c.list-item.result [] c.loop-list-test.true) in
     record {
       size = added.size ∙ ap (λ n. n + keys) so_far.size ∙ sym (one_more at keys);
       at = λ a key d lt below. elim (cases_lt a at) [

@@ -1,5 +1,6 @@
+use Rattle.owner_lists.specs.OwnerListView.{lists_in, written}
 use Rattle.staleness.specs.inner.Copies.{no_copies, current_of, AreSeen}
 use Rattle.staleness.proofs.copies.no_copies.Given as goal
 
 abbrev pub invariant-loop-list : goal.invariant-loop-list
-invariant-loop-list l = AreSeen l.list-index l.keys (λ owner key. no_copies (current_of l.lists owner key)) l.copies.items
+invariant-loop-list l = AreSeen l.list-index l.keys (λ owner key. no_copies (current_of (lists_in l.lists) owner key)) l.copies.items

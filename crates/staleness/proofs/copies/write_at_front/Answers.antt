@@ -1,9 +1,9 @@
 use Rattle.std.proofs.Common.{◌≡◌, ◌≢◌, ℕ, ◌+◌, ◌<◌, ◌≤◌, List, length, get_or, Some, None, inl, inr, ap, ◌∙◌, arith, sym}
 use Rattle.std.proofs.lemmas.Bool.{cases_lt}
 use Rattle.std.proofs.lemmas.List.{get_or_default}
-use Rattle.staleness.specs.declared.lists.Write.{Write}
-use Rattle.staleness.specs.inner.Latest.{write_of, KeysRise, IsFrontForKey}
-use Rattle.staleness.proofs.Rising.{rising_at, find-at, find-gap}
+use Rattle.owner_lists.specs.declared.lists.Write.{Write}
+use Rattle.owner_lists.specs.inner.Latest.{write_of, KeysRise, IsFrontForKey}
+use Rattle.owner_lists.proofs.Rising.{rising_at, find-at, find-gap}
 use Rattle.staleness.proofs.copies.write_at_front.Goals as goal
 
 -- Writes that rise by key, gone over key by key.

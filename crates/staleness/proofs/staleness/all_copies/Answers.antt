@@ -7,8 +7,9 @@ use Rattle.node_table.specs.Table.{Table}
 use Rattle.node_table.specs.NodeTableView.{NodeTableView}
 use Rattle.cluster.specs.Tables.{tables_in, table_of_node, IsCluster}
 use Rattle.cluster.proofs.Tables.{table_indexed, length-tables_in}
+use Rattle.owner_lists.specs.OwnerListView.{lists_in}
 use Rattle.staleness.specs.declared.copies.Copies.{Copies}
-use Rattle.staleness.specs.declared.lists.Write.{Write}
+use Rattle.owner_lists.specs.declared.lists.Write.{Write}
 use Rattle.staleness.specs.inner.Copies.{no_copies, current_of, copies_of, merged, MayCountBoth, AreSeen}
 use Rattle.staleness.specs.inner.Parts.{IsSeenInPart, AreSeenInParts}
 use Rattle.staleness.proofs.Counting.{enough}
@@ -16,26 +17,26 @@ use Rattle.staleness.proofs.Merging.{AreSeenUpTo, part_within, seen_in_part, as_
 use Rattle.staleness.proofs.staleness.all_copies.Goals as goal
 
 -- what the parts begin with
-begun : (kept : List NodeTableView) (lists : List (List Write)) (first : NodeTableView) (keys : ℕ) (none copies : List Copies) → 0 < length kept → first ≡ get_or kept 0 first → length lists ≡ length kept → keys ≡ first.table.keys → none ≡ copies
-    → AreSeen (length lists) keys (λ owner key. no_copies (current_of lists owner key)) copies → AreSeen (length (tables_in kept)) (table_of_node (tables_in kept) 0).keys (λ owner key. no_copies (current_of lists owner key)) none
-begun kept lists first keys none copies some is one_each keys_are same seen =
+begun : (kept : List NodeTableView) (lists : List (List Write)) (count : ℕ) (first : NodeTableView) (keys : ℕ) (none copies : List Copies) → 0 < length kept → first ≡ get_or kept 0 first → count ≡ length kept → keys ≡ first.table.keys → none ≡ copies
+    → AreSeen count keys (λ owner key. no_copies (current_of lists owner key)) copies → AreSeen (length (tables_in kept)) (table_of_node (tables_in kept) 0).keys (λ owner key. no_copies (current_of lists owner key)) none
+begun kept lists count first keys none copies some is one_each keys_are same seen =
     let keys_is : keys ≡ (table_of_node (tables_in kept) 0).keys = keys_are ∙ ap (λ (t : Table). t.keys) (table_indexed kept 0 first some is) in
-    let owners : length lists ≡ length (tables_in kept) = one_each ∙ sym (length-tables_in kept) in
+    let owners : count ≡ length (tables_in kept) = one_each ∙ sym (length-tables_in kept) in
     subst (AreSeen (length (tables_in kept)) (table_of_node (tables_in kept) 0).keys (λ owner key. no_copies (current_of lists owner key))) (sym same)
     (subst (λ n. AreSeen n (table_of_node (tables_in kept) 0).keys (λ owner key. no_copies (current_of lists owner key)) copies) owners
-    (subst (λ n. AreSeen (length lists) n (λ owner key. no_copies (current_of lists owner key)) copies) keys_is seen))
+    (subst (λ n. AreSeen count n (λ owner key. no_copies (current_of lists owner key)) copies) keys_is seen))
 
 pub copies_of_parts-requires-clause-begins : goal.copies_of_parts-requires-clause-begins
 copies_of_parts-requires-clause-begins g c κs within =
     let tables = tables_in c.args.tables.now in
     let counted = length-tables_in c.args.tables.now in
     let found = c.in-Some.ensures.item in
-    let begins = begun c.args.tables.now c.args.lists.now c.in-Some.table.now c.keys-keys.result c.deref.result.now c.in_ok-copies.copies.items (omega (arith, found.3.0)) found.1 c.requires.one_list_each c.keys-keys.ensures.value c.deref.ensures.value c.in_ok-copies.ensures in
+    let begins = begun c.args.tables.now (lists_in c.args.lists.now) (length c.args.lists.now) c.in-Some.table.now c.keys-keys.result c.deref.result.now c.in_ok-copies.copies.items (omega (arith, found.3.0)) found.1 c.requires.one_list_each c.keys-keys.ensures.value c.deref.ensures.value c.in_ok-copies.ensures in
     record {
       cluster = subst (λ m. IsCluster m tables) (sym counted) c.requires.cluster;
       few = omega (arith, counted, c.requires.few);
       size = begins.size;
-      blank = seen_none tables c.args.lists.now c.args.size c.deref.result.now begins;
+      blank = seen_none tables (lists_in c.args.lists.now) c.args.size c.deref.result.now begins;
     }
 
 pub loop-part-init : goal.loop-part-init
@@ -43,9 +44,9 @@ loop-part-init g c =
     let tables = tables_in c.args.tables.now in
     let copies = c.in_ok-copies.copies.items in
     let found = c.in-Some.ensures.item in
-    let begins = begun c.args.tables.now c.args.lists.now c.in-Some.table.now c.keys-keys.result copies copies (omega (arith, found.3.0)) found.1 c.requires.one_list_each c.keys-keys.ensures.value refl c.in_ok-copies.ensures in
+    let begins = begun c.args.tables.now (lists_in c.args.lists.now) (length c.args.lists.now) c.in-Some.table.now c.keys-keys.result copies copies (omega (arith, found.3.0)) found.1 c.requires.one_list_each c.keys-keys.ensures.value refl c.in_ok-copies.ensures in
     let none : 0 ≡ min (0 * c.args.size) (length tables) = omega arith in
-    subst (λ m. AreSeen (length tables) (table_of_node tables 0).keys (λ owner key. copies_of tables c.args.lists.now owner key m) copies) none begins
+    subst (λ m. AreSeen (length tables) (table_of_node tables 0).keys (λ owner key. copies_of tables (lists_in c.args.lists.now) owner key m) copies) none begins
 
 -- what was found of a part, and that it is one of so many
 found_there : (tables : List Table) (none : List Copies) (size count : ℕ) (parts items : List (Result (Vec Copies Global) AllocError)) (p : ℕ) (r : Result (Vec Copies Global) AllocError) (v : Vec Copies Global) (part : List Copies) → items ≡ parts → AreSeenInParts tables none size count parts → p < length items → r ≡ get_or items p r → r ≡ Ok v → part ≡ v.items → IsSeenInPart tables none size p part × (p < count)
@@ -62,9 +63,9 @@ merge-requires-clause-size g c =
     let none = c.deref.result.now in
     let p = c.loop-part.part-index in
     let some = c.in-Some.ensures.item in
-    let begins = begun c.args.tables.now c.args.lists.now c.in-Some.table.now c.keys-keys.result none c.in_ok-copies.copies.items (omega (arith, some.3.0)) some.1 c.requires.one_list_each c.keys-keys.ensures.value c.deref.ensures.value c.in_ok-copies.ensures in
+    let begins = begun c.args.tables.now (lists_in c.args.lists.now) (length c.args.lists.now) c.in-Some.table.now c.keys-keys.result none c.in_ok-copies.copies.items (omega (arith, some.3.0)) some.1 c.requires.one_list_each c.keys-keys.ensures.value c.deref.ensures.value c.in_ok-copies.ensures in
     let there = found_there tables none size (n / size + 1) c.in_ok-parts.parts.items c.deref-part-items.result.now p c.part-item.result c.in-Ok.part c.deref-in-Ok.result.now c.deref-part-items.ensures.value c.in_ok-parts.ensures c.loop-part-test.true c.part-item.is c.in-Ok.is c.deref-in-Ok.ensures.value in
-    same_size tables c.args.lists.now none size begins (omega (arith, counted, c.requires.few)) p c.loop-part.copies.items c.deref-in-Ok.result.now c.loop-part.invariant there.0 (omega (arith, counted, part_within n size p (omega (arith, there.1)))) ∙ ap length (sym c.deref_mut.ensures.value)
+    same_size tables (lists_in c.args.lists.now) none size begins (omega (arith, counted, c.requires.few)) p c.loop-part.copies.items c.deref-in-Ok.result.now c.loop-part.invariant there.0 (omega (arith, counted, part_within n size p (omega (arith, there.1)))) ∙ ap length (sym c.deref_mut.ensures.value)
 
 pub merge-requires-clause-room : goal.merge-requires-clause-room
 merge-requires-clause-room g c =
@@ -75,22 +76,22 @@ merge-requires-clause-room g c =
     let none = c.deref.result.now in
     let p = c.loop-part.part-index in
     let some = c.in-Some.ensures.item in
-    let begins = begun c.args.tables.now c.args.lists.now c.in-Some.table.now c.keys-keys.result none c.in_ok-copies.copies.items (omega (arith, some.3.0)) some.1 c.requires.one_list_each c.keys-keys.ensures.value c.deref.ensures.value c.in_ok-copies.ensures in
+    let begins = begun c.args.tables.now (lists_in c.args.lists.now) (length c.args.lists.now) c.in-Some.table.now c.keys-keys.result none c.in_ok-copies.copies.items (omega (arith, some.3.0)) some.1 c.requires.one_list_each c.keys-keys.ensures.value c.deref.ensures.value c.in_ok-copies.ensures in
     let there = found_there tables none size (n / size + 1) c.in_ok-parts.parts.items c.deref-part-items.result.now p c.part-item.result c.in-Ok.part c.deref-in-Ok.result.now c.deref-part-items.ensures.value c.in_ok-parts.ensures c.loop-part-test.true c.part-item.is c.in-Ok.is c.deref-in-Ok.ensures.value in
     subst (λ xs. (i : ℕ) (d : Copies) → i < length xs → MayCountBoth (get_or xs i d) (get_or c.deref-in-Ok.result.now i d)) (sym c.deref_mut.ensures.value)
-    (room_for tables c.args.lists.now none size begins (omega (arith, counted, c.requires.few)) p c.loop-part.copies.items c.deref-in-Ok.result.now c.loop-part.invariant there.0 (omega (arith, counted, part_within n size p (omega (arith, there.1)))))
+    (room_for tables (lists_in c.args.lists.now) none size begins (omega (arith, counted, c.requires.few)) p c.loop-part.copies.items c.deref-in-Ok.result.now c.loop-part.invariant there.0 (omega (arith, counted, part_within n size p (omega (arith, there.1)))))
 
 pub loop-part-preserved : goal.loop-part-preserved
 loop-part-preserved g c =
     let tables = tables_in c.args.tables.now in
-    let lists = c.args.lists.now in
+    let lists = lists_in c.args.lists.now in
     let counted = length-tables_in c.args.tables.now in
     let n = length c.args.tables.now in
     let size = c.args.size in
     let none = c.deref.result.now in
     let p = c.loop-part.part-index in
     let some = c.in-Some.ensures.item in
-    let begins = begun c.args.tables.now lists c.in-Some.table.now c.keys-keys.result none c.in_ok-copies.copies.items (omega (arith, some.3.0)) some.1 c.requires.one_list_each c.keys-keys.ensures.value c.deref.ensures.value c.in_ok-copies.ensures in
+    let begins = begun c.args.tables.now lists (length c.args.lists.now) c.in-Some.table.now c.keys-keys.result none c.in_ok-copies.copies.items (omega (arith, some.3.0)) some.1 c.requires.one_list_each c.keys-keys.ensures.value c.deref.ensures.value c.in_ok-copies.ensures in
     let there = found_there tables none size (n / size + 1) c.in_ok-parts.parts.items c.deref-part-items.result.now p c.part-item.result c.in-Ok.part c.deref-in-Ok.result.now c.deref-part-items.ensures.value c.in_ok-parts.ensures c.loop-part-test.true c.part-item.is c.in-Ok.is c.deref-in-Ok.ensures.value in
     let before = c.loop-part.copies in
     let new = c.merge.new.copies in
@@ -111,5 +112,5 @@ returns-clause-seen g c =
     let count_is = as_many_parts tables c.deref.result.now c.args.size (n / c.args.size + 1) c.in_ok-parts.parts.items c.in_ok-parts.ensures in
     let last : c.loop-part.part-index ≡ n / c.args.size + 1 = omega (arith, c.loop-part-test.false, c.loop-part.auto.part-index-end, ap length c.deref-part-items.ensures.value, count_is) in
     let whole : min ((n / c.args.size + 1) * c.args.size) (length tables) ≡ length tables = omega (arith, counted, enough n c.args.size c.requires.some) in
-    subst (λ m. AreSeen (length tables) (table_of_node tables 0).keys (λ owner key. copies_of tables c.args.lists.now owner key m) c.loop-part.copies.items) whole
-    (subst (λ p. AreSeenUpTo tables c.args.lists.now c.deref.result.now c.args.size p c.loop-part.copies.items) last c.loop-part.invariant)
+    subst (λ m. AreSeen (length tables) (table_of_node tables 0).keys (λ owner key. copies_of tables (lists_in c.args.lists.now) owner key m) c.loop-part.copies.items) whole
+    (subst (λ p. AreSeenUpTo tables (lists_in c.args.lists.now) c.deref.result.now c.args.size p c.loop-part.copies.items) last c.loop-part.invariant)

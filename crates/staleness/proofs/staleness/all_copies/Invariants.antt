@@ -1,7 +1,8 @@
 use Rattle.std.proofs.Common.{◌*◌, length, min}
 use Rattle.cluster.specs.Tables.{tables_in, table_of_node}
+use Rattle.owner_lists.specs.OwnerListView.{lists_in}
 use Rattle.staleness.specs.inner.Copies.{copies_of, AreSeen}
 use Rattle.staleness.proofs.staleness.all_copies.Given as goal
 
 abbrev pub invariant-loop-part : goal.invariant-loop-part
-invariant-loop-part g l = AreSeen (length (tables_in l.tables)) (table_of_node (tables_in l.tables) 0).keys (λ owner key. copies_of (tables_in l.tables) l.lists owner key (min (l.part-index * l.size) (length (tables_in l.tables)))) l.copies.items
+invariant-loop-part g l = AreSeen (length (tables_in l.tables)) (table_of_node (tables_in l.tables) 0).keys (λ owner key. copies_of (tables_in l.tables) (lists_in l.lists) owner key (min (l.part-index * l.size) (length (tables_in l.tables)))) l.copies.items

@@ -2,6 +2,7 @@ use Rattle.std.proofs.Common.{◌+◌, ◌/◌, length, ap, sym, subst, arith}
 use Rattle.std.proofs.Math.Nat.{div-le_self}
 use Rattle.cluster.specs.Tables.{tables_in, IsCluster}
 use Rattle.cluster.proofs.Tables.{length-tables_in}
+use Rattle.owner_lists.specs.OwnerListView.{lists_in}
 use Rattle.staleness.proofs.Counting.{as_many, bounded, figures_of_all, enough}
 use Rattle.staleness.proofs.staleness.figures.Goals as goal
 
@@ -12,7 +13,7 @@ joined_all-requires-clause-few g c =
     omega (
       arith,
       ap length c.deref-4.ensures.value,
-      as_many c.args.round (tables_in c.args.tables.now) c.args.lists.now size (n / size + 1) _ c.in_ok-parts.ensures,
+      as_many c.args.round (tables_in c.args.tables.now) (lists_in c.args.lists.now) size (n / size + 1) _ c.in_ok-parts.ensures,
       div-le_self n size,
       c.nodes_of_a_thread-size.ensures.few,
     )
@@ -21,7 +22,7 @@ pub joined_all-requires-clause-bound : goal.joined_all-requires-clause-bound
 joined_all-requires-clause-bound g c =
     let n = length c.args.tables.now in
     let size = c.nodes_of_a_thread-size.result in
-    rw c.deref-4.ensures.value (bounded c.args.round (tables_in c.args.tables.now) c.args.lists.now size (n / size + 1) _ c.in_ok-parts.ensures)
+    rw c.deref-4.ensures.value (bounded c.args.round (tables_in c.args.tables.now) (lists_in c.args.lists.now) size (n / size + 1) _ c.in_ok-parts.ensures)
 
 pub returns-clause-figures : goal.returns-clause-figures
 returns-clause-figures g c =
@@ -30,5 +31,5 @@ returns-clause-figures g c =
     let size = c.nodes_of_a_thread-size.result in
     let counted = length-tables_in c.args.tables.now in
     let whole : IsCluster (length tables) tables = subst (λ m. IsCluster m tables) (sym counted) c.requires.cluster in
-    figures_of_all c.args.round tables c.args.lists.now size (n / size + 1) _ c.in_ok-parts.ensures whole (omega (arith, counted, enough n size c.nodes_of_a_thread-size.ensures.some)) c.joined_all.result
+    figures_of_all c.args.round tables (lists_in c.args.lists.now) size (n / size + 1) _ c.in_ok-parts.ensures whole (omega (arith, counted, enough n size c.nodes_of_a_thread-size.ensures.some)) c.joined_all.result
     (rw c.deref-4.ensures.value at c.joined_all.ensures.stale) (rw c.deref-4.ensures.value at c.joined_all.ensures.greatest) (rw c.deref-4.ensures.value at c.joined_all.ensures.leftover)

@@ -4,6 +4,7 @@ use Rattle.rayon.specs.Numbers.{nat_range}
 use Rattle.rayon.proofs.ListFacts.{IfOk-then}
 use Rattle.rayon.proofs.ToStd.{nat_range-All}
 use Rattle.cluster.specs.Tables.{tables_in}
+use Rattle.owner_lists.specs.OwnerListView.{lists_in}
 use Rattle.staleness.specs.inner.Parts.{IsCounted}
 use Rattle.staleness.proofs.staleness.figures_of_parts.Goals as goal
 
@@ -22,4 +23,4 @@ returns g c =
     IfOk-then c.collect.result _ _ c.collect.ensures (λ v h.
     let chain = rw (c.map.ensures.base, c.map.ensures.f, c.with_min_len.ensures.base) at h.1 in
     let parts = chain.1 ∙ (λ i. nat_range (ends.0 i) (ends.1 i)) ∙ ap (range_with_len 0) whole in
-    rw h.2 (subst (λ ns. AllZip (IsCounted c.args.round (tables_in c.args.tables.now) c.args.lists.now c.args.size) ns h.0) parts chain.2))
+    rw h.2 (subst (λ ns. AllZip (IsCounted c.args.round (tables_in c.args.tables.now) (lists_in c.args.lists.now) c.args.size) ns h.0) parts chain.2))

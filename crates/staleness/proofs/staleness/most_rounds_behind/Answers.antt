@@ -1,8 +1,9 @@
 use Rattle.std.proofs.Common.{rules, ◌≡◌, max, [], None, if◌then◌else◌, unwrap_or, sym, ap, ◌∙◌, arith, add-one, eq-eqb, ne_eqb}
-use Rattle.std.proofs.lemmas.List.{get_or_default}
 use Rattle.node_table.specs.Table.{Table, entry_at, mark_at}
 use Rattle.cluster.specs.Tables.{tables_in, table_of_node}
 use Rattle.cluster.proofs.Tables.{table_indexed, length-tables_in}
+use Rattle.owner_lists.specs.OwnerListView.{written, lists_in}
+use Rattle.owner_lists.proofs.Owners.{length-lists_in, list_read}
 use Rattle.staleness.specs.Figures.{writes_of_owner, generation_at, staleness_of, staleness_at, rounds_behind}
 use Rattle.staleness.specs.inner.Copies.{version_known, version_staleness}
 use Rattle.staleness.proofs.Known.{staleness_known}
@@ -13,13 +14,13 @@ pub loop-table-preserved : goal.loop-table-preserved
 loop-table-preserved c =
     let round = c.args.round in
     let tables = tables_in c.args.tables.now in
-    let lists = c.args.lists.now in
+    let lists = lists_in c.args.lists.now in
     let owner = c.args.owner in
     let key = c.args.key in
     let i = c.loop-table.table-index in
     let counted = length-tables_in c.args.tables.now in
-    let list = c.index-lists-owner.result in
-    let writes_is = c.index-lists-owner.is ∙ get_or_default lists owner list [] (omega (arith, c.requires.owner, c.requires.countable.one_list_each, counted)) in
+    let list = written c.index-lists-owner.result in
+    let writes_is = ap written c.index-lists-owner.is ∙ sym (list_read c.args.lists.now owner c.index-lists-owner.result [] (omega (arith, c.requires.owner, c.requires.countable.one_list_each, length-lists_in c.args.lists.now, counted))) in
     let table_is = table_indexed c.args.tables.now i c.table-item.result c.loop-table-test.true c.table-item.is in
     let owner_is = table_indexed c.args.tables.now owner c.index-tables-owner.result c.requires.owner c.index-tables-owner.is in
     let node_is = c.node.ensures.value ∙ ap (λ (t : Table). t.node) table_is ∙ (c.requires.countable.cluster.tables i (omega (arith, c.loop-table-test.true, counted))).node in

@@ -1,10 +1,11 @@
 use Rattle.std.proofs.Common.{◌≡◌, ℕ, ◌-◌, ◌<◌, ◌≤◌, true, [], length, if◌then◌else◌, sym, ap, ◌∙◌, subst, arith, lt-ltb, le-ltb, eq-eqb, ne_eqb}
-use Rattle.std.proofs.lemmas.List.{get_or_default}
 use Rattle.cluster.specs.Tables.{tables_in}
 use Rattle.cluster.proofs.Tables.{length-tables_in}
+use Rattle.owner_lists.specs.OwnerListView.{written, lists_in}
+use Rattle.owner_lists.proofs.Owners.{length-lists_in, list_read}
 use Rattle.staleness.specs.declared.copies.Copies.{Copies}
-use Rattle.staleness.specs.Writes.{IsNumbered}
-use Rattle.staleness.specs.inner.Missed.{born_in_order}
+use Rattle.owner_lists.specs.Writes.{IsNumbered, AreBornBy}
+use Rattle.owner_lists.specs.inner.Missed.{born_in_order}
 use Rattle.staleness.specs.Figures.{sum_below, most_below, writes_of_owner, staleness_at, stale_count, rounds_behind}
 use Rattle.staleness.specs.inner.Copies.{version_staleness, copies_of, least_of, stale_of}
 use Rattle.staleness.proofs.Seen.{others, others_is, seen, stale_seen, most_seen}
@@ -17,28 +18,37 @@ overflow_cast-others c = omega (arith, c.requires.countable.few, length-tables_i
 pub overflow_sub-stale : goal.overflow_sub-stale
 overflow_sub-stale c =
     let tables = tables_in c.args.tables.now in
-    let lists = c.args.lists.now in
+    let lists = lists_in c.args.lists.now in
     let owner = c.args.owner in
     let key = c.args.key in
     let counted = length-tables_in c.args.tables.now in
-    let writes_is = c.index-lists-owner.is ∙ get_or_default lists owner c.index-lists-owner.result [] (omega (arith, c.requires.owner, c.requires.countable.one_list_each, counted)) in
+    let writes_is = ap written c.index-lists-owner.is ∙ sym (list_read c.args.lists.now owner c.index-lists-owner.result [] (omega (arith, c.requires.owner, c.requires.countable.one_list_each, length-lists_in c.args.lists.now, counted))) in
     let so_far = seen c.args.round tables lists owner key (λ p lt. (c.requires.countable.cluster.tables p lt).node) (subst IsNumbered writes_is c.is_in_order-in_order.ensures.numbered) (omega (arith, ap length writes_is, c.is_in_order-in_order.ensures.few)) (length tables) (omega arith) in
     let few : (copies_of tables lists owner key (length tables)).fresh ≤ length c.args.tables.now - 1 = omega (arith, so_far.fresh, so_far.held, others_is c.args.round tables lists owner key (length tables) (omega (arith, c.requires.owner, counted)), counted) in
     subst (λ (x : Copies). x.fresh ≤ length c.args.tables.now - 1) (sym (c.requires.copies ∙ ap (copies_of tables lists owner key) (sym counted))) few
+
+pub rounds_behind-greatest-requires-clause-born : goal.rounds_behind-greatest-requires-clause-born
+rounds_behind-greatest-requires-clause-born c =
+    let lists = lists_in c.args.lists.now in
+    let owner = c.args.owner in
+    let counted = length-tables_in c.args.tables.now in
+    let below : owner < length lists = omega (arith, c.requires.owner, c.requires.countable.one_list_each, counted) in
+    let writes_is = ap written c.index-lists-owner.is ∙ sym (list_read c.args.lists.now owner c.index-lists-owner.result [] (omega (arith, below, length-lists_in c.args.lists.now))) in
+    subst (AreBornBy c.args.round) (sym writes_is) (c.requires.countable.born owner [] below)
 
 pub returns : goal.returns
 returns c =
     let round = c.args.round in
     let tables = tables_in c.args.tables.now in
-    let lists = c.args.lists.now in
+    let lists = lists_in c.args.lists.now in
     let owner = c.args.owner in
     let key = c.args.key in
     let copies = c.args.copies in
     let n = length tables in
     let left = length c.args.tables.now - 1 in
     let counted = length-tables_in c.args.tables.now in
-    let list = c.index-lists-owner.result in
-    let writes_is = c.index-lists-owner.is ∙ get_or_default lists owner list [] (omega (arith, c.requires.owner, c.requires.countable.one_list_each, counted)) in
+    let list = written c.index-lists-owner.result in
+    let writes_is = ap written c.index-lists-owner.is ∙ sym (list_read c.args.lists.now owner c.index-lists-owner.result [] (omega (arith, c.requires.owner, c.requires.countable.one_list_each, length-lists_in c.args.lists.now, counted))) in
     let nodes = λ (p : ℕ) (lt : p < n). (c.requires.countable.cluster.tables p lt).node in
     let numbered = subst IsNumbered writes_is c.is_in_order-in_order.ensures.numbered in
     let few : length (writes_of_owner lists owner) ≤ 4294967295 = omega (arith, ap length writes_is, c.is_in_order-in_order.ensures.few) in

@@ -1,4 +1,5 @@
 use Rattle.std.proofs.Common.{◌+◌, max, length, ap, ◌∙◌, arith, add-one}
+use Rattle.owner_lists.specs.OwnerListView.{lists_in}
 use Rattle.staleness.specs.declared.staleness.Staleness.{Staleness}
 use Rattle.cluster.specs.Tables.{tables_in}
 use Rattle.staleness.specs.Figures.{sum_below, most_below, staleness_at, stale_count}
@@ -13,7 +14,7 @@ joined-total-requires c =
       arith,
       c.loop-key.invariant.few,
       ap (λ (f : Staleness). f.stale) c.staleness_of_key.ensures,
-      sum_below-le (λ p. stale_count (staleness_at c.args.round tables c.args.lists.now p c.args.owner c.loop-key.key)) (length tables) 1 (λ p lt. stale_count-le (staleness_at c.args.round tables c.args.lists.now p c.args.owner c.loop-key.key)),
+      sum_below-le (λ p. stale_count (staleness_at c.args.round tables (lists_in c.args.lists.now) p c.args.owner c.loop-key.key)) (length tables) 1 (λ p lt. stale_count-le (staleness_at c.args.round tables (lists_in c.args.lists.now) p c.args.owner c.loop-key.key)),
       c.requires.countable.few,
       c.keys-key-end.ensures.value,
       c.keys-key-end.ensures.proper.keys_limit,
@@ -31,9 +32,9 @@ loop-key-preserved c =
         c.loop-key.invariant.few,
         c.joined-total.ensures.stale,
         ap (λ (f : Staleness). f.stale) more,
-        sum_below-le (λ p. stale_count (staleness_at c.args.round tables c.args.lists.now p c.args.owner key)) (length tables) 1 (λ p lt. stale_count-le (staleness_at c.args.round tables c.args.lists.now p c.args.owner key)),
+        sum_below-le (λ p. stale_count (staleness_at c.args.round tables (lists_in c.args.lists.now) p c.args.owner key)) (length tables) 1 (λ p lt. stale_count-le (staleness_at c.args.round tables (lists_in c.args.lists.now) p c.args.owner key)),
         c.requires.countable.few,
       );
-      stale_is = rw (add-one key) (c.joined-total.ensures.stale ∙ ap (λ n. n + c.staleness_of_key.result.stale) c.loop-key.invariant.stale_is ∙ ap (λ (f : Staleness). sum_below key (λ k. (key_staleness c.args.round tables c.args.lists.now c.args.owner k).stale) + f.stale) more);
-      greatest_is = rw (add-one key) (c.joined-total.ensures.greatest ∙ ap (λ n. max n c.staleness_of_key.result.greatest) c.loop-key.invariant.greatest_is ∙ ap (λ (f : Staleness). max (most_below key (λ k. (key_staleness c.args.round tables c.args.lists.now c.args.owner k).greatest)) f.greatest) more);
+      stale_is = rw (add-one key) (c.joined-total.ensures.stale ∙ ap (λ n. n + c.staleness_of_key.result.stale) c.loop-key.invariant.stale_is ∙ ap (λ (f : Staleness). sum_below key (λ k. (key_staleness c.args.round tables (lists_in c.args.lists.now) c.args.owner k).stale) + f.stale) more);
+      greatest_is = rw (add-one key) (c.joined-total.ensures.greatest ∙ ap (λ n. max n c.staleness_of_key.result.greatest) c.loop-key.invariant.greatest_is ∙ ap (λ (f : Staleness). max (most_below key (λ k. (key_staleness c.args.round tables (lists_in c.args.lists.now) c.args.owner k).greatest)) f.greatest) more);
     }

@@ -1,5 +1,6 @@
 use Rattle.std.proofs.Common.{◌≡◌, ◌*◌, ◌≤◌}
 use Rattle.cluster.specs.Tables.{tables_in}
+use Rattle.owner_lists.specs.OwnerListView.{lists_in}
 use Rattle.staleness.specs.Figures.{sum_below, most_below}
 use Rattle.staleness.specs.inner.Copies.{key_staleness}
 use Rattle.staleness.proofs.staleness.staleness_of_owner.Given as goal
@@ -7,6 +8,6 @@ use Rattle.staleness.proofs.staleness.staleness_of_owner.Given as goal
 abbrev pub invariant-loop-key : goal.invariant-loop-key
 invariant-loop-key l = record {
   few : l.total.stale ≤ l.key * 4096;
-  stale_is : l.total.stale ≡ sum_below l.key (λ k. (key_staleness l.round (tables_in l.tables) l.lists l.owner k).stale);
-  greatest_is : l.total.greatest ≡ most_below l.key (λ k. (key_staleness l.round (tables_in l.tables) l.lists l.owner k).greatest);
+  stale_is : l.total.stale ≡ sum_below l.key (λ k. (key_staleness l.round (tables_in l.tables) (lists_in l.lists) l.owner k).stale);
+  greatest_is : l.total.greatest ≡ most_below l.key (λ k. (key_staleness l.round (tables_in l.tables) (lists_in l.lists) l.owner k).greatest);
 }

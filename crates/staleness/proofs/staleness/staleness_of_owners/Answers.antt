@@ -3,6 +3,7 @@ use Rattle.std.proofs.Math.Nat.{mul-le-mul_right}
 use Rattle.node_table.specs.Table.{Table}
 use Rattle.cluster.specs.Tables.{tables_in, table_of_node}
 use Rattle.cluster.proofs.Tables.{table_indexed, length-tables_in}
+use Rattle.owner_lists.specs.OwnerListView.{lists_in}
 use Rattle.staleness.specs.inner.Copies.{copies_of}
 use Rattle.staleness.proofs.Places.{all_within}
 use Rattle.staleness.proofs.staleness.staleness_of_owners.Goals as goal
@@ -32,4 +33,4 @@ staleness_of_owner-requires-clause-copies c key d below =
     let owner = c.args.from + c.loop-at.at in
     let counted = length-tables_in c.args.tables.now in
     let lt : owner < length tables = omega (arith, counted, c.requires.owners, c.loop-at-test.true) in
-    ap (λ k. get_or c.args.copies.now (owner * k + key) d) (keys_are c) ∙ c.requires.copies.at owner key d lt below ∙ ap (copies_of tables c.args.lists.now owner key) counted
+    ap (λ k. get_or c.args.copies.now (owner * k + key) d) (keys_are c) ∙ c.requires.copies.at owner key d lt below ∙ ap (copies_of tables (lists_in c.args.lists.now) owner key) counted

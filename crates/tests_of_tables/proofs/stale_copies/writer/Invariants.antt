@@ -1,5 +1,6 @@
 use Rattle.std.proofs.Common.{◌≡◌}
-use Rattle.staleness.specs.Writes.{AreBornBy}
+use Rattle.owner_lists.specs.OwnerListView.{written}
+use Rattle.owner_lists.specs.Writes.{AreBornBy}
 use Rattle.tests_of_tables.proofs.stale_copies.writer.Given as goal
 
 abbrev pub invariant-loop-key : goal.invariant-loop-key
@@ -7,5 +8,5 @@ invariant-loop-key g l = record {
   node : l.table.table.node ≡ l.node;
   nodes : l.table.table.nodes ≡ 2;
   keys : l.table.table.keys ≡ l.keys;
-  born : AreBornBy l.round l.list;
+  born : AreBornBy l.round (written l.list);
 }

@@ -1,6 +1,7 @@
 use Rattle.std.proofs.Common.{◌∙◌, sym, subst}
 use Rattle.cluster.specs.Tables.{tables_in}
 use Rattle.round_plan.specs.Plan.{IsRoundPlan}
+use Rattle.owner_lists.specs.OwnerListView.{lists_in}
 use Rattle.staleness.specs.Figures.{figures_of}
 use Rattle.simulation.specs.inner.Insides.{tables_of, lists_of}
 use Rattle.simulation.specs.Standing.{StandAfterRound}
@@ -41,5 +42,5 @@ returns-clause-played g c =
     let own = c.args.self in
     let round_was = round_is s c.args.round c.in_ok-list.list (subst IsRoundPlan c.list.view_is c.list.invariant) c.in_ok-list.ensures.plan _ (tables_of c.begin.new.self) (tables_in c.in_ok-tables.tables.items) c.in_ok-tables.records.items c.in_ok-tables.ensures.exchanged (tables_of own) c.in_ok-begin.ensures.tables (λ i. record { mode = c.mode.ensures i; budget = c.budget.ensures.value i }) in
     played_is s c.args.round own.tables.items c.in_ok-tables.tables.items (lists_of c.begin.new.self) c.in_ok-list.list c.in_ok-tables.records.items c.in_ok-lag.lag c.of-played.result c.in_ok-list.ensures.plan round_was
-    (c.in_ok-lag.ensures.figures ∙ (λ i. figures_of c.args.round (tables_in (c.deref.ensures.value i)) (c.deref-2.ensures.value i)))
+    (c.in_ok-lag.ensures.figures ∙ (λ i. figures_of c.args.round (tables_in (c.deref.ensures.value i)) (lists_in (c.deref-2.ensures.value i))))
     c.of-played.ensures

@@ -1,0 +1,112 @@
+-- The last write of a key, and the first one that was missed.
+-- Serves `Linking` and `staleness`.
+use Rattle.std.proofs.Common.{◌≡◌, ◌≢◌, ℕ, zero, suc, ◌+◌, ◌<◌, ◌≤◌, Bool, true, false, cond, eqb, ltb, ◌&&◌, List, [], ◌∷◌, ◌++◌, length, get_or, drop, reverse, Some, None, IfSome, All, inl, inr, if◌then◌else◌, refl, sym, ap, ◌∙◌, subst, arith}
+use Rattle.std.specs.List.{find}
+use Rattle.std.specs.Option.{option_or}
+use Rattle.std.specs.Ordering.{nat_cmp, is_eq}
+use Rattle.std.proofs.lemmas.Bool.{cases_lt, lt-ltb, le-ltb, ne_eqb, eq-eqb}
+use Rattle.std.proofs.lemmas.List.{reverse-append}
+use Rattle.std.proofs.lemmas.List.Folds.{find-append}
+use Rattle.std.proofs.lemmas.List.Elements.{All-head, All-tail}
+use Rattle.owner_lists.specs.declared.lists.Write.{Write}
+use Rattle.owner_lists.specs.Writes.{IsNumbered, is_write_of, last_write}
+use Rattle.owner_lists.specs.inner.Missed.{is_missed, first_missed}
+use Rattle.owner_lists.proofs.Comparing.{nat_cmp-less, nat_cmp-equal, nat_cmp-greater}
+
+-- a write at the end is the last of its key
+pub last_write-push : (ws : List Write) (w : Write) (key : ℕ) → last_write (ws ++ w ∷ []) key ≡ (if is_write_of key w then Some w else last_write ws key)
+last_write-push ws w key = ap (find (is_write_of key)) (reverse-append ws (w ∷ []))
+
+-- a write at the front is the last of its key where none follows
+last_write-cons : (w : Write) (ws : List Write) (key : ℕ) → last_write (w ∷ ws) key ≡ option_or (last_write ws key) (if is_write_of key w then Some w else None)
+last_write-cons w ws key = ap (find (is_write_of key)) (reverse-append (w ∷ []) ws) ∙ find-append (is_write_of key) (reverse ws) (w ∷ [])
+
+pub same_key : (m n : ℕ) → is_eq (nat_cmp m n) ≡ eqb n m
+same_key m n = elim (cases_lt m n) [
+  | inl lt ↦ let ne : n ≢ m = omega arith in ap is_eq (nat_cmp-less m n lt) ∙ sym (ne_eqb n m ne)
+  | inr le ↦ elim (cases_lt n m) [
+    | inl gt ↦ let ne : n ≢ m = omega arith in ap is_eq (nat_cmp-greater m n gt) ∙ sym (ne_eqb n m ne)
+    | inr ge ↦ let e : n ≡ m = omega arith in ap is_eq (nat_cmp-equal m n (sym e)) ∙ sym (eq-eqb n m e)
+  ]
+]
+
+-- a write of a version
+abbrev pub with_version : ℕ → ℕ → ℕ → Write
+with_version version key born = record { key = key; version = version; born = born }
+
+-- the versions count up from n
+abbrev CountsFrom : ℕ → List Write → Type 0
+CountsFrom n ws = (i : ℕ) (d : Write) → i < length ws → (get_or ws i d).version ≡ i + n
+
+counts_tail : (n : ℕ) (w : Write) (ws : List Write) → CountsFrom n (w ∷ ws) → CountsFrom (suc n) ws
+counts_tail n w ws counts i d lt = counts (suc i) d (omega arith) ∙ omega arith
+
+not_missed : (key version : ℕ) (w : Write) → w.version ≤ version → is_missed key version w ≡ false
+not_missed key version w le = elim (eqb w.key key) as (λ b. (b && ltb version w.version) ≡ false) [ true ↦ le-ltb version w.version le | false ↦ refl ]
+
+-- behind a version, the first write of the key is the first that was missed
+first_missed-from : (ws : List Write) (n version key : ℕ) → CountsFrom n ws → version < n → find (is_missed key version) ws ≡ find (is_write_of key) ws
+first_missed-from [] n version key counts lt = refl
+first_missed-from (w ∷ ws) n version key counts lt =
+    let above : ltb version w.version ≡ true = lt-ltb version w.version (omega (arith, counts 0 w (omega arith))) in
+    let same : is_missed key version w ≡ is_write_of key w = elim (eqb w.key key) as (λ b. (b && ltb version w.version) ≡ b) [ true ↦ above | false ↦ refl ] in
+    ap (λ b. cond b (Some w) (find (is_missed key version) ws)) same
+    ∙ ap (cond (is_write_of key w) (Some w)) (first_missed-from ws (suc n) version key (counts_tail n w ws counts) (omega arith))
+
+first_missed-skip : (ws : List Write) (n m version key : ℕ) → CountsFrom n ws → version + 1 ≡ n + m → find (is_missed key version) ws ≡ find (is_write_of key) (drop m ws)
+first_missed-skip ws n zero version key counts e = first_missed-from ws n version key counts (omega arith)
+first_missed-skip [] n (suc m) version key counts e = refl
+first_missed-skip (w ∷ ws) n (suc m) version key counts e =
+    ap (λ b. cond b (Some w) (find (is_missed key version) ws)) (not_missed key version w (omega (arith, counts 0 w (omega arith))))
+    ∙ first_missed-skip ws (suc n) m version key (counts_tail n w ws counts) (omega arith)
+
+pub first_missed-drop : (ws : List Write) (key version : ℕ) → IsNumbered ws → first_missed ws key version ≡ find (is_write_of key) (drop version ws)
+first_missed-drop ws key version numbered = first_missed-skip ws 1 version version key numbered (omega arith)
+
+-- where the last write of the key is no newer, none was missed
+fresh_from : (ws : List Write) (n key version : ℕ) → CountsFrom n ws → IfSome (last_write ws key) (λ w. w.version ≤ version) → (find (is_missed key version) ws ≡ None) × IfSome (last_write ws key) (λ w. n ≤ w.version)
+fresh_from [] n key version counts fresh = (refl, tt)
+fresh_from (w ∷ ws) n key version counts fresh =
+    elim (last_write ws key) as (λ o. last_write ws key ≡ o → (find (is_missed key version) (w ∷ ws) ≡ None) × IfSome (last_write (w ∷ ws) key) (λ x. n ≤ x.version)) [
+      | Some last ↦ λ is. later (fresh_from ws (suc n) key version counts') last is
+      | None ↦ λ is. none (fresh_from ws (suc n) key version counts') is
+    ] refl
+  where
+    counts' : CountsFrom (suc n) ws
+    counts' = counts_tail n w ws counts
+
+    here : w.version ≡ n
+    here = omega (arith, counts 0 w (omega arith))
+
+    later : (IfSome (last_write ws key) (λ x. x.version ≤ version) → (find (is_missed key version) ws ≡ None) × IfSome (last_write ws key) (λ x. suc n ≤ x.version)) → (last : Write) → last_write ws key ≡ Some last → (find (is_missed key version) (w ∷ ws) ≡ None) × IfSome (last_write (w ∷ ws) key) (λ x. n ≤ x.version)
+    later behind last is =
+        let whole : last_write (w ∷ ws) key ≡ Some last = last_write-cons w ws key ∙ ap (λ o. option_or o (if is_write_of key w then Some w else None)) is in
+        let le : last.version ≤ version = subst (λ o. IfSome o (λ x. x.version ≤ version)) whole fresh in
+        let rest = behind (subst (λ o. IfSome o (λ x. x.version ≤ version)) (sym is) le) in
+        let above : suc n ≤ last.version = subst (λ o. IfSome o (λ x. suc n ≤ x.version)) is rest.1 in (
+          ap (λ b. cond b (Some w) (find (is_missed key version) ws)) (not_missed key version w (omega (arith, here))) ∙ rest.0,
+          subst (λ o. IfSome o (λ x. n ≤ x.version)) (sym whole) (omega arith),
+        )
+
+    none : (IfSome (last_write ws key) (λ x. x.version ≤ version) → (find (is_missed key version) ws ≡ None) × IfSome (last_write ws key) (λ x. suc n ≤ x.version)) → last_write ws key ≡ None → (find (is_missed key version) (w ∷ ws) ≡ None) × IfSome (last_write (w ∷ ws) key) (λ x. n ≤ x.version)
+    none behind is =
+        let whole : last_write (w ∷ ws) key ≡ (if is_write_of key w then Some w else None) = last_write-cons w ws key ∙ ap (λ o. option_or o (if is_write_of key w then Some w else None)) is in
+        let rest = behind (subst (λ o. IfSome o (λ x. x.version ≤ version)) (sym is) tt) in
+        let parts = at_front (eqb w.key key) (subst (λ o. IfSome o (λ x. x.version ≤ version)) whole fresh) in
+        (ap (λ b. cond b (Some w) (find (is_missed key version) ws)) parts.0 ∙ rest.0, subst (λ o. IfSome o (λ x. n ≤ x.version)) (sym whole) parts.1)
+      where
+        at_front : (b : Bool) → IfSome (if b then Some w else None) (λ x. x.version ≤ version) → ((b && ltb version w.version) ≡ false) × IfSome (if b then Some w else None) (λ x. n ≤ x.version)
+        at_front true le = (le-ltb version w.version le, omega (arith, here))
+        at_front false le = (refl, tt)
+
+pub fresh : (ws : List Write) (key version : ℕ) → IsNumbered ws → IfSome (last_write ws key) (λ w. w.version ≤ version) → first_missed ws key version ≡ None
+fresh ws key version numbered last = (fresh_from ws 1 key version numbered last).0
+
+-- what holds of each write holds of the one that is found
+pub All-find : (P : Write → Type 0) (test : Write → Bool) (ws : List Write) (w : Write) → All P ws → find test ws ≡ Some w → P w
+All-find P test [] w all found = cc
+All-find P test (v ∷ ws) w all found =
+    elim (test v) as (λ b. cond b (Some v) (find test ws) ≡ Some w → P w) [
+      | true ↦ λ here. let same : v ≡ w = cc in subst P same (All-head P v ws all)
+      | false ↦ λ later. All-find P test ws w (All-tail P v ws all) later
+    ] found

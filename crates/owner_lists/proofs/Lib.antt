@@ -1,0 +1,8 @@
+pub mod Comparing
+pub mod Rising
+pub mod Last
+pub mod Linking
+pub mod InOrder
+pub mod Marked
+pub mod Keeping
+pub mod Owners

@@ -1,0 +1,3 @@
+pub mod Writes
+pub mod OwnerListView
+pub mod inner

@@ -1,0 +1,4 @@
+pub mod Missed
+pub mod Latest
+pub mod Linked
+pub mod Codes

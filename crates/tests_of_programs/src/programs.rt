@@ -1,0 +1,312 @@
+//! What the program prints and ends with, by its words.
+
+use crate::endings::ending_of;
+use bench_types::{Pull, Push};
+use command_line::main_with;
+use fixtures::{FOUR_MODES, FOUR_MODES_COMPARED, TWO_NODES, TWO_NODES_REPORT};
+use std::io::{self, ErrorKind, Write};
+use std::process::Abort;
+use std::test::Fail;
+
+// What a program was given, and what it has to print and end with.
+#[derive(Clone, Copy)]
+struct Case<'a> {
+    words: &'a [&'a str],
+    text: &'a str,
+    status: u8,
+    out: &'a str,
+    err: &'a str,
+}
+
+// A scenario whose budget has no room for the largest entry.
+const TOO_FEW_BYTES: &str = "format = 2\nnodes = 2\nkeys = 1\nrounds = 1\nseed = 0\n\
+    mode = 'scuttle-depth'\nbudget_bytes = 1022";
+
+const APART_IS_A_NUMBER: &str = "format = 1\nnodes = 2\nkeys = 1\nrounds = 1\nseed = 0\n\
+    mode = 'scuttle-depth'\nbudget = 1\npeers = 'ring'\nrotation = 'none'\nchoice = 'cycle'\n\
+    loss_ppm = 0\nwrites = 1\n[[partition]]\nfrom = 1\nto = 1\napart = 3\n";
+
+const PARTITION_WITH_A_NOTE: &str = "format = 1\nnodes = 2\nkeys = 1\nrounds = 1\nseed = 0\n\
+    mode = 'scuttle-depth'\nbudget = 1\npeers = 'ring'\nrotation = 'none'\nchoice = 'cycle'\n\
+    loss_ppm = 0\nwrites = 1\n[[partition]]\nfrom = 1\nto = 1\napart = [0]\nnote = 1\n";
+
+const CASES: [Case; 10] = [
+    Case {
+        words: &["check"],
+        text: TWO_NODES,
+        status: 0,
+        out: "ok\n",
+        err: "",
+    },
+    Case {
+        words: &["check"],
+        text: "",
+        status: 1,
+        out: "",
+        err: "fault 4: missing field format\n",
+    },
+    Case {
+        words: &["run"],
+        text: TWO_NODES,
+        status: 0,
+        out: TWO_NODES_REPORT,
+        err: "",
+    },
+    Case {
+        words: &["run"],
+        text: "[[parti",
+        status: 1,
+        out: "",
+        err: "fault 2: input is not TOML\n",
+    },
+    Case {
+        words: &["compare"],
+        text: FOUR_MODES,
+        status: 0,
+        out: FOUR_MODES_COMPARED,
+        err: "",
+    },
+    Case {
+        words: &["run", "--workers", "2"],
+        text: TWO_NODES,
+        status: 0,
+        out: TWO_NODES_REPORT,
+        err: "",
+    },
+    Case {
+        words: &["run", "--workers=64"],
+        text: TWO_NODES,
+        status: 0,
+        out: TWO_NODES_REPORT,
+        err: "",
+    },
+    Case {
+        words: &["compare", "--workers", "4"],
+        text: FOUR_MODES,
+        status: 0,
+        out: FOUR_MODES_COMPARED,
+        err: "",
+    },
+    Case {
+        words: &["compare"],
+        text: "format = 3",
+        status: 1,
+        out: "",
+        err: "fault 6: field format is out of range\n",
+    },
+    Case {
+        words: &["check"],
+        text: TOO_FEW_BYTES,
+        status: 1,
+        out: "",
+        err: "fault 20: budget_bytes is below 1023\n",
+    },
+];
+
+#[test]
+fn command_line_statuses(rt: HostRuntime) -> Result<(), Fail> {
+    for case in CASES {
+        let ended = ending_of(&rt, case.words, case.text);
+        assert!(rt; ended.status == case.status, "{:?}", case.words);
+        assert!(rt;
+            ended.out.as_slice() == case.out.as_bytes(),
+            "{:?}",
+            case.words
+        );
+        assert!(rt;
+            ended.err.as_slice() == case.err.as_bytes(),
+            "{:?}",
+            case.words
+        );
+    }
+    Ok(())
+}
+
+// What `check` says of texts at fault.
+const LINES: [(&str, &str); 7] = [
+    ("[[parti", "fault 2: input is not TOML\n"),
+    ("", "fault 4: missing field format\n"),
+    (
+        "format = 1\nnodes = 1\n",
+        "fault 6: field nodes is out of range\n",
+    ),
+    (
+        "format = 1\nnodes = true\n",
+        "fault 5: wrong type of field nodes\n",
+    ),
+    (
+        "format = 1\nnodes = 4096\nkeys = 17\n",
+        "fault 8: nodes * nodes * keys is above 268435456\n",
+    ),
+    (
+        APART_IS_A_NUMBER,
+        "fault 5: wrong type of field partition.apart\n",
+    ),
+    (
+        PARTITION_WITH_A_NOTE,
+        "fault 7: unknown field in table partition\n",
+    ),
+];
+
+#[test]
+fn lines_of_faults(rt: HostRuntime) -> Result<(), Fail> {
+    for (text, line) in LINES {
+        let ended = ending_of(&rt, &["check"], text);
+        assert!(rt; ended.status == 1 && ended.out.is_empty(), "{text:?}");
+        assert!(rt; ended.err.as_slice() == line.as_bytes(), "{text:?}");
+    }
+    Ok(())
+}
+
+// Words that are refused, and how the text on standard error begins.
+const REFUSED: [(&[&str], &str); 16] = [
+    (
+        &[],
+        "error: 'gossip_bench' requires a subcommand but one was not provided",
+    ),
+    (&["walk"], "error: unrecognized subcommand 'walk'"),
+    (&["help"], "error: unrecognized subcommand 'help'"),
+    (
+        &["check", "more"],
+        "error: unexpected argument 'more' found",
+    ),
+    (
+        &["check", "--trace", "file"],
+        "error: unexpected argument '--trace' found",
+    ),
+    (
+        &["compare", "--trace", "file"],
+        "error: unexpected argument '--trace' found",
+    ),
+    (
+        &["run", "--trace"],
+        "error: a value is required for '--trace <FILE>' but none was supplied",
+    ),
+    (
+        &["run", "--trace", "a", "--trace", "b"],
+        "error: the argument '--trace <FILE>' cannot be used multiple times",
+    ),
+    (
+        &["check", "--workers", "2"],
+        "error: unexpected argument '--workers' found",
+    ),
+    (
+        &["run", "--workers", "65"],
+        "error: invalid value '65' for '--workers <N>': 65 is not in 1..=64",
+    ),
+    (
+        &["run", "--workers", "0"],
+        "error: invalid value '0' for '--workers <N>': 0 is not in 1..=64",
+    ),
+    (
+        &["compare", "--workers", "65"],
+        "error: invalid value '65' for '--workers <N>': 65 is not in 1..=64",
+    ),
+    (
+        &["compare", "--workers", "two"],
+        "error: invalid value 'two' for '--workers <N>': invalid digit found in string",
+    ),
+    (
+        &["run", "--workers"],
+        "error: a value is required for '--workers <N>' but none was supplied",
+    ),
+    (
+        &["run", "--workers", "1", "--workers", "2"],
+        "error: the argument '--workers <N>' cannot be used multiple times",
+    ),
+    (
+        &["--version"],
+        "error: unexpected argument '--version' found",
+    ),
+];
+
+#[test]
+fn command_lines_of_the_program(rt: HostRuntime) -> Result<(), Fail> {
+    for (words, begin) in REFUSED {
+        let ended = ending_of(&rt, words, TWO_NODES);
+        assert!(rt; ended.status == 2, "{words:?}");
+        assert!(rt; ended.out.is_empty() && ended.left == TWO_NODES.len());
+        assert!(rt;
+            ended.err.as_slice().starts_with(begin.as_bytes()),
+            "{words:?}"
+        );
+    }
+    Ok(())
+}
+
+// Words that ask for help, and what stands in it.
+const HELP: [(&[&str], &str); 7] = [
+    (&["--help"], "Usage: gossip_bench <COMMAND>"),
+    (
+        &["-h"],
+        "compare  Run the scenario under each mode and print all rows",
+    ),
+    (&["run", "--help"], "--trace <FILE>"),
+    (&["run", "--help"], "--workers <N>"),
+    (&["compare", "--help"], "--workers <N>"),
+    (&["run", "--help"], "[default: 1]"),
+    (&["compare", "--help"], "[default: 1]"),
+];
+
+#[test]
+fn help_is_printed(rt: HostRuntime) -> Result<(), Fail> {
+    for (words, part) in HELP {
+        let ended = ending_of(&rt, words, TWO_NODES);
+        assert!(rt; ended.status == 0 && ended.err.is_empty(), "{words:?}");
+        let help = String::from_utf8(ended.out).ok().ok_or("a text")?;
+        assert!(rt; help.contains(part), "{words:?}");
+    }
+    Ok(())
+}
+
+// A writer that takes nothing.
+#[derive(Drop)]
+struct Closed;
+
+impl Write for Closed {
+    fn write(&mut self, _bytes: &[u8]) -> io::Result<usize> {
+        Err(io::Error::from(ErrorKind::BrokenPipe))
+    }
+
+    fn flush(&mut self) -> io::Result<()> {
+        Ok(())
+    }
+}
+
+// The words that print, and the status where nothing takes what is printed.
+const PRINTING: [&[&str]; 4] = [&["check"], &["run"], &["compare"], &["--help"]];
+
+#[test]
+fn a_closed_output_is_fault_13(rt: HostRuntime) -> Result<(), Fail> {
+    for words in PRINTING {
+        let mut reader = Pull::new(TWO_NODES.as_bytes());
+        let mut err = Push::new(Vec::new(rt.alloc()));
+        let mut out = Push::new(Closed);
+        let status = main_with(&rt, rt.alloc(), words, &mut reader, &mut out, &mut err);
+        assert!(rt; status == 1, "{words:?}");
+        assert!(rt;
+            err.into_inner().as_slice() == b"fault 13: writing failed\n".as_slice(),
+            "{words:?}"
+        );
+    }
+    Ok(())
+}
+
+// Words, and the status that they have although nobody takes what is said of it.
+const UNHEARD: [(&[&str], u8); 3] = [
+    (&["run"], 0),
+    (&["walk"], 2),
+    (&["run", "--trace", "no/such/folder"], 1),
+];
+
+#[test]
+fn a_closed_error_stream_changes_no_status(rt: HostRuntime) -> Result<(), Fail> {
+    for (words, wanted) in UNHEARD {
+        let mut reader = Pull::new(TWO_NODES.as_bytes());
+        let mut out = Push::new(Vec::new(rt.alloc()));
+        let mut err = Push::new(Closed);
+        let status = main_with(&rt, rt.alloc(), words, &mut reader, &mut out, &mut err);
+        assert!(rt; status == wanted, "{words:?}");
+    }
+    Ok(())
+}

@@ -19,7 +19,8 @@ fn write_both(rt: &impl Abort, table: &mut NodeTable, list: &mut OwnerList, key:
     ensures node { table.new.table.node ≡ table.old.table.node }
     ensures nodes { table.new.table.nodes ≡ table.old.table.nodes }
     ensures keys { table.new.table.keys ≡ table.old.table.keys }
-    ensures born { (round : ℕ) → born ≤ round → AreBornBy round (written list.old) → AreBornBy round (written list.new) }
+    ensures born { (round : ℕ) → born ≤ round
+        → AreBornBy round (written list.old) → AreBornBy round (written list.new) }
 {
     assert!(rt; key < table.keys());
     assert!(rt; list.len() < 1000);

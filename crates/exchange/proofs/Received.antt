@@ -113,7 +113,7 @@ module _ (rules : Rules) (rotation : ℕ) (from to : Table) (proper : IsProper f
   received = applied to items
 
   -- each is held by the sender
-  sent-held : (d : Item) → Contains items d → entry_at from d.owner d.entry.key ≡ Some d.entry
+  pub sent-held : (d : Item) → Contains items d → entry_at from d.owner d.entry.key ≡ Some d.entry
   sent-held d there =
       entry_at-items_of from d proper (Contains-kept (λ (x : Item). not (eqb x.owner to.node) && is_before (known_mark (digest_kind rules.mode) to x) (mark_of x.entry)) (items_of from) d (sent-candidate rules.mode from to rotation rules.budget d there)).0
 
@@ -140,10 +140,10 @@ module _ (rules : Rules) (rotation : ℕ) (from to : Table) (proper : IsProper f
     may_take : All (MayReceive to) items
     may_take = All-weaker (λ (i : Item). (i.owner ≢ to.node) × IsItemInPlace from.nodes from.keys i) (MayReceive to) (λ i h. (h.0, subst (λ n. IsItemInPlace n to.keys i) nodes (subst (λ k. IsItemInPlace from.nodes k i) keys h.1))) items sent-in_place
 
-    all_in_place : All (IsItemInPlace to.nodes to.keys) items
+    pub all_in_place : All (IsItemInPlace to.nodes to.keys) items
     all_in_place = All-weaker (MayReceive to) (IsItemInPlace to.nodes to.keys) (λ i h. h.1) items may_take
 
-    greatest-received : (owner : ℕ) → greatest_mark received owner ≡ later (greatest_mark to owner) (greatest_among owner items)
+    pub greatest-received : (owner : ℕ) → greatest_mark received owner ≡ later (greatest_mark to owner) (greatest_among owner items)
     greatest-received owner = greatest_mark-applied to items owner all_in_place
 
     -- a proper table stays so
@@ -152,13 +152,13 @@ module _ (rules : Rules) (rotation : ℕ) (from to : Table) (proper : IsProper f
 
     module _ (to_proper : IsProper to) where
       -- what was held is not forgotten, unless the copy is of a newer generation
-      kept : (owner key : ℕ) (e : Entry) → entry_at to owner key ≡ Some e → generation_held received owner ≤ e.generation → IsUpTo (mark_of e) (mark_at received owner key)
+      pub kept : (owner key : ℕ) (e : Entry) → entry_at to owner key ≡ Some e → generation_held received owner ≤ e.generation → IsUpTo (mark_of e) (mark_at received owner key)
       kept owner key e held le =
           keeps_up-applied (mark_of e) to items owner key all_in_place (to_proper.in_place owner key e held).key_below
           (λ _. subst (λ h. IsUpTo (mark_of e) (mark_held h)) (sym held) (up_to-itself (mark_of e))) le
 
       -- and neither is what is sent
-      sent-up_to : (owner key : ℕ) (e : Entry) → e.key ≡ key → Contains items (record { owner = owner; entry = e }) → generation_held received owner ≤ e.generation → IsUpTo (mark_of e) (mark_at received owner key)
+      pub sent-up_to : (owner key : ℕ) (e : Entry) → e.key ≡ key → Contains items (record { owner = owner; entry = e }) → generation_held received owner ≤ e.generation → IsUpTo (mark_of e) (mark_at received owner key)
       sent-up_to owner key e keyed there le =
           subst (λ k. IsUpTo (mark_of e) (mark_at received owner k)) keyed (keeps_up-item to items (record { owner = owner; entry = e }) all_in_place there le)
 

@@ -11,7 +11,7 @@ pub mod Rising
 pub mod Greatest
 mod Blocks
 mod InRow
-mod InRows
+pub mod InRows
 mod Laid
 mod Opened
 mod Taking

@@ -2,7 +2,7 @@
 -- Serves `OwnerList::write` and `comes_in_order`.
 use Rattle.std.proofs.Common.{◌≡◌, ℕ, suc, ◌-◌, ◌<◌, Bool, true, false, leb, ◌&&◌, List, [], ◌∷◌, ◌++◌, length, get_or, refl, ap, ◌∙◌, arith}
 use Rattle.owner_lists.specs.declared.lists.Write.{Write}
-use Rattle.owner_lists.specs.inner.Missed.{last_born, in_order_from}
+use Rattle.owner_lists.specs.Missed.{last_born, in_order_from}
 
 and_turned : (a : Bool) → (a && true) ≡ (true && a)
 and_turned true = refl

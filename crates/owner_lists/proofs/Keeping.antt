@@ -46,6 +46,11 @@ module _ (n len : ℕ) (lent items new : List Link) (is : lent ≡ items) (long 
       ∙ ap (λ zs. zs ++ l ∷ []) whole ∙ append_assoc (take n lent) new (l ∷ []))
       ∙ drop_at (take n lent) (new ++ l ∷ []) n (length-take-le n lent (omega (arith, within, same_length)))
 
+-- all that the list shows is all that the links keep
+pub entries_whole : (n generation : ℕ) (ls : List Link) → entries_of (view_of ls n generation) ≡ entries_linked ls
+entries_whole n generation ls =
+    sym (map-append (λ (l : Link). l.write) (take n ls) (drop n ls)) ∙ ap entries_linked (take-append-drop n ls)
+
 -- what the links of the generation show is what was written in it
 pub shown : (v : OwnerListView) (ls : List Link) → v.current ≡ entries_linked ls → AreNextAfter v.generation 0 v.current → writes_linked ls ≡ written v
 shown v ls same numbered =

@@ -10,7 +10,7 @@ use Rattle.std.proofs.lemmas.List.Folds.{find-append}
 use Rattle.std.proofs.lemmas.List.Elements.{All-head, All-tail}
 use Rattle.owner_lists.specs.declared.lists.Write.{Write}
 use Rattle.owner_lists.specs.Writes.{IsNumbered, is_write_of, last_write}
-use Rattle.owner_lists.specs.inner.Missed.{is_missed, first_missed}
+use Rattle.owner_lists.specs.Missed.{is_missed, first_missed}
 use Rattle.owner_lists.proofs.Comparing.{nat_cmp-less, nat_cmp-equal, nat_cmp-greater}
 
 -- a write at the end is the last of its key

@@ -6,3 +6,4 @@ pub mod InOrder
 pub mod Marked
 pub mod Keeping
 pub mod Owners
+mod Numbered

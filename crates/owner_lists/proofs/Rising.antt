@@ -12,7 +12,8 @@ use Rattle.std.specs.FinMap.Entries.{below_all, by_order, is_sorted-put}
 use Rattle.std.proofs.lemmas.Bool.{cases_lt}
 use Rattle.std.proofs.lemmas.List.Sorted.{searchable_from_sorted}
 use Rattle.owner_lists.specs.declared.lists.Write.{Write}
-use Rattle.owner_lists.specs.inner.Latest.{keyed, KeysRise, IsIndexOfKey, IsGapForKey}
+use Rattle.owner_lists.specs.Latest.{keyed, KeysRise}
+use Rattle.owner_lists.specs.inner.Keys.{IsIndexOfKey, IsGapForKey}
 use Rattle.owner_lists.proofs.Comparing.{first, second, less, nat_cmp-less, nat_cmp-equal, nat_cmp-greater}
 
 below_at : (key : ℕ) (ws : List Write) (i : ℕ) (d : Write) → T (below_all nat_cmp key (keyed ws)) → i < length ws → key < (get_or ws i d).key

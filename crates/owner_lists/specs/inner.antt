@@ -1,4 +1,3 @@
-pub mod Missed
-pub mod Latest
+pub mod Keys
 pub mod Linked
 pub mod Codes

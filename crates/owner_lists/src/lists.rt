@@ -5,8 +5,10 @@ ghost use Rattle.std.specs.FinMap.{put as put_entry};
 ghost use Rattle.std.specs.Ordering.{nat_cmp};
 ghost use Rattle.owner_lists.specs.OwnerListView.{has_mark, MarksRise};
 ghost use Rattle.owner_lists.specs.Writes.{is_write_of, last_write};
-ghost use Rattle.owner_lists.specs.inner.Missed.{first_missed, last_born};
-ghost use Rattle.owner_lists.specs.inner.Latest.{keyed, write_of, KeysRise, IsIndexOfKey, IsGapForKey};
+ghost use Rattle.owner_lists.specs.Missed.{first_missed, last_born};
+ghost use Rattle.owner_lists.specs.Latest.{keyed, write_of, KeysRise};
+ghost use Rattle.owner_lists.specs.inner.Keys.{IsIndexOfKey, IsGapForKey};
+ghost use Rattle.owner_lists.specs.Numbers.{write_numbered};
 ghost use Rattle.owner_lists.specs.inner.Linked.{entries_linked, writes_linked, version_or_zero, IsLinked, IsRelinked};
 ghost use Rattle.bench_types.specs.Entry.{next_version, AreNextAfter};
 ghost use Rattle.bench_types.specs.declared.faults.Fault.TheVariants.{OutOfMemory};
@@ -63,10 +65,11 @@ impl Model for OwnerList {
 }
 
 impl OwnerList {
-    ghost use Rattle.owner_lists.specs.OwnerListView.{written, no_writes, with_write, begun_generation, entry_of, AreWrites};
+    ghost use Rattle.owner_lists.specs.OwnerListView.{entries_of, written, no_writes, with_write, begun_generation, entry_of, AreWrites};
+    ghost use Rattle.owner_lists.specs.Numbers.{write_numbered};
     ghost use Rattle.owner_lists.specs.Writes.{IsNumbered};
-    ghost use Rattle.owner_lists.specs.inner.Missed.{first_missed, born_in_order};
-    ghost use Rattle.owner_lists.specs.inner.Latest.{IsLatest};
+    ghost use Rattle.owner_lists.specs.Missed.{first_missed, born_in_order};
+    ghost use Rattle.owner_lists.specs.Latest.{IsLatest};
 
     /// The list of an owner that has written nothing, in generation 0. It takes no memory yet.
     pub fn new(alloc: Global) -> OwnerList
@@ -175,6 +178,27 @@ impl OwnerList {
         } else {
             searched_entry(&self.links[..self.earlier], mark)
         }
+    }
+
+    /// The write of a number, which counts all its writes from 1, those of earlier generations too. One step.
+    pub fn numbered(&self, number: u32) -> Option<Entry>
+        ensures { result ≡ write_numbered (entries_of self.now) number }
+    {
+        linked_entry(&self.links, number)
+    }
+
+    /// How many writes there are of all its generations.
+    pub fn count(&self) -> usize
+        ensures { result ≡ length (entries_of self.now) }
+    {
+        self.links.len()
+    }
+
+    /// How many of them are of earlier generations.
+    pub fn earlier_count(&self) -> usize
+        ensures { result ≡ length self.now.earlier }
+    {
+        self.earlier
     }
 
     /// Whether no write of its generation was made in an earlier round than one before it.
@@ -326,6 +350,19 @@ fn relink(links: &mut [Link], before: u32, version: u32)
 {
     if let Some(at) = before.checked_sub(1) {
         links[at as usize].next = version;
+    }
+}
+
+// The write of a number.
+fn linked_entry(links: &[Link], number: u32) -> Option<Entry>
+    ensures { result ≡ write_numbered (entries_linked links.now) number }
+{
+    match number.checked_sub(1) {
+        Some(place) => match links.get(place as usize) {
+            Some(link) => Some(link.write),
+            None => None,
+        },
+        None => None,
     }
 }
 

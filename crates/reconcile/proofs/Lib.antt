@@ -1,6 +1,7 @@
 -- Laws of the definitions, for the crates above.
 pub mod DeltaLaws
 pub mod Told
+pub mod Lacking
 pub mod Members
 -- What the proofs of this crate's functions rest on.
 pub mod Fitting

@@ -162,7 +162,7 @@ module _ {X : Type 0} (order : X → X → Ordering) (total : IsTotalOrder order
       omega (arith, first, second, places.3)
 
   -- each has fewer before it than there are candidates
-  before_count-lt-length : (x : X) → Contains cs x → before_count order cs x < length cs
+  pub before_count-lt-length : (x : X) → Contains cs x → before_count order cs x < length cs
   before_count-lt-length x stands = count_by-lt-length (λ y. is_lt (order y x)) cs x stands (ap is_lt (tied_itself total x))
 
   -- a budget for all of them cuts none
@@ -181,7 +181,7 @@ module _ {X : Type 0} (order : X → X → Ordering) (total : IsTotalOrder order
     ] refl
 
     -- a candidate with few enough before it stands at one of the first places
-    first_places-Contains : (n : ℕ) (x : X) → Contains cs x → before_count order cs x < n → Contains (first_places order cs n) x
+    pub first_places-Contains : (n : ℕ) (x : X) → Contains cs x → before_count order cs x < n → Contains (first_places order cs n) x
     first_places-Contains n x stands few =
         let m = before_count order cs x in
         let there = found (λ c. eqb (before_count order cs c) m) cs x stands (eq-eqb m m refl) in

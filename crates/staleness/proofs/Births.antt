@@ -6,7 +6,7 @@ use Rattle.std.proofs.lemmas.Bool.{cases_lt}
 use Rattle.std.proofs.lemmas.List.Elements.{All-head, All-tail}
 use Rattle.owner_lists.specs.declared.lists.Write.{Write}
 use Rattle.owner_lists.specs.Writes.{IsNumbered, last_write}
-use Rattle.owner_lists.specs.inner.Missed.{is_missed, first_missed, last_born, in_order_from, born_in_order}
+use Rattle.owner_lists.specs.Missed.{is_missed, first_missed, last_born, in_order_from, born_in_order}
 use Rattle.owner_lists.specs.inner.Linked.{version_or_zero}
 use Rattle.staleness.specs.inner.Copies.{version_staleness}
 use Rattle.staleness.specs.Figures.{stale_count, rounds_behind}

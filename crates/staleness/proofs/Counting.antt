@@ -9,7 +9,8 @@ use Rattle.bench_types.specs.declared.rows.Figures.{Figures}
 use Rattle.node_table.specs.Table.{Table}
 use Rattle.cluster.specs.Tables.{table_of_node, IsCluster}
 use Rattle.owner_lists.specs.declared.lists.Write.{Write}
-use Rattle.staleness.specs.Figures.{sum_below, most_below, staleness_at, stale_count, rounds_behind, figures_of}
+use Rattle.staleness.specs.Figures.{most_below, staleness_at, stale_count, rounds_behind, figures_of}
+use Rattle.planes.specs.Sums.{sum_below}
 use Rattle.staleness.specs.inner.Copies.{owner_staleness, node_leftover, part_figures}
 use Rattle.staleness.specs.inner.Parts.{AreFewTriples, IsCounted, AreCounted, found_at}
 use Rattle.staleness.proofs.Places.{one_more}

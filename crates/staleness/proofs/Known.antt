@@ -11,7 +11,7 @@ use Rattle.bench_types.specs.Mark.{mark_held, is_before}
 use Rattle.node_table.specs.Table.{Table, empty_table, entry_at, generation_held, IsProper}
 use Rattle.owner_lists.specs.declared.lists.Write.{Write}
 use Rattle.owner_lists.specs.Writes.{IsNumbered}
-use Rattle.owner_lists.specs.inner.Missed.{is_missed}
+use Rattle.owner_lists.specs.Missed.{is_missed}
 use Rattle.staleness.specs.Figures.{generation_at, staleness_of}
 use Rattle.staleness.specs.inner.Copies.{generations_in, least_known, at_least, version_known, version_staleness}
 

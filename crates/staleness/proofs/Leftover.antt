@@ -11,7 +11,8 @@ use Rattle.bench_types.specs.Mark.{absent}
 use Rattle.node_table.specs.Table.{Table, entry_at, generation_held, IsProper}
 use Rattle.node_table.specs.Entries.{AreAbove}
 use Rattle.cluster.specs.Tables.{table_of_node}
-use Rattle.staleness.specs.Figures.{sum_below, generation_at, is_left_over, leftover_at}
+use Rattle.staleness.specs.Figures.{generation_at, is_left_over, leftover_at}
+use Rattle.planes.specs.Sums.{sum_below}
 use Rattle.staleness.specs.inner.Copies.{has_key, copy_leftover, node_leftover, nodes_leftover}
 use Rattle.staleness.proofs.Rows.{row_apart, row_held, row_below}
 use Rattle.staleness.proofs.Sums.{sum_below-le, sum_below-same, sum_below-none, sum_below-add}

@@ -8,9 +8,10 @@ use Rattle.cluster.specs.Tables.{table_of_node}
 use Rattle.staleness.specs.declared.copies.Copies.{Copies}
 use Rattle.owner_lists.specs.declared.lists.Write.{Write}
 use Rattle.owner_lists.specs.Writes.{IsNumbered, last_write}
-use Rattle.owner_lists.specs.inner.Missed.{born_in_order}
+use Rattle.owner_lists.specs.Missed.{born_in_order}
 use Rattle.owner_lists.specs.inner.Linked.{version_or_zero}
-use Rattle.staleness.specs.Figures.{sum_below, most_below, writes_of_owner, generation_at, staleness_of, staleness_at, stale_count, rounds_behind}
+use Rattle.staleness.specs.Figures.{most_below, writes_of_owner, generation_at, staleness_of, staleness_at, stale_count, rounds_behind}
+use Rattle.planes.specs.Sums.{sum_below}
 use Rattle.staleness.specs.inner.Copies.{version_known, version_staleness, with_copy, current_of, copies_of, least_of, stale_of}
 use Rattle.owner_lists.proofs.Linking.{last_placed}
 use Rattle.staleness.proofs.Sums.{sum_below-none}

@@ -3,7 +3,8 @@
 use Rattle.std.proofs.Common.{◌≡◌, ℕ, zero, suc, ◌+◌, ◌-◌, ◌*◌, ◌<◌, ◌≤◌, min, max, Option, Some, None, inl, inr, refl, sym, ap, ◌∙◌, arith}
 use Rattle.std.proofs.lemmas.Bool.{cases_lt}
 use Rattle.staleness.proofs.Places.{one_more}
-use Rattle.staleness.specs.Figures.{sum_below, most_below, stale_count}
+use Rattle.staleness.specs.Figures.{most_below, stale_count}
+use Rattle.planes.specs.Sums.{sum_below}
 
 pub sum_below-le : (f : ℕ → ℕ) (n most : ℕ) → ((k : ℕ) → k < n → f k ≤ most) → sum_below n f ≤ n * most
 sum_below-le f zero most le = omega arith

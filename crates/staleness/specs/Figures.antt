@@ -11,13 +11,10 @@ use Rattle.bench_types.specs.declared.rows.Figures.{Figures}
 use Rattle.node_table.specs.Table.{Table, entry_at, mark_at}
 use Rattle.cluster.specs.Tables.{table_of_node}
 use Rattle.owner_lists.specs.declared.lists.Write.{Write}
+use Rattle.planes.specs.Sums.{sum_below}
 use Rattle.owner_lists.specs.Writes.{first_above}
 
--- the sum and the greatest of what f gives below a bound
-abbrev pub sum_below : ℕ → (ℕ → ℕ) → ℕ
-sum_below zero f = 0
-sum_below (suc n) f = sum_below n f + f n
-
+-- the greatest of what f gives below a bound
 abbrev pub most_below : ℕ → (ℕ → ℕ) → ℕ
 most_below zero f = 0
 most_below (suc n) f = max (most_below n f) (f n)

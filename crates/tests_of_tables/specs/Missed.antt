@@ -2,7 +2,7 @@
 use Rattle.std.specs.Prelude.{ℕ, ◌++◌, ◌∷◌, [], List, Option, option_map}
 use Rattle.owner_lists.specs.declared.lists.Write.{Write}
 use Rattle.owner_lists.specs.Writes.{next_write, first_above}
-use Rattle.owner_lists.specs.inner.Missed.{first_missed}
+use Rattle.owner_lists.specs.Missed.{first_missed}
 
 -- one write more
 abbrev pub pushed : List Write → ℕ → ℕ → List Write

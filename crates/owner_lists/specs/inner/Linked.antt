@@ -6,8 +6,9 @@ use Rattle.bench_types.specs.Entry.{next_version}
 use Rattle.owner_lists.specs.declared.lists.Link.{Link}
 use Rattle.owner_lists.specs.declared.lists.Write.{Write}
 use Rattle.owner_lists.specs.OwnerListView.{OwnerListView, AreWrites}
-use Rattle.owner_lists.specs.inner.Missed.{first_missed, born_in_order}
-use Rattle.owner_lists.specs.inner.Latest.{IsLatest, AreFirst}
+use Rattle.owner_lists.specs.Missed.{first_missed, born_in_order}
+use Rattle.owner_lists.specs.Latest.{IsLatest}
+use Rattle.owner_lists.specs.inner.Keys.{AreFirst}
 
 -- the writes that links keep
 abbrev pub entries_linked : List Link → List Entry

@@ -13,9 +13,10 @@ use Rattle.staleness.specs.declared.copies.Copies.{Copies}
 use Rattle.staleness.specs.declared.staleness.Staleness.{Staleness}
 use Rattle.owner_lists.specs.declared.lists.Write.{Write}
 use Rattle.owner_lists.specs.Writes.{last_write}
-use Rattle.owner_lists.specs.inner.Missed.{first_missed}
+use Rattle.owner_lists.specs.Missed.{first_missed}
 use Rattle.owner_lists.specs.inner.Linked.{version_or_zero}
-use Rattle.staleness.specs.Figures.{sum_below, most_below, writes_of_owner, generation_at, staleness_at, leftover_at, stale_count, rounds_behind}
+use Rattle.staleness.specs.Figures.{most_below, writes_of_owner, generation_at, staleness_at, leftover_at, stale_count, rounds_behind}
+use Rattle.planes.specs.Sums.{sum_below}
 
 -- the generations of all nodes, in order
 abbrev pub generations_in : List Table → List ℕ

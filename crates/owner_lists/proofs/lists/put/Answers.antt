@@ -2,7 +2,8 @@ use Rattle.std.proofs.Common.{◌≡◌, is_ok, if◌then◌else◌, sym, ap, �
 use Rattle.std.specs.List.{insert}
 use Rattle.owner_lists.specs.declared.lists.Write.{Write}
 use Rattle.owner_lists.specs.inner.Linked.{version_or_zero}
-use Rattle.owner_lists.specs.inner.Latest.{keyed, IsIndexOfKey, IsGapForKey}
+use Rattle.owner_lists.specs.Latest.{keyed}
+use Rattle.owner_lists.specs.inner.Keys.{IsIndexOfKey, IsGapForKey}
 use Rattle.owner_lists.proofs.Rising.{find-at, find-gap, put_at, put_gap, rising_set, rising_put}
 use Rattle.owner_lists.proofs.lists.put.Goals as goal
 use Rattle.owner_lists.proofs.lists.put.Goals.{After-unwrap}

@@ -1,6 +1,6 @@
 use Rattle.owner_lists.specs.OwnerListView.{written}
 use Rattle.staleness.specs.inner.Copies.{AreAdded}
-use Rattle.owner_lists.specs.inner.Latest.{IsFrontForKey}
+use Rattle.owner_lists.specs.inner.Keys.{IsFrontForKey}
 use Rattle.staleness.proofs.copies.add_keys.Given as goal
 
 abbrev pub invariant-loop-key : goal.invariant-loop-key

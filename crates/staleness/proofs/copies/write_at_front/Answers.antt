@@ -2,7 +2,8 @@ use Rattle.std.proofs.Common.{◌≡◌, ◌≢◌, ℕ, ◌+◌, ◌<◌, ◌�
 use Rattle.std.proofs.lemmas.Bool.{cases_lt}
 use Rattle.std.proofs.lemmas.List.{get_or_default}
 use Rattle.owner_lists.specs.declared.lists.Write.{Write}
-use Rattle.owner_lists.specs.inner.Latest.{write_of, KeysRise, IsFrontForKey}
+use Rattle.owner_lists.specs.Latest.{write_of, KeysRise}
+use Rattle.owner_lists.specs.inner.Keys.{IsFrontForKey}
 use Rattle.owner_lists.proofs.Rising.{rising_at, find-at, find-gap}
 use Rattle.staleness.proofs.copies.write_at_front.Goals as goal
 

@@ -4,7 +4,7 @@ use Rattle.node_table.specs.Table.{Table, generation_held, IsProper}
 use Rattle.node_table.specs.Entries.{AreAbove}
 use Rattle.cluster.specs.Tables.{tables_in, table_of_node}
 use Rattle.cluster.proofs.Tables.{table_indexed, length-tables_in}
-use Rattle.staleness.specs.Figures.{sum_below}
+use Rattle.planes.specs.Sums.{sum_below}
 use Rattle.staleness.specs.inner.Copies.{copy_leftover}
 use Rattle.staleness.proofs.Known.{generation_found}
 use Rattle.staleness.proofs.Leftover.{copy_leftover-own, copy_leftover-current, copy_leftover-older, copy_leftover-le}

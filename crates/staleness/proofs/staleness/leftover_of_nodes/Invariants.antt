@@ -1,6 +1,6 @@
 use Rattle.std.proofs.Common.{◌≡◌, ◌+◌, ◌*◌, ◌≤◌}
 use Rattle.cluster.specs.Tables.{tables_in}
-use Rattle.staleness.specs.Figures.{sum_below}
+use Rattle.planes.specs.Sums.{sum_below}
 use Rattle.staleness.specs.inner.Copies.{node_leftover}
 use Rattle.staleness.proofs.staleness.leftover_of_nodes.Given as goal
 

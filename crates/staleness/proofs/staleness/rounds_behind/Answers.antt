@@ -1,6 +1,6 @@
 use Rattle.std.proofs.Common.{◌≤◌, sym, ◌∙◌}
 use Rattle.owner_lists.specs.declared.lists.Write.{Write}
-use Rattle.owner_lists.specs.inner.Missed.{is_missed}
+use Rattle.owner_lists.specs.Missed.{is_missed}
 use Rattle.owner_lists.proofs.Last.{All-find}
 use Rattle.owner_lists.specs.OwnerListView.{written}
 use Rattle.staleness.proofs.staleness.rounds_behind.Goals as goal

@@ -5,8 +5,9 @@ use Rattle.owner_lists.specs.OwnerListView.{written, lists_in}
 use Rattle.owner_lists.proofs.Owners.{length-lists_in, list_read}
 use Rattle.staleness.specs.declared.copies.Copies.{Copies}
 use Rattle.owner_lists.specs.Writes.{IsNumbered, AreBornBy}
-use Rattle.owner_lists.specs.inner.Missed.{born_in_order}
-use Rattle.staleness.specs.Figures.{sum_below, most_below, writes_of_owner, staleness_at, stale_count, rounds_behind}
+use Rattle.owner_lists.specs.Missed.{born_in_order}
+use Rattle.staleness.specs.Figures.{most_below, writes_of_owner, staleness_at, stale_count, rounds_behind}
+use Rattle.planes.specs.Sums.{sum_below}
 use Rattle.staleness.specs.inner.Copies.{version_staleness, copies_of, least_of, stale_of}
 use Rattle.staleness.proofs.Seen.{others, others_is, seen, stale_seen, most_seen}
 use Rattle.staleness.proofs.staleness.staleness_of_key.Goals as goal

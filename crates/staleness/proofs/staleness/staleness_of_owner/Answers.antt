@@ -2,7 +2,8 @@ use Rattle.std.proofs.Common.{◌+◌, max, length, ap, ◌∙◌, arith, add-on
 use Rattle.owner_lists.specs.OwnerListView.{lists_in}
 use Rattle.staleness.specs.declared.staleness.Staleness.{Staleness}
 use Rattle.cluster.specs.Tables.{tables_in}
-use Rattle.staleness.specs.Figures.{sum_below, most_below, staleness_at, stale_count}
+use Rattle.staleness.specs.Figures.{most_below, staleness_at, stale_count}
+use Rattle.planes.specs.Sums.{sum_below}
 use Rattle.staleness.specs.inner.Copies.{key_staleness}
 use Rattle.staleness.proofs.Sums.{sum_below-le, stale_count-le}
 use Rattle.staleness.proofs.staleness.staleness_of_owner.Goals as goal

@@ -1,7 +1,8 @@
 use Rattle.std.proofs.Common.{◌≡◌, ◌+◌, ◌*◌, ◌≤◌}
 use Rattle.cluster.specs.Tables.{tables_in}
 use Rattle.owner_lists.specs.OwnerListView.{lists_in}
-use Rattle.staleness.specs.Figures.{sum_below, most_below}
+use Rattle.staleness.specs.Figures.{most_below}
+use Rattle.planes.specs.Sums.{sum_below}
 use Rattle.staleness.specs.inner.Copies.{owner_staleness}
 use Rattle.staleness.proofs.staleness.staleness_of_owners.Given as goal
 

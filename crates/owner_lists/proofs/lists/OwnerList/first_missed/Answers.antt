@@ -2,9 +2,9 @@ use Rattle.std.proofs.Common.{◌≡◌, ◌+◌, List, drop, sym, ap, ◌∙◌
 use Rattle.owner_lists.specs.declared.lists.Link.{Link}
 use Rattle.owner_lists.specs.declared.lists.Write.{Write}
 use Rattle.owner_lists.specs.OwnerListView.{written}
-use Rattle.owner_lists.specs.inner.Latest.{write_of}
+use Rattle.owner_lists.specs.Latest.{write_of}
 use Rattle.owner_lists.specs.inner.Linked.{writes_linked}
-use Rattle.owner_lists.specs.inner.Missed.{first_missed}
+use Rattle.owner_lists.specs.Missed.{first_missed}
 use Rattle.owner_lists.proofs.Keeping.{sliced, shown_kept}
 use Rattle.owner_lists.proofs.lists.OwnerList.first_missed.Goals as goal
 

@@ -7,8 +7,8 @@ use Rattle.owner_lists.specs.declared.lists.Link.{Link}
 use Rattle.owner_lists.specs.declared.lists.Write.{Write}
 use Rattle.owner_lists.specs.OwnerListView.{OwnerListView, next_entry}
 use Rattle.owner_lists.specs.Writes.{write_of_entry, last_write}
-use Rattle.owner_lists.specs.inner.Missed.{last_born, born_in_order}
-use Rattle.owner_lists.specs.inner.Latest.{keyed, write_of}
+use Rattle.owner_lists.specs.Missed.{last_born, born_in_order}
+use Rattle.owner_lists.specs.Latest.{keyed, write_of}
 use Rattle.owner_lists.specs.inner.Linked.{entries_linked, writes_linked, version_or_zero, view_of}
 use Rattle.owner_lists.proofs.Linking.{numbered-writes_linked, length-writes_linked, latest_pushed, firsts_after, kept_pushed}
 use Rattle.owner_lists.proofs.InOrder.{in_order-push}

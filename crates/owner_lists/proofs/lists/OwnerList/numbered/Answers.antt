@@ -1,0 +1,15 @@
+use Rattle.std.proofs.Common.{List, sym, ap, ◌∙◌}
+use Rattle.bench_types.specs.declared.entries.Entry.{Entry}
+use Rattle.owner_lists.specs.declared.lists.Link.{Link}
+use Rattle.owner_lists.specs.Numbers.{write_numbered}
+use Rattle.owner_lists.specs.OwnerListView.{OwnerListView, entries_of}
+use Rattle.owner_lists.specs.inner.Linked.{entries_linked}
+use Rattle.owner_lists.proofs.Keeping.{entries_whole}
+use Rattle.owner_lists.proofs.lists.OwnerList.numbered.Goals as goal
+
+pub returns : goal.returns
+returns c =
+    let l = c.self.inside in
+    c.linked_entry.ensures
+    ∙ ap (λ (es : List Entry). write_numbered es c.args.number)
+    (ap entries_linked c.deref.ensures.value ∙ sym (entries_whole l.earlier l.generation l.links.items) ∙ ap entries_of c.self.view_is)

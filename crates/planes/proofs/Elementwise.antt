@@ -1,0 +1,33 @@
+-- Lists that are changed element by element.
+-- Serves `count_above`.
+use Rattle.std.proofs.Common.{◌≡◌, ℕ, ◌+◌, ◌<◌, ◌≤◌, List, length, get_or, set, map, inl, inr, refl, sym, ap, ◌∙◌, subst, arith}
+use Rattle.std.proofs.lemmas.Bool.{cases_eq}
+use Rattle.std.proofs.lemmas.List.{get_or-set_same, get_or-set_other, length-set, get_or-map, map-set}
+use Rattle.planes.specs.inner.Elementwise.{AreChangedUpto, AreChanged}
+
+-- what is read at an index, as a number
+pub number-at : {N : Type 0} (number : N → ℕ) (xs : List N) (r : ℕ) (x : N) → r < length xs → x ≡ get_or xs r x → number x ≡ get_or (map number xs) r 0
+number-at number xs r x lt is = ap number is ∙ sym (get_or-map number xs r x 0 lt)
+
+module _ (changed : ℕ → ℕ → ℕ → Type 0) (old : List ℕ) where
+  pub changed_none : AreChangedUpto changed old old 0
+  changed_none = record { size = refl; below = λ r lt. absurd (omega (arith, lt)); from = λ r le. refl }
+
+  changed_next : (new : List ℕ) (bound x : ℕ) → AreChangedUpto changed old new bound → bound < length old → changed bound (get_or old bound 0) x → AreChangedUpto changed old (set new bound x) (bound + 1)
+  changed_next new bound x is lt now = record {
+    size = length-set new bound x ∙ is.size;
+    below = λ r below. elim (cases_eq r bound) [
+      | inl here ↦ subst (λ k. changed k (get_or old k 0) (get_or (set new bound x) k 0)) (sym here)
+          (subst (changed bound (get_or old bound 0)) (sym (get_or-set_same new bound x 0 (omega (arith, lt, is.size)))) now)
+      | inr other ↦ subst (changed r (get_or old r 0)) (sym (get_or-set_other new bound r x 0 other)) (is.below r (omega (arith, below, other)))
+    ];
+    from = λ r le. get_or-set_other new bound r x 0 (λ e. omega (arith, e, le)) ∙ is.from r (omega (arith, le));
+  }
+
+  pub changed_all : (new : List ℕ) (bound : ℕ) → AreChangedUpto changed old new bound → length old ≤ bound → AreChanged changed old new
+  changed_all new bound is le = record { size = is.size; each = λ r lt. is.below r (omega (arith, lt, le)) }
+
+  -- one more number is written
+  pub written_next : {N : Type 0} (number : N → ℕ) (new : List N) (bound : ℕ) (x : N) → AreChangedUpto changed old (map number new) bound → bound < length old → changed bound (get_or old bound 0) (number x) → AreChangedUpto changed old (map number (set new bound x)) (bound + 1)
+  written_next number new bound x is lt now =
+      subst (λ xs. AreChangedUpto changed old xs (bound + 1)) (sym (map-set number new bound x)) (changed_next (map number new) bound (number x) is lt now)

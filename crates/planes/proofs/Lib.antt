@@ -1,0 +1,4 @@
+pub mod Sums
+pub mod Elementwise
+pub mod Counts
+pub mod Places

@@ -1,0 +1,282 @@
+-- The numbers of a table's planes, one after another.
+-- Serves nothing yet.
+use Rattle.std.proofs.Common.{◌≡◌, ℕ, zero, suc, Fits, w32, ◌+◌, ◌*◌, ◌-◌, ◌<◌, ◌≤◌, ◌&&◌, Bool, true, false, cond, List, [], ◌∷◌, ◌++◌, length, get_or, map, take, drop, nat_lt, nat_le, inl, inr, refl, sym, ap, ◌∙◌, subst, arith}
+use Rattle.std.proofs.Math.Nat.{mul-le-mul_right}
+use Rattle.std.proofs.lemmas.Bool.{cases_lt, lt-ltb, le-ltb}
+use Rattle.std.proofs.lemmas.List.{get_or-take, get_or-drop, length-map, length-append, length-drop, length-take-le, get_or_append_left, get_or-append_right, get_or_at, map-append, take-map}
+use Rattle.std.specs.List.{drop-map}
+use borrow.Rule.Slice.PartMut.{put_mid, post_of}
+use Rattle.bench_types.specs.declared.limits.TheConstants.{MOST_NODES, MOST_KEYS}
+use Rattle.planes.specs.inner.Elementwise.{AreChanged}
+use Rattle.planes.specs.Sums.{sum_below}
+use Rattle.planes.specs.Planes.{Cells}
+use Rattle.planes.specs.Planes.{IsLeastAbove, HasNoneAbove, count_between}
+use Rattle.planes.specs.Planes.{cell, next_above, total_of, IsLowered, IsGrid, HasEach, IsNextAbove, ArePlanesChangedUpto, ArePlanesChanged}
+use Rattle.planes.proofs.Counts.{count_le}
+use Rattle.planes.proofs.Sums.{sum_below-same, sum_below-turned}
+
+-- a key's plane lies within the planes
+pub plane-within : (nodes keys size key : ℕ) → IsGrid nodes keys size → key < keys → key * nodes + nodes ≤ size
+plane-within nodes keys size key grid lt = omega (arith, grid.whole, mul-le-mul_right {m = key + 1} {n = keys} nodes (omega (arith, lt)))
+
+pub grid-room : (nodes keys size : ℕ) → IsGrid nodes keys size → size ≤ MOST_KEYS * MOST_NODES
+grid-room nodes keys size grid = omega (arith, grid.whole, mul-le-mul_right {m = keys} {n = MOST_KEYS} nodes grid.few_keys, grid.few_nodes)
+
+-- numbers of which each is the same
+pub each-same : {N : Type 0} (number : N → ℕ) (nodes n : ℕ) (xs : List N) (is : ℕ → ℕ → Type 0) → length xs ≡ nodes
+    → ((r : ℕ) → r < nodes → get_or (map number xs) r 0 ≡ n) → ((r : ℕ) → r < nodes → is r n) → HasEach nodes is (map number xs)
+each-same number nodes n xs is size same here = record {
+  size = length-map xs number ∙ size;
+  each = λ r lt. subst (is r) (sym (same r lt)) (here r lt);
+}
+
+-- one more plane is counted
+pub each-next : (nodes : ℕ) (is next : ℕ → ℕ → Type 0) (changed : ℕ → ℕ → ℕ → Type 0) (old new : List ℕ) → HasEach nodes is old → AreChanged changed old new
+    → ((r x y : ℕ) → r < nodes → is r x → changed r x y → next r y) → HasEach nodes next new
+each-next nodes is next changed old new before now step = record {
+  size = now.size ∙ before.size;
+  each = λ r lt. step r (get_or old r 0) (get_or new r 0) lt (before.each r lt) (now.each r (omega (arith, lt, before.size)));
+}
+
+pub sum_suc : (f : ℕ → ℕ) (key x y z : ℕ) → x ≡ sum_below key f → y ≡ x + z → z ≡ f key → y ≡ sum_below (key + 1) f
+sum_suc f key x y z is now here = now ∙ (λ i. is i + here i) ∙ ap (λ n. sum_below n f) {x = suc key} {y = key + 1} (omega arith)
+
+-- two tests as one
+both-tests : (a b : Bool) → ◌≡◌ {A = ℕ} (cond (a && b) 1 0) (cond a (cond b 1 0) 0)
+both-tests true b = refl
+both-tests false b = refl
+
+pub between-tests : (low mark n : ℕ) → ◌≡◌ {A = ℕ} (cond (nat_lt low n && nat_le n mark) 1 0) (cond (nat_lt low n) (cond (nat_le n mark) 1 0) 0)
+between-tests low mark n = both-tests (nat_lt low n) (nat_le n mark)
+
+-- the least above a mark, of one key more
+pub least-none : (most : ℕ) (cells : Cells) (owner mark : ℕ) → (most ≤ most) × IsNextAbove most cells 0 owner mark most
+least-none most cells owner mark = (omega arith, inl ((λ k lt. absurd (omega (arith, lt))), refl))
+
+module _ (most : ℕ) (cells : Cells) (key owner mark x y : ℕ) (fits : x ≤ most) (now : IsLowered most mark (cells owner key) x y) where
+  new-least : (found : next_above most mark (cells owner key) ≡ cells owner key) (above : mark < cells owner key) → HasNoneAbove cells key owner mark → x ≡ most → IsLeastAbove cells (key + 1) owner mark y
+  new-least found above none is =
+      let same : cells owner key ≡ y = omega (arith, now.lowered, now.fits, found, is) in
+      record {
+        key = key;
+        below = omega arith;
+        is = same;
+        above = omega (arith, above, same);
+        no_less = λ k lt over. elim (cases_lt k key) [
+          | inl before ↦ absurd (omega (arith, over, none k before))
+          | inr not_before ↦ subst (λ j. y ≤ cells owner j) {x = key} {y = k} (omega (arith, lt, not_before)) (omega (arith, same))
+        ];
+      }
+
+  lower-least : (found : next_above most mark (cells owner key) ≡ cells owner key) (above : mark < cells owner key) → IsLeastAbove cells key owner mark x → IsLeastAbove cells (key + 1) owner mark y
+  lower-least found above some = elim (cases_lt (cells owner key) x) [
+    | inl lower ↦
+        let same : cells owner key ≡ y = omega (arith, now.lowered, found, lower) in
+        record {
+          key = key;
+          below = omega arith;
+          is = same;
+          above = omega (arith, above, same);
+          no_less = λ k lt over. elim (cases_lt k key) [
+            | inl before ↦ omega (arith, same, lower, some.no_less k before over)
+            | inr not_before ↦ subst (λ j. y ≤ cells owner j) {x = key} {y = k} (omega (arith, lt, not_before)) (omega (arith, same))
+          ];
+        }
+    | inr not_lower ↦
+        let same : x ≡ y = omega (arith, now.lowered, found, not_lower) in
+        record {
+          key = some.key;
+          below = omega (arith, some.below);
+          is = some.is ∙ same;
+          above = omega (arith, some.above, same);
+          no_less = λ k lt over. elim (cases_lt k key) [
+            | inl before ↦ omega (arith, same, some.no_less k before over)
+            | inr not_before ↦ subst (λ j. y ≤ cells owner j) {x = key} {y = k} (omega (arith, lt, not_before)) (omega (arith, same, not_lower))
+          ];
+        }
+  ]
+
+  same-none : (upto : cells owner key ≤ mark) → HasNoneAbove cells key owner mark → HasNoneAbove cells (key + 1) owner mark
+  same-none upto none k lt = elim (cases_lt k key) [
+    | inl before ↦ none k before
+    | inr not_before ↦ subst (λ j. cells owner j ≤ mark) {x = key} {y = k} (omega (arith, lt, not_before)) upto
+  ]
+
+  same-least : (upto : cells owner key ≤ mark) (same : x ≡ y) → IsLeastAbove cells key owner mark x → IsLeastAbove cells (key + 1) owner mark y
+  same-least upto same some = record {
+    key = some.key;
+    below = omega (arith, some.below);
+    is = some.is ∙ same;
+    above = omega (arith, some.above, same);
+    no_less = λ k lt over. elim (cases_lt k key) [
+      | inl before ↦ omega (arith, same, some.no_less k before over)
+      | inr not_before ↦ absurd (omega (arith, over, subst (λ j. cells owner j ≤ mark) {x = key} {y = k} (omega (arith, lt, not_before)) upto))
+    ];
+  }
+
+  next-least : IsNextAbove most cells key owner mark x → IsNextAbove most cells (key + 1) owner mark y
+  next-least before = elim (cases_lt mark (cells owner key)) [
+    | inl above ↦
+        let found : next_above most mark (cells owner key) ≡ cells owner key = ap (λ b. cond b (cells owner key) most) (lt-ltb mark (cells owner key) above) in
+        elim before [
+          | inl none ↦ inr (new-least found above none.0 none.1)
+          | inr some ↦ inr (lower-least found above some)
+        ]
+    | inr not_above ↦
+        let upto : cells owner key ≤ mark = omega (arith, not_above) in
+        let found : next_above most mark (cells owner key) ≡ most = ap (λ b. cond b (cells owner key) most) (le-ltb mark (cells owner key) upto) in
+        let same : x ≡ y = omega (arith, now.lowered, found, fits) in
+        elim before [
+          | inl none ↦ inl (same-none upto none.0, sym same ∙ none.1)
+          | inr some ↦ inr (same-least upto same some)
+        ]
+  ]
+
+  pub least-next : IsNextAbove most cells key owner mark x → (y ≤ most) × IsNextAbove most cells (key + 1) owner mark y
+  least-next before = (omega (arith, now.lowered, fits), next-least before)
+
+-- sums of planes
+pub total_suc : (f : ℕ → ℕ) (key x z : ℕ) → x ≡ sum_below key f → z ≡ f key → x + z ≡ sum_below (key + 1) f
+total_suc f key x z is here = (λ i. is i + here i) ∙ ap (λ n. sum_below n f) {x = suc key} {y = key + 1} (omega arith)
+
+pub plane_count : (nodes : ℕ) (one other : ℕ → Bool) (n x : ℕ) → n ≡ nodes → x ≡ sum_below n (λ r. cond (one r) 1 0) → ((r : ℕ) → r < nodes → one r ≡ other r) → x ≡ sum_below nodes (λ r. cond (other r) 1 0)
+plane_count nodes one other n x size is same = is ∙ ap (λ m. sum_below m (λ r. cond (one r) 1 0)) size ∙ sum_below-same nodes _ _ (λ r lt. ap (λ b. cond b 1 0) (same r lt))
+
+sums_le : (nodes keys : ℕ) (test : ℕ → ℕ → Bool) → nodes ≤ MOST_NODES → sum_below keys (λ k. sum_below nodes (λ r. cond (test r k) 1 0)) ≤ keys * MOST_NODES
+sums_le nodes zero test few = omega arith
+sums_le nodes (suc keys) test few = omega (arith, sums_le nodes keys test few, count_le nodes (λ r. test r keys), few)
+
+pub total_fits : (nodes keys key : ℕ) (test : ℕ → ℕ → Bool) (x z : ℕ) → nodes ≤ MOST_NODES → keys ≤ MOST_KEYS → key < keys → x ≡ sum_below key (λ k. sum_below nodes (λ r. cond (test r k) 1 0)) → z ≡ sum_below nodes (λ r. cond (test r key) 1 0) → Fits w32 (x + z)
+total_fits nodes keys key test x z few_nodes few_keys lt is now = omega (arith, is, now, lt, few_nodes, few_keys, sums_le nodes key test few_nodes, count_le nodes (λ r. test r key))
+
+pub total_whole : (nodes keys key : ℕ) (test : ℕ → ℕ → Bool) (x : ℕ) → x ≡ sum_below key (λ k. sum_below nodes (λ r. cond (test r k) 1 0)) → keys ≤ key → key ≤ keys → x ≡ total_of nodes keys test
+total_whole nodes keys key test x is le ge =
+    is
+    ∙ ap (λ m. sum_below m (λ k. sum_below nodes (λ r. cond (test r k) 1 0))) {x = key} {y = keys} (omega (arith, le, ge))
+    ∙ sum_below-turned keys nodes (λ k r. cond (test r k) 1 0)
+
+-- a block that is written among planes
+module _ (start nodes : ℕ) (xs ys : List ℕ) (within : start + nodes ≤ length xs) (size : length ys ≡ nodes) where
+  front : length (take start xs) ≡ start
+  front = length-take-le start xs (omega (arith, within))
+
+  laid-before : (i : ℕ) → i < start → get_or (put_mid start nodes xs ys) i 0 ≡ get_or xs i 0
+  laid-before i lt = get_or_append_left (take start xs) (ys ++ post_of start nodes xs) 0 i (omega (arith, lt, front)) ∙ get_or-take start xs i 0 lt
+
+  laid-here : (r : ℕ) → r < nodes → get_or (put_mid start nodes xs ys) (start + r) 0 ≡ get_or ys r 0
+  laid-here r lt =
+      get_or-append_right (take start xs) (ys ++ post_of start nodes xs) start (start + r) 0 front (omega arith)
+      ∙ ap (λ j. get_or (ys ++ post_of start nodes xs) j 0) {x = start + r - start} {y = r} (omega arith)
+      ∙ get_or_append_left ys (post_of start nodes xs) 0 r (omega (arith, lt, size))
+
+  laid-behind : (i : ℕ) → start + nodes ≤ i → get_or (put_mid start nodes xs ys) i 0 ≡ get_or xs i 0
+  laid-behind i le =
+      get_or-append_right (take start xs) (ys ++ post_of start nodes xs) start i 0 front (omega (arith, le))
+      ∙ get_or-append_right ys (post_of start nodes xs) nodes (i - start) 0 size (omega (arith, le))
+      ∙ get_or-drop nodes (drop start xs) (i - start - nodes) 0
+      ∙ get_or-drop start xs (nodes + (i - start - nodes)) 0
+      ∙ ap (λ j. get_or xs j 0) {x = start + (nodes + (i - start - nodes))} {y = i} (omega (arith, le))
+
+  laid-length : length (put_mid start nodes xs ys) ≡ length xs
+  laid-length = omega (arith, length-append (take start xs) (ys ++ post_of start nodes xs), length-append ys (post_of start nodes xs), length-drop nodes (drop start xs), length-drop start xs, front, size, within)
+
+map-put_mid : {N : Type 0} (number : N → ℕ) (start nodes : ℕ) (xs ys : List N) → map number (put_mid start nodes xs ys) ≡ put_mid start nodes (map number xs) (map number ys)
+map-put_mid number start nodes xs ys =
+    map-append number (take start xs) (ys ++ post_of start nodes xs)
+    ∙ (λ i. sym (take-map number start xs) i ++ map-append number ys (post_of start nodes xs) i)
+    ∙ (λ i. take start (map number xs) ++ (map number ys ++ (sym (drop-map number nodes (drop start xs)) ∙ ap (drop nodes) (sym (drop-map number start xs))) i))
+
+-- one more plane is changed
+module _ (changed : ℕ → ℕ → ℕ → ℕ → Type 0) (nodes : ℕ) (old : List ℕ) where
+  pub planes-none : ArePlanesChangedUpto changed nodes old old 0
+  planes-none = record { size = refl; below = λ r k lt below. absurd (omega (arith, below)); from = λ i le. refl }
+
+  planes_step : (xs ys : List ℕ) (key : ℕ) → ArePlanesChangedUpto changed nodes old xs key → key * nodes + nodes ≤ length old
+      → length ys ≡ nodes → ((r : ℕ) → r < nodes → changed r key (cell old nodes r key) (get_or ys r 0))
+      → ArePlanesChangedUpto changed nodes old (put_mid (key * nodes) nodes xs ys) (key + 1)
+  planes_step xs ys key before within size now = record {
+    size = laid-length (key * nodes) nodes xs ys room size ∙ before.size;
+    below = λ r k lt below. elim (cases_lt k key) [
+      | inl earlier ↦
+          let inside : k * nodes + r < key * nodes = omega (arith, lt, mul-le-mul_right {m = k + 1} {n = key} nodes (omega (arith, earlier))) in
+          subst (changed r k (cell old nodes r k)) (sym (laid-before (key * nodes) nodes xs ys room size (k * nodes + r) inside)) (before.below r k lt earlier)
+      | inr not_earlier ↦
+          subst (λ j. changed r j (cell old nodes r j) (cell (put_mid (key * nodes) nodes xs ys) nodes r j)) {x = key} {y = k} (omega (arith, below, not_earlier))
+          (subst (changed r key (cell old nodes r key)) (sym (laid-here (key * nodes) nodes xs ys room size r lt)) (now r lt))
+    ];
+    from = λ i le. laid-behind (key * nodes) nodes xs ys room size i (omega (arith, le)) ∙ before.from i (omega (arith, le));
+  }
+    where
+      room : key * nodes + nodes ≤ length xs
+      room = omega (arith, within, before.size)
+
+  pub planes-next : {N : Type 0} (number : N → ℕ) (xs ys : List N) (key : ℕ) → ArePlanesChangedUpto changed nodes old (map number xs) key → key * nodes + nodes ≤ length old
+      → length (map number ys) ≡ nodes → ((r : ℕ) → r < nodes → changed r key (cell old nodes r key) (get_or (map number ys) r 0))
+      → ArePlanesChangedUpto changed nodes old (map number (put_mid (key * nodes) nodes xs ys)) (key + 1)
+  planes-next number xs ys key before within size now =
+      subst (λ zs. ArePlanesChangedUpto changed nodes old zs (key + 1)) (sym (map-put_mid number (key * nodes) nodes xs ys)) (planes_step (map number xs) (map number ys) key before within size now)
+
+  pub planes-all : (xs : List ℕ) (keys key : ℕ) → ArePlanesChangedUpto changed nodes old xs key → keys ≤ key → ArePlanesChanged changed nodes keys old xs
+  planes-all xs keys key is le = record { size = is.size; each = λ r k lt below. is.below r k lt (omega (arith, below, le)) }
+
+-- a plane of planes
+plane_cells : {N : Type 0} (number : N → ℕ) (nodes key : ℕ) (xs : List N) → key * nodes + nodes ≤ length xs → HasEach nodes (λ r n. n ≡ cell (map number xs) nodes r key) (map number (take nodes (drop (key * nodes) xs)))
+plane_cells number nodes key xs within = record {
+  size = length-map (take nodes (drop (key * nodes) xs)) number ∙ length-take-le nodes (drop (key * nodes) xs) (omega (arith, length-drop (key * nodes) xs, within));
+  each = λ r lt.
+      ap (λ zs. get_or zs r 0) (sym (ap (take nodes) (drop-map number (key * nodes) xs) ∙ take-map number nodes (drop (key * nodes) xs)))
+      ∙ get_or-take nodes (drop (key * nodes) (map number xs)) r 0 lt
+      ∙ get_or-drop (key * nodes) (map number xs) r 0;
+}
+
+pub plane-cells : {N : Type 0} (number : N → ℕ) (nodes key n : ℕ) (xs : List N) → n ≡ nodes → key * nodes + nodes ≤ length xs → HasEach nodes (λ r m. m ≡ cell (map number xs) nodes r key) (map number (take n (drop (key * nodes) xs)))
+plane-cells number nodes key n xs is within =
+    subst (λ k. HasEach nodes (λ r m. m ≡ cell (map number xs) nodes r key) (map number (take k (drop (key * nodes) xs)))) (sym is) (plane_cells number nodes key xs within)
+
+-- a block of planes is changed number by number
+pub planes-written : (changed : ℕ → ℕ → ℕ → ℕ → Type 0) (nodes : ℕ) (old : List ℕ) {N : Type 0} (number : N → ℕ) (xs ys : List N) (key n : ℕ) (in_block : ℕ → ℕ → ℕ → Type 0)
+    → n ≡ nodes → ArePlanesChangedUpto changed nodes old (map number xs) key → key * nodes + nodes ≤ length old
+    → AreChanged in_block (map number (take n (drop (key * nodes) xs))) (map number ys)
+    → ((r x y : ℕ) → r < nodes → in_block r x y → changed r key x y)
+    → ArePlanesChangedUpto changed nodes old (map number (put_mid (key * nodes) n xs ys)) (key + 1)
+planes-written changed nodes old number xs ys key n in_block is before within now step =
+    let room : key * nodes + nodes ≤ length xs = omega (arith, within, before.size, length-map xs number) in
+    let block = plane-cells number nodes key n xs is room in
+    subst (λ k. ArePlanesChangedUpto changed nodes old (map number (put_mid (key * nodes) k xs ys)) (key + 1)) (sym is)
+    (planes-next changed nodes old number xs ys key before within (now.size ∙ block.size)
+    (λ r lt. step r _ _ lt (subst (λ x. in_block r x (get_or (map number ys) r 0)) (block.each r lt ∙ before.from (key * nodes + r) (omega arith)) (now.each r (omega (arith, lt, block.size))))))
+
+-- room to count one more
+pub room-left : {N : Type 0} (number : N → ℕ) (nodes key keys most : ℕ) (xs : List N) (test : ℕ → ℕ → Bool) → HasEach nodes (λ r n. n ≡ sum_below key (λ k. cond (test r k) 1 0)) (map number xs) → key < keys → keys ≤ MOST_KEYS → MOST_KEYS ≤ most
+    → (r : ℕ) → r < length xs → get_or (map number xs) r 0 < most
+room-left number nodes key keys most xs test is lt few room r in_range =
+    omega (arith, is.each r (omega (arith, in_range, is.size, length-map xs number)), count_le key (test r), lt, few, room)
+
+-- a loop over keys has come to its end
+pub each-whole : (is : ℕ → ℕ → ℕ → Type 0) (nodes key keys : ℕ) (xs : List ℕ) → keys ≤ key → key ≤ keys → HasEach nodes (is key) xs → HasEach nodes (is keys) xs
+each-whole is nodes key keys xs le ge before = subst (λ k. HasEach nodes (is k) xs) {x = key} {y = keys} (omega (arith, le, ge)) before
+
+pub each-other : (nodes : ℕ) (is other : ℕ → ℕ → Type 0) (xs : List ℕ) → ((r n : ℕ) → is r n → other r n) → HasEach nodes is xs → HasEach nodes other xs
+each-other nodes is other xs step before = record { size = before.size; each = λ r lt. step r _ (before.each r lt) }
+
+pub between-sums : (cells : Cells) (keys owner low mark : ℕ) → ◌≡◌ {A = ℕ} (sum_below keys (λ k. cond (nat_lt low (cells owner k) && nat_le (cells owner k) mark) 1 0)) (count_between cells keys owner low mark)
+between-sums cells keys owner low mark = sum_below-same keys _ _ (λ k lt. between-tests low mark (cells owner k))
+
+pub each-start : (nodes most : ℕ) (cells : Cells) (mark : ℕ → ℕ) (xs : List ℕ) → HasEach nodes (λ r n. n ≡ most) xs → HasEach nodes (λ r n. (n ≤ most) × IsNextAbove most cells 0 r (mark r) n) xs
+each-start nodes most cells mark xs start = record {
+  size = start.size;
+  each = λ r lt. subst (λ n. (n ≤ most) × IsNextAbove most cells 0 r (mark r) n) (sym (start.each r lt)) (least-none most cells r (mark r));
+}
+
+-- one more number that is the same
+pub each-pushed : {N : Type 0} (number : N → ℕ) (xs : List N) (x : N) (n m : ℕ) → HasEach n (λ r k. k ≡ m) (map number xs) → number x ≡ m → HasEach (n + 1) (λ r k. k ≡ m) (map number (xs ++ x ∷ []))
+each-pushed number xs x n m before is = record {
+  size = ap length mapped ∙ omega (arith, length-append (map number xs) (number x ∷ []), before.size);
+  each = λ r lt. ap (λ ys. get_or ys r 0) mapped ∙ elim (cases_lt r n) [
+    | inl earlier ↦ get_or_append_left (map number xs) (number x ∷ []) 0 r (omega (arith, earlier, before.size)) ∙ before.each r earlier
+    | inr not_earlier ↦ get_or_at (map number xs) (number x) [] 0 r (omega (arith, before.size, lt, not_earlier)) ∙ is
+  ];
+}
+  where
+    mapped : map number (xs ++ x ∷ []) ≡ map number xs ++ number x ∷ []
+    mapped = map-append number xs (x ∷ [])

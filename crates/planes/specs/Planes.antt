@@ -1,0 +1,85 @@
+-- What loops over planes do to one number. Source: this project.
+use Rattle.std.specs.Prelude.{◌≡◌, ◌⊎◌, ℕ, ◌+◌, ◌*◌, ◌<◌, ◌≤◌, ◌&&◌, Bool, List, length, max, min, nat_lt, nat_le, slice_index, if◌then◌else◌}
+use Rattle.bench_types.specs.declared.limits.TheConstants.{MOST_NODES, MOST_KEYS}
+use Rattle.planes.specs.Sums.{sum_below}
+
+-- numbers by owner and key
+abbrev pub Cells : Type 0
+Cells = ℕ → ℕ → ℕ
+
+-- how many of an owner's numbers are above a mark
+abbrev pub count_above : Cells → ℕ → ℕ → ℕ → ℕ
+count_above cells keys owner mark = sum_below keys (λ key. if nat_lt mark (cells owner key) then 1 else 0)
+
+-- how many of an owner's numbers are above one mark and up to another
+abbrev pub count_between : Cells → ℕ → ℕ → ℕ → ℕ → ℕ
+count_between cells keys owner low mark =
+    sum_below keys (λ key. if nat_lt low (cells owner key) then (if nat_le (cells owner key) mark then 1 else 0) else 0)
+
+-- the least of an owner's numbers above a mark, which is that of a key
+pub record IsLeastAbove (cells : Cells) (keys owner mark least : ℕ) : Type 0 where
+  pub key : ℕ
+  pub below : key < keys
+  pub is : cells owner key ≡ least
+  pub above : mark < least
+  pub no_less : (k : ℕ) → k < keys → mark < cells owner k → least ≤ cells owner k
+
+abbrev pub HasNoneAbove : Cells → ℕ → ℕ → ℕ → Type 0
+HasNoneAbove cells keys owner mark = (k : ℕ) → k < keys → cells owner k ≤ mark
+
+-- a number where it is above a mark, else the most
+abbrev pub next_above : ℕ → ℕ → ℕ → ℕ
+next_above most low number = if nat_lt low number then number else most
+
+-- y is x lowered to the next above a mark, which is no more than the most
+pub record IsLowered (most low number x y : ℕ) : Type 0 where
+  pub lowered : y ≡ min x (next_above most low number)
+  pub fits : next_above most low number ≤ most
+
+-- a number that is above both the peer's and a mark
+abbrev pub number_ahead : ℕ → ℕ → ℕ → ℕ
+number_ahead number peer low = if nat_lt (max peer low) number then number else 0
+
+-- a number raised to a sent one that is above one mark and up to another
+abbrev pub number_taken : ℕ → ℕ → ℕ → ℕ → ℕ
+number_taken number sent low high = max number (if nat_lt low sent && nat_le sent high then sent else 0)
+
+-- the number of a key of an owner, in planes one after another
+abbrev pub cell : List ℕ → ℕ → Cells
+cell xs nodes owner key = slice_index xs (key * nodes + owner)
+
+-- planes of so many nodes, one for each key
+pub record IsGrid (nodes keys size : ℕ) : Type 0 where
+  pub whole : size ≡ keys * nodes
+  pub few_nodes : nodes ≤ MOST_NODES
+  pub few_keys : keys ≤ MOST_KEYS
+
+-- numbers, one for each node, of which each is as a relation of index and number says
+pub record HasEach (nodes : ℕ) (is : ℕ → ℕ → Type 0) (xs : List ℕ) : Type 0 where
+  pub size : length xs ≡ nodes
+  pub each : (r : ℕ) → r < nodes → is r (slice_index xs r)
+
+-- the least number above a mark, or the most where there is none
+abbrev pub IsNextAbove : ℕ → Cells → ℕ → ℕ → ℕ → ℕ → Type 0
+IsNextAbove most cells keys owner mark least =
+    (HasNoneAbove cells keys owner mark × (least ≡ most)) ⊎ IsLeastAbove cells keys owner mark least
+
+-- how many places pass a test of owner and key
+abbrev pub total_of : ℕ → ℕ → (ℕ → ℕ → Bool) → ℕ
+total_of nodes keys test = sum_below nodes (λ owner. sum_below keys (λ key. if test owner key then 1 else 0))
+
+-- the planes of the keys below a bound are changed as a relation of owner, key, old and new number says, and the others aren't
+pub record ArePlanesChangedUpto (changed : ℕ → ℕ → ℕ → ℕ → Type 0) (nodes : ℕ) (old new : List ℕ) (bound : ℕ) : Type 0 where
+  pub size : length new ≡ length old
+  pub below : (owner key : ℕ) → owner < nodes → key < bound → changed owner key (cell old nodes owner key) (cell new nodes owner key)
+  pub from : (i : ℕ) → bound * nodes ≤ i → slice_index new i ≡ slice_index old i
+
+-- and so for all keys
+pub record ArePlanesChanged (changed : ℕ → ℕ → ℕ → ℕ → Type 0) (nodes keys : ℕ) (old new : List ℕ) : Type 0 where
+  pub size : length new ≡ length old
+  pub each : (owner key : ℕ) → owner < nodes → key < keys → changed owner key (cell old nodes owner key) (cell new nodes owner key)
+
+-- planes of which each number is as a relation of owner, key and number says
+pub record HasEachPlace (nodes keys : ℕ) (is : ℕ → ℕ → ℕ → Type 0) (xs : List ℕ) : Type 0 where
+  pub size : length xs ≡ keys * nodes
+  pub each : (owner key : ℕ) → owner < nodes → key < keys → is owner key (cell xs nodes owner key)

@@ -1,0 +1,263 @@
+//! Loops over all planes of a table: `cells[key * nodes + owner]`.
+
+ghost use Rattle.std.specs.Prelude.{◌≡◌, ℕ, ◌+◌, ◌*◌, ◌<◌, ◌≤◌, ◌&&◌, length, map, nat_le, nat_lt, slice_index, IfOk, IsOkUnless};
+ghost use Rattle.bench_types.specs.declared.faults.Fault.TheVariants.{OutOfMemory};
+ghost use Rattle.bench_types.specs.declared.limits.TheConstants.{MOST_NODES, MOST_KEYS};
+ghost use Rattle.planes.specs.Planes.{count_above};
+ghost use Rattle.planes.specs.Planes.{cell, number_ahead, number_taken, total_of, ArePlanesChanged, HasEach, HasEachPlace, IsGrid, IsNextAbove};
+ghost use Rattle.planes.specs.Planes.{count_between};
+
+use crate::numbers::Number;
+use crate::planes;
+use bench_types::Fault;
+use std::alloc::Global;
+
+// The plane of a key.
+fn plane_of<N: Number>(cells: &[N], nodes: usize, key: usize) -> &[N]
+    requires within { key * nodes + nodes ≤ length cells.now }
+    requires room { length cells.now ≤ MOST_KEYS * MOST_NODES }
+    ensures { HasEach nodes (λ r n. n ≡ cell (map N.number cells.now) nodes r key) (map N.number result.now) }
+{
+    let start = key * nodes;
+    &cells[start..start + nodes]
+}
+
+// So many times the same number.
+fn all_of<N: Number>(alloc: Global, count: usize, number: N) -> Result<Vec<N>, Fault>
+    ensures numbers { IfOk result (λ v. HasEach count (λ r n. n ≡ N.number number) (map N.number v.items)) }
+    ensures only { IsOkUnless result OutOfMemory }
+{
+    let mut numbers = Vec::with_capacity(alloc, count)?;
+    for done in 0..count {
+        numbers.push(number)?;
+    }
+    Ok(numbers)
+}
+
+// Counts for each owner how many of its numbers are above a mark.
+fn count_planes_above<N: Number>(
+    counts: &mut [N],
+    cells: &[N],
+    nodes: usize,
+    keys: usize,
+    low: &[N],
+)
+    requires grid { IsGrid nodes keys (length cells.now) }
+    requires low { length low.now ≡ nodes }
+    requires counts { HasEach nodes (λ r n. n ≡ 0) (map N.number counts.old) }
+    ensures counts { HasEach nodes (λ r n. n ≡ count_above (cell (map N.number cells.now) nodes) keys r (slice_index (map N.number low.now) r)) (map N.number counts.new) }
+{
+    for key in 0..keys {
+        let plane = plane_of(cells, nodes, key);
+        planes::count_above(counts, plane, low);
+    }
+}
+
+// Counts for each owner how many of its numbers are above one mark and up to another.
+fn count_planes_between<N: Number>(
+    counts: &mut [N],
+    cells: &[N],
+    nodes: usize,
+    keys: usize,
+    low: &[N],
+    high: &[N],
+)
+    requires grid { IsGrid nodes keys (length cells.now) }
+    requires low { length low.now ≡ nodes }
+    requires high { length high.now ≡ nodes }
+    requires counts { HasEach nodes (λ r n. n ≡ 0) (map N.number counts.old) }
+    ensures counts { HasEach nodes (λ r n. n ≡ count_between (cell (map N.number cells.now) nodes) keys r (slice_index (map N.number low.now) r) (slice_index (map N.number high.now) r)) (map N.number counts.new) }
+{
+    for key in 0..keys {
+        let plane = plane_of(cells, nodes, key);
+        planes::count_between(counts, plane, low, high);
+    }
+}
+
+// Lowers the most to the least of each owner's numbers above a mark.
+fn lower_planes<N: Number>(least: &mut [N], cells: &[N], nodes: usize, keys: usize, low: &[N])
+    requires grid { IsGrid nodes keys (length cells.now) }
+    requires low { length low.now ≡ nodes }
+    requires least { HasEach nodes (λ r n. n ≡ N.most) (map N.number least.old) }
+    ensures least { HasEach nodes (λ r n. IsNextAbove N.most (cell (map N.number cells.now) nodes) keys r (slice_index (map N.number low.now) r) n) (map N.number least.new) }
+{
+    for key in 0..keys {
+        let plane = plane_of(cells, nodes, key);
+        planes::lower_to_next(least, plane, low);
+    }
+}
+
+/// For each owner how many of its numbers are above a mark.
+pub fn counts_above<N: Number>(
+    alloc: Global,
+    cells: &[N],
+    nodes: usize,
+    keys: usize,
+    low: &[N],
+) -> Result<Vec<N>, Fault>
+    requires grid { IsGrid nodes keys (length cells.now) }
+    requires low { length low.now ≡ nodes }
+    ensures counts { IfOk result (λ v. HasEach nodes
+        (λ r n. n ≡ count_above (cell (map N.number cells.now) nodes) keys r (slice_index (map N.number low.now) r)) (map N.number v.items)) }
+    ensures only { IsOkUnless result OutOfMemory }
+{
+    let mut counts = all_of(alloc, nodes, N::zero())?;
+    count_planes_above(&mut counts, cells, nodes, keys, low);
+    Ok(counts)
+}
+
+/// For each owner how many of its numbers are above one mark and up to another.
+pub fn counts_between<N: Number>(
+    alloc: Global,
+    cells: &[N],
+    nodes: usize,
+    keys: usize,
+    low: &[N],
+    high: &[N],
+) -> Result<Vec<N>, Fault>
+    requires grid { IsGrid nodes keys (length cells.now) }
+    requires low { length low.now ≡ nodes }
+    requires high { length high.now ≡ nodes }
+    ensures counts { IfOk result (λ v. HasEach nodes
+        (λ r n. n ≡ count_between (cell (map N.number cells.now) nodes) keys r (slice_index (map N.number low.now) r)
+        (slice_index (map N.number high.now) r)) (map N.number v.items)) }
+    ensures only { IsOkUnless result OutOfMemory }
+{
+    let mut counts = all_of(alloc, nodes, N::zero())?;
+    count_planes_between(&mut counts, cells, nodes, keys, low, high);
+    Ok(counts)
+}
+
+/// For each owner the least of its numbers above a mark, or `N::greatest()` where there is none.
+pub fn least_above<N: Number>(
+    alloc: Global,
+    cells: &[N],
+    nodes: usize,
+    keys: usize,
+    low: &[N],
+) -> Result<Vec<N>, Fault>
+    requires grid { IsGrid nodes keys (length cells.now) }
+    requires low { length low.now ≡ nodes }
+    ensures least { IfOk result (λ v. HasEach nodes
+        (λ r n. IsNextAbove N.most (cell (map N.number cells.now) nodes) keys r (slice_index (map N.number low.now) r) n) (map N.number v.items)) }
+    ensures only { IsOkUnless result OutOfMemory }
+{
+    let mut least = all_of(alloc, nodes, N::greatest())?;
+    lower_planes(&mut least, cells, nodes, keys, low);
+    Ok(least)
+}
+
+// Puts the numbers that are above both the peer's and their owner's mark, and 0 in place of the others.
+fn put_planes_ahead<N: Number>(
+    ahead: &mut [N],
+    cells: &[N],
+    peer: &[N],
+    nodes: usize,
+    keys: usize,
+    low: &[N],
+)
+    requires grid { IsGrid nodes keys (length ahead.old) }
+    requires cells { length cells.now ≡ length ahead.old }
+    requires peer { length peer.now ≡ length ahead.old }
+    requires low { length low.now ≡ nodes }
+    ensures ahead { ArePlanesChanged (λ r k x y. y ≡ number_ahead (cell (map N.number cells.now) nodes r k) (cell (map N.number peer.now) nodes r k)
+        (slice_index (map N.number low.now) r)) nodes keys
+        (map N.number ahead.old) (map N.number ahead.new) }
+{
+    for key in 0..keys {
+        let plane = plane_of(cells, nodes, key);
+        let of_peer = plane_of(peer, nodes, key);
+        let start = key * nodes;
+        let block = &mut ahead[start..start + nodes];
+        planes::put_ahead(block, plane, of_peer, low);
+    }
+}
+
+/// The numbers that are above both the peer's and their owner's mark, and 0 in place of the others.
+pub fn ahead<N: Number>(
+    alloc: Global,
+    cells: &[N],
+    peer: &[N],
+    nodes: usize,
+    keys: usize,
+    low: &[N],
+) -> Result<Vec<N>, Fault>
+    requires grid { IsGrid nodes keys (length cells.now) }
+    requires peer { length peer.now ≡ length cells.now }
+    requires low { length low.now ≡ nodes }
+    ensures ahead { IfOk result (λ v. HasEachPlace nodes keys
+        (λ r k n. n ≡ number_ahead (cell (map N.number cells.now) nodes r k) (cell (map N.number peer.now) nodes r k)
+        (slice_index (map N.number low.now) r)) (map N.number v.items)) }
+    ensures only { IsOkUnless result OutOfMemory }
+{
+    let mut ahead = all_of(alloc, cells.len(), N::zero())?;
+    put_planes_ahead(&mut ahead, cells, peer, nodes, keys, low);
+    Ok(ahead)
+}
+
+/// How many numbers are above their owners' marks.
+pub fn total_above<N: Number>(cells: &[N], nodes: usize, keys: usize, low: &[N]) -> u32
+    requires grid { IsGrid nodes keys (length cells.now) }
+    requires low { length low.now ≡ nodes }
+    ensures { result ≡ total_of nodes keys (λ r k. nat_lt (slice_index (map N.number low.now) r) (cell (map N.number cells.now) nodes r k)) }
+{
+    let mut total = 0;
+    for key in 0..keys {
+        let plane = plane_of(cells, nodes, key);
+        total += planes::how_many_above(plane, low);
+    }
+    total
+}
+
+/// How many numbers are not 0.
+pub fn total_held<N: Number>(cells: &[N], nodes: usize, keys: usize) -> u32
+    requires grid { IsGrid nodes keys (length cells.now) }
+    ensures { result ≡ total_of nodes keys (λ r k. nat_lt 0 (cell (map N.number cells.now) nodes r k)) }
+{
+    let mut total = 0;
+    for key in 0..keys {
+        let plane = plane_of(cells, nodes, key);
+        total += planes::how_many_held(plane);
+    }
+    total
+}
+
+/// How many numbers are not 0 and up to their owners' marks.
+pub fn total_upto<N: Number>(cells: &[N], nodes: usize, keys: usize, high: &[N]) -> u32
+    requires grid { IsGrid nodes keys (length cells.now) }
+    requires high { length high.now ≡ nodes }
+    ensures { result ≡ total_of nodes keys (λ r k. nat_lt 0 (cell (map N.number cells.now) nodes r k)
+        && nat_le (cell (map N.number cells.now) nodes r k) (slice_index (map N.number high.now) r)) }
+{
+    let mut total = 0;
+    for key in 0..keys {
+        let plane = plane_of(cells, nodes, key);
+        total += planes::how_many_upto(plane, high);
+    }
+    total
+}
+
+/// Raises each number to the one sent, where that is above its owner's one mark and up to the other.
+pub fn take<N: Number>(
+    cells: &mut [N],
+    sent: &[N],
+    nodes: usize,
+    keys: usize,
+    low: &[N],
+    high: &[N],
+)
+    requires grid { IsGrid nodes keys (length cells.old) }
+    requires sent { length sent.now ≡ length cells.old }
+    requires low { length low.now ≡ nodes }
+    requires high { length high.now ≡ nodes }
+    ensures cells { ArePlanesChanged (λ r k x y. y ≡ number_taken x (cell (map N.number sent.now) nodes r k) (slice_index (map N.number low.now) r)
+        (slice_index (map N.number high.now) r)) nodes keys
+        (map N.number cells.old) (map N.number cells.new) }
+{
+    for key in 0..keys {
+        let plane = plane_of(sent, nodes, key);
+        let start = key * nodes;
+        let block = &mut cells[start..start + nodes];
+        planes::take_plane(block, plane, low, high);
+    }
+}

@@ -1,0 +1,11 @@
+//! Numbers in planes, one plane for each key and in it a number for each owner: loops over one plane, and over all.
+#![tactic(auto)]
+
+mod grids;
+mod numbers;
+mod planes;
+
+pub use grids::{
+    ahead, counts_above, counts_between, least_above, take, total_above, total_held, total_upto,
+};
+pub use numbers::Number;

@@ -1,0 +1,153 @@
+//! Loops over planes: for each owner one number.
+
+ghost use Rattle.std.specs.Prelude.{◌≡◌, ℕ, ◌+◌, ◌<◌, ◌≤◌, ◌&&◌, length, map, max, min, nat_le, nat_lt, slice_index, if◌then◌else◌};
+ghost use Rattle.bench_types.specs.declared.limits.TheConstants.{MOST_NODES};
+ghost use Rattle.planes.specs.inner.Elementwise.{AreChanged};
+ghost use Rattle.planes.specs.Sums.{sum_below};
+ghost use Rattle.planes.specs.Planes.{IsLowered, number_ahead, number_taken};
+
+use crate::numbers::Number;
+
+fn is_between<N: Number>(number: N, low: N, high: N) -> bool
+    ensures { result ≡ nat_lt (N.number low) (N.number number) && nat_le (N.number number) (N.number high) }
+{
+    number.is_above(low) & number.is_upto(high)
+}
+
+fn pick<N: Number>(test: bool, number: N, other: N) -> N
+    ensures { N.number result ≡ (if test then N.number number else N.number other) }
+{
+    if test { number } else { other }
+}
+
+fn one_if(test: bool) -> u32
+    ensures { result ≡ (if test then 1 else 0) }
+{
+    u32::from(test)
+}
+
+/// Counts for each owner whether its number in a plane is above a mark.
+pub fn count_above<N: Number>(counts: &mut [N], plane: &[N], marks: &[N])
+    requires plane { length plane.now ≡ length counts.old }
+    requires marks { length marks.now ≡ length counts.old }
+    requires room { (r : ℕ) → r < length counts.old → slice_index (map N.number counts.old) r < N.most }
+    ensures counts { AreChanged (λ r x y. y ≡ x + (if nat_lt (slice_index (map N.number marks.now) r) (slice_index (map N.number plane.now) r) then 1 else 0))
+        (map N.number counts.old) (map N.number counts.new) }
+{
+    for r in 0..counts.len() {
+        counts[r] = counts[r].plus(plane[r].is_above(marks[r]));
+    }
+}
+
+/// Counts for each owner whether its number in a plane is above one mark and up to another.
+pub fn count_between<N: Number>(counts: &mut [N], plane: &[N], low: &[N], high: &[N])
+    requires plane { length plane.now ≡ length counts.old }
+    requires low { length low.now ≡ length counts.old }
+    requires high { length high.now ≡ length counts.old }
+    requires room { (r : ℕ) → r < length counts.old → slice_index (map N.number counts.old) r < N.most }
+    ensures counts { AreChanged (λ r x y. y ≡ x + (if nat_lt (slice_index (map N.number low.now) r) (slice_index (map N.number plane.now) r)
+        && nat_le (slice_index (map N.number plane.now) r) (slice_index (map N.number high.now) r) then 1 else 0))
+        (map N.number counts.old) (map N.number counts.new) }
+{
+    for r in 0..counts.len() {
+        counts[r] = counts[r].plus(is_between(plane[r], low[r], high[r]));
+    }
+}
+
+/// Lowers each owner's number to the one in a plane, where that is above a mark.
+pub fn lower_to_next<N: Number>(least: &mut [N], plane: &[N], low: &[N])
+    requires plane { length plane.now ≡ length least.old }
+    requires low { length low.now ≡ length least.old }
+    ensures least { AreChanged (λ r x y. IsLowered N.most (slice_index (map N.number low.now) r) (slice_index (map N.number plane.now) r) x y)
+        (map N.number least.old) (map N.number least.new) }
+{
+    for r in 0..least.len() {
+        least[r] = least[r].min_with(pick(plane[r].is_above(low[r]), plane[r], N::greatest()));
+    }
+}
+
+/// Puts the numbers of a plane that are above both the peer's and a mark, and 0 in place of the others.
+pub fn put_ahead<N: Number>(ahead: &mut [N], plane: &[N], peer: &[N], low: &[N])
+    requires plane { length plane.now ≡ length ahead.old }
+    requires peer { length peer.now ≡ length ahead.old }
+    requires low { length low.now ≡ length ahead.old }
+    ensures ahead { AreChanged (λ r x y. y ≡ number_ahead (slice_index (map N.number plane.now) r) (slice_index (map N.number peer.now) r)
+        (slice_index (map N.number low.now) r))
+        (map N.number ahead.old) (map N.number ahead.new) }
+{
+    for r in 0..ahead.len() {
+        ahead[r] = pick(
+            plane[r].is_above(peer[r].max_with(low[r])),
+            plane[r],
+            N::zero(),
+        );
+    }
+}
+
+/// Raises the numbers of a plane to those sent that are above one mark and up to another.
+pub fn take_plane<N: Number>(plane: &mut [N], sent: &[N], low: &[N], high: &[N])
+    requires sent { length sent.now ≡ length plane.old }
+    requires low { length low.now ≡ length plane.old }
+    requires high { length high.now ≡ length plane.old }
+    ensures plane { AreChanged (λ r x y. y ≡ number_taken x (slice_index (map N.number sent.now) r) (slice_index (map N.number low.now) r)
+        (slice_index (map N.number high.now) r))
+        (map N.number plane.old) (map N.number plane.new) }
+{
+    for r in 0..plane.len() {
+        plane[r] = plane[r].max_with(pick(
+            is_between(sent[r], low[r], high[r]),
+            sent[r],
+            N::zero(),
+        ));
+    }
+}
+
+/// Raises each owner's mark to its number in a plane.
+pub fn raise<N: Number>(marks: &mut [N], plane: &[N])
+    requires plane { length plane.now ≡ length marks.old }
+    ensures marks { AreChanged (λ r x y. y ≡ max x (slice_index (map N.number plane.now) r)) (map N.number marks.old) (map N.number marks.new) }
+{
+    for r in 0..marks.len() {
+        marks[r] = marks[r].max_with(plane[r]);
+    }
+}
+
+/// How many numbers of a plane are above their owners' marks.
+pub fn how_many_above<N: Number>(plane: &[N], low: &[N]) -> u32
+    requires low { length low.now ≡ length plane.now }
+    requires room { length plane.now ≤ MOST_NODES }
+    ensures { result ≡ sum_below (length plane.now)
+        (λ r. if nat_lt (slice_index (map N.number low.now) r) (slice_index (map N.number plane.now) r) then 1 else 0) }
+{
+    let mut count = 0;
+    for r in 0..plane.len() {
+        count += one_if(plane[r].is_above(low[r]));
+    }
+    count
+}
+
+/// How many numbers of a plane are not 0.
+pub fn how_many_held<N: Number>(plane: &[N]) -> u32
+    requires room { length plane.now ≤ MOST_NODES }
+    ensures { result ≡ sum_below (length plane.now) (λ r. if nat_lt 0 (slice_index (map N.number plane.now) r) then 1 else 0) }
+{
+    let mut count = 0;
+    for r in 0..plane.len() {
+        count += one_if(plane[r].is_above(N::zero()));
+    }
+    count
+}
+
+/// How many numbers of a plane are not 0 and up to their owners' marks.
+pub fn how_many_upto<N: Number>(plane: &[N], high: &[N]) -> u32
+    requires high { length high.now ≡ length plane.now }
+    requires room { length plane.now ≤ MOST_NODES }
+    ensures { result ≡ sum_below (length plane.now) (λ r. if nat_lt 0 (slice_index (map N.number plane.now) r)
+        && nat_le (slice_index (map N.number plane.now) r) (slice_index (map N.number high.now) r) then 1 else 0) }
+{
+    let mut count = 0;
+    for r in 0..plane.len() {
+        count += one_if(is_between(plane[r], N::zero(), high[r]));
+    }
+    count
+}

@@ -1,0 +1,58 @@
+-- A delta by marks: whole levels, and of the next one what comes before the first candidate that doesn't fit.
+-- Serves nothing yet.
+use Rattle.std.proofs.Common.{◌≡◌, ◌≢◌, ℕ, ◌+◌, ◌<◌, ◌≤◌, Bool, true, false, cond, List, inl, inr, refl, sym, ap, ◌∙◌, subst, arith}
+use Rattle.std.specs.Prelude.{Contains}
+use Rattle.std.specs.List.{sum_by}
+use Rattle.bench_types.specs.declared.entries.Entry.{Entry}
+use Rattle.bench_types.specs.declared.entries.Item.{Item}
+use Rattle.bench_types.specs.declared.exchanges.Budget.{Budget}
+use Rattle.bench_types.specs.declared.exchanges.Mode.{Mode}
+use Rattle.bench_types.specs.Budget.{amount_of}
+use Rattle.node_table.specs.Table.{Table, IsProper}
+use Rattle.reconcile.specs.Candidates.{candidates}
+use Rattle.reconcile.specs.Deltas.{delta_between, item_share}
+use Rattle.reconcile.specs.Order.{sending_order}
+use Rattle.reconcile.proofs.DeltaLaws.{sending_order-total}
+use Rattle.version_tables.specs.SentSets.{HasSet, size_in}
+use Rattle.version_tables.specs.inner.Offers.{Offers, IsHistory, offered_sum}
+use Rattle.planes.specs.Planes.{Cells}
+use Rattle.version_tables.specs.inner.Levels.{number_of}
+use Rattle.version_tables.specs.inner.Shares.{lets_through, AreLevelMarks, StopAt, size_through_marks}
+use Rattle.version_tables.proofs.Offers.{offered-sum}
+use Rattle.version_tables.proofs.SentSets.{stops_sent, all_sent, set_sent}
+use Rattle.version_tables.proofs.Shares.{marks-stop}
+
+module _ (mode : Mode) (from to : Table) (proper : IsProper from) (lists : ℕ → List Entry) (histories : (owner : ℕ) → IsHistory (lists owner)) (cells : Cells) (low : ℕ → ℕ) (offers : Offers mode from to lists cells low) (rotation : ℕ) (in_nodes : rotation < from.nodes)
+    (budget : Budget) (sizes : ℕ → ℕ → ℕ) (sizes_are : (c : Item) → Contains (candidates mode from to) c → item_share budget c ≡ sizes c.owner c.entry.key) where
+  abbrev cs : List Item
+  cs = candidates mode from to
+
+  abbrev pub in_marks : (ℕ → ℕ) → Item → Bool
+  in_marks mark c = lets_through mode (mark c.owner) (number_of cells c)
+
+  size_of_marks : (mark : ℕ → ℕ) → size_in (sending_order mode from.nodes rotation cs) cs (item_share budget) (in_marks mark) ≡ size_through_marks mode from cells low sizes mark
+  size_of_marks mark =
+      offered-sum mode from to proper lists cells low offers _ (λ owner key. cond (lets_through mode (mark owner) (cells owner key)) (sizes owner key) 0)
+      (λ c in_c. ap (λ n. cond (in_marks mark c) n 0) (sizes_are c in_c))
+
+  -- what marks that stop at a candidate that doesn't fit let through is the delta
+  pub marks-sent : (next : Item) (near far mark : ℕ → ℕ) → Contains cs next → AreLevelMarks mode cs cells next near far → StopAt mode from.nodes rotation cs cells next near far mark
+      → size_through_marks mode from cells low sizes mark ≤ amount_of budget → amount_of budget < size_through_marks mode from cells low sizes mark + sizes next.owner next.entry.key
+      → HasSet cs (in_marks mark) (delta_between mode rotation budget from to)
+  marks-sent next near far mark in_next levels stops within beyond =
+      set_sent mode rotation budget from to (in_marks mark) proper in_nodes
+      (stops_sent (sending_order mode from.nodes rotation cs) (sending_order-total mode from.nodes rotation cs) cs (item_share budget) (in_marks mark) (amount_of budget) next (record {
+        candidate = in_next;
+        set = marks-stop mode from to proper lists histories cells low offers rotation in_nodes next near far mark in_next levels stops;
+        within = omega (arith, size_of_marks mark, within);
+        beyond = omega (arith, size_of_marks mark, sizes_are next in_next, beyond);
+      }))
+
+  -- where marks let all through and it fits, that is the delta
+  pub all-sent : (mark : ℕ → ℕ) → ((c : Item) → Contains cs c → in_marks mark c ≡ true) → size_through_marks mode from cells low sizes mark ≤ amount_of budget → HasSet cs (in_marks mark) (delta_between mode rotation budget from to)
+  all-sent mark all within =
+      set_sent mode rotation budget from to (in_marks mark) proper in_nodes
+      (all_sent (sending_order mode from.nodes rotation cs) (sending_order-total mode from.nodes rotation cs) cs (item_share budget) (in_marks mark) (amount_of budget) (record {
+        all = all;
+        within = omega (arith, size_of_marks mark, within);
+      }))

@@ -1,0 +1,200 @@
+-- The marks of a mode's levels.
+-- Serves nothing yet.
+use Rattle.std.proofs.Common.{◌≡◌, ◌≢◌, ℕ, zero, suc, ◌+◌, ◌<◌, ◌≤◌, Bool, true, false, ltb, leb, List, inl, inr, refl, sym, ap, ◌∙◌, subst, arith}
+use Rattle.std.specs.Prelude.{Contains}
+use Rattle.std.specs.declared.cmp.Ordering.{Ordering}
+use Rattle.std.specs.declared.cmp.Ordering.TheVariants.{Less, Equal, Greater}
+use Rattle.std.specs.Ordering.{nat_cmp, ordering_then, is_lt}
+use Rattle.std.proofs.lemmas.Bool.{cases_lt, lt-ltb, le-ltb, le-leb, lt-leb}
+use Rattle.bench_types.specs.declared.entries.Entry.{Entry}
+use Rattle.bench_types.specs.declared.entries.Item.{Item}
+use Rattle.bench_types.specs.declared.exchanges.Mode.{Mode}
+use Rattle.bench_types.specs.declared.exchanges.Mode.TheVariants.{ScuttleBreadth, ScuttleDepth, PreciseOldest, PreciseNewest}
+use Rattle.node_table.specs.Table.{Table, IsProper}
+use Rattle.node_table.proofs.Comparing.{nat_cmp-less, nat_cmp-equal, nat_cmp-greater}
+use Rattle.reconcile.specs.Candidates.{candidates}
+use Rattle.reconcile.specs.Order.{rank_among, owner_count}
+use Rattle.version_tables.specs.inner.Offers.{Offers, IsHistory, rank_above}
+use Rattle.owner_lists.specs.Numbers.{write_numbered}
+use Rattle.planes.specs.Planes.{Cells, count_above}
+use Rattle.version_tables.specs.inner.Levels.{level_cmp, number_of}
+use Rattle.version_tables.specs.inner.Shares.{lets_through, AreLevelMarks, IsLayerMark, IsRunMark, IsRoundMark}
+use Rattle.version_tables.proofs.Columns.{rank_among-is, owner_count-is}
+use Rattle.version_tables.proofs.Layers.{layer-upto, layer-above}
+use Rattle.version_tables.proofs.Levels.{candidate-number, candidate-below, candidate-key}
+
+-- a comparison of two numbers that is or isn't less, and is or isn't greater
+cmp-less : (a b : ℕ) → a < b → is_lt (nat_cmp a b) ≡ true
+cmp-less a b lt = ap is_lt (nat_cmp-less a b lt)
+
+cmp-not_less : (a b : ℕ) → b ≤ a → is_lt (nat_cmp a b) ≡ false
+cmp-not_less a b le = elim (cases_lt b a) [
+  | inl above ↦ ap is_lt (nat_cmp-greater a b above)
+  | inr same ↦ ap is_lt (nat_cmp-equal a b (omega (arith, le, same)))
+]
+
+cmp-upto : (a b : ℕ) → a ≤ b → is_lt (ordering_then (nat_cmp a b) Less) ≡ true
+cmp-upto a b le = elim (cases_lt a b) [
+  | inl below ↦ ap (λ o. is_lt (ordering_then o Less)) (nat_cmp-less a b below)
+  | inr same ↦ ap (λ o. is_lt (ordering_then o Less)) (nat_cmp-equal a b (omega (arith, le, same)))
+]
+
+cmp-above : (a b : ℕ) → b < a → is_lt (ordering_then (nat_cmp a b) Less) ≡ false
+cmp-above a b lt = ap (λ o. is_lt (ordering_then o Less)) (nat_cmp-greater a b lt)
+
+-- a mark that lets through what is below a level does so by the comparison of levels
+by_level : (number mark level at : ℕ) → (number ≤ mark → level < at) → (mark < number → at ≤ level) → leb number mark ≡ is_lt (nat_cmp level at)
+by_level number mark level at inside outside = elim (cases_lt mark number) [
+  | inl over ↦ lt-leb number mark over ∙ sym (cmp-not_less level at (outside over))
+  | inr upto ↦ le-leb number mark (omega (arith, upto)) ∙ sym (cmp-less level at (inside (omega (arith, upto))))
+]
+
+upto_level : (number mark level at : ℕ) → (number ≤ mark → level ≤ at) → (mark < number → at < level) → leb number mark ≡ is_lt (ordering_then (nat_cmp level at) Less)
+upto_level number mark level at inside outside = elim (cases_lt mark number) [
+  | inl over ↦ lt-leb number mark over ∙ sym (cmp-above level at (outside over))
+  | inr upto ↦ le-leb number mark (omega (arith, upto)) ∙ sym (cmp-upto level at (inside (omega (arith, upto))))
+]
+
+module _ (from to : Table) (proper : IsProper from) (lists : ℕ → List Entry) (histories : (owner : ℕ) → IsHistory (lists owner)) (cells : Cells) (low near far : ℕ → ℕ) where
+  -- layer by layer
+  module _ (offers : Offers ScuttleBreadth from to lists cells low) (layers : ℕ)
+      (near_is : (r : ℕ) → r < from.nodes → IsLayerMark cells from.keys r (low r) layers (near r))
+      (far_is : (r : ℕ) → r < from.nodes → IsLayerMark cells from.keys r (low r) (layers + 1) (far r))
+      (next : Item) (in_next : Contains (candidates ScuttleBreadth from to) next) (over : near next.owner < number_of cells next) (upto : number_of cells next ≤ far next.owner) where
+    abbrev cs : List Item
+    cs = candidates ScuttleBreadth from to
+
+    abbrev rank : Item → ℕ
+    rank c = rank_above cells from.keys c.owner (low c.owner) (number_of cells c)
+
+    rank_is : (c : Item) → Contains cs c → rank_among cs c ≡ rank c
+    rank_is c in_c = rank_among-is ScuttleBreadth from to proper lists histories cells low offers c in_c
+
+    in_key : (c : Item) → Contains cs c → c.entry.key < from.keys
+    in_key c in_c = candidate-key ScuttleBreadth from to proper c in_c
+
+    in_node : (c : Item) → Contains cs c → c.owner < from.nodes
+    in_node c in_c = candidate-below ScuttleBreadth from to proper c in_c
+
+    above_low : (c : Item) → Contains cs c → low c.owner < number_of cells c
+    above_low c in_c = (candidate-number ScuttleBreadth from to proper lists histories cells low offers c in_c).0
+
+    within : (c : Item) → Contains cs c → number_of cells c ≤ near c.owner → rank c < layers
+    within c in_c le = layer-upto cells from.keys c.owner (low c.owner) layers (near c.owner) (near_is c.owner (in_node c in_c)) c.entry.key (in_key c in_c) (above_low c in_c) le
+
+    beyond : (c : Item) → Contains cs c → near c.owner < number_of cells c → layers ≤ rank c
+    beyond c in_c lt = layer-above cells from.keys c.owner (low c.owner) layers (near c.owner) (near_is c.owner (in_node c in_c)) c.entry.key (in_key c in_c) lt
+
+    within_far : (c : Item) → Contains cs c → number_of cells c ≤ far c.owner → rank c < layers + 1
+    within_far c in_c le = layer-upto cells from.keys c.owner (low c.owner) (layers + 1) (far c.owner) (far_is c.owner (in_node c in_c)) c.entry.key (in_key c in_c) (above_low c in_c) le
+
+    beyond_far : (c : Item) → Contains cs c → far c.owner < number_of cells c → layers + 1 ≤ rank c
+    beyond_far c in_c lt = layer-above cells from.keys c.owner (low c.owner) (layers + 1) (far c.owner) (far_is c.owner (in_node c in_c)) c.entry.key (in_key c in_c) lt
+
+    next_rank : rank next ≡ layers
+    next_rank = omega (arith, beyond next in_next over, within_far next in_next upto)
+
+    pub breadth-marks : AreLevelMarks ScuttleBreadth cs cells next near far
+    breadth-marks = record {
+      before = λ c in_c.
+          by_level (number_of cells c) (near c.owner) (rank c) (rank next) (λ le. omega (arith, next_rank, within c in_c le)) (λ lt. omega (arith, next_rank, beyond c in_c lt))
+          ∙ (λ i. is_lt (nat_cmp (sym (rank_is c in_c) i) (sym (rank_is next in_next) i)));
+      upto = λ c in_c.
+          upto_level (number_of cells c) (far c.owner) (rank c) (rank next) (λ le. omega (arith, next_rank, within_far c in_c le)) (λ lt. omega (arith, next_rank, beyond_far c in_c lt))
+          ∙ (λ i. is_lt (ordering_then (nat_cmp (sym (rank_is c in_c) i) (sym (rank_is next in_next) i)) Less));
+    }
+
+  -- run by run, the longest first
+  module _ (offers : Offers ScuttleDepth from to lists cells low) (length : ℕ)
+      (near_is : (r : ℕ) → r < from.nodes → IsRunMark cells from.keys r (low r) (length + 1) (near r))
+      (far_is : (r : ℕ) → r < from.nodes → IsRunMark cells from.keys r (low r) length (far r))
+      (next : Item) (in_next : Contains (candidates ScuttleDepth from to) next) (its : count_above cells from.keys next.owner (low next.owner) ≡ length + 1) where
+    abbrev runs : List Item
+    runs = candidates ScuttleDepth from to
+
+    abbrev count : Item → ℕ
+    count c = count_above cells from.keys c.owner (low c.owner)
+
+    count_is : (c : Item) → Contains runs c → owner_count runs c ≡ count c
+    count_is c in_c = owner_count-is ScuttleDepth from to proper lists histories cells low offers c in_c
+
+    over_low : (c : Item) → Contains runs c → low c.owner < number_of cells c
+    over_low c in_c = (candidate-number ScuttleDepth from to proper lists histories cells low offers c in_c).0
+
+    owner_below : (c : Item) → Contains runs c → c.owner < from.nodes
+    owner_below c in_c = candidate-below ScuttleDepth from to proper c in_c
+
+    -- what a mark lets through has a longer run than the length
+    longer : (len : ℕ) (mark : ℕ → ℕ) → ((r : ℕ) → r < from.nodes → IsRunMark cells from.keys r (low r) len (mark r)) → (c : Item) → Contains runs c → number_of cells c ≤ mark c.owner → len < count c
+    longer len mark is c in_c le = elim (cases_lt len (count c)) [
+      | inl more ↦ more
+      | inr no_more ↦ absurd (omega (arith, le, over_low c in_c, (is c.owner (owner_below c in_c)).none (omega (arith, no_more))))
+    ]
+
+    no_longer : (len : ℕ) (mark : ℕ → ℕ) → ((r : ℕ) → r < from.nodes → IsRunMark cells from.keys r (low r) len (mark r)) → (c : Item) → Contains runs c → mark c.owner < number_of cells c → count c ≤ len
+    no_longer len mark is c in_c lt = elim (cases_lt len (count c)) [
+      | inl more ↦ absurd (omega (arith, lt, (is c.owner (owner_below c in_c)).all more c.entry.key (candidate-key ScuttleDepth from to proper c in_c)))
+      | inr no_more ↦ omega (arith, no_more)
+    ]
+
+    pub depth-marks : AreLevelMarks ScuttleDepth runs cells next near far
+    depth-marks = record {
+      before = λ c in_c. first_longer (number_of cells c) (near c.owner) (count c) (longer (length + 1) near near_is c in_c) (no_longer (length + 1) near near_is c in_c)
+          ∙ (λ i. is_lt (nat_cmp (sym (count_is next in_next ∙ its) i) (sym (count_is c in_c) i)));
+      upto = λ c in_c. no_shorter (number_of cells c) (far c.owner) (count c) (longer length far far_is c in_c) (no_longer length far far_is c in_c)
+          ∙ (λ i. is_lt (ordering_then (nat_cmp (sym (count_is next in_next ∙ its) i) (sym (count_is c in_c) i)) Less));
+    }
+      where
+        first_longer : (number mark level : ℕ) → (number ≤ mark → length + 1 < level) → (mark < number → level ≤ length + 1) → leb number mark ≡ is_lt (nat_cmp (length + 1) level)
+        first_longer number mark level inside outside = elim (cases_lt mark number) [
+          | inl over ↦ lt-leb number mark over ∙ sym (cmp-not_less (length + 1) level (outside over))
+          | inr upto ↦ le-leb number mark (omega (arith, upto)) ∙ sym (cmp-less (length + 1) level (inside (omega (arith, upto))))
+        ]
+
+        no_shorter : (number mark level : ℕ) → (number ≤ mark → length < level) → (mark < number → level ≤ length) → leb number mark ≡ is_lt (ordering_then (nat_cmp (length + 1) level) Less)
+        no_shorter number mark level inside outside = elim (cases_lt mark number) [
+          | inl over ↦ lt-leb number mark over ∙ sym (cmp-above (length + 1) level (omega (arith, outside over)))
+          | inr upto ↦ le-leb number mark (omega (arith, upto)) ∙ sym (cmp-upto (length + 1) level (omega (arith, inside (omega (arith, upto)))))
+        ]
+
+  -- round by round, the oldest first
+  module _ (offers : Offers PreciseOldest from to lists cells low) (round : ℕ)
+      (near_is : (r : ℕ) → r < from.nodes → IsRoundMark (lists r) (low r) round (near r))
+      (far_is : (r : ℕ) → r < from.nodes → IsRoundMark (lists r) (low r) (round + 1) (far r))
+      (next : Item) (in_next : Contains (candidates PreciseOldest from to) next) (its : next.entry.born ≡ round + 1) where
+    pub oldest-marks : AreLevelMarks PreciseOldest (candidates PreciseOldest from to) cells next near far
+    oldest-marks = record {
+      before = λ c in_c.
+          let at = candidate-number PreciseOldest from to proper lists histories cells low offers c in_c in
+          let is = near_is c.owner (candidate-below PreciseOldest from to proper c in_c) in
+          by_level (number_of cells c) (near c.owner) c.entry.born next.entry.born
+          (λ le. omega (arith, its, is.upto (number_of cells c) c.entry at.0 at.1 le)) (λ lt. omega (arith, its, is.above (number_of cells c) c.entry at.0 at.1 lt));
+      upto = λ c in_c.
+          let at = candidate-number PreciseOldest from to proper lists histories cells low offers c in_c in
+          let is = far_is c.owner (candidate-below PreciseOldest from to proper c in_c) in
+          upto_level (number_of cells c) (far c.owner) c.entry.born next.entry.born
+          (λ le. omega (arith, its, is.upto (number_of cells c) c.entry at.0 at.1 le)) (λ lt. omega (arith, its, is.above (number_of cells c) c.entry at.0 at.1 lt));
+    }
+
+  -- and the newest first
+  module _ (offers : Offers PreciseNewest from to lists cells low) (round : ℕ)
+      (near_is : (r : ℕ) → r < from.nodes → IsRoundMark (lists r) (low r) (round + 1) (near r))
+      (far_is : (r : ℕ) → r < from.nodes → IsRoundMark (lists r) (low r) round (far r))
+      (next : Item) (in_next : Contains (candidates PreciseNewest from to) next) (its : next.entry.born ≡ round + 1) where
+    pub newest-marks : AreLevelMarks PreciseNewest (candidates PreciseNewest from to) cells next near far
+    newest-marks = record {
+      before = λ c in_c.
+          let at = candidate-number PreciseNewest from to proper lists histories cells low offers c in_c in
+          let is = near_is c.owner (candidate-below PreciseNewest from to proper c in_c) in
+          elim (cases_lt (near c.owner) (number_of cells c)) [
+            | inl over ↦ lt-ltb (near c.owner) (number_of cells c) over ∙ sym (cmp-less next.entry.born c.entry.born (omega (arith, its, is.above (number_of cells c) c.entry at.0 at.1 over)))
+            | inr upto ↦ le-ltb (near c.owner) (number_of cells c) (omega (arith, upto)) ∙ sym (cmp-not_less next.entry.born c.entry.born (omega (arith, its, is.upto (number_of cells c) c.entry at.0 at.1 (omega (arith, upto)))))
+          ];
+      upto = λ c in_c.
+          let at = candidate-number PreciseNewest from to proper lists histories cells low offers c in_c in
+          let is = far_is c.owner (candidate-below PreciseNewest from to proper c in_c) in
+          elim (cases_lt (far c.owner) (number_of cells c)) [
+            | inl over ↦ lt-ltb (far c.owner) (number_of cells c) over ∙ sym (cmp-upto next.entry.born c.entry.born (omega (arith, its, is.above (number_of cells c) c.entry at.0 at.1 over)))
+            | inr upto ↦ le-ltb (far c.owner) (number_of cells c) (omega (arith, upto)) ∙ sym (cmp-above next.entry.born c.entry.born (omega (arith, its, is.upto (number_of cells c) c.entry at.0 at.1 (omega (arith, upto)))))
+          ];
+    }

@@ -1,0 +1,12 @@
+pub mod SentSets
+pub mod TakenSets
+pub mod Grids
+pub mod Offers
+pub mod Levels
+pub mod Shares
+pub mod Columns
+pub mod Layers
+pub mod LevelMarks
+pub mod DeltaMarks
+pub mod Laid
+pub mod TakenCells

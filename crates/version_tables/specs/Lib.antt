@@ -1,0 +1,2 @@
+pub mod SentSets
+pub mod inner

@@ -1,0 +1,6 @@
+pub mod Grids
+pub mod Offers
+pub mod Levels
+pub mod Shares
+pub mod Laid
+pub mod Taken

@@ -1,0 +1,46 @@
+-- How a table of versions lies in memory: a plane for each key, with a cell for each owner, which has the number of the
+-- write that is held, 0 for none. What the owners write is told by their lists. Source: this project.
+use Rattle.std.specs.Prelude.{◌≡◌, ℕ, zero, suc, ◌+◌, ◌*◌, ◌<◌, ◌≤◌, List, [], ◌∷◌, ◌++◌, ◌⊎◌, length, map, slice_index, Option, Some, None}
+use Rattle.std.specs.List.{range_with_len}
+use Rattle.bench_types.specs.declared.entries.Entry.{Entry}
+use Rattle.node_table.specs.Table.{Table, IsProper}
+use Rattle.node_table.specs.inner.Layouts.{held_by_rows}
+use Rattle.owner_lists.specs.Numbers.{write_numbered}
+use Rattle.planes.specs.Planes.{Cells, cell}
+
+abbrev pub entry_list : Option Entry → List Entry
+entry_list None = []
+entry_list (Some e) = e ∷ []
+
+-- the entries of an owner's keys below a bound
+abbrev pub row_below : List Entry → (ℕ → ℕ) → ℕ → List Entry
+row_below writes numbers zero = []
+row_below writes numbers (suc key) = row_below writes numbers key ++ entry_list (write_numbered writes (numbers key))
+
+-- the table that lies in cells
+abbrev pub table_of_cells : (ℕ → List Entry) → ℕ → ℕ → ℕ → ℕ → Cells → Table
+table_of_cells lists node nodes keys generation cells = record {
+  node = node;
+  nodes = nodes;
+  keys = keys;
+  generation = generation;
+  held = held_by_rows (map (λ owner. row_below (lists owner) (cells owner) keys) (range_with_len 0 nodes));
+}
+
+-- each number is that of a write of its key, or 0
+pub record AreNumbers (lists : ℕ → List Entry) (nodes keys : ℕ) (cells : Cells) : Type 0 where
+  pub written : (owner key : ℕ) → owner < nodes → key < keys → cells owner key ≤ length (lists owner)
+  pub keyed : (owner key : ℕ) (e : Entry) → owner < nodes → key < keys → write_numbered (lists owner) (cells owner key) ≡ Some e → e.key ≡ key
+
+-- the greatest of an owner's numbers
+pub record IsGreatest (cells : Cells) (keys owner greatest : ℕ) : Type 0 where
+  pub upto : (key : ℕ) → key < keys → cells owner key ≤ greatest
+  pub held : (greatest ≡ 0) ⊎ ((key : ℕ) × (key < keys) × (cells owner key ≡ greatest))
+
+-- what a table of versions keeps
+pub record IsVersionTable (lists : ℕ → List Entry) (node nodes keys generation : ℕ) (cells greatest : List ℕ) : Type 0 where
+  pub proper : IsProper (table_of_cells lists node nodes keys generation (cell cells nodes))
+  pub cell_count : length cells ≡ keys * nodes
+  pub greatest_count : length greatest ≡ nodes
+  pub numbers : AreNumbers lists nodes keys (cell cells nodes)
+  pub most : (owner : ℕ) → owner < nodes → IsGreatest (cell cells nodes) keys owner (slice_index greatest owner)

@@ -1,0 +1,9 @@
+//! Tables that keep versions alone: of each owner's key the number of the write that is held. What stands under a
+//! number, the owners' lists tell.
+#![tactic(auto)]
+
+mod laws;
+mod tables;
+
+pub use laws::deltas_have_their_sets;
+pub use tables::{VersionTable, Written};

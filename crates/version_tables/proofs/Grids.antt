@@ -84,17 +84,17 @@ module _ (t : Table) (proper : IsProper t) where
   column_apart owner zero = λ j k d lt in_range. absurd (omega (arith, in_range))
   column_apart owner (suc bound) = AllPairs-append is_apart (column_items t owner bound) (item_here owner (entry_at t owner bound)) (column_apart owner bound) (here_apart owner (entry_at t owner bound))
       (λ x y in_x in_y.
-          let one = column-from t owner bound x in_x in
-          let other = here-from owner (entry_at t owner bound) y in_y in
-          apart_by x y (λ _ keys. omega (arith, keys, keyed owner one.1.0 x.entry one.1.2, one.1.1, keyed owner bound y.entry other.1)))
+      let one = column-from t owner bound x in_x in
+      let other = here-from owner (entry_at t owner bound) y in_y in
+      apart_by x y (λ _ keys. omega (arith, keys, keyed owner one.1.0 x.entry one.1.2, one.1.1, keyed owner bound y.entry other.1)))
 
   grid_apart : (bound : ℕ) → IsApart (grid_items t bound)
   grid_apart zero = λ j k d lt in_range. absurd (omega (arith, in_range))
   grid_apart (suc bound) = AllPairs-append is_apart (grid_items t bound) (column_items t bound t.keys) (grid_apart bound) (column_apart bound t.keys)
       (λ x y in_x in_y.
-          let one = grid-from t bound x in_x in
-          let other = column-from t bound t.keys y in_y in
-          apart_by x y (λ owners _. omega (arith, owners, one.0, other.0)))
+      let one = grid-from t bound x in_x in
+      let other = column-from t bound t.keys y in_y in
+      apart_by x y (λ owners _. omega (arith, owners, one.0, other.0)))
 
   table_apart : IsApart (items_of t)
   table_apart i j d lt in_range = sym (tied-stands_at (get_or (items_of t) i d).owner (get_or (items_of t) i d).entry.key (get_or (items_of t) j d)) ∙ ap is_eq (apart-items_of t proper i j d lt in_range)
@@ -102,9 +102,9 @@ module _ (t : Table) (proper : IsProper t) where
   grid_is : IsPermutation (items_of t) (grid_items t t.nodes)
   grid_is = same_members (items_of t) (grid_items t t.nodes) table_apart (grid_apart t.nodes)
       (λ i there.
-          let held = entry_at-items_of t i proper there in
-          let place = proper.in_place i.owner i.entry.key i.entry held in
-          grid-has t t.nodes i.owner i.entry.key i.entry place.owner_below place.key_below held)
+      let held = entry_at-items_of t i proper there in
+      let place = proper.in_place i.owner i.entry.key i.entry held in
+      grid-has t t.nodes i.owner i.entry.key i.entry place.owner_below place.key_below held)
       (λ i there. let at = grid-from t t.nodes i there in Contains-items_of t i.owner at.1.0 i.entry at.1.2)
 
   -- the sum of a place, a column and the grid

@@ -126,9 +126,11 @@ cells_table lists cells is proper are has =
 -- cells of which all are 0 are those of an empty table
 pub no_cells : (lists : ℕ → List Entry) (node nodes keys : ℕ) (cells : Cells) → node < nodes → nodes ≤ MOST_NODES → LEAST_KEYS ≤ keys → keys ≤ MOST_KEYS → ((owner key : ℕ) → owner < nodes → key < keys → cells owner key ≡ 0)
     → AreNumbers lists nodes keys cells × (table_of_cells lists node nodes keys 0 cells ≡ empty_table node nodes keys)
-no_cells lists node nodes keys cells in_nodes few some many none =
-    (are, cells_table lists cells (empty_table node nodes keys) (proper-empty_table node nodes keys in_nodes few some many) are
-    (λ owner key below in_keys. entry_at-empty_table node nodes keys owner key ∙ sym (ap (write_numbered (lists owner)) (none owner key below in_keys))))
+no_cells lists node nodes keys cells in_nodes few some many none = (
+  are,
+  cells_table lists cells (empty_table node nodes keys) (proper-empty_table node nodes keys in_nodes few some many) are
+      (λ owner key below in_keys. entry_at-empty_table node nodes keys owner key ∙ sym (ap (write_numbered (lists owner)) (none owner key below in_keys))),
+)
   where
     are : AreNumbers lists nodes keys cells
     are = record {

@@ -7,7 +7,7 @@ use Rattle.version_tables.specs.inner.Offers.{rank_above}
 use Rattle.planes.specs.Planes.{Cells}
 use Rattle.version_tables.specs.inner.Shares.{IsLayerMark, NumbersDiffer}
 use Rattle.planes.specs.Planes.{count_between, IsLeastAbove, HasNoneAbove}
-use Rattle.version_tables.proofs.Grids.{sum_below-le, sum_below-plus}
+use Rattle.planes.proofs.Sums.{sum_below-le, sum_below-plus}
 use Rattle.planes.proofs.Sums.{sum_below-same}
 use Rattle.version_tables.proofs.Columns.{sum_below-one, where_true}
 
@@ -59,9 +59,13 @@ module _ (cells : Cells) (keys owner low : ℕ) where
     pub layer-upto : (key : ℕ) → key < keys → low < cells owner key → cells owner key ≤ mark → rank_above cells keys owner low (cells owner key) < layers
     layer-upto key lt above upto =
         let v = cells owner key in
-        omega (arith, is.count, sum_below-more keys key (below v) (between mark) lt
-            (λ k lt'. at k)
-            (omega (arith, below-out v key (omega arith), between-in mark key above upto)))
+        omega (
+          arith,
+          is.count,
+          sum_below-more keys key (below v) (between mark) lt
+              (λ k lt'. at k)
+              (omega (arith, below-out v key (omega arith), between-in mark key above upto)),
+        )
       where
         at : (k : ℕ) → below (cells owner key) k ≤ between mark k
         at k = elim (cases_lt low (cells owner k)) [

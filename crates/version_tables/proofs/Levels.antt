@@ -138,9 +138,10 @@ module _ (mode : Mode) (from to : Table) (proper : IsProper from) (lists : ℕ �
 
   numbered : (x y : Item) → Contains cs x → Contains cs y → x.owner ≡ y.owner → number_of cells x < number_of cells y → (x.entry.version < y.entry.version) × (x.entry.born ≤ y.entry.born)
   numbered x y in_x in_y owners lt =
-      let y_number = d_number 0 0 x y in_x in_y owners in
-      (versions-rise (lists x.owner) (histories x.owner) (number_of cells x) (number_of cells y) x.entry y.entry (candidate-number x in_x).1 y_number (alike 0 0 x y in_x in_y owners) lt,
-        numbers-born (lists x.owner) (histories x.owner) (number_of cells x) (number_of cells y) x.entry y.entry (candidate-number x in_x).1 y_number (omega (arith, lt)))
+      let y_number = d_number 0 0 x y in_x in_y owners in (
+        versions-rise (lists x.owner) (histories x.owner) (number_of cells x) (number_of cells y) x.entry y.entry (candidate-number x in_x).1 y_number (alike 0 0 x y in_x in_y owners) lt,
+        numbers-born (lists x.owner) (histories x.owner) (number_of cells x) (number_of cells y) x.entry y.entry (candidate-number x in_x).1 y_number (omega (arith, lt)),
+      )
 
   -- the one with the lower number comes first, or in the last mode the other
   abbrev ahead : Mode → Ordering

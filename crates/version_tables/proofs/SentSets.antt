@@ -204,7 +204,7 @@ sent_apart order total t proper cs of_table n j k d lt in_range = elim (stands_a
       let owners = eqb-true y.owner x.owner parts.0 in
       let keys = eqb-true y.entry.key x.entry.key parts.1 in
       let entries : Some y.entry ≡ Some x.entry =
-          sym (entry_at-items_of t y proper (of_table y in_y)) ∙ (λ i. entry_at t (owners i) (keys i)) ∙ entry_at-items_of t x proper (of_table x in_x) in
+      sym (entry_at-items_of t y proper (of_table y in_y)) ∙ (λ i. entry_at t (owners i) (keys i)) ∙ entry_at-items_of t x proper (of_table x in_x) in
       let same : y ≡ x = λ i. record { owner = owners i; entry = same_Some y.entry x.entry entries i } in
       absurd (omega (arith, before_count-places order total cs n j k d lt in_range, ap (before_count order cs) same))
   | false ↦ λ e. refl
@@ -212,6 +212,7 @@ sent_apart order total t proper cs of_table n j k d lt in_range = elim (stands_a
   where
     x : Item
     x = get_or (first_places order cs n) j d
+
     y : Item
     y = get_or (first_places order cs n) k d
 

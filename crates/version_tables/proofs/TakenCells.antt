@@ -50,12 +50,12 @@ module _ (rules : Rules) (rotation : ℕ) (from to : Table) (from_proper : IsPro
 
       of_sent : sent owner key ≡ true → entry_at received owner key ≡ write_numbered (lists owner) (taken owner key)
       of_sent yes' =
-            let there = are_sent.held owner key (omega (arith, in_node, nodes)) (omega (arith, in_key, keys)) yes' in
-            let e = there.0 in
-            let held = there.1 in
-            let comes = (are_sent.members owner key e held).0 yes' in
-            let keyed : e.key ≡ key = (from_proper.in_place owner key e held).keyed in
-            subst (λ k. entry_at received owner k ≡ Some e) keyed (after-sent rules rotation from to from_proper to_proper nodes keys owner e comes)
-            ∙ sym held
-            ∙ has_sender owner key (omega (arith, in_node, nodes)) (omega (arith, in_key, keys))
-            ∙ ap (write_numbered (lists owner)) (sym (are.came owner key in_node in_key yes'))
+          let there = are_sent.held owner key (omega (arith, in_node, nodes)) (omega (arith, in_key, keys)) yes' in
+          let e = there.0 in
+          let held = there.1 in
+          let comes = (are_sent.members owner key e held).0 yes' in
+          let keyed : e.key ≡ key = (from_proper.in_place owner key e held).keyed in
+          subst (λ k. entry_at received owner k ≡ Some e) keyed (after-sent rules rotation from to from_proper to_proper nodes keys owner e comes)
+          ∙ sym held
+          ∙ has_sender owner key (omega (arith, in_node, nodes)) (omega (arith, in_key, keys))
+          ∙ ap (write_numbered (lists owner)) (sym (are.came owner key in_node in_key yes'))

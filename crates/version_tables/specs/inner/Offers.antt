@@ -29,7 +29,7 @@ is_lacked mode to i = not (i.owner == to.node) && is_before (known_mark (digest_
 pub record Offers (mode : Mode) (from to : Table) (lists : ℕ → List Entry) (cells : Cells) (low : ℕ → ℕ) : Type 0 where
   pub above : (owner key : ℕ) → owner < from.nodes → key < from.keys → low owner < cells owner key
       → (e : Entry) × (entry_at from owner key ≡ Some e) × (write_numbered (lists owner) (cells owner key) ≡ Some e)
-        × (is_lacked mode to (record { owner = owner; entry = e }) ≡ true)
+      × (is_lacked mode to (record { owner = owner; entry = e }) ≡ true)
   pub below : (owner key : ℕ) (e : Entry) → entry_at from owner key ≡ Some e → cells owner key ≤ low owner
       → is_lacked mode to (record { owner = owner; entry = e }) ≡ false
 

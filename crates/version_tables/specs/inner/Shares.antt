@@ -12,7 +12,7 @@ use Rattle.planes.specs.Sums.{sum_below}
 use Rattle.node_table.specs.Table.{Table}
 use Rattle.version_tables.specs.inner.Offers.{offered_sum}
 use Rattle.owner_lists.specs.Numbers.{write_numbered}
-use Rattle.planes.specs.Planes.{Cells, count_above}
+use Rattle.planes.specs.Planes.{Cells, count_above, count_between, HasNoneAbove}
 use Rattle.version_tables.specs.inner.Levels.{level_cmp, number_of, comes_first}
 
 -- a mark lets a number through that is up to it, or in the last mode above it

@@ -2,6 +2,8 @@ pub mod SentSets
 pub mod TakenSets
 pub mod Grids
 pub mod Offers
+pub mod Numbers
+pub mod Told
 pub mod Levels
 pub mod Shares
 pub mod Columns

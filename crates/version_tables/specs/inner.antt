@@ -4,4 +4,8 @@ pub mod Levels
 pub mod Shares
 pub mod Laid
 pub mod Taken
+pub mod Weights
 pub mod Rounds
+pub mod Histories
+pub mod Codes
+pub mod Deltas

@@ -5,3 +5,4 @@ pub mod Shares
 pub mod Laid
 pub mod Taken
 pub mod Weights
+pub mod Offered

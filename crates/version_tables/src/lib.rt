@@ -4,6 +4,7 @@
 
 mod laws;
 mod tables;
+mod weights;
 
 pub use laws::deltas_have_their_sets;
 pub use tables::{VersionTable, Written};

@@ -13,3 +13,5 @@ pub mod LevelMarks
 pub mod DeltaMarks
 pub mod Laid
 pub mod TakenCells
+pub mod WeightLaws
+pub mod OfferWeights

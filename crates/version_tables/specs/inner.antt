@@ -10,3 +10,4 @@ pub mod Told
 pub mod Histories
 pub mod Codes
 pub mod Deltas
+pub mod Offered

@@ -2,6 +2,9 @@ pub mod SentSets
 pub mod TakenSets
 pub mod Grids
 pub mod Offers
+pub mod Numbers
+pub mod Told
+pub mod Starts
 pub mod Levels
 pub mod Shares
 pub mod Columns
@@ -12,3 +15,5 @@ pub mod Laid
 pub mod TakenCells
 pub mod Fitting
 pub mod Clearing
+pub mod WeightLaws
+pub mod OfferWeights

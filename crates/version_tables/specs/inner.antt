@@ -6,6 +6,8 @@ pub mod Laid
 pub mod Taken
 pub mod Weights
 pub mod Rounds
+pub mod Told
 pub mod Histories
 pub mod Codes
 pub mod Deltas
+pub mod Offered

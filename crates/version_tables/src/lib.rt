@@ -7,6 +7,8 @@ mod histories;
 mod laws;
 mod tables;
 mod taking;
+mod told_marks;
+mod weights;
 
 pub use histories::Histories;
 pub use laws::deltas_have_their_sets;

@@ -5,8 +5,8 @@ ghost use Rattle.bench_types.specs.declared.entries.Entry.{Entry};
 ghost use Rattle.owner_lists.specs.OwnerListView.{OwnerListView, entries_of};
 ghost use Rattle.owner_lists.specs.Numbers.{write_numbered};
 ghost use Rattle.planes.specs.Planes.{cell, ArePlanesChanged, IsGrid};
-ghost use Rattle.version_tables.specs.inner.Offers.{IsNumberedHistory};
-ghost use Rattle.version_tables.specs.inner.Taken.{drop_start, number_kept, start_of};
+ghost use Rattle.version_tables.specs.inner.Offers.{start_of, IsNumberedHistory};
+ghost use Rattle.version_tables.specs.inner.Taken.{drop_start, number_kept};
 ghost use Rattle.version_tables.specs.inner.Weights.{writes_in};
 
 use owner_lists::OwnerList;

@@ -1,11 +1,11 @@
 -- The cells of a table that has taken a delta. Source: this project.
-use Rattle.std.specs.Prelude.{◌≡◌, ℕ, ◌-◌, ◌<◌, ◌≤◌, ◌↔◌, ◌⊎◌, ◌&&◌, Bool, true, false, max, nat_lt, nat_le, List, length, slice_index, Contains, Option, None, Some, if◌then◌else◌}
+use Rattle.std.specs.Prelude.{◌≡◌, ℕ, ◌<◌, ◌≤◌, ◌↔◌, ◌⊎◌, ◌&&◌, Bool, true, false, max, nat_lt, nat_le, List, length, slice_index, Contains, Some, if◌then◌else◌}
 use Rattle.bench_types.specs.declared.entries.Entry.{Entry}
 use Rattle.bench_types.specs.declared.entries.Item.{Item}
 use Rattle.node_table.specs.Table.{Table, entry_at, generation_held}
-use Rattle.owner_lists.specs.Numbers.{write_numbered}
 use Rattle.planes.specs.Planes.{Cells, cell, number_taken, IsRaised}
 use Rattle.version_tables.specs.Views.{VersionTableView}
+use Rattle.version_tables.specs.inner.Offers.{start_of}
 
 -- a sent number is taken that is above the receiver's and one mark, and up to another
 abbrev pub is_taken : ℕ → ℕ → ℕ → ℕ → Bool
@@ -35,14 +35,6 @@ pub record AreTakenCells (from to : Table) (sent : ℕ → ℕ → Bool) (sender
   pub came : (owner key : ℕ) → owner < to.nodes → key < to.keys → sent owner key ≡ true → taken owner key ≡ sender owner key
   pub others : (owner key : ℕ) → owner < to.nodes → key < to.keys → sent owner key ≡ false
       → (SendsNoNewer from to sent owner × (taken owner key ≡ receiver owner key)) ⊎ (SendsNewer from to sent owner × (taken owner key ≡ 0))
-
--- how many writes an owner had made before the generation of a number's write
-abbrev pub start_from : ℕ → Option Entry → ℕ
-start_from number None = 0
-start_from number (Some e) = number - e.version
-
-abbrev pub start_of : List Entry → ℕ → ℕ
-start_of writes number = start_from number (write_numbered writes number)
 
 -- up to where an owner's numbers are dropped, where its greatest one was raised: to where the newest generation starts, if
 -- the old one is of an earlier generation than the owner's, which has so many writes before it

@@ -17,3 +17,5 @@ pub mod Fitting
 pub mod Clearing
 pub mod WeightLaws
 pub mod OfferWeights
+pub mod TakenNumbers
+pub mod TakenTables

@@ -2,6 +2,9 @@ pub mod SentSets
 pub mod TakenSets
 pub mod Grids
 pub mod Offers
+pub mod Numbers
+pub mod Told
+pub mod Starts
 pub mod Levels
 pub mod Shares
 pub mod Columns
@@ -10,3 +13,9 @@ pub mod LevelMarks
 pub mod DeltaMarks
 pub mod Laid
 pub mod TakenCells
+pub mod Fitting
+pub mod Clearing
+pub mod WeightLaws
+pub mod OfferWeights
+pub mod TakenNumbers
+pub mod TakenTables

@@ -4,3 +4,10 @@ pub mod Levels
 pub mod Shares
 pub mod Laid
 pub mod Taken
+pub mod Weights
+pub mod Rounds
+pub mod Told
+pub mod Histories
+pub mod Codes
+pub mod Deltas
+pub mod Offered

@@ -1,4 +1,5 @@
 pub mod Written
+pub mod Modes
 pub mod Writing
 pub mod Begun
 pub mod Standing

@@ -4,21 +4,24 @@ ghost use Rattle.std.specs.Prelude.{◌≡◌, ◌≤◌, [], true, false, IfOk,
 ghost use Rattle.bench_types.specs.declared.limits.TheConstants.{MOST_WORKERS};
 ghost use Rattle.bench_types.specs.Output.{IsWritten};
 ghost use Rattle.simulation.specs.Simulation.{MayWriteAll};
+ghost use Rattle.bench_types.specs.Mode.{modes};
+ghost use Rattle.bench.specs.inner.Writes.{AreWrittenIn, HasWritesBelow};
 ghost use Rattle.bench.specs.Runs.{TellsOfFailing, ComesOnceAccepted};
 ghost use Rattle.bench.specs.Comparisons.{lines_upto, lines_of_modes, IsFaultInRounds, IsFaultInModes, IsCompared, IsCompareFault};
 
-use crate::runs::{begin, check_input};
+use crate::runs::{begin, check_input, has_few_writes};
 use bench_types::limits::MOST_WORKERS;
 use bench_types::{Fault, Mode, Sink, Source};
-use node_table::NodeTable;
 use pool::FreeGate;
 use report::{compare_header, write_compare_row};
 use round_tables::RoundTable;
 use scenario::Scenario;
 use simulation::Sim;
 use std::alloc::Global;
+use std::marker::Brand;
 use std::sync::Wait;
 use std::thread::Threads;
+use version_tables::{VersionTable, Written};
 
 /// Reads a scenario, and writes the comparison of the modes: the header, and for each mode, in the
 /// order of `Mode::ALL`, the row of each round of the scenario under that mode. The scenario's own
@@ -40,7 +43,51 @@ pub fn compare<H: Threads + Wait + Sync, R: Source, W: Sink>(
 {
     let scenario = check_input(alloc, reader)?;
     compare_header(alloc, writer, scenario.format())?;
-    write_modes::<NodeTable, H, W>(rt, alloc, scenario, &Mode::ALL, writer, workers)
+    if has_few_writes(&scenario) {
+        write_short_modes::<Brand, H, W>(rt, alloc, scenario, writer, workers)
+    } else {
+        write_long_modes::<Brand, H, W>(rt, alloc, scenario, writer, workers)
+    }
+}
+
+// All rounds of a scenario under each mode, by tables that keep versions alone, in numbers of 16 bits.
+fn write_short_modes<L: Written + Send + Sync, H: Threads + Wait + Sync, W: Sink>(
+    rt: &H,
+    alloc: Global,
+    scenario: Scenario,
+    writer: &mut W,
+    workers: u32,
+) -> Result<(), Fault>
+    requires few { 1 ≤ workers }
+    requires many { workers ≤ MOST_WORKERS }
+    requires written { AreWrittenIn L.lists scenario }
+    requires below { HasWritesBelow 65535 scenario }
+    requires sound { W.failed writer.old ≡ false }
+    requires flushed { W.flushed writer.old ≡ true }
+    ensures written { OnOk result (IsWritten W.Sink writer.old writer.new (lines_of_modes scenario modes)) }
+    ensures fault { IfErr result (IsFaultInModes W.Sink writer.old writer.new [] scenario modes workers) }
+{
+    write_modes::<VersionTable<u16, L>, H, W>(rt, alloc, scenario, &Mode::ALL, writer, workers)
+}
+
+// The same in numbers of 32 bits.
+fn write_long_modes<L: Written + Send + Sync, H: Threads + Wait + Sync, W: Sink>(
+    rt: &H,
+    alloc: Global,
+    scenario: Scenario,
+    writer: &mut W,
+    workers: u32,
+) -> Result<(), Fault>
+    requires few { 1 ≤ workers }
+    requires many { workers ≤ MOST_WORKERS }
+    requires written { AreWrittenIn L.lists scenario }
+    requires below { HasWritesBelow 4294967295 scenario }
+    requires sound { W.failed writer.old ≡ false }
+    requires flushed { W.flushed writer.old ≡ true }
+    ensures written { OnOk result (IsWritten W.Sink writer.old writer.new (lines_of_modes scenario modes)) }
+    ensures fault { IfErr result (IsFaultInModes W.Sink writer.old writer.new [] scenario modes workers) }
+{
+    write_modes::<VersionTable<u32, L>, H, W>(rt, alloc, scenario, &Mode::ALL, writer, workers)
 }
 
 // All rounds of a scenario under each of these modes in turn.

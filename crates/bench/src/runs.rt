@@ -2,14 +2,17 @@
 
 ghost use Rattle.std.specs.Prelude.{◌≡◌, ◌≤◌, false, Ok, IfOk, OnOk, IfErr, IsOkUnless};
 ghost use Rattle.bench_types.specs.declared.limits.TheConstants.{MOST_WORKERS};
+ghost use Rattle.simulation.specs.Simulation.{MayWriteAll};
 ghost use Rattle.bench.specs.Inputs.{IsRead, IsInputFault};
 ghost use Rattle.bench.specs.Runs.{AreWritten, IsWritingFault, IsReported, IsRunFault, TellsOfFailing, ComesOnceAccepted};
 
 use crate::inputs::read_all;
 use bench_types::limits::MOST_WORKERS;
 use bench_types::{Fault, Sink, Source};
+use node_table::NodeTable;
 use pool::FreeGate;
 use report::{report_header, trace_header, write_report_row, write_trace_rows};
+use round_tables::RoundTable;
 use scenario::{Scenario, read};
 use simulation::Sim;
 use std::alloc::Global;
@@ -43,7 +46,7 @@ pub fn run<H: Threads + Wait + Sync, R: Source, W: Sink, X: Sink>(
         TellsOfFailing W.Sink writer.old writer.new fault × TellsOfFailing X.Sink trace.old trace.new fault) }
 {
     let scenario = check_input(alloc, reader)?;
-    let mut sim = begin(alloc, scenario)?;
+    let mut sim = begin::<NodeTable>(alloc, scenario)?;
     write_texts(rt, alloc, &mut sim, writer, trace, workers)
 }
 
@@ -58,12 +61,13 @@ pub fn check_input<R: Source>(alloc: Global, reader: &mut R) -> Result<Scenario,
 }
 
 /// A simulation of the scenario, before its first round.
-pub(crate) fn begin(alloc: Global, scenario: Scenario) -> Result<Sim, Fault>
+pub(crate) fn begin<T: RoundTable>(alloc: Global, scenario: Scenario) -> Result<Sim<T>, Fault>
+    requires { MayWriteAll T.may_write scenario }
     ensures opens { IfOk result
         (λ sim. (sim.settings ≡ scenario) × (sim.rounds_done ≡ 0) × (sim.broken ≡ false)) }
     ensures only { IsOkUnless result Fault.OutOfMemory }
 {
-    match Sim::new(alloc, scenario) {
+    match Sim::of(alloc, scenario) {
         Ok(sim) => Ok(sim),
         Err((fault, _)) => Err(fault),
     }
@@ -71,10 +75,10 @@ pub(crate) fn begin(alloc: Global, scenario: Scenario) -> Result<Sim, Fault>
 
 // Both headers, and all rounds of a simulation that stands before its first: after each its exchanges,
 // then its row.
-fn write_texts<H: Threads + Wait + Sync, W: Sink, X: Sink>(
+fn write_texts<T: RoundTable, H: Threads + Wait + Sync, W: Sink, X: Sink>(
     rt: &H,
     alloc: Global,
-    sim: &mut Sim,
+    sim: &mut Sim<T>,
     writer: &mut W,
     trace: &mut X,
     workers: u32,

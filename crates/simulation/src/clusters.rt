@@ -81,7 +81,8 @@ fn begin_node<T: RoundTable>(
     requires may_write { MayWriteAll T.may_write scenario.now }
     requires ended { T.has_ended histories.old (round - 1) }
     requires lists { length (T.lists histories.old) ≡ scenario.now.nodes }
-    requires owner { IsOwner scenario.now (round - 1) node (T.table table.old) (list_of_owner (T.lists histories.old) node) }
+    requires owner { IsOwner scenario.now (round - 1) node (T.table table.old)
+        (list_of_owner (T.lists histories.old) node) }
     ensures owner { OnOk result
         (IsOwner scenario.now round node (T.table table.new) (list_of_owner (T.lists histories.new) node)) }
     ensures table { OnOk result (T.table table.new ≡ begun_table scenario.now round node (T.table table.old)) }
@@ -107,8 +108,10 @@ fn restart<T: RoundTable>(
     requires node { node < scenario.now.nodes }
     requires ended { T.has_ended histories.old (round - 1) }
     requires lists { length (T.lists histories.old) ≡ scenario.now.nodes }
-    requires owner { IsOwner scenario.now (round - 1) node (T.table table.old) (list_of_owner (T.lists histories.old) node) }
-    ensures owner { HasRestarted scenario.now round node (T.table table.new) (list_of_owner (T.lists histories.new) node) }
+    requires owner { IsOwner scenario.now (round - 1) node (T.table table.old)
+        (list_of_owner (T.lists histories.old) node) }
+    ensures owner { HasRestarted scenario.now round node (T.table table.new)
+        (list_of_owner (T.lists histories.new) node) }
     ensures table { T.table table.new ≡ after_restart scenario.now round node (T.table table.old) }
     ensures others { OthersStay node (T.lists histories.old) (T.lists histories.new) }
     ensures ended { T.has_ended histories.new (round - 1) }

@@ -213,7 +213,8 @@ impl<T: RoundTable> Cluster<T> {
         requires within { round ≤ scenario.now.rounds }
         requires may_write { MayWriteAll T.may_write scenario.now }
         requires ended { T.has_ended self.old.histories (round - 1) }
-        requires standing { StandAfterRound scenario.now (round - 1) (tables_of T.table self.old) (T.lists self.old.histories) }
+        requires standing { StandAfterRound scenario.now (round - 1) (tables_of T.table self.old)
+            (T.lists self.old.histories) }
         ensures standing { OnOk result
             (StandAfterRound scenario.now round (tables_of T.table self.new) (T.lists self.new.histories)) }
         ensures tables { OnOk result

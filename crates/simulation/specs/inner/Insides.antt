@@ -29,7 +29,8 @@ abbrev pub lists_held : {T H S : Type 0} → (H → List OwnerListView) → Opti
 lists_held lists (Some c) = lists c.histories
 lists_held lists None = []
 
-abbrev pub simulation_of : {T H S : Type 0} → (H → List OwnerListView) → Settings → Option (Cluster T H S) → ℕ → SimView T
+abbrev pub simulation_of : {T H S : Type 0} → (H → List OwnerListView) → Settings → Option (Cluster T H S) → ℕ
+    → SimView T
 simulation_of lists s cluster done = record {
   settings = s;
   rounds_done = done;
@@ -51,5 +52,7 @@ pub record IsInside {T H S : Type 0} (table : T → Table) (lists : H → List O
   pub may_write : MayWriteAll May s
 
 -- what a round of a cluster answers
-abbrev pub HasPlayed : {T H S : Type 0} → (T → Table) → (H → List OwnerListView) → Settings → ℕ → Cluster T H S → Cluster T H S → RoundView → Type 0
-HasPlayed table lists s round old new = IsPlayedFrom s round (tables_of table old) (tables_of table new) (lists new.histories)
+abbrev pub HasPlayed : {T H S : Type 0} → (T → Table) → (H → List OwnerListView) → Settings → ℕ
+    → Cluster T H S → Cluster T H S → RoundView → Type 0
+HasPlayed table lists s round old new =
+    IsPlayedFrom s round (tables_of table old) (tables_of table new) (lists new.histories)

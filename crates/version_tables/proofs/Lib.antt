@@ -4,6 +4,7 @@ pub mod Grids
 pub mod Offers
 pub mod Numbers
 pub mod Told
+pub mod RoundMarks
 pub mod Starts
 pub mod Levels
 pub mod Shares

@@ -1,6 +1,6 @@
 -- Where generations start in an owner's list.
 -- Serves nothing yet.
-use Rattle.std.proofs.Common.{◌≡◌, ◌≢◌, ℕ, zero, suc, ◌+◌, ◌-◌, ◌*◌, ◌<◌, ◌≤◌, min, Bool, true, false, cond, eqb, List, [], ◌∷◌, ◌++◌, length, get_or, set, map, Option, Some, None, inl, inr, refl, sym, ap, ◌∙◌, subst, arith}
+use Rattle.std.proofs.Common.{◌≡◌, ℕ, zero, suc, ◌+◌, ◌-◌, ◌*◌, ◌<◌, ◌≤◌, min, Bool, true, false, cond, List, [], ◌∷◌, ◌++◌, length, get_or, set, Some, None, inl, inr, refl, sym, ap, ◌∙◌, arith}
 use Rattle.std.specs.Prelude.{nat_lt, nat_le, ◌&&◌}
 use Rattle.std.proofs.lemmas.Bool.{cases_lt, cases_eq, lt-ltb, le-leb, eq-eqb, ne_eqb}
 use Rattle.std.proofs.lemmas.List.{get_or-map, get_or-set_same, get_or-set_other, length-set, length-append}
@@ -44,12 +44,12 @@ start-own v (suc place) are lt le =
     let there = numbered-some (entries_of v) (suc place) (omega arith) le in
     let within : place - length v.earlier < length v.current = omega (arith, lt, le, length-append v.earlier v.current) in
     let here : write_from v.current (place - length v.earlier) ≡ Some there.0 =
-        sym (write_from-behind v.earlier v.current (place - length v.earlier))
-        ∙ ap (write_from (entries_of v)) {x = length v.earlier + (place - length v.earlier)} {y = place} (omega (arith, lt))
-        ∙ there.1 in
+    sym (write_from-behind v.earlier v.current (place - length v.earlier))
+    ∙ ap (write_from (entries_of v)) {x = length v.earlier + (place - length v.earlier)} {y = place} (omega (arith, lt))
+    ∙ there.1 in
     let at = write_from-at v.current (place - length v.earlier) there.0 there.0 here in
     let version : there.0.version ≡ place - length v.earlier + 1 =
-        ap (λ (e : Entry). e.version) (sym at.1) ∙ (are.current (place - length v.earlier) there.0 within).1 ∙ omega arith in
+    ap (λ (e : Entry). e.version) (sym at.1) ∙ (are.current (place - length v.earlier) there.0 within).1 ∙ omega arith in
     ap (start_before (suc place)) there.1 ∙ omega (arith, version, lt)
 
 -- lowered to the base, the start of an earlier generation, or else the number, is the start

@@ -1,20 +1,18 @@
 -- What a digest tells, by numbers: which of the sender's writes the receiver lacks.
 -- Serves nothing yet.
-use Rattle.std.proofs.Common.{◌≡◌, ◌≢◌, ℕ, zero, suc, ◌+◌, ◌-◌, ◌<◌, ◌≤◌, max, Bool, true, false, cond, not, eqb, List, length, Option, Some, None, ◌⊎◌, inl, inr, refl, sym, ap, ◌∙◌, subst, arith}
+use Rattle.std.proofs.Common.{◌≡◌, ℕ, ◌-◌, ◌<◌, ◌≤◌, max, true, false, cond, not, List, length, Option, Some, None, inl, inr, refl, sym, ap, ◌∙◌, subst, arith}
 use Rattle.std.specs.Prelude.{nat_lt, ◌&&◌}
 use Rattle.std.proofs.lemmas.Bool.{cases_lt, cases_eq, lt-ltb, le-ltb, eq-eqb, ne_eqb}
-use Rattle.std.proofs.lemmas.Option.{same_Some}
 use Rattle.bench_types.specs.declared.entries.Entry.{Entry}
 use Rattle.bench_types.specs.declared.entries.Item.{Item}
 use Rattle.bench_types.specs.declared.entries.Mark.{Mark}
 use Rattle.bench_types.specs.declared.exchanges.Mode.{Mode}
-use Rattle.bench_types.specs.declared.exchanges.Mode.TheVariants.{ScuttleBreadth, ScuttleDepth, PreciseOldest, PreciseNewest}
 use Rattle.bench_types.specs.declared.exchanges.DigestKind.{DigestKind}
 use Rattle.bench_types.specs.declared.exchanges.DigestKind.TheVariants.{Scuttle, Precise}
-use Rattle.bench_types.specs.Mark.{absent, mark_of, mark_held, is_before, IsBefore, IsUpTo}
+use Rattle.bench_types.specs.Mark.{mark_of, mark_held, is_before, IsUpTo}
 use Rattle.bench_types.specs.Mode.{digest_kind}
-use Rattle.bench_types.proofs.Marks.{before-yes, before-no, up_to-itself, absent-first}
-use Rattle.node_table.specs.Table.{Table, entry_at, mark_at, greatest_mark, generation_held, IsProper}
+use Rattle.bench_types.proofs.Marks.{before-yes, before-no, absent-first}
+use Rattle.node_table.specs.Table.{Table, mark_at, greatest_mark, generation_held, IsProper}
 use Rattle.node_table.proofs.Greatest.{greatest_mark-unique}
 use Rattle.reconcile.specs.Candidates.{known_mark}
 use Rattle.owner_lists.specs.Numbers.{write_numbered}
@@ -108,7 +106,7 @@ module _ (lists : ℕ → List Entry) (histories : (owner : ℕ) → IsHistory (
       | None ↦ λ none. omega (arith, (numbered-within writes (receiver owner key) d is_d).0)
       | Some f ↦ λ is_f.
           let alike : d.generation ≡ f.generation =
-              proper.copies owner key d (has owner key in_nodes in_keys ∙ is_d) ∙ ap (λ (m : Mark). m.generation) greatest-mark ∙ ap (λ o. (mark_held o).generation) is_f in
+          proper.copies owner key d (has owner key in_nodes in_keys ∙ is_d) ∙ ap (λ (m : Mark). m.generation) greatest-mark ∙ ap (λ o. (mark_held o).generation) is_f in
           elim (cases_lt (greatest - f.version) (receiver owner key)) [
             | inl above ↦ above
             | inr not_above ↦ absurd (omega (arith, alike, (numbered owner).older (receiver owner key) greatest d f is_d is_f (omega (arith, not_above, ((numbered owner).counted greatest f is_f).1))))

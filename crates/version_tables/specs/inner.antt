@@ -11,3 +11,5 @@ pub mod Histories
 pub mod Codes
 pub mod Deltas
 pub mod Offered
+pub mod Plans
+pub mod RoundLevels

@@ -5,6 +5,7 @@
 mod deltas;
 mod histories;
 mod laws;
+mod rounds;
 mod tables;
 mod told_marks;
 mod weights;

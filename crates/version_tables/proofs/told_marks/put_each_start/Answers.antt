@@ -1,12 +1,10 @@
-use Rattle.std.proofs.Common.{◌≡◌, ◌<◌, length, get_or, sym, ◌∙◌, subst, arith, map}
+use Rattle.std.proofs.Common.{◌<◌, length, get_or, sym, ◌∙◌, subst, arith, map}
 use Rattle.std.proofs.lemmas.List.{length-map}
 use Rattle.owner_lists.specs.OwnerListView.{entries_of}
 use Rattle.planes.proofs.Elementwise.{number-at, written_next}
 use Rattle.version_tables.specs.inner.Offers.{IsNumberedHistory}
 use Rattle.version_tables.specs.inner.Told.{IsEarlierStart}
-use Rattle.version_tables.specs.inner.Weights.{writes_in}
 use Rattle.version_tables.proofs.Starts.{writes_in-here}
-use Rattle.version_tables.proofs.told_marks.put_each_start.Given as given
 use Rattle.version_tables.proofs.told_marks.put_each_start.Goals as goal
 
 pub earlier_start-requires-clause-numbered : goal.earlier_start-requires-clause-numbered
@@ -18,14 +16,14 @@ pub earlier_start-requires-clause-fits : goal.earlier_start-requires-clause-fits
 earlier_start-requires-clause-fits g c κs within =
     let lt : c.loop-r.r < length c.args.lists.now = omega (arith, c.loop-r-test.true, c.requires.count, length-map c.args.numbers.now g.N.Number.number) in
     let number = number-at g.N.Number.number c.loop-r.numbers c.loop-r.r c.index-numbers-r.result (omega (arith, c.loop-r-test.true, c.loop-r.auto.numbers)) c.index-numbers-r.is
-        ∙ c.loop-r.invariant.from c.loop-r.r (omega arith) in
+    ∙ c.loop-r.invariant.from c.loop-r.r (omega arith) in
     omega (arith, number, c.requires.within c.loop-r.r lt, c.requires.few c.loop-r.r)
 
 pub loop-r-preserved : goal.loop-r-preserved
 loop-r-preserved g c =
     let lt : c.loop-r.r < length c.args.lists.now = omega (arith, c.loop-r-test.true, c.requires.count, length-map c.args.numbers.now g.N.Number.number) in
     let number = number-at g.N.Number.number c.loop-r.numbers c.loop-r.r c.index-numbers-r.result (omega (arith, c.loop-r-test.true, c.loop-r.auto.numbers)) c.index-numbers-r.is
-        ∙ c.loop-r.invariant.from c.loop-r.r (omega arith) in
+    ∙ c.loop-r.invariant.from c.loop-r.r (omega arith) in
     let base = number-at g.N.Number.number c.args.bases.now c.loop-r.r c.index-bases-r.result (omega (arith, lt, c.requires.based.size, length-map c.args.bases.now g.N.Number.number)) c.index-bases-r.is in
     let writes = sym (writes_in-here c.args.lists.now c.loop-r.r c.index-lists-r.result lt c.index-lists-r.is) in
     written_next _ (map g.N.Number.number c.args.numbers.now) g.N.Number.number c.loop-r.numbers c.loop-r.r c.earlier_start.result c.loop-r.invariant

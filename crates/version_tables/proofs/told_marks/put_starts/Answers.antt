@@ -1,4 +1,4 @@
-use Rattle.std.proofs.Common.{◌<◌, length, get_or, sym, ◌∙◌, ap, subst, arith, map}
+use Rattle.std.proofs.Common.{◌<◌, length, get_or, sym, ◌∙◌, ap, arith, map}
 use Rattle.owner_lists.specs.OwnerListView.{list_of_owner}
 use Rattle.version_tables.specs.inner.Offers.{start_of}
 use Rattle.version_tables.proofs.Starts.{writes_in-is, start-own, start-lowered}
@@ -14,8 +14,8 @@ returns g c = record {
       start-lowered _ (get_or (map g.N.Number.number c.args.bases.now) r 0) (get_or (map g.N.Number.number c.args.numbers.now) r 0) (get_or (map g.N.Number.number c.put_earlier_starts.new.numbers) r 0) _
       (c.put_earlier_starts.ensures.each r lt)
       (λ behind.
-          ap (λ w. start_of w (get_or (map g.N.Number.number c.args.numbers.now) r 0)) writes
-          ∙ start-own (list_of_owner c.args.lists.now r) (get_or (map g.N.Number.number c.args.numbers.now) r 0) (c.requires.writes r) (omega (arith, behind, base)) (omega (arith, c.requires.within r within, ap length writes))
-          ∙ sym base)
+      ap (λ w. start_of w (get_or (map g.N.Number.number c.args.numbers.now) r 0)) writes
+      ∙ start-own (list_of_owner c.args.lists.now r) (get_or (map g.N.Number.number c.args.numbers.now) r 0) (c.requires.writes r) (omega (arith, behind, base)) (omega (arith, c.requires.within r within, ap length writes))
+      ∙ sym base)
       (c.lower.ensures.each r (omega (arith, lt, c.put_earlier_starts.ensures.size)));
 }

@@ -6,3 +6,4 @@ pub mod Laid
 pub mod Taken
 pub mod Weights
 pub mod Offered
+pub mod Plans

@@ -2,6 +2,8 @@
 //! number, the owners' lists tell.
 #![tactic(auto)]
 
+mod breadths;
+mod depths;
 mod laws;
 mod tables;
 mod weights;

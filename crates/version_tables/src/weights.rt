@@ -1,6 +1,6 @@
-//! What is offered, as numbers of writes, and what these weigh.
+//! What is offered, as numbers of writes, what these weigh, and levels of them.
 
-ghost use Rattle.std.specs.Prelude.{◌≡◌, ℕ, ◌*◌, ◌<◌, ◌≤◌, ◌↔◌, IsTrue, length};
+ghost use Rattle.std.specs.Prelude.{◌≡◌, ℕ, ◌*◌, ◌<◌, ◌≤◌, ◌↔◌, IsTrue, length, if◌then◌else◌};
 ghost use Rattle.bench_types.specs.Budget.{amount_of, largest_share};
 ghost use Rattle.bench_types.specs.declared.limits.TheConstants.{MOST_NODES, MOST_KEYS};
 ghost use Rattle.version_tables.specs.inner.Offered.{cells_in, count_in, marks, weight_in, weights_in, IsOffer};
@@ -21,6 +21,26 @@ pub(crate) struct Offer<'a, N: Number> {
     pub(crate) high: &'a [N],
     pub(crate) lists: &'a [OwnerList],
     pub(crate) budget: Budget,
+}
+
+/// Near marks let through whole levels, `whole` numbers in all, and far marks one level more, which doesn't fit.
+#[derive(Drop)]
+pub(crate) struct Level<N: Number> {
+    pub(crate) near: Vec<N>,
+    pub(crate) far: Vec<N>,
+    pub(crate) whole: u32,
+}
+
+pub(crate) fn pick<N: Number>(test: bool, number: N, other: N) -> N
+    ensures { N.number result ≡ (if test then N.number number else N.number other) }
+{
+    if test { number } else { other }
+}
+
+pub(crate) fn one_if(test: bool) -> u32
+    ensures { result ≡ (if test then 1 else 0) }
+{
+    u32::from(test)
 }
 
 // The number at a place.

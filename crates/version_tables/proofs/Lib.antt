@@ -16,3 +16,5 @@ pub mod Laid
 pub mod TakenCells
 pub mod WeightLaws
 pub mod OfferWeights
+pub mod LayerSteps
+pub mod RunSteps

@@ -4,6 +4,8 @@
 
 mod deltas;
 mod histories;
+mod breadths;
+mod depths;
 mod laws;
 mod rounds;
 mod tables;

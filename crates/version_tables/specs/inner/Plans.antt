@@ -1,10 +1,10 @@
 -- Levels of what is offered, as marks: near marks let through whole levels, and far marks one level more, which doesn't
 -- fit. Source: this project.
-use Rattle.std.specs.Prelude.{◌≡◌, ◌⊎◌, ℕ, ◌+◌, ◌<◌, ◌≤◌, nat_lt, length, if◌then◌else◌}
+use Rattle.std.specs.Prelude.{◌≡◌, ◌⊎◌, ℕ, ◌+◌, ◌<◌, ◌≤◌, nat_lt, List, length, map, if◌then◌else◌}
 use Rattle.bench_types.specs.declared.exchanges.Mode.{Mode}
 use Rattle.bench_types.specs.declared.exchanges.Mode.TheVariants.{ScuttleBreadth, ScuttleDepth, PreciseOldest, PreciseNewest}
 use Rattle.bench_types.specs.Budget.{amount_of}
-use Rattle.planes.specs.Planes.{Cells, HasNoneAbove, IsLeastAbove}
+use Rattle.planes.specs.Planes.{Cells, count_above, HasNoneAbove, IsLeastAbove}
 use Rattle.planes.specs.Sums.{sum_below}
 use Rattle.version_tables.specs.declared.weights.Offer.{Offer}
 use Rattle.version_tables.specs.declared.weights.Level.{Level}
@@ -73,4 +73,19 @@ pub record AreLayersSoFar {N : Type 0} (number : N → ℕ) (offer : Offer N) (n
   pub next : (owner : ℕ) → owner < offer.nodes → IsNextMark (cells_in number offer) offer.keys owner (near owner) (far owner)
   pub more : added ≡ raised offer.nodes near far
   pub whole : count ≡ count_in number offer (marks number offer.low.now) near
+  pub within : weight_in number offer (marks number offer.low.now) near ≤ amount_of offer.budget
+
+-- a mark that goes all the way for owners that have so many numbers, and for others not at all
+pub record IsMarkFrom (count low high size mark : ℕ) : Type 0 where
+  pub all : size ≤ count → mark ≡ high
+  pub none : count < size → mark ≡ low
+
+-- runs as far as they were gone over: the longer ones fit, and those of this size are next
+pub record AreRunsSoFar {N : Type 0} (number : N → ℕ) (offer : Offer N) (near far : ℕ → ℕ) (size count added : ℕ) : Type 0 where
+  pub longer : (owner : ℕ) → owner < offer.nodes
+      → IsMarkFrom (count_above (cells_in number offer) offer.keys owner (marks number offer.low.now owner)) (marks number offer.low.now owner) (marks number offer.high.now owner) (size + 1) (near owner)
+  pub next : (owner : ℕ) → owner < offer.nodes
+      → IsMarkFrom (count_above (cells_in number offer) offer.keys owner (marks number offer.low.now owner)) (marks number offer.low.now owner) (marks number offer.high.now owner) size (far owner)
+  pub whole : count ≡ count_in number offer (marks number offer.low.now) near
+  pub more : count + added ≡ count_in number offer (marks number offer.low.now) far
   pub within : weight_in number offer (marks number offer.low.now) near ≤ amount_of offer.budget

@@ -13,3 +13,4 @@ pub mod Deltas
 pub mod Offered
 pub mod Plans
 pub mod RoundLevels
+pub mod Sharing

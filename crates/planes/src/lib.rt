@@ -6,6 +6,7 @@ mod numbers;
 mod planes;
 
 pub use grids::{
-    ahead, counts_above, counts_between, least_above, take, total_above, total_held, total_upto,
+    ahead, counts_above, counts_between, least_above, raise, take, total_above, total_held,
+    total_upto,
 };
 pub use numbers::Number;

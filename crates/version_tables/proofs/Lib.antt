@@ -14,6 +14,8 @@ pub mod LevelMarks
 pub mod DeltaMarks
 pub mod Laid
 pub mod TakenCells
+pub mod Fitting
+pub mod Clearing
 pub mod WeightLaws
 pub mod OfferWeights
 pub mod LayerSteps

@@ -9,6 +9,7 @@ mod depths;
 mod laws;
 mod rounds;
 mod tables;
+mod taking;
 mod told_marks;
 mod weights;
 

@@ -4,6 +4,8 @@ pub mod Grids
 pub mod Offers
 pub mod Numbers
 pub mod Told
+pub mod Lifts
+pub mod MarkedLaws
 pub mod RoundMarks
 pub mod Starts
 pub mod Levels
@@ -19,4 +21,3 @@ pub mod Clearing
 pub mod WeightLaws
 pub mod OfferWeights
 pub mod LayerSteps
-pub mod RunSteps

@@ -14,3 +14,4 @@ pub mod Offered
 pub mod Plans
 pub mod RoundLevels
 pub mod Sharing
+pub mod Marked

@@ -2,12 +2,14 @@
 //! number, the owners' lists tell.
 #![tactic(auto)]
 
-mod deltas;
-mod histories;
 mod breadths;
+mod deltas;
 mod depths;
+mod histories;
 mod laws;
+mod marked;
 mod rounds;
+mod sharing;
 mod tables;
 mod taking;
 mod told_marks;

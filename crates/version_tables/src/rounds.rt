@@ -13,7 +13,6 @@ ghost use Rattle.version_tables.specs.inner.RoundLevels.{round_mode, round_at, e
 ghost use Rattle.version_tables.specs.inner.Rounds.{AreEnds};
 ghost use Rattle.version_tables.specs.inner.Weights.{writes_in};
 
-use crate::told_marks::copy_of;
 use crate::weights::{Level, Offer};
 use bench_types::Fault;
 use planes::Number;
@@ -159,7 +158,7 @@ fn mark_of<N: Number>(
         (map N.number v.items)) }
     ensures only { IsOkUnless result OutOfMemory }
 {
-    let mut mark = copy_of(alloc, offer.low)?;
+    let mut mark = Vec::from_slice(alloc, offer.low)?;
     raise_to_end(&mut mark, ends, rounds, round);
     Ok(mark)
 }

@@ -5,6 +5,7 @@ pub mod Offers
 pub mod Numbers
 pub mod Told
 pub mod Lifts
+pub mod Delivered
 pub mod MarkedLaws
 pub mod RoundMarks
 pub mod Starts

@@ -140,14 +140,14 @@ ahead-above number peer low = elim (cases_lt (max peer low) number) [
 ]
 
 -- and it is the number itself, or 0
-offered-is : (kind : DigestKind) (sender receiver : Cells) (low : ℕ → ℕ) (owner key : ℕ) → 0 < offered_by kind sender receiver low owner key → offered_by kind sender receiver low owner key ≡ sender owner key
+pub offered-is : (kind : DigestKind) (sender receiver : Cells) (low : ℕ → ℕ) (owner key : ℕ) → 0 < offered_by kind sender receiver low owner key → offered_by kind sender receiver low owner key ≡ sender owner key
 offered-is Scuttle sender receiver low owner key some = refl
 offered-is Precise sender receiver low owner key some = elim (nat_lt (max (receiver owner key) (low owner)) (sender owner key)) as (λ b. 0 < cond b (sender owner key) 0 → cond b (sender owner key) 0 ≡ sender owner key) [
   | true ↦ λ _. refl
   | false ↦ λ none. absurd (omega (arith, none))
 ] some
 
-offered-upto : (kind : DigestKind) (sender receiver : Cells) (low : ℕ → ℕ) (owner key : ℕ) → offered_by kind sender receiver low owner key ≤ sender owner key
+pub offered-upto : (kind : DigestKind) (sender receiver : Cells) (low : ℕ → ℕ) (owner key : ℕ) → offered_by kind sender receiver low owner key ≤ sender owner key
 offered-upto Scuttle sender receiver low owner key = omega arith
 offered-upto Precise sender receiver low owner key = elim (nat_lt (max (receiver owner key) (low owner)) (sender owner key)) as (λ b. cond b (sender owner key) 0 ≤ sender owner key) [
   | true ↦ omega arith

@@ -62,3 +62,16 @@ whole_marks ScuttleBreadth number offer = map number offer.high.now
 whole_marks ScuttleDepth number offer = map number offer.high.now
 whole_marks PreciseOldest number offer = map number offer.high.now
 whole_marks PreciseNewest number offer = map number offer.low.now
+
+-- the marks of a delta: low ones and those of what is sent, or in the last mode those and the high ones
+abbrev pub low_list : {A : Type 0} → Mode → A → A → A
+low_list ScuttleBreadth low mark = low
+low_list ScuttleDepth low mark = low
+low_list PreciseOldest low mark = low
+low_list PreciseNewest low mark = mark
+
+abbrev pub high_list : {A : Type 0} → Mode → A → A → A
+high_list ScuttleBreadth mark high = mark
+high_list ScuttleDepth mark high = mark
+high_list PreciseOldest mark high = mark
+high_list PreciseNewest mark high = high

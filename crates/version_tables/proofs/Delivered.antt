@@ -29,12 +29,13 @@ use Rattle.version_tables.specs.inner.Histories.{IsWrittenSoFar, FitsHistories}
 use Rattle.version_tables.specs.inner.Laid.{AreNumbers, IsGreatest}
 use Rattle.version_tables.specs.inner.Marked.{HasShape, LetAll, ShareLevel, KeepsLow, AreMarked, low_list, high_list}
 use Rattle.version_tables.specs.inner.Offered.{cells_in, marks, weights_in, weight_in, count_in, IsOffer}
-use Rattle.version_tables.specs.inner.Offers.{Offers, offered_by, told_by, told_mark}
+use Rattle.version_tables.specs.inner.Offers.{IsHistory, Offers, offered_by, told_by, told_mark}
 use Rattle.version_tables.specs.inner.Plans.{weight_on, count_on}
 use Rattle.version_tables.specs.inner.Shares.{lets_through, NumbersDiffer}
 use Rattle.version_tables.specs.inner.Sharing.{AreShared}
 use Rattle.version_tables.specs.inner.Taken.{AreSent, is_taken}
 use Rattle.version_tables.specs.inner.Weights.{number_shares, weight_between, one_each, writes_in}
+use Rattle.version_tables.proofs.Levels.{candidate-below, candidate-key, candidate-number}
 use Rattle.version_tables.proofs.Fitting.{fits-upto, fits-below, fits-cells}
 use Rattle.version_tables.proofs.Lifts.{weight_by, lets, count-sent, count-cut, are-sent, shared-sent, whole-sent}
 use Rattle.version_tables.proofs.Numbers.{numbered-some}
@@ -211,3 +212,96 @@ module _ {N : Type 0} (number : N → ℕ) (most : ℕ) (written : ℕ → List 
     differ = λ owner in_nodes k l in_k in_l. differ owner (omega (arith, in_nodes, offer_nodes)) k l (omega (arith, in_k, offer_keys)) (omega (arith, in_l, offer_keys));
     covered = λ owner in_nodes key in_keys. covered owner (omega (arith, in_nodes, offer_nodes)) key (omega (arith, in_keys, offer_keys));
   }
+
+  -- what marks let through of the offer is the delta
+  module _ (budget : Budget) (offer_budget : offer.budget ≡ budget) (rotation : ℕ) (in_nodes : rotation < from.nodes) (mark : List ℕ) (sent cut : ℕ)
+      (marked : AreMarked mode rotation number offer (λ r. get_or mark r 0) sent cut) where
+    abbrev m : ℕ → ℕ
+    m r = get_or mark r 0
+
+    abbrev weights : ℕ → ℕ → ℕ
+    weights = number_shares budget lists
+
+    on-marks : weight_on mode number offer m ≡ weight_by mode weights cells from.nodes from.keys low high m
+    on-marks = on-weights mode number offer m ∙ (λ i. weight_by mode (number_shares (offer_budget i) (writes_in (offer_lists i))) cells (offer_nodes i) (offer_keys i) low high m)
+
+    amounts : amount_of offer.budget ≡ amount_of budget
+    amounts = ap amount_of offer_budget
+
+    keeps : KeepsLow mode from.nodes low m
+    keeps = subst (λ n. KeepsLow mode n low m) offer_nodes marked.above
+
+    below : (r : ℕ) → r < from.nodes → r < offer.nodes
+    below r lt = omega (arith, lt, offer_nodes)
+
+    histories : (owner : ℕ) → IsHistory (lists owner)
+    histories owner = (so_far owner).history
+
+    shape-of : (near far : ℕ → ℕ) → HasShape mode (writes_in offer.lists.now) cells offer.nodes offer.keys low near far → HasShape mode lists cells from.nodes from.keys low near far
+    shape-of near far shape = subst (λ l. HasShape mode (writes_in l) cells from.nodes from.keys low near far) offer_lists
+        (subst (λ k. HasShape mode (writes_in offer.lists.now) cells from.nodes k low near far) offer_keys
+        (subst (λ n. HasShape mode (writes_in offer.lists.now) cells n offer.keys low near far) offer_nodes shape))
+
+    has-whole : LetAll mode number offer m → HasSet (candidates mode F T) (lets F T fits_from.proper lists histories cells low high covered mode offers m) (delta_between mode rotation budget F T)
+    has-whole all =
+        whole-sent F T fits_from.proper lists histories cells low high covered mode offers rotation in_nodes budget m keeps
+        (λ c in_c. all.all c.owner c.entry.key (below c.owner (candidate-below mode F T fits_from.proper c in_c)) (omega (arith, candidate-key mode F T fits_from.proper c in_c, offer_keys))
+            (candidate-number mode F T fits_from.proper lists histories cells low offers c in_c).0)
+        (omega (arith, all.within, on-marks, amounts))
+
+    has-share : ShareLevel mode rotation number offer m sent → HasSet (candidates mode F T) (lets F T fits_from.proper lists histories cells low high covered mode offers m) (delta_between mode rotation budget F T)
+    has-share level =
+        let s = level.shared in
+        let takes : number_shares offer.budget (writes_in offer.lists.now) s.owner (cells s.owner s.key) ≡ weights s.owner (cells s.owner s.key) =
+            λ i. number_shares (offer_budget i) (writes_in (offer_lists i)) s.owner (cells s.owner s.key) in
+        shared-sent F T fits_from.proper lists histories cells low high covered mode offers rotation in_nodes budget level.near level.far m (shape-of level.near level.far level.shape) keeps
+        (λ r past. level.past_near r (omega (arith, past, offer_nodes))) (λ r past. level.past_far r (omega (arith, past, offer_nodes)))
+        s.owner s.key (omega (arith, s.owner_below, offer_nodes)) (omega (arith, s.key_below, offer_keys)) s.offered s.outside s.inside
+        (λ r lt turn. s.passed r (below r lt) (subst (λ n. rotated n rotation r < rotated n rotation s.owner) (sym offer_nodes) turn))
+        (λ r lt turn. s.waiting r (below r lt) (subst (λ n. rotated n rotation s.owner < rotated n rotation r) (sym offer_nodes) turn))
+        (λ k lt above. s.own k (omega (arith, lt, offer_keys)) above)
+        (omega (arith, s.within, on-marks, amounts))
+        (omega (arith, s.beyond, on-marks, amounts, takes))
+
+    has : HasSet (candidates mode F T) (lets F T fits_from.proper lists histories cells low high covered mode offers m) (delta_between mode rotation budget F T)
+    has = elim marked.how [ inl all ↦ has-whole all | inr level ↦ has-share level ]
+
+    -- all that the receiver holds is up to the low marks of a scuttle digest
+    told-upto : (owner key : ℕ) → owner < from.nodes → key < from.keys → kind ≡ Scuttle → receiver owner key ≤ low owner
+    told-upto owner key in_nodes' in_keys is_scuttle =
+        let in_to : owner < to.nodes = omega (arith, in_nodes', nodes) in
+        let to_key : key < to.keys = omega (arith, in_keys, keys) in
+        elim (cases_eq owner to.node) [
+          | inl own ↦ omega (arith, low-told owner in_nodes', ap (λ b. cond b most (told_by kind (lists owner) (get_or to.greatest owner 0))) (eq-eqb owner to.node own), fits-below written to kept_to most h so_far fits_to owner key in_to to_key)
+          | inr other ↦
+              omega (arith, low-told owner in_nodes', ap (λ b. cond b most (told_by kind (lists owner) (get_or to.greatest owner 0))) (ne_eqb owner to.node other),
+              ap (λ k. told_by k (lists owner) (get_or to.greatest owner 0)) is_scuttle, (kept_to.most owner in_to).upto key to_key)
+        ]
+
+    keeps-low : (owner : ℕ) → owner < from.nodes → mode ≡ PreciseNewest → low owner ≤ m owner
+    keeps-low owner lt is_newest = (subst (λ k. KeepsLow k from.nodes low m) is_newest keeps) owner lt
+
+    taken-is : (owner key : ℕ) → owner < from.nodes → key < from.keys
+        → is_taken_at from to (low_list mode (map number offer.low.now) mark) (high_list mode mark (map number offer.high.now)) owner key ≡ (nat_lt (low owner) (cells owner key) && lets_through mode (m owner) (cells owner key))
+    taken-is owner key in_nodes' in_keys =
+        taken-by mode sender receiver (map number offer.low.now) mark (map number offer.high.now) owner key (told-upto owner key in_nodes' in_keys) (keeps-low owner in_nodes') (sender-high owner key in_nodes' in_keys)
+        ∙ (λ i. nat_lt (low owner) (sym (cells_are owner key in_nodes' in_keys) i) && lets_through mode (m owner) (sym (cells_are owner key in_nodes' in_keys) i))
+
+    pub delta-marks : length mark ≡ from.nodes
+        → AreMarksOf (record { mode = mode; budget = budget }) rotation written from to (low_list mode (map number offer.low.now) mark) (high_list mode mark (map number offer.high.now)) sent cut
+    delta-marks mark_size = record {
+      low_count = low-size mode (map number offer.low.now) mark from.nodes (low_is.size ∙ sym fits_from.nodes) mark_size;
+      high_count = high-size mode mark (map number offer.high.now) from.nodes mark_size (ap length offer_high ∙ kept_from.greatest_count);
+      marks = are-sent F T fits_from.proper lists histories cells low high covered mode offers rotation in_nodes budget m keeps has
+          (is_taken_at from to (low_list mode (map number offer.low.now) mark) (high_list mode mark (map number offer.high.now))) taken-is;
+      count = sent-is;
+      left = omega (arith, sent-is, marked.left, all-of, count-cut F T fits_from.proper lists histories cells low high covered mode offers rotation in_nodes budget m keeps has);
+    }
+      where
+        all-of : count_in number offer low high ≡ weight_between one_each cells from.nodes from.keys low high
+        all-of i = weight_between one_each cells (offer_nodes i) (offer_keys i) low high
+
+        sent-is : sent ≡ length (delta_between mode rotation budget F T).items
+        sent-is =
+            marked.count ∙ on-counts mode number offer m ∙ (λ i. weight_by mode one_each cells (offer_nodes i) (offer_keys i) low high m)
+            ∙ sym (count-sent F T fits_from.proper lists histories cells low high covered mode offers rotation in_nodes budget m keeps has)

@@ -19,3 +19,4 @@ pub mod WeightLaws
 pub mod OfferWeights
 pub mod TakenNumbers
 pub mod TakenTables
+pub mod TakenViews

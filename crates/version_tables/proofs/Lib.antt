@@ -22,3 +22,6 @@ pub mod Clearing
 pub mod WeightLaws
 pub mod OfferWeights
 pub mod LayerSteps
+pub mod TakenNumbers
+pub mod TakenTables
+pub mod TakenViews

@@ -21,6 +21,10 @@ pub record AreMadeBy (round : ℕ) (writes : List Entry) : Type 0 where
   pub first : (number : ℕ) (e : Entry) → write_numbered writes number ≡ Some e → 1 ≤ e.born
   pub last : (number : ℕ) (e : Entry) → write_numbered writes number ≡ Some e → e.born ≤ round
 
+-- how many writes each owner made before its generation
+abbrev pub bases_in : List OwnerListView → ℕ → ℕ
+bases_in lists owner = length (list_of_owner lists owner).earlier
+
 -- what an owner wrote so far, of all that it writes, whose numbers are below a bound
 pub record IsWrittenSoFar (all : List Entry) (most rounds : ℕ) (so_far : List Entry) : Type 0 where
   pub begins : IsBeginning so_far all

@@ -5,6 +5,7 @@ use Rattle.bench_types.specs.declared.entries.Item.{Item}
 use Rattle.node_table.specs.Table.{Table, entry_at, generation_held}
 use Rattle.planes.specs.Planes.{Cells, cell, number_taken, IsRaised}
 use Rattle.version_tables.specs.Views.{VersionTableView}
+use Rattle.version_tables.specs.inner.Laid.{IsVersionTable}
 use Rattle.version_tables.specs.inner.Offers.{start_of}
 
 -- a sent number is taken that is above the receiver's and one mark, and up to another
@@ -46,18 +47,29 @@ drop_start writes old base new =
 abbrev pub number_kept : ℕ → ℕ → ℕ
 number_kept start number = if nat_le number start then 0 else number
 
--- a receiver's numbers with those of a sender that marks let through
-abbrev pub numbers_taken : VersionTableView → List ℕ → List ℕ → List ℕ → Cells
-numbers_taken to sent low high owner key =
-    number_taken (cell to.cells to.nodes owner key) (cell sent to.nodes owner key) (slice_index low owner) (slice_index high owner)
+-- numbers with those of a sender that marks let through
+abbrev pub numbers_taken : ℕ → List ℕ → List ℕ → List ℕ → List ℕ → Cells
+numbers_taken nodes cells sent low high owner key =
+    number_taken (cell cells nodes owner key) (cell sent nodes owner key) (slice_index low owner) (slice_index high owner)
 
 -- a receiver's numbers and greatest ones once it took them, and dropped what is of older generations
-pub record IsTaken (lists : ℕ → List Entry) (bases : ℕ → ℕ) (to : VersionTableView) (sent low high cells greatest : List ℕ) : Type 0 where
-  pub cell_count : length cells ≡ length to.cells
-  pub greatest_count : length greatest ≡ to.nodes
-  pub raised : (owner : ℕ) → owner < to.nodes
-      → IsRaised (numbers_taken to sent low high) to.keys owner (slice_index to.greatest owner) (slice_index greatest owner)
-  pub kept : (owner key : ℕ) → owner < to.nodes → key < to.keys
-      → cell cells to.nodes owner key
-      ≡ number_kept (drop_start (lists owner) (slice_index to.greatest owner) (bases owner) (slice_index greatest owner))
-      (numbers_taken to sent low high owner key)
+pub record IsTaken (lists : ℕ → List Entry) (bases : ℕ → ℕ) (nodes keys : ℕ) (cells greatest sent low high new_cells new_greatest : List ℕ) : Type 0 where
+  pub cell_count : length new_cells ≡ length cells
+  pub greatest_count : length new_greatest ≡ nodes
+  pub raised : (owner : ℕ) → owner < nodes
+      → IsRaised (numbers_taken nodes cells sent low high) keys owner (slice_index greatest owner) (slice_index new_greatest owner)
+  pub kept : (owner key : ℕ) → owner < nodes → key < keys
+      → cell new_cells nodes owner key
+      ≡ number_kept (drop_start (lists owner) (slice_index greatest owner) (bases owner) (slice_index new_greatest owner))
+      (numbers_taken nodes cells sent low high owner key)
+
+-- the table stays one whatever numbers it has then
+abbrev pub StaysOne : (ℕ → List Entry) → (ℕ → List Entry) → (ℕ → ℕ) → VersionTableView → List ℕ → List ℕ → List ℕ → Type 0
+StaysOne written lists bases to sent low high =
+    (cells greatest : List ℕ) → IsTaken lists bases to.nodes to.keys to.cells to.greatest sent low high cells greatest
+    → IsVersionTable written to.node to.nodes to.keys to.generation cells greatest
+
+-- a table has taken a delta: its numbers alone have changed
+pub record HasTaken (lists : ℕ → List Entry) (bases : ℕ → ℕ) (to : VersionTableView) (sent low high : List ℕ) (new : VersionTableView) : Type 0 where
+  pub taken : IsTaken lists bases to.nodes to.keys to.cells to.greatest sent low high new.cells new.greatest
+  pub rest : new ≡ record to { cells = new.cells; greatest = new.greatest }

@@ -19,7 +19,7 @@ use Rattle.version_tables.proofs.WeightLaws.{part, part-in, part-low, weight_of-
 
 -- so many times a sum
 sum_below-scaled : (n size : ℕ) (f : ℕ → ℕ) → sum_below n (λ i. f i * size) ≡ sum_below n f * size
-sum_below-scaled zero size f = refl
+sum_below-scaled zero size f = omega arith
 sum_below-scaled (suc n) size f = omega (arith, sum_below-scaled n size f)
 
 module _ (cells : Cells) (keys owner low high : ℕ) (covered : HasNoneAbove cells keys owner high) where
@@ -131,10 +131,6 @@ module _ {N : Type 0} (number : N → ℕ) (most : ℕ) (offer : Offer N) (is : 
 
       added : owners * size ≡ sum_below offer.nodes (λ owner. where_true (eqb (counts owner) size) 1 * size)
       added = ap (λ n. n * size) counted ∙ sym (sum_below-scaled offer.nodes size (λ owner. where_true (eqb (counts owner) size) 1))
-
-  -- no owner's run is longer than all keys
-  pub runs-few : (size owners : ℕ) → owners ≤ offer.nodes → size ≤ offer.keys → owners * size ≤ offer.nodes * offer.keys
-  runs-few size owners few short = omega (arith, mul-le-mul_right {m = owners} {n = offer.nodes} size few, mul-le-mul_left offer.nodes short)
 
   -- before the longest runs
   pub runs-first : (size : ℕ) → ((owner : ℕ) → owner < offer.nodes → counts owner ≤ size) → (owner : ℕ) → owner < offer.nodes → IsMarkFrom (counts owner) (low owner) (high owner) (size + 1) (low owner)

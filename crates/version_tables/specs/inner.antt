@@ -7,3 +7,4 @@ pub mod Taken
 pub mod Weights
 pub mod Offered
 pub mod Plans
+pub mod Shared

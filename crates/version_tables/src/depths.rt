@@ -6,18 +6,21 @@ ghost use Rattle.bench_types.specs.declared.exchanges.Mode.TheVariants.{ScuttleD
 ghost use Rattle.bench_types.specs.declared.faults.Fault.TheVariants.{OutOfMemory};
 ghost use Rattle.bench_types.specs.declared.limits.TheConstants.{MOST_NODES, MOST_KEYS};
 ghost use Rattle.planes.specs.inner.Elementwise.{AreChanged};
+ghost use Rattle.planes.specs.Planes.{HasEach};
 ghost use Rattle.planes.specs.Sums.{sum_below};
-ghost use Rattle.version_tables.specs.inner.Offered.{marks, weight_in, IsOffer};
-ghost use Rattle.version_tables.specs.inner.Plans.{AreRuns, IsLevel};
+ghost use Rattle.version_tables.specs.inner.Offered.{marks, owner_count_in, weight_in, IsOffer};
+ghost use Rattle.version_tables.specs.inner.Plans.{AreNextRuns, AreRuns, IsLevel};
 
-use crate::weights::{Level, Offer, one_if, pick};
+use crate::weights::{Level, Offer, Step, one_if, pick};
 use bench_types::Fault;
 use planes::{Number, counts_above};
 use std::alloc::Global;
 
 // The greatest of these numbers.
 fn greatest_of<N: Number>(numbers: &[N]) -> u32
-    ensures { (r : ℕ) → r < length numbers.now → slice_index (map N.number numbers.now) r ≤ result }
+    requires few { (r : ℕ) → r < length numbers.now → slice_index (map N.number numbers.now) r ≤ MOST_KEYS }
+    ensures greatest { (r : ℕ) → r < length numbers.now → slice_index (map N.number numbers.now) r ≤ result }
+    ensures few { result ≤ MOST_KEYS }
 {
     let mut greatest = 0;
     for r in 0..numbers.len() {
@@ -44,6 +47,27 @@ fn raise_runs<N: Number>(marks: &mut [N], high: &[N], counts: &[N], size: u32) -
     count
 }
 
+// All numbers of the owners that have so many.
+fn next_runs<N: Number>(
+    alloc: Global,
+    offer: &Offer<N>,
+    counts: &[N],
+    near: &[N],
+    size: u32,
+) -> Result<Step<N>, Fault>
+    requires offer { IsOffer N.number N.most offer.now }
+    requires near { length near.now ≡ offer.now.nodes }
+    requires counts { HasEach offer.now.nodes (λ r n. n ≡ owner_count_in N.number offer.now r) (map N.number counts.now) }
+    requires few { size ≤ MOST_KEYS }
+    ensures runs { IfOk result (λ s. AreNextRuns N.number offer.now (marks N.number near.now) size s) }
+    ensures only { IsOkUnless result OutOfMemory }
+{
+    let mut marks = Vec::from_slice(alloc, near)?;
+    let owners = raise_runs(&mut marks, offer.high, counts, size);
+    let more = owners * size;
+    Ok(Step { marks, more })
+}
+
 /// Runs as long as they fit, the longest first, and the first that don't.
 pub(crate) fn depth<N: Number>(alloc: Global, offer: &Offer<N>) -> Result<Level<N>, Fault>
     requires offer { IsOffer N.number N.most offer.now }
@@ -54,18 +78,19 @@ pub(crate) fn depth<N: Number>(alloc: Global, offer: &Offer<N>) -> Result<Level<
     ensures only { IsOkUnless result OutOfMemory }
 {
     let counts = counts_above(alloc, offer.cells, offer.nodes, offer.keys, offer.low)?;
-    let mut near = Vec::from_slice(alloc, offer.low)?;
-    let mut far = Vec::from_slice(alloc, offer.low)?;
     let mut size = greatest_of(&counts);
+    let mut near = Vec::from_slice(alloc, offer.low)?;
     let mut whole = 0;
-    let mut more = raise_runs(&mut far, offer.high, &counts, size) * size;
+    let first = next_runs(alloc, offer, &counts, &near, size)?;
+    let mut far = first.marks;
+    let mut more = first.more;
     while offer.fits(whole + more, offer.low, &far) {
-        let mut next = Vec::from_slice(alloc, &far)?;
         size -= 1;
+        let next = next_runs(alloc, offer, &counts, &far, size)?;
         whole += more;
-        more = raise_runs(&mut next, offer.high, &counts, size) * size;
         near = far;
-        far = next;
+        far = next.marks;
+        more = next.more;
     }
     Ok(Level { near, far, whole })
 }

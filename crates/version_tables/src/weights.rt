@@ -31,6 +31,20 @@ pub(crate) struct Level<N: Number> {
     pub(crate) whole: u32,
 }
 
+/// Marks up to which is sent, or in the last mode above which, and how many numbers these are.
+#[derive(Drop)]
+pub(crate) struct Share<N: Number> {
+    pub(crate) marks: Vec<N>,
+    pub(crate) sent: u32,
+}
+
+/// Marks of one level more, and how many numbers it has.
+#[derive(Drop)]
+pub(crate) struct Step<N: Number> {
+    pub(crate) marks: Vec<N>,
+    pub(crate) more: u32,
+}
+
 pub(crate) fn pick<N: Number>(test: bool, number: N, other: N) -> N
     ensures { N.number result ≡ (if test then N.number number else N.number other) }
 {

@@ -14,3 +14,4 @@ pub mod WeightLaws
 pub mod OfferWeights
 pub mod LayerSteps
 pub mod RunSteps
+pub mod StopSteps

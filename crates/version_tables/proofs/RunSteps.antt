@@ -10,8 +10,11 @@ use Rattle.planes.specs.inner.Elementwise.{AreChanged}
 use Rattle.planes.specs.Sums.{sum_below}
 use Rattle.planes.proofs.Sums.{sum_below-same, sum_below-plus}
 use Rattle.version_tables.specs.declared.weights.Offer.{Offer}
-use Rattle.version_tables.specs.inner.Offered.{cells_in, marks, weights_in, weight_in, count_in, IsOffer}
-use Rattle.version_tables.specs.inner.Plans.{IsMarkFrom, AreRunsSoFar}
+use Rattle.version_tables.specs.inner.Offered.{cells_in, marks, owner_count_in, weights_in, weight_in, count_in, IsOffer}
+use Rattle.bench_types.specs.declared.limits.TheConstants.{MOST_KEYS}
+use Rattle.version_tables.specs.declared.weights.Level.{Level}
+use Rattle.version_tables.specs.declared.weights.Step.{Step}
+use Rattle.version_tables.specs.inner.Plans.{IsMarkFrom, AreNextRuns, AreRuns, AreRunsSoFar}
 use Rattle.version_tables.specs.inner.Shares.{IsRunMark}
 use Rattle.version_tables.specs.inner.Weights.{weight_of}
 use Rattle.version_tables.proofs.Columns.{where_true, sum_below-none}
@@ -109,18 +112,18 @@ module _ {N : Type 0} (number : N → ℕ) (most : ℕ) (offer : Offer N) (is : 
   counts owner = count_above cells offer.keys owner (low owner)
 
   -- runs of one size, which some owners have
-  pub runs-added : (near far : ℕ → ℕ) (size count owners : ℕ)
+  runs-added : (near far : ℕ → ℕ) (size count added : ℕ)
       → ((owner : ℕ) → owner < offer.nodes → IsMarkFrom (counts owner) (low owner) (high owner) (size + 1) (near owner))
       → ((owner : ℕ) → owner < offer.nodes → far owner ≡ cond (eqb (counts owner) size) (high owner) (near owner))
-      → owners ≡ sum_below offer.nodes (λ owner. where_true (eqb (counts owner) size) 1)
+      → added ≡ sum_below offer.nodes (λ owner. where_true (eqb (counts owner) size) 1) * size
       → count ≡ count_in number offer low near → weight_in number offer low near ≤ amount_of offer.budget
-      → AreRunsSoFar number offer near far size count (owners * size)
-  runs-added near far size count owners longer marked counted whole within = record {
+      → AreRunsSoFar number offer near far size count added
+  runs-added near far size count added longer marked counted whole within = record {
     longer = longer;
     next = next;
     whole = whole;
     more =
-        (λ i. whole i + added i)
+        (λ i. whole i + (counted ∙ sym (sum_below-scaled offer.nodes size (λ owner. where_true (eqb (counts owner) size) 1))) i)
         ∙ sym (sum_below-plus offer.nodes (λ owner. count_between cells offer.keys owner (low owner) (near owner)) (λ owner. where_true (eqb (counts owner) size) 1 * size))
         ∙ sym (sum_below-same offer.nodes _ _ (λ owner lt. run-count cells offer.keys owner (low owner) (high owner) (is.covered owner lt) size (near owner) (far owner) (longer owner lt) (next owner lt)));
     within = within;
@@ -128,9 +131,6 @@ module _ {N : Type 0} (number : N → ℕ) (most : ℕ) (offer : Offer N) (is : 
     where
       next : (owner : ℕ) → owner < offer.nodes → IsMarkFrom (counts owner) (low owner) (high owner) size (far owner)
       next owner lt = from-next (counts owner) (low owner) (high owner) size (near owner) (far owner) (longer owner lt) (marked owner lt)
-
-      added : owners * size ≡ sum_below offer.nodes (λ owner. where_true (eqb (counts owner) size) 1 * size)
-      added = ap (λ n. n * size) counted ∙ sym (sum_below-scaled offer.nodes size (λ owner. where_true (eqb (counts owner) size) 1))
 
   -- before the longest runs
   pub runs-first : (size : ℕ) → ((owner : ℕ) → owner < offer.nodes → counts owner ≤ size) → (owner : ℕ) → owner < offer.nodes → IsMarkFrom (counts owner) (low owner) (high owner) (size + 1) (low owner)
@@ -152,12 +152,34 @@ module _ {N : Type 0} (number : N → ℕ) (most : ℕ) (offer : Offer N) (is : 
             ∙ sym (weight-empty cells offer.keys owner (low owner) (high owner) (is.covered owner lt) (weights_in offer owner) (omega (arith, empty)))
       ])
 
-  -- the marks of a level
-  pub runs-near : (near far : ℕ → ℕ) (size count added : ℕ) → AreRunsSoFar number offer near far size count added → (owner : ℕ) → owner < offer.nodes → IsRunMark cells offer.keys owner (low owner) size (near owner)
-  runs-near near far size count added so_far owner lt = run-mark cells offer.keys owner (low owner) (high owner) (is.covered owner lt) size (near owner) (so_far.longer owner lt)
+  -- the longest runs are next
+  pub runs-start : (size : ℕ) (step : Step N) → ((owner : ℕ) → owner < offer.nodes → counts owner ≤ size) → AreNextRuns number offer low size step
+      → AreRunsSoFar number offer low (marks number step.marks.items) size 0 step.more
+  runs-start size step longest runs =
+      runs-added low (marks number step.marks.items) size 0 step.more (runs-first size longest) runs.marked runs.more
+      (sym (sum_below-none offer.nodes _ (λ owner lt. weight_of-none (λ _. 1) cells offer.keys owner (low owner) (low owner) (omega arith))))
+      (omega (arith, sum_below-none offer.nodes (λ owner. weight_of (weights_in offer owner) cells offer.keys owner (low owner) (low owner))
+      (λ owner lt. weight_of-none (weights_in offer owner) cells offer.keys owner (low owner) (low owner) (omega arith))))
 
-  pub runs-far : (near far : ℕ → ℕ) (size count added : ℕ) → AreRunsSoFar number offer near far (size + 1) count added → (owner : ℕ) → owner < offer.nodes → IsRunMark cells offer.keys owner (low owner) size (far owner)
-  runs-far near far size count added so_far owner lt = run-mark cells offer.keys owner (low owner) (high owner) (is.covered owner lt) size (far owner) (so_far.next owner lt)
+  -- and those of one number less
+  pub runs-next : (near far : ℕ → ℕ) (size count added : ℕ) (step : Step N) → AreRunsSoFar number offer near far size count added → 0 < size → weight_in number offer low far ≤ amount_of offer.budget
+      → AreNextRuns number offer far (size - 1) step → AreRunsSoFar number offer far (marks number step.marks.items) (size - 1) (count + added) step.more
+  runs-next near far size count added step so_far some fits runs =
+      runs-added far (marks number step.marks.items) (size - 1) (count + added) step.more
+      (λ owner lt. subst (λ n. IsMarkFrom (counts owner) (low owner) (high owner) n (far owner)) {x = size} {y = size - 1 + 1} (omega (arith, some)) (so_far.next owner lt))
+      runs.marked runs.more so_far.more fits
+
+  -- the level at which they end
+  pub runs-of_level : (level : Level N) (size count added : ℕ) → AreRunsSoFar number offer (marks number level.near.items) (marks number level.far.items) size count added → 0 < size → AreRuns number offer level
+  runs-of_level level size count added so_far some = record {
+    size = size - 1;
+    near = λ owner lt.
+        run-mark cells offer.keys owner (low owner) (high owner) (is.covered owner lt) (size - 1 + 1) (marks number level.near.items owner)
+        (subst (λ n. IsMarkFrom (counts owner) (low owner) (high owner) n (marks number level.near.items owner)) {x = size + 1} {y = size - 1 + 1 + 1} (omega (arith, some)) (so_far.longer owner lt));
+    far = λ owner lt.
+        run-mark cells offer.keys owner (low owner) (high owner) (is.covered owner lt) (size - 1) (marks number level.far.items owner)
+        (subst (λ n. IsMarkFrom (counts owner) (low owner) (high owner) n (marks number level.far.items owner)) {x = size} {y = size - 1 + 1} (omega (arith, some)) (so_far.next owner lt));
+  }
 
   pub runs-farther : (near far : ℕ → ℕ) (size count added : ℕ) → AreRunsSoFar number offer near far size count added → 0 < size → (owner : ℕ) → owner < offer.nodes → (low owner ≤ near owner) × (near owner ≤ far owner)
   runs-farther near far size count added so_far some owner lt = elim (cases_lt (counts owner) size) [
@@ -178,3 +200,40 @@ module _ {N : Type 0} (number : N → ℕ) (most : ℕ) (offer : Offer N) (is : 
             weight_of-none (λ _. 1) cells offer.keys owner (low owner) (high owner) (omega (arith, not_above)),
           ))
       ]
+
+-- no owner has more than so many
+pub counts-few : {N : Type 0} (number : N → ℕ) (most : ℕ) (offer : Offer N) → IsOffer number most offer → (found : List N) → HasEach offer.nodes (λ r n. n ≡ owner_count_in number offer r) (map number found)
+    → (r : ℕ) → r < length found → get_or (map number found) r 0 ≤ MOST_KEYS
+counts-few number most offer is found known r lt =
+    let in_nodes : r < offer.nodes = omega (arith, lt, length-map found number, known.size) in
+    omega (
+      arith,
+      known.each r in_nodes,
+      is.grid.few_keys,
+      count-covered (cells_in number offer) offer.keys r (marks number offer.low.now r) (marks number offer.high.now r) (is.covered r in_nodes),
+      count_between-most (cells_in number offer) offer.keys r (marks number offer.low.now r) (marks number offer.high.now r),
+    )
+
+-- what a step over the owners' runs writes
+module _ {N : Type 0} (number : N → ℕ) (most : ℕ) (offer : Offer N) (near counts old new xs : List N) (size owners : ℕ)
+    (same_old : old ≡ near) (length_near : length near ≡ offer.nodes) (whole : xs ≡ new)
+    (known : HasEach offer.nodes (λ r n. n ≡ owner_count_in number offer r) (map number counts))
+    (written : AreChanged (λ r x y. y ≡ cond (eqb (get_or (map number counts) r 0) size) (get_or (map number offer.high.now) r 0) x) (map number old) (map number new))
+    (counted : owners ≡ sum_below (length old) (λ r. cond (eqb (get_or (map number counts) r 0) size) 1 0)) where
+  length_old : length old ≡ offer.nodes
+  length_old = ap length same_old ∙ length_near
+
+  pub next-count : length xs ≡ offer.nodes
+  next-count = ap length whole ∙ sym (length-map new number) ∙ written.size ∙ length-map old number ∙ length_old
+
+  pub next-marked : (r : ℕ) → r < offer.nodes → get_or (map number xs) r 0 ≡ cond (eqb (owner_count_in number offer r) size) (get_or (map number offer.high.now) r 0) (get_or (map number near) r 0)
+  next-marked r lt =
+      ap (λ ys. get_or (map number ys) r 0) whole
+      ∙ written.each r (omega (arith, lt, length_old, length-map old number))
+      ∙ (λ i. cond (eqb (known.each r lt i) size) (get_or (map number offer.high.now) r 0) (get_or (map number (same_old i)) r 0))
+
+  pub next-more : owners * size ≡ sum_below offer.nodes (λ r. cond (eqb (owner_count_in number offer r) size) 1 0) * size
+  next-more =
+      ap (λ n. n * size)
+      (counted ∙ ap (λ n. sum_below n (λ r. cond (eqb (get_or (map number counts) r 0) size) 1 0)) length_old
+      ∙ sum_below-same offer.nodes _ _ (λ r lt. ap (λ n. where_true (eqb n size) 1) (known.each r lt)))

@@ -7,4 +7,5 @@ pub mod Taken
 pub mod Weights
 pub mod Offered
 pub mod Plans
-pub mod Shared
+pub mod Sharing
+pub mod Stops

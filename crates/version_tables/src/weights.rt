@@ -34,7 +34,7 @@ pub(crate) struct Level<N: Number> {
 /// Marks up to which is sent, or in the last mode above which, and how many numbers these are.
 #[derive(Drop)]
 pub(crate) struct Share<N: Number> {
-    pub(crate) marks: Vec<N>,
+    pub(crate) mark: Vec<N>,
     pub(crate) sent: u32,
 }
 

@@ -2,6 +2,7 @@
 #![tactic(auto)]
 
 mod grids;
+mod lags;
 mod numbers;
 mod planes;
 
@@ -9,4 +10,5 @@ pub use grids::{
     ahead, counts_above, counts_between, least_above, raise, take, total_above, total_held,
     total_upto,
 };
+pub use lags::{count_behind, least_behind, lower_all};
 pub use numbers::Number;

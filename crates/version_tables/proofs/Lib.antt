@@ -25,3 +25,5 @@ pub mod LayerSteps
 pub mod TakenNumbers
 pub mod TakenTables
 pub mod TakenViews
+pub mod RunSteps
+pub mod StopSteps

@@ -15,3 +15,4 @@ pub mod Plans
 pub mod RoundLevels
 pub mod Sharing
 pub mod Marked
+pub mod Stops

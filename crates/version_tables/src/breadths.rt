@@ -11,17 +11,10 @@ ghost use Rattle.planes.specs.Sums.{sum_below};
 ghost use Rattle.version_tables.specs.inner.Offered.{cells_in, marks, weight_in, IsOffer};
 ghost use Rattle.version_tables.specs.inner.Plans.{raised, AreLayers, IsLevel, IsNextMark};
 
-use crate::weights::{Level, Offer, one_if, pick};
+use crate::weights::{Level, Offer, Step, one_if, pick};
 use bench_types::Fault;
 use planes::{Number, least_above};
 use std::alloc::Global;
-
-// Marks of one level more, and how many numbers it has.
-#[derive(Drop)]
-struct Step<N: Number> {
-    marks: Vec<N>,
-    more: u32,
-}
 
 // Puts each owner's mark where it has no next number, and counts the others.
 fn settle<N: Number>(next: &mut [N], marks: &[N]) -> u32

@@ -10,6 +10,7 @@ mod laws;
 mod marked;
 mod rounds;
 mod sharing;
+mod stops;
 mod tables;
 mod taking;
 mod told_marks;

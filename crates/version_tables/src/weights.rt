@@ -38,6 +38,13 @@ pub(crate) struct Share<N: Number> {
     pub(crate) sent: u32,
 }
 
+/// Marks of one level more, and how many numbers it has.
+#[derive(Drop)]
+pub(crate) struct Step<N: Number> {
+    pub(crate) marks: Vec<N>,
+    pub(crate) more: u32,
+}
+
 pub(crate) fn pick<N: Number>(test: bool, number: N, other: N) -> N
     ensures { N.number result ≡ (if test then N.number number else N.number other) }
 {

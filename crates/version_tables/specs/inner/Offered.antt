@@ -1,7 +1,7 @@
 -- What is offered in memory: cells with marks for each owner, and the owners' lists. Source: this project.
 use Rattle.std.specs.Prelude.{◌≡◌, ℕ, ◌<◌, ◌≤◌, List, length, map, slice_index}
 use Rattle.owner_lists.specs.OwnerListView.{OwnerListView}
-use Rattle.planes.specs.Planes.{Cells, cell, IsGrid, HasNoneAbove}
+use Rattle.planes.specs.Planes.{Cells, cell, count_above, IsGrid, HasNoneAbove}
 use Rattle.version_tables.specs.declared.weights.Offer.{Offer}
 use Rattle.version_tables.specs.inner.Shares.{NumbersDiffer}
 use Rattle.version_tables.specs.inner.Weights.{number_shares, weight_between, count_all_between, writes_in}
@@ -23,6 +23,10 @@ weight_in number offer = weight_between (weights_in offer) (cells_in number offe
 
 abbrev pub count_in : {N : Type 0} → (N → ℕ) → Offer N → (ℕ → ℕ) → (ℕ → ℕ) → ℕ
 count_in number offer = count_all_between (cells_in number offer) offer.nodes offer.keys
+
+-- how many of an owner's numbers are above its mark
+abbrev pub owner_count_in : {N : Type 0} → (N → ℕ) → Offer N → ℕ → ℕ
+owner_count_in number offer owner = count_above (cells_in number offer) offer.keys owner (marks number offer.low.now owner)
 
 -- each cell has the number of a write, or 0; those of an owner differ, and none is above its high mark
 pub record IsOffer {N : Type 0} (number : N → ℕ) (most : ℕ) (offer : Offer N) : Type 0 where

@@ -1,14 +1,15 @@
 -- Levels of what is offered, as marks: near marks let through whole levels, and far marks one level more, which doesn't
 -- fit. Source: this project.
-use Rattle.std.specs.Prelude.{◌≡◌, ◌⊎◌, ℕ, ◌+◌, ◌<◌, ◌≤◌, nat_lt, List, length, map, if◌then◌else◌}
+use Rattle.std.specs.Prelude.{◌≡◌, ◌⊎◌, ℕ, ◌+◌, ◌*◌, ◌<◌, ◌≤◌, nat_eq, nat_lt, List, length, map, if◌then◌else◌}
 use Rattle.bench_types.specs.declared.exchanges.Mode.{Mode}
 use Rattle.bench_types.specs.declared.exchanges.Mode.TheVariants.{ScuttleBreadth, ScuttleDepth, PreciseOldest, PreciseNewest}
 use Rattle.bench_types.specs.Budget.{amount_of}
-use Rattle.planes.specs.Planes.{Cells, count_above, HasNoneAbove, IsLeastAbove}
+use Rattle.planes.specs.Planes.{Cells, HasNoneAbove, IsLeastAbove}
 use Rattle.planes.specs.Sums.{sum_below}
 use Rattle.version_tables.specs.declared.weights.Offer.{Offer}
 use Rattle.version_tables.specs.declared.weights.Level.{Level}
-use Rattle.version_tables.specs.inner.Offered.{cells_in, marks, weight_in, count_in}
+use Rattle.version_tables.specs.declared.weights.Step.{Step}
+use Rattle.version_tables.specs.inner.Offered.{cells_in, owner_count_in, marks, weight_in, count_in}
 use Rattle.version_tables.specs.inner.Shares.{IsLayerMark, IsRunMark}
 
 -- a mark goes on to the owner's next number, or stays where there is none
@@ -80,12 +81,19 @@ pub record IsMarkFrom (count low high size mark : ℕ) : Type 0 where
   pub all : size ≤ count → mark ≡ high
   pub none : count < size → mark ≡ low
 
+-- all numbers of the owners that have so many are added
+pub record AreNextRuns {N : Type 0} (number : N → ℕ) (offer : Offer N) (near : ℕ → ℕ) (size : ℕ) (step : Step N) : Type 0 where
+  pub count : length step.marks.items ≡ offer.nodes
+  pub marked : (owner : ℕ) → owner < offer.nodes
+      → marks number step.marks.items owner ≡ (if nat_eq (owner_count_in number offer owner) size then marks number offer.high.now owner else near owner)
+  pub more : step.more ≡ sum_below offer.nodes (λ owner. if nat_eq (owner_count_in number offer owner) size then 1 else 0) * size
+
 -- runs as far as they were gone over: the longer ones fit, and those of this size are next
 pub record AreRunsSoFar {N : Type 0} (number : N → ℕ) (offer : Offer N) (near far : ℕ → ℕ) (size count added : ℕ) : Type 0 where
   pub longer : (owner : ℕ) → owner < offer.nodes
-      → IsMarkFrom (count_above (cells_in number offer) offer.keys owner (marks number offer.low.now owner)) (marks number offer.low.now owner) (marks number offer.high.now owner) (size + 1) (near owner)
+      → IsMarkFrom (owner_count_in number offer owner) (marks number offer.low.now owner) (marks number offer.high.now owner) (size + 1) (near owner)
   pub next : (owner : ℕ) → owner < offer.nodes
-      → IsMarkFrom (count_above (cells_in number offer) offer.keys owner (marks number offer.low.now owner)) (marks number offer.low.now owner) (marks number offer.high.now owner) size (far owner)
+      → IsMarkFrom (owner_count_in number offer owner) (marks number offer.low.now owner) (marks number offer.high.now owner) size (far owner)
   pub whole : count ≡ count_in number offer (marks number offer.low.now) near
   pub more : count + added ≡ count_in number offer (marks number offer.low.now) far
   pub within : weight_in number offer (marks number offer.low.now) near ≤ amount_of offer.budget

@@ -15,3 +15,4 @@ pub mod OfferWeights
 pub mod LayerSteps
 pub mod RunSteps
 pub mod StopSteps
+pub mod TurnSteps

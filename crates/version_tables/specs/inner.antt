@@ -9,3 +9,4 @@ pub mod Offered
 pub mod Plans
 pub mod Sharing
 pub mod Stops
+pub mod Turns

@@ -5,6 +5,7 @@
 mod breadths;
 mod depths;
 mod laws;
+mod sharing;
 mod stops;
 mod tables;
 mod weights;

@@ -27,3 +27,4 @@ pub mod TakenTables
 pub mod TakenViews
 pub mod RunSteps
 pub mod StopSteps
+pub mod TurnSteps

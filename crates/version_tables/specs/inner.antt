@@ -16,3 +16,4 @@ pub mod RoundLevels
 pub mod Sharing
 pub mod Marked
 pub mod Stops
+pub mod Turns

@@ -19,21 +19,22 @@ use Rattle.reconcile.specs.Candidates.{candidates}
 use Rattle.reconcile.specs.Deltas.{delta_between}
 use Rattle.reconcile.specs.Order.{rotated}
 use Rattle.owner_lists.specs.Numbers.{write_numbered}
-use Rattle.owner_lists.specs.OwnerListView.{OwnerListView}
-use Rattle.planes.specs.Planes.{Cells, cell, number_ahead, HasEach, HasNoneAbove, IsGrid}
+use Rattle.owner_lists.specs.OwnerListView.{OwnerListView, AreWrites, list_of_owner}
+use Rattle.planes.specs.Planes.{Cells, cell, number_ahead, HasEach, HasEachPlace, HasNoneAbove, IsGrid}
 use Rattle.version_tables.specs.declared.weights.Offer.{Offer}
 use Rattle.version_tables.specs.SentSets.{HasSet}
 use Rattle.version_tables.specs.Views.{VersionTableView, HistoriesView, table_in, IsKept}
 use Rattle.version_tables.specs.inner.Deltas.{delta_of_views, is_taken_at, AreMarksOf}
 use Rattle.version_tables.specs.inner.Histories.{IsWrittenSoFar, FitsHistories}
 use Rattle.version_tables.specs.inner.Laid.{AreNumbers, IsGreatest}
-use Rattle.version_tables.specs.inner.Marked.{HasShape, LetAll, ShareLevel, KeepsLow, AreMarked, low_list, high_list}
+use Rattle.version_tables.specs.inner.Marked.{HasShape, LetAll, ShareLevel, KeepsLow, AreMarked, AreOffered, low_list, high_list}
 use Rattle.version_tables.specs.inner.Offered.{cells_in, marks, weights_in, weight_in, count_in, IsOffer}
 use Rattle.version_tables.specs.inner.Offers.{IsHistory, Offers, offered_by, told_by, told_mark}
 use Rattle.version_tables.specs.inner.Plans.{weight_on, count_on}
 use Rattle.version_tables.specs.inner.Shares.{lets_through, NumbersDiffer}
 use Rattle.version_tables.specs.inner.Sharing.{AreShared}
 use Rattle.version_tables.specs.inner.Taken.{AreSent, is_taken}
+use Rattle.version_tables.specs.inner.Told.{AreKnown}
 use Rattle.version_tables.specs.inner.Weights.{number_shares, weight_between, one_each, writes_in}
 use Rattle.version_tables.proofs.Levels.{candidate-below, candidate-key, candidate-number}
 use Rattle.version_tables.proofs.Fitting.{fits-upto, fits-below, fits-cells}
@@ -305,3 +306,37 @@ module _ {N : Type 0} (number : N → ℕ) (most : ℕ) (written : ℕ → List 
         sent-is =
             marked.count ∙ on-counts mode number offer m ∙ (λ i. weight_by mode one_each cells (offer_nodes i) (offer_keys i) low high m)
             ∙ sym (count-sent F T fits_from.proper lists histories cells low high covered mode offers rotation in_nodes budget m keeps has)
+
+-- a receiver's greatest numbers are known
+pub known : (most : ℕ) (written : ℕ → List Entry) (v : VersionTableView) (kept : IsKept written v) (h : HistoriesView) (so_far : (owner : ℕ) → IsWrittenSoFar (written owner) most h.rounds (writes_in h.lists owner)) (fits : FitsHistories h (table_in written v))
+    (lists : List OwnerListView) → lists ≡ h.lists → (greatest : List ℕ) → greatest ≡ v.greatest → (bases : List ℕ) → HasEach (length h.lists) (λ r n. n ≡ length (list_of_owner h.lists r).earlier) bases
+    → ((owner : ℕ) → AreWrites (list_of_owner h.lists owner)) → AreKnown most lists greatest bases
+known most written v kept h so_far fits lists same greatest same_greatest bases based writes =
+    subst (λ l. AreKnown most l greatest bases) (sym same) (subst (λ g. AreKnown most h.lists g bases) (sym same_greatest) (record {
+      count = kept.greatest_count ∙ fits.nodes;
+      few_nodes = omega (arith, fits.nodes, fits.proper.nodes_limit);
+      few = λ owner. (so_far owner).few;
+      within = λ owner lt.
+          let in_nodes : owner < v.nodes = omega (arith, lt, fits.nodes) in
+          elim ((kept.most owner in_nodes).held) [
+            | inl none ↦ omega (arith, none)
+            | inr (key, in_keys, is) ↦ omega (arith, is, fits-upto written v kept most h so_far fits owner key in_nodes in_keys)
+          ];
+      based = based;
+      writes = writes;
+      numbered = λ owner. (so_far owner).numbered;
+    }))
+
+-- all numbers of a sender, or those ahead of the receiver's
+pub all-offered : (from to : VersionTableView) (low cells : List ℕ) → cells ≡ from.cells → length from.cells ≡ from.keys * from.nodes → AreOffered Scuttle from to low cells
+all-offered from to low cells same size = record {
+  size = ap length same ∙ size;
+  each = λ owner key in_nodes in_keys. ap (λ xs. cell xs from.nodes owner key) same;
+}
+
+pub ahead-offered : (from to : VersionTableView) (low cells : List ℕ) → from.nodes ≡ to.nodes
+    → HasEachPlace from.nodes from.keys (λ r k n. n ≡ number_ahead (cell from.cells from.nodes r k) (cell to.cells from.nodes r k) (get_or low r 0)) cells → AreOffered Precise from to low cells
+ahead-offered from to low cells nodes each = record {
+  size = each.size;
+  each = λ owner key in_nodes in_keys. each.each owner key in_nodes in_keys ∙ ap (λ n. number_ahead (cell from.cells from.nodes owner key) (cell to.cells n owner key) (get_or low owner 0)) nodes;
+}

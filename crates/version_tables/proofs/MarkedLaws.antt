@@ -57,6 +57,15 @@ module _ {N : Type 0} (number : N → ℕ) (most : ℕ) (offer : Offer N) (is : 
   keeps PreciseOldest mark above = tt
   keeps PreciseNewest mark above = above
 
+  whole-length : (mode : Mode) → length (whole_marks mode number offer) ≡ offer.nodes
+  whole-length ScuttleBreadth = length-map offer.high.now number ∙ is.high
+  whole-length ScuttleDepth = length-map offer.high.now number ∙ is.high
+  whole-length PreciseOldest = length-map offer.high.now number ∙ is.high
+  whole-length PreciseNewest = length-map offer.low.now number ∙ is.low
+
+  pub whole-size : (mode : Mode) (xs : List N) → map number xs ≡ whole_marks mode number offer → length xs ≡ offer.nodes
+  whole-size mode xs same = sym (length-map xs number) ∙ ap length same ∙ whole-length mode
+
   module _ (rotation found : ℕ) (all : found ≡ count_in number offer low high) where
     -- all where it fits
     module _ (fits : weight_in number offer low high ≤ amount_of offer.budget) where

@@ -1,6 +1,6 @@
 //! What is sent of an offer, as one mark for each owner.
 
-ghost use Rattle.std.specs.Prelude.{◌≡◌, ℕ, ◌<◌, ◌≤◌, map, IfOk, IsOkUnless};
+ghost use Rattle.std.specs.Prelude.{◌≡◌, ℕ, ◌<◌, ◌≤◌, length, map, IfOk, IsOkUnless};
 ghost use Rattle.bench_types.specs.Budget.{amount_of};
 ghost use Rattle.bench_types.specs.declared.faults.Fault.TheVariants.{OutOfMemory};
 ghost use Rattle.version_tables.specs.inner.Histories.{AreMadeBy};
@@ -40,6 +40,7 @@ pub(crate) fn planned<N: Number>(
     requires rotation { rotation < offer.now.nodes }
     requires ends { AreEnds (writes_in offer.now.lists.now) offer.now.nodes last (map N.number ends.now) }
     requires made { (owner : ℕ) → AreMadeBy last (writes_in offer.now.lists.now owner) }
+    ensures size { IfOk result (λ m. length m.mark.items ≡ offer.now.nodes) }
     ensures marked { IfOk result (λ m. AreMarked mode rotation N.number offer.now (marks N.number m.mark.items) m.sent m.cut) }
     ensures only { IsOkUnless result OutOfMemory }
 {

@@ -1,12 +1,15 @@
 -- What is sent where not all fits, or all, as one mark for each owner. Source: this project.
-use Rattle.std.specs.Prelude.{◌≡◌, ◌⊎◌, ℕ, ◌+◌, ◌<◌, ◌≤◌, true, List, map}
+use Rattle.std.specs.Prelude.{◌≡◌, ◌⊎◌, ℕ, ◌+◌, ◌*◌, ◌<◌, ◌≤◌, true, List, length, map, slice_index}
 use Rattle.bench_types.specs.declared.entries.Entry.{Entry}
 use Rattle.bench_types.specs.declared.exchanges.Mode.{Mode}
 use Rattle.bench_types.specs.declared.exchanges.Mode.TheVariants.{ScuttleBreadth, ScuttleDepth, PreciseOldest, PreciseNewest}
+use Rattle.bench_types.specs.declared.exchanges.DigestKind.{DigestKind}
 use Rattle.bench_types.specs.Budget.{amount_of}
-use Rattle.planes.specs.Planes.{Cells}
+use Rattle.planes.specs.Planes.{Cells, cell}
+use Rattle.version_tables.specs.Views.{VersionTableView}
 use Rattle.version_tables.specs.declared.weights.Offer.{Offer}
 use Rattle.version_tables.specs.inner.Offered.{cells_in, marks, count_in}
+use Rattle.version_tables.specs.inner.Offers.{offered_by}
 use Rattle.version_tables.specs.inner.Plans.{weight_on, count_on}
 use Rattle.version_tables.specs.inner.Shares.{lets_through, IsLayerMark, IsRunMark, IsRoundMark}
 use Rattle.version_tables.specs.inner.Sharing.{AreShared}
@@ -75,3 +78,9 @@ high_list ScuttleBreadth mark high = mark
 high_list ScuttleDepth mark high = mark
 high_list PreciseOldest mark high = mark
 high_list PreciseNewest mark high = high
+
+-- the numbers offered from one table to another, over low marks
+pub record AreOffered (kind : DigestKind) (from to : VersionTableView) (low cells : List ℕ) : Type 0 where
+  pub size : length cells ≡ from.keys * from.nodes
+  pub each : (owner key : ℕ) → owner < from.nodes → key < from.keys
+      → cell cells from.nodes owner key ≡ offered_by kind (cell from.cells from.nodes) (cell to.cells to.nodes) (slice_index low) owner key

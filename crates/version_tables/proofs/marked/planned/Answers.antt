@@ -1,12 +1,16 @@
 use Rattle.std.proofs.Common.{◌≤◌, ◌∙◌}
 use Rattle.version_tables.specs.inner.Offered.{marks}
-use Rattle.version_tables.proofs.MarkedLaws.{whole-marked, sent-found, share-marked}
+use Rattle.version_tables.proofs.MarkedLaws.{whole-size, whole-marked, sent-found, share-marked}
 use Rattle.version_tables.proofs.RoundMarks.{count-newest}
 use Rattle.version_tables.proofs.marked.planned.Goals as goal
 
 pub fits-requires-clause-count : goal.fits-requires-clause-count
 fits-requires-clause-count g c κs within =
     c.total_above-found.ensures ∙ count-newest g.N.Number.number g.N.Number.most c.args.offer.now c.requires.offer (marks g.N.Number.number c.args.offer.now.low.now)
+
+pub returns-then-fits-clause-size : goal.returns-then-fits-clause-size
+returns-then-fits-clause-size g c =
+    whole-size g.N.Number.number g.N.Number.most c.args.offer.now c.requires.offer c.args.mode c.in_ok-mark.mark.items c.in_ok-mark.ensures.marks
 
 pub returns-then-fits-clause-marked : goal.returns-then-fits-clause-marked
 returns-then-fits-clause-marked g c =

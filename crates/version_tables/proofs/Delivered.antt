@@ -1,39 +1,36 @@
 -- From an offer's marks to the marks of a delta between two tables.
 -- Serves nothing yet.
-use Rattle.std.proofs.Common.{◌≡◌, ◌≢◌, ℕ, zero, suc, ◌+◌, ◌-◌, ◌*◌, ◌<◌, ◌≤◌, max, Bool, true, false, cond, eqb, ltb, leb, List, length, get_or, map, Option, Some, None, inl, inr, refl, sym, ap, ◌∙◌, subst, arith}
-use Rattle.std.specs.Prelude.{nat_lt, nat_le, ◌&&◌, Contains}
-use Rattle.std.proofs.lemmas.Bool.{cases_lt, cases_eq, lt-ltb, le-ltb, le-leb, lt-leb, eq-eqb, ne_eqb}
+use Rattle.std.proofs.Common.{◌≡◌, ℕ, ◌*◌, ◌<◌, ◌≤◌, max, true, cond, List, length, get_or, map, inl, inr, refl, sym, ap, ◌∙◌, subst, arith}
+use Rattle.std.specs.Prelude.{nat_lt, nat_le, ◌&&◌}
+use Rattle.std.proofs.lemmas.Bool.{cases_lt, cases_eq, lt-ltb, le-ltb, le-leb, eq-eqb, ne_eqb}
 use Rattle.std.proofs.lemmas.List.{length-map}
 use Rattle.bench_types.specs.declared.entries.Entry.{Entry}
-use Rattle.bench_types.specs.declared.entries.Item.{Item}
 use Rattle.bench_types.specs.declared.exchanges.Budget.{Budget}
 use Rattle.bench_types.specs.declared.exchanges.Mode.{Mode}
 use Rattle.bench_types.specs.declared.exchanges.Mode.TheVariants.{ScuttleBreadth, ScuttleDepth, PreciseOldest, PreciseNewest}
 use Rattle.bench_types.specs.declared.exchanges.DigestKind.{DigestKind}
 use Rattle.bench_types.specs.declared.exchanges.DigestKind.TheVariants.{Scuttle, Precise}
 use Rattle.bench_types.specs.Mode.{digest_kind}
-use Rattle.bench_types.specs.declared.exchanges.Rules.{Rules}
 use Rattle.bench_types.specs.Budget.{amount_of}
-use Rattle.node_table.specs.Table.{Table, IsProper}
+use Rattle.node_table.specs.Table.{Table}
 use Rattle.reconcile.specs.Candidates.{candidates}
 use Rattle.reconcile.specs.Deltas.{delta_between}
 use Rattle.reconcile.specs.Order.{rotated}
 use Rattle.owner_lists.specs.Numbers.{write_numbered}
 use Rattle.owner_lists.specs.OwnerListView.{OwnerListView, AreWrites, list_of_owner}
-use Rattle.planes.specs.Planes.{Cells, cell, number_ahead, HasEach, HasEachPlace, HasNoneAbove, IsGrid}
+use Rattle.planes.specs.Planes.{Cells, cell, number_ahead, HasEach, HasEachPlace, HasNoneAbove}
 use Rattle.version_tables.specs.declared.weights.Offer.{Offer}
 use Rattle.version_tables.specs.SentSets.{HasSet}
 use Rattle.version_tables.specs.Views.{VersionTableView, HistoriesView, table_in, IsKept}
-use Rattle.version_tables.specs.inner.Deltas.{delta_of_views, is_taken_at, AreMarksOf}
+use Rattle.version_tables.specs.inner.Deltas.{is_taken_at, AreMarksOf}
 use Rattle.version_tables.specs.inner.Histories.{IsWrittenSoFar, FitsHistories}
-use Rattle.version_tables.specs.inner.Laid.{AreNumbers, IsGreatest}
+use Rattle.version_tables.specs.inner.Laid.{AreNumbers}
 use Rattle.version_tables.specs.inner.Marked.{HasShape, LetAll, ShareLevel, KeepsLow, AreMarked, AreOffered, low_list, high_list}
-use Rattle.version_tables.specs.inner.Offered.{cells_in, marks, weights_in, weight_in, count_in, IsOffer}
+use Rattle.version_tables.specs.inner.Offered.{cells_in, marks, weights_in, count_in, IsOffer}
 use Rattle.version_tables.specs.inner.Offers.{IsHistory, Offers, offered_by, told_by, told_mark}
 use Rattle.version_tables.specs.inner.Plans.{weight_on, count_on}
 use Rattle.version_tables.specs.inner.Shares.{lets_through, NumbersDiffer}
-use Rattle.version_tables.specs.inner.Sharing.{AreShared}
-use Rattle.version_tables.specs.inner.Taken.{AreSent, is_taken}
+use Rattle.version_tables.specs.inner.Taken.{is_taken}
 use Rattle.version_tables.specs.inner.Told.{AreKnown}
 use Rattle.version_tables.specs.inner.Weights.{number_shares, weight_between, one_each, writes_in}
 use Rattle.version_tables.proofs.Levels.{candidate-below, candidate-key, candidate-number}
@@ -86,8 +83,8 @@ pub taken-by : (mode : Mode) (sender receiver : Cells) (low mark high : List ℕ
     → (mode ≡ PreciseNewest → get_or low owner 0 ≤ get_or mark owner 0)
     → sender owner key ≤ get_or high owner 0
     → is_taken (receiver owner key) (sender owner key) (get_or (low_list mode low mark) owner 0) (get_or (high_list mode mark high) owner 0)
-      ≡ (nat_lt (get_or low owner 0) (offered_by (digest_kind mode) sender receiver (λ r. get_or low r 0) owner key)
-        && lets_through mode (get_or mark owner 0) (offered_by (digest_kind mode) sender receiver (λ r. get_or low r 0) owner key))
+    ≡ (nat_lt (get_or low owner 0) (offered_by (digest_kind mode) sender receiver (λ r. get_or low r 0) owner key)
+    && lets_through mode (get_or mark owner 0) (offered_by (digest_kind mode) sender receiver (λ r. get_or low r 0) owner key))
 taken-by ScuttleBreadth sender receiver low mark high owner key told above upto = taken-plain (sender owner key) (receiver owner key) (get_or low owner 0) (get_or mark owner 0) (get_or high owner 0) (told refl)
 taken-by ScuttleDepth sender receiver low mark high owner key told above upto = taken-plain (sender owner key) (receiver owner key) (get_or low owner 0) (get_or mark owner 0) (get_or high owner 0) (told refl)
 taken-by PreciseOldest sender receiver low mark high owner key told above upto = taken-oldest (sender owner key) (receiver owner key) (get_or low owner 0) (get_or mark owner 0) (get_or high owner 0)
@@ -128,7 +125,7 @@ module _ {N : Type 0} (number : N → ℕ) (most : ℕ) (written : ℕ → List 
     (low_is : HasEach (length h.lists) (λ r n. n ≡ told_mark (digest_kind mode) most to.node (writes_in h.lists) (λ r. get_or to.greatest r 0) r) (map number offer.low.now))
     (size : length offer.cells.now ≡ from.keys * from.nodes)
     (cells_are : (owner key : ℕ) → owner < from.nodes → key < from.keys
-        → cells_in number offer owner key ≡ offered_by (digest_kind mode) (cell from.cells from.nodes) (cell to.cells to.nodes) (marks number offer.low.now) owner key) where
+    → cells_in number offer owner key ≡ offered_by (digest_kind mode) (cell from.cells from.nodes) (cell to.cells to.nodes) (marks number offer.low.now) owner key) where
   abbrev kind : DigestKind
   kind = digest_kind mode
 
@@ -247,14 +244,14 @@ module _ {N : Type 0} (number : N → ℕ) (most : ℕ) (written : ℕ → List 
     has-whole all =
         whole-sent F T fits_from.proper lists histories cells low high covered mode offers rotation in_nodes budget m keeps
         (λ c in_c. all.all c.owner c.entry.key (below c.owner (candidate-below mode F T fits_from.proper c in_c)) (omega (arith, candidate-key mode F T fits_from.proper c in_c, offer_keys))
-            (candidate-number mode F T fits_from.proper lists histories cells low offers c in_c).0)
+        (candidate-number mode F T fits_from.proper lists histories cells low offers c in_c).0)
         (omega (arith, all.within, on-marks, amounts))
 
     has-share : ShareLevel mode rotation number offer m sent → HasSet (candidates mode F T) (lets F T fits_from.proper lists histories cells low high covered mode offers m) (delta_between mode rotation budget F T)
     has-share level =
         let s = level.shared in
         let takes : number_shares offer.budget (writes_in offer.lists.now) s.owner (cells s.owner s.key) ≡ weights s.owner (cells s.owner s.key) =
-            λ i. number_shares (offer_budget i) (writes_in (offer_lists i)) s.owner (cells s.owner s.key) in
+        λ i. number_shares (offer_budget i) (writes_in (offer_lists i)) s.owner (cells s.owner s.key) in
         shared-sent F T fits_from.proper lists histories cells low high covered mode offers rotation in_nodes budget level.near level.far m (shape-of level.near level.far level.shape) keeps
         (λ r past. level.past_near r (omega (arith, past, offer_nodes))) (λ r past. level.past_far r (omega (arith, past, offer_nodes)))
         s.owner s.key (omega (arith, s.owner_below, offer_nodes)) (omega (arith, s.key_below, offer_keys)) s.offered s.outside s.inside
@@ -275,8 +272,13 @@ module _ {N : Type 0} (number : N → ℕ) (most : ℕ) (written : ℕ → List 
         elim (cases_eq owner to.node) [
           | inl own ↦ omega (arith, low-told owner in_nodes', ap (λ b. cond b most (told_by kind (lists owner) (get_or to.greatest owner 0))) (eq-eqb owner to.node own), fits-below written to kept_to most h so_far fits_to owner key in_to to_key)
           | inr other ↦
-              omega (arith, low-told owner in_nodes', ap (λ b. cond b most (told_by kind (lists owner) (get_or to.greatest owner 0))) (ne_eqb owner to.node other),
-              ap (λ k. told_by k (lists owner) (get_or to.greatest owner 0)) is_scuttle, (kept_to.most owner in_to).upto key to_key)
+              omega (
+                arith,
+                low-told owner in_nodes',
+                ap (λ b. cond b most (told_by kind (lists owner) (get_or to.greatest owner 0))) (ne_eqb owner to.node other),
+                ap (λ k. told_by k (lists owner) (get_or to.greatest owner 0)) is_scuttle,
+                (kept_to.most owner in_to).upto key to_key,
+              )
         ]
 
     keeps-low : (owner : ℕ) → owner < from.nodes → mode ≡ PreciseNewest → low owner ≤ m owner

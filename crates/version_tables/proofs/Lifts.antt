@@ -1,6 +1,6 @@
 -- From marks over numbers to the delta that they are.
 -- Serves nothing yet.
-use Rattle.std.proofs.Common.{◌≡◌, ◌≢◌, ℕ, zero, suc, ◌+◌, ◌-◌, ◌<◌, ◌≤◌, max, Bool, true, false, cond, not, ltb, leb, List, [], ◌∷◌, length, Option, Some, None, inl, inr, refl, sym, ap, ◌∙◌, subst, arith}
+use Rattle.std.proofs.Common.{◌≡◌, ℕ, ◌+◌, ◌<◌, ◌≤◌, Bool, true, false, cond, not, ltb, leb, List, [], ◌∷◌, length, Some, inl, inr, refl, sym, ap, ◌∙◌, subst, arith}
 use Rattle.std.specs.Prelude.{nat_lt, nat_le, ◌&&◌, count_by, Contains}
 use Rattle.std.specs.List.{sum_by}
 use Rattle.std.proofs.lemmas.Bool.{cases_lt, lt-ltb, le-ltb, le-leb, lt-leb, both_ways}
@@ -11,10 +11,7 @@ use Rattle.bench_types.specs.declared.entries.Item.{Item}
 use Rattle.bench_types.specs.declared.exchanges.Budget.{Budget}
 use Rattle.bench_types.specs.declared.exchanges.Mode.{Mode}
 use Rattle.bench_types.specs.declared.exchanges.Mode.TheVariants.{ScuttleBreadth, ScuttleDepth, PreciseOldest, PreciseNewest}
-use Rattle.bench_types.specs.declared.exchanges.DigestKind.{DigestKind}
-use Rattle.bench_types.specs.declared.exchanges.DigestKind.TheVariants.{Scuttle, Precise}
 use Rattle.bench_types.specs.Budget.{amount_of}
-use Rattle.bench_types.specs.Mode.{digest_kind}
 use Rattle.node_table.specs.Table.{Table, entry_at, items_of, IsProper}
 use Rattle.node_table.proofs.Items.{Contains-items_of}
 use Rattle.reconcile.specs.Candidates.{candidates}
@@ -23,14 +20,13 @@ use Rattle.reconcile.specs.Order.{rotated}
 use Rattle.reconcile.proofs.Members.{Contains-filter}
 use Rattle.owner_lists.specs.Numbers.{write_numbered}
 use Rattle.planes.specs.Planes.{Cells, count_above, HasNoneAbove}
-use Rattle.planes.specs.Sums.{sum_below}
 use Rattle.planes.proofs.Sums.{sum_below-same}
 use Rattle.version_tables.specs.SentSets.{HasSet}
 use Rattle.version_tables.specs.inner.Levels.{comes_first, number_of}
 use Rattle.version_tables.specs.inner.Marked.{HasShape, KeepsLow}
-use Rattle.version_tables.specs.inner.Offers.{IsHistory, Offers, is_lacked, offered_sum, offered_by}
-use Rattle.version_tables.specs.inner.Shares.{lets_through, AreLevelMarks, StopAt, IsLayerMark, IsRunMark, IsRoundMark, size_through_marks}
-use Rattle.version_tables.specs.inner.Taken.{AreSent, is_taken}
+use Rattle.version_tables.specs.inner.Offers.{IsHistory, Offers, is_lacked}
+use Rattle.version_tables.specs.inner.Shares.{lets_through, AreLevelMarks, StopAt, IsRunMark, size_through_marks}
+use Rattle.version_tables.specs.inner.Taken.{AreSent}
 use Rattle.version_tables.specs.inner.Weights.{share_or_none, number_shares, weight_between, one_each}
 use Rattle.version_tables.proofs.Columns.{where_true}
 use Rattle.version_tables.proofs.DeltaMarks.{marks-sent, all-sent}
@@ -153,7 +149,7 @@ module _ (from to : Table) (proper : IsProper from) (lists : ℕ → List Entry)
     all-counted =
         offered-sum mode from to proper lists cells low offers (λ c. 1) (λ owner key. 1) (λ c in_c. refl)
         ∙ sum_below-same from.nodes _ _ (λ owner in_nodes. sum_below-same from.keys _ _ (λ key in_keys.
-            ap (λ b. where_true (ltb (low owner) (cells owner key)) (where_true b 1)) (sym (le-leb (cells owner key) (high owner) (covered owner in_nodes key in_keys)))))
+        ap (λ b. where_true (ltb (low owner) (cells owner key)) (where_true b 1)) (sym (le-leb (cells owner key) (high owner) (covered owner in_nodes key in_keys)))))
 
     -- candidates by their places
     there : (owner key : ℕ) → owner < from.nodes → key < from.keys → low owner < cells owner key → (e : Entry) × (entry_at from owner key ≡ Some e) × Contains cs (record { owner = owner; entry = e })
@@ -205,9 +201,10 @@ module _ (from to : Table) (proper : IsProper from) (lists : ℕ → List Entry)
               let place = proper.in_place owner key e held in
               let found = there owner key place.owner_below place.key_below (low-of owner key place.owner_below place.key_below holds) in
               let same : found.0 ≡ e = same_Some found.0 e (sym found.1 ∙ held) in
-              (has.members (record { owner = owner; entry = e })).1
-              (subst (λ x. Contains cs (record { owner = owner; entry = x })) same found.2,
-              ap (λ k. lets_through mode (mark owner) (cells owner k)) place.keyed ∙ both-right (nat_lt (low owner) (cells owner key)) (lets_through mode (mark owner) (cells owner key)) (sym (is owner key place.owner_below place.key_below) ∙ holds))
+              (has.members (record { owner = owner; entry = e })).1 (
+                subst (λ x. Contains cs (record { owner = owner; entry = x })) same found.2,
+                ap (λ k. lets_through mode (mark owner) (cells owner k)) place.keyed ∙ both-right (nat_lt (low owner) (cells owner key)) (lets_through mode (mark owner) (cells owner key)) (sym (is owner key place.owner_below place.key_below) ∙ holds),
+              )
 
           out_of : (owner key : ℕ) (e : Entry) → entry_at from owner key ≡ Some e → Contains delta.items (record { owner = owner; entry = e }) → sent owner key ≡ true
           out_of owner key e held in_items =

@@ -1,20 +1,18 @@
 -- Marks of all that is offered, or of a level that was shared out.
 -- Serves nothing yet.
-use Rattle.std.proofs.Common.{◌≡◌, ◌≢◌, ℕ, zero, suc, ◌+◌, ◌-◌, ◌<◌, ◌≤◌, Bool, true, false, cond, ltb, leb, List, length, get_or, map, inl, inr, refl, sym, ap, ◌∙◌, subst, arith}
-use Rattle.std.proofs.lemmas.Bool.{cases_lt, lt-ltb, le-ltb, le-leb, lt-leb}
+use Rattle.std.proofs.Common.{◌≡◌, ℕ, ◌-◌, ◌<◌, ◌≤◌, Bool, true, false, ltb, leb, List, length, get_or, map, inl, inr, sym, ap, ◌∙◌, subst, arith}
+use Rattle.std.proofs.lemmas.Bool.{cases_lt, lt-ltb, le-ltb, le-leb}
 use Rattle.std.proofs.lemmas.List.{length-map, get_or_past}
 use Rattle.bench_types.specs.declared.exchanges.Mode.{Mode}
 use Rattle.bench_types.specs.declared.exchanges.Mode.TheVariants.{ScuttleBreadth, ScuttleDepth, PreciseOldest, PreciseNewest}
 use Rattle.bench_types.specs.Budget.{amount_of}
 use Rattle.planes.specs.Planes.{Cells, HasNoneAbove}
-use Rattle.planes.specs.Sums.{sum_below}
 use Rattle.planes.proofs.Sums.{sum_below-le}
 use Rattle.version_tables.specs.declared.weights.Offer.{Offer}
 use Rattle.version_tables.specs.declared.weights.Level.{Level}
-use Rattle.version_tables.specs.declared.weights.Share.{Share}
-use Rattle.version_tables.specs.inner.Marked.{HasShapeIn, LetAll, ShareLevel, KeepsLow, AreMarked, whole_marks}
+use Rattle.version_tables.specs.inner.Marked.{HasShapeIn, KeepsLow, AreMarked, whole_marks}
 use Rattle.version_tables.specs.inner.Offered.{cells_in, marks, weight_in, count_in, IsOffer}
-use Rattle.version_tables.specs.inner.Plans.{count_on, IsLevel}
+use Rattle.version_tables.specs.inner.Plans.{count_on}
 use Rattle.version_tables.specs.inner.Sharing.{AreShared}
 use Rattle.version_tables.specs.inner.Weights.{count_all_between}
 use Rattle.version_tables.proofs.Columns.{where_true}
@@ -23,8 +21,13 @@ use Rattle.version_tables.proofs.Columns.{where_true}
 between-le : (low low' high high' number : ℕ) → low' ≤ low → number ≤ high' → where_true (ltb low number) (where_true (leb number high) 1) ≤ where_true (ltb low' number) (where_true (leb number high') 1)
 between-le low low' high high' number le upto = elim (cases_lt low number) [
   | inl above ↦
-      omega (arith, one (leb number high), ap (λ b. where_true b (where_true (leb number high) 1)) (lt-ltb low number above),
-      ap (λ b. where_true b (where_true (leb number high') 1)) (lt-ltb low' number (omega (arith, le, above))), ap (λ b. where_true b 1) (le-leb number high' upto))
+      omega (
+        arith,
+        one (leb number high),
+        ap (λ b. where_true b (where_true (leb number high) 1)) (lt-ltb low number above),
+        ap (λ b. where_true b (where_true (leb number high') 1)) (lt-ltb low' number (omega (arith, le, above))),
+        ap (λ b. where_true b 1) (le-leb number high' upto),
+      )
   | inr not_above ↦ omega (arith, ap (λ b. where_true b (where_true (leb number high) 1)) (le-ltb low number (omega (arith, not_above))))
 ]
   where

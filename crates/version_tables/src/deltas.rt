@@ -54,7 +54,9 @@ pub(crate) fn delta<N: Number, H: Written>(
     let low = told_to(alloc, sender, receiver, histories, kind)?;
     let ahead = ahead_of(alloc, sender, receiver, kind, &low)?;
     let cells = either(sender, receiver, kind, &low, &ahead);
-    let marked = marks_sent(alloc, sender, receiver, histories, rules, rotation, &low, cells)?;
+    let marked = marks_sent(
+        alloc, sender, receiver, histories, rules, rotation, &low, cells,
+    )?;
     let marks = marks_of(alloc, rules.mode, low, sender.greatest(), marked)?;
     Ok(marks)
 }

@@ -1,4 +1,4 @@
-use Rattle.std.proofs.Common.{◌∙◌, sym, subst, map}
+use Rattle.std.proofs.Common.{sym, subst, map}
 use Rattle.version_tables.specs.inner.Marked.{AreOffered}
 use Rattle.version_tables.proofs.Delivered.{all-offered, ahead-offered}
 use Rattle.version_tables.proofs.deltas.either.Goals as goal

@@ -1,7 +1,4 @@
-use Rattle.std.proofs.Common.{◌≡◌, ◌<◌, ◌≤◌, length, get_or, sym, ◌∙◌, ap, subst, arith, map}
-use Rattle.planes.specs.Planes.{HasEach}
-use Rattle.owner_lists.specs.OwnerListView.{list_of_owner}
-use Rattle.version_tables.specs.inner.Told.{AreKnown}
+use Rattle.std.proofs.Common.{map}
 use Rattle.version_tables.proofs.Delivered.{known}
 use Rattle.version_tables.proofs.deltas.told_to.Goals as goal
 

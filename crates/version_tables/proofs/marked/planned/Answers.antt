@@ -1,4 +1,4 @@
-use Rattle.std.proofs.Common.{◌≤◌, ◌∙◌}
+use Rattle.std.proofs.Common.{◌∙◌}
 use Rattle.version_tables.specs.inner.Offered.{marks}
 use Rattle.version_tables.proofs.MarkedLaws.{whole-size, whole-marked, sent-found, share-marked}
 use Rattle.version_tables.proofs.RoundMarks.{count-newest}

@@ -81,7 +81,8 @@ fn marks_sent<N: Number, H: Written>(
     requires low { HasEach (length histories.now.lists)
         (λ r n. n ≡ told_mark (digest_kind rules.now.mode) N.most receiver.now.node (writes_in histories.now.lists)
         (slice_index receiver.now.greatest) r) (map N.number low.now) }
-    requires cells { AreOffered (digest_kind rules.now.mode) sender.now receiver.now (map N.number low.now) (map N.number cells.now) }
+    requires cells { AreOffered (digest_kind rules.now.mode) sender.now receiver.now (map N.number low.now)
+        (map N.number cells.now) }
     ensures marks { IfOk result (λ m. AreMarksOf rules.now rotation H.lists sender.now receiver.now
         (low_list rules.now.mode (map N.number low.now) (map N.number m.mark.items))
         (high_list rules.now.mode (map N.number m.mark.items) sender.now.greatest) m.sent m.cut) }
@@ -113,7 +114,8 @@ fn told_to<N: Number, H: Written>(
     requires nodes { sender.now.nodes ≡ receiver.now.nodes }
     requires receiver { FitsHistories histories.now (table_in H.lists receiver.now) }
     ensures told { IfOk result (λ v. HasEach (length histories.now.lists)
-        (λ r n. n ≡ told_mark kind N.most receiver.now.node (writes_in histories.now.lists) (slice_index receiver.now.greatest) r)
+        (λ r n. n
+        ≡ told_mark kind N.most receiver.now.node (writes_in histories.now.lists) (slice_index receiver.now.greatest) r)
         (map N.number v.items)) }
     ensures kept { IfOk result (λ _. IsKept H.lists receiver.now) }
     ensures only { IsOkUnless result OutOfMemory }
@@ -141,8 +143,8 @@ fn ahead_of<N: Number, H: Written>(
     requires keys { sender.now.keys ≡ receiver.now.keys }
     requires low { length low.now ≡ sender.now.nodes }
     ensures ahead { kind ≡ Precise → IfOk result (λ v. HasEachPlace sender.now.nodes sender.now.keys
-        (λ r k n. n ≡ number_ahead (cell sender.now.cells sender.now.nodes r k) (cell receiver.now.cells sender.now.nodes r k)
-        (slice_index (map N.number low.now) r)) (map N.number v.items)) }
+        (λ r k n. n ≡ number_ahead (cell sender.now.cells sender.now.nodes r k)
+        (cell receiver.now.cells sender.now.nodes r k) (slice_index (map N.number low.now) r)) (map N.number v.items)) }
     ensures only { IsOkUnless result OutOfMemory }
 {
     match kind {
@@ -165,8 +167,8 @@ fn either<'a, N: Number, H: Written>(
 ) -> &'a [N]
     requires nodes { sender.now.nodes ≡ receiver.now.nodes }
     requires ahead { kind ≡ Precise → HasEachPlace sender.now.nodes sender.now.keys
-        (λ r k n. n ≡ number_ahead (cell sender.now.cells sender.now.nodes r k) (cell receiver.now.cells sender.now.nodes r k)
-        (slice_index (map N.number low.now) r)) (map N.number ahead.now) }
+        (λ r k n. n ≡ number_ahead (cell sender.now.cells sender.now.nodes r k)
+        (cell receiver.now.cells sender.now.nodes r k) (slice_index (map N.number low.now) r)) (map N.number ahead.now) }
     ensures { AreOffered kind sender.now receiver.now (map N.number low.now) (map N.number result.now) }
 {
     match kind {
@@ -183,8 +185,10 @@ fn marks_of<N: Number>(
     high: &[N],
     marked: Marked<N>,
 ) -> Result<DeltaMarks<N>, Fault>
-    ensures low { IfOk result (λ d. map N.number d.low.items ≡ low_list mode (map N.number low.items) (map N.number marked.mark.items)) }
-    ensures high { IfOk result (λ d. map N.number d.high.items ≡ high_list mode (map N.number marked.mark.items) (map N.number high.now)) }
+    ensures low { IfOk result (λ d. map N.number d.low.items
+        ≡ low_list mode (map N.number low.items) (map N.number marked.mark.items)) }
+    ensures high { IfOk result (λ d. map N.number d.high.items
+        ≡ high_list mode (map N.number marked.mark.items) (map N.number high.now)) }
     ensures sent { IfOk result (λ d. d.sent ≡ marked.sent) }
     ensures cut { IfOk result (λ d. d.cut ≡ marked.cut) }
     ensures only { IsOkUnless result OutOfMemory }

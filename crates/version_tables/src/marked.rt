@@ -41,7 +41,8 @@ pub(crate) fn planned<N: Number>(
     requires ends { AreEnds (writes_in offer.now.lists.now) offer.now.nodes last (map N.number ends.now) }
     requires made { (owner : ℕ) → AreMadeBy last (writes_in offer.now.lists.now owner) }
     ensures size { IfOk result (λ m. length m.mark.items ≡ offer.now.nodes) }
-    ensures marked { IfOk result (λ m. AreMarked mode rotation N.number offer.now (marks N.number m.mark.items) m.sent m.cut) }
+    ensures marked { IfOk result
+        (λ m. AreMarked mode rotation N.number offer.now (marks N.number m.mark.items) m.sent m.cut) }
     ensures only { IsOkUnless result OutOfMemory }
 {
     let found = planes::total_above(offer.cells, offer.nodes, offer.keys, offer.low);
@@ -88,11 +89,13 @@ fn level_of<N: Number>(
     requires offer { IsOffer N.number N.most offer.now }
     requires ends { AreEnds (writes_in offer.now.lists.now) offer.now.nodes last (map N.number ends.now) }
     requires made { (owner : ℕ) → AreMadeBy last (writes_in offer.now.lists.now owner) }
-    requires found { found ≡ count_in N.number offer.now (marks N.number offer.now.low.now) (marks N.number offer.now.high.now) }
+    requires found { found
+        ≡ count_in N.number offer.now (marks N.number offer.now.low.now) (marks N.number offer.now.high.now) }
     requires beyond { amount_of offer.now.budget
         < weight_in N.number offer.now (marks N.number offer.now.low.now) (marks N.number offer.now.high.now) }
     ensures level { IfOk result (λ l. IsLevel mode N.number offer.now l) }
-    ensures shape { IfOk result (λ l. HasShapeIn mode N.number offer.now (marks N.number l.near.items) (marks N.number l.far.items)) }
+    ensures shape { IfOk result
+        (λ l. HasShapeIn mode N.number offer.now (marks N.number l.near.items) (marks N.number l.far.items)) }
     ensures only { IsOkUnless result OutOfMemory }
 {
     match mode {

@@ -44,7 +44,8 @@ pub(crate) fn rounds<N: Number>(
     requires offer { IsOffer N.number N.most offer.now }
     requires ends { AreEnds (writes_in offer.now.lists.now) offer.now.nodes rounds (map N.number ends.now) }
     requires made { (owner : ℕ) → AreMadeBy rounds (writes_in offer.now.lists.now owner) }
-    requires found { found ≡ count_in N.number offer.now (marks N.number offer.now.low.now) (marks N.number offer.now.high.now) }
+    requires found { found
+        ≡ count_in N.number offer.now (marks N.number offer.now.low.now) (marks N.number offer.now.high.now) }
     requires beyond { amount_of offer.now.budget
         < weight_in N.number offer.now (marks N.number offer.now.low.now) (marks N.number offer.now.high.now) }
     ensures level { IfOk result (IsLevel (round_mode newest) N.number offer.now) }
@@ -73,7 +74,8 @@ fn few_rounds<N: Number>(
     requires offer { IsOffer N.number N.most offer.now }
     requires ends { AreEnds (writes_in offer.now.lists.now) offer.now.nodes rounds (map N.number ends.now) }
     requires made { (owner : ℕ) → AreMadeBy rounds (writes_in offer.now.lists.now owner) }
-    requires found { found ≡ count_in N.number offer.now (marks N.number offer.now.low.now) (marks N.number offer.now.high.now) }
+    requires found { found
+        ≡ count_in N.number offer.now (marks N.number offer.now.low.now) (marks N.number offer.now.high.now) }
     requires beyond { amount_of offer.now.budget
         < weight_in N.number offer.now (marks N.number offer.now.low.now) (marks N.number offer.now.high.now) }
     ensures few { IfOk result (λ few. AreFewAndEnough newest N.number offer.now
@@ -105,7 +107,8 @@ fn look<N: Number>(offer: &Offer<N>, mark: &[N], found: u32, newest: bool) -> Fo
     requires offer { IsOffer N.number N.most offer.now }
     requires mark { length mark.now ≡ offer.now.nodes }
     requires above { (r : ℕ) → r < offer.now.nodes → marks N.number offer.now.low.now r ≤ marks N.number mark.now r }
-    requires found { found ≡ count_in N.number offer.now (marks N.number offer.now.low.now) (marks N.number offer.now.high.now) }
+    requires found { found
+        ≡ count_in N.number offer.now (marks N.number offer.now.low.now) (marks N.number offer.now.high.now) }
     ensures count { result.count ≡ count_on (round_mode newest) N.number offer.now (marks N.number mark.now) }
     ensures fits { IsTrue result.fits
         ↔ (weight_on (round_mode newest) N.number offer.now (marks N.number mark.now) ≤ amount_of offer.now.budget) }
@@ -134,7 +137,8 @@ fn mark_after<N: Number>(
     requires ends { length ends.now ≡ (rounds + 1) * offer.now.nodes }
     requires count { count ≤ rounds }
     ensures marks { IfOk result (λ v. HasEach offer.now.nodes
-        (λ r n. n ≡ round_mark newest rounds (map N.number ends.now) offer.now.nodes (marks N.number offer.now.low.now) count r)
+        (λ r n. n
+        ≡ round_mark newest rounds (map N.number ends.now) offer.now.nodes (marks N.number offer.now.low.now) count r)
         (map N.number v.items)) }
     ensures only { IsOkUnless result OutOfMemory }
 {

@@ -18,13 +18,21 @@ use Rattle.version_tables.specs.inner.Weights.{writes_in}
 -- the marks of a level, as its mode has them
 abbrev pub HasShape : Mode → (ℕ → List Entry) → Cells → ℕ → ℕ → (ℕ → ℕ) → (ℕ → ℕ) → (ℕ → ℕ) → Type 0
 HasShape ScuttleBreadth lists cells nodes keys low near far =
-    (layers : ℕ) × (((r : ℕ) → r < nodes → IsLayerMark cells keys r (low r) layers (near r)) × ((r : ℕ) → r < nodes → IsLayerMark cells keys r (low r) (layers + 1) (far r)))
+    (layers : ℕ)
+    × (((r : ℕ) → r < nodes → IsLayerMark cells keys r (low r) layers (near r))
+    × ((r : ℕ) → r < nodes → IsLayerMark cells keys r (low r) (layers + 1) (far r)))
 HasShape ScuttleDepth lists cells nodes keys low near far =
-    (size : ℕ) × (((r : ℕ) → r < nodes → IsRunMark cells keys r (low r) (size + 1) (near r)) × ((r : ℕ) → r < nodes → IsRunMark cells keys r (low r) size (far r)))
+    (size : ℕ)
+    × (((r : ℕ) → r < nodes → IsRunMark cells keys r (low r) (size + 1) (near r))
+    × ((r : ℕ) → r < nodes → IsRunMark cells keys r (low r) size (far r)))
 HasShape PreciseOldest lists cells nodes keys low near far =
-    (round : ℕ) × (((r : ℕ) → r < nodes → IsRoundMark (lists r) (low r) round (near r)) × ((r : ℕ) → r < nodes → IsRoundMark (lists r) (low r) (round + 1) (far r)))
+    (round : ℕ)
+    × (((r : ℕ) → r < nodes → IsRoundMark (lists r) (low r) round (near r))
+    × ((r : ℕ) → r < nodes → IsRoundMark (lists r) (low r) (round + 1) (far r)))
 HasShape PreciseNewest lists cells nodes keys low near far =
-    (round : ℕ) × (((r : ℕ) → r < nodes → IsRoundMark (lists r) (low r) (round + 1) (near r)) × ((r : ℕ) → r < nodes → IsRoundMark (lists r) (low r) round (far r)))
+    (round : ℕ)
+    × (((r : ℕ) → r < nodes → IsRoundMark (lists r) (low r) (round + 1) (near r))
+    × ((r : ℕ) → r < nodes → IsRoundMark (lists r) (low r) round (far r)))
 
 abbrev pub HasShapeIn : {N : Type 0} → Mode → (N → ℕ) → Offer N → (ℕ → ℕ) → (ℕ → ℕ) → Type 0
 HasShapeIn mode number offer near far =
@@ -32,12 +40,14 @@ HasShapeIn mode number offer near far =
 
 -- marks that let all through, which fits
 pub record LetAll {N : Type 0} (mode : Mode) (number : N → ℕ) (offer : Offer N) (mark : ℕ → ℕ) : Type 0 where
-  pub all : (owner key : ℕ) → owner < offer.nodes → key < offer.keys → marks number offer.low.now owner < cells_in number offer owner key
+  pub all : (owner key : ℕ) → owner < offer.nodes → key < offer.keys
+      → marks number offer.low.now owner < cells_in number offer owner key
       → lets_through mode (mark owner) (cells_in number offer owner key) ≡ true
   pub within : weight_on mode number offer mark ≤ amount_of offer.budget
 
 -- marks that share out the first level that doesn't fit; past the owners all marks are alike
-pub record ShareLevel {N : Type 0} (mode : Mode) (rotation : ℕ) (number : N → ℕ) (offer : Offer N) (mark : ℕ → ℕ) (sent : ℕ) : Type 0 where
+pub record ShareLevel {N : Type 0} (mode : Mode) (rotation : ℕ) (number : N → ℕ) (offer : Offer N) (mark : ℕ → ℕ)
+    (sent : ℕ) : Type 0 where
   pub near : ℕ → ℕ
   pub far : ℕ → ℕ
   pub shape : HasShapeIn mode number offer near far
@@ -53,7 +63,8 @@ KeepsLow PreciseOldest nodes low mark = Unit {0}
 KeepsLow PreciseNewest nodes low mark = (r : ℕ) → r < nodes → low r ≤ mark r
 
 -- marks of what is sent, so many numbers, and so many are cut
-pub record AreMarked {N : Type 0} (mode : Mode) (rotation : ℕ) (number : N → ℕ) (offer : Offer N) (mark : ℕ → ℕ) (sent cut : ℕ) : Type 0 where
+pub record AreMarked {N : Type 0} (mode : Mode) (rotation : ℕ) (number : N → ℕ) (offer : Offer N) (mark : ℕ → ℕ)
+    (sent cut : ℕ) : Type 0 where
   pub above : KeepsLow mode offer.nodes (marks number offer.low.now) mark
   pub count : sent ≡ count_on mode number offer mark
   pub left : sent + cut ≡ count_in number offer (marks number offer.low.now) (marks number offer.high.now)
@@ -83,4 +94,5 @@ high_list PreciseNewest mark high = high
 pub record AreOffered (kind : DigestKind) (from to : VersionTableView) (low cells : List ℕ) : Type 0 where
   pub size : length cells ≡ from.keys * from.nodes
   pub each : (owner key : ℕ) → owner < from.nodes → key < from.keys
-      → cell cells from.nodes owner key ≡ offered_by kind (cell from.cells from.nodes) (cell to.cells to.nodes) (slice_index low) owner key
+      → cell cells from.nodes owner key
+      ≡ offered_by kind (cell from.cells from.nodes) (cell to.cells to.nodes) (slice_index low) owner key

@@ -27,7 +27,8 @@ abbrev pub round_mark : Bool → ℕ → List ℕ → ℕ → (ℕ → ℕ) → 
 round_mark newest rounds ends nodes low count owner = end_mark ends nodes low (round_at newest rounds count) owner
 
 -- a few rounds fit, which have so many numbers, and enough rounds don't
-pub record AreFewAndEnough {N : Type 0} (newest : Bool) (number : N → ℕ) (offer : Offer N) (mark : ℕ → ℕ → ℕ) (rounds few enough whole : ℕ) : Type 0 where
+pub record AreFewAndEnough {N : Type 0} (newest : Bool) (number : N → ℕ) (offer : Offer N) (mark : ℕ → ℕ → ℕ)
+    (rounds few enough whole : ℕ) : Type 0 where
   pub below : few < enough
   pub bound : enough ≤ rounds
   pub counted : whole ≡ count_on (round_mode newest) number offer (mark few)
@@ -38,6 +39,8 @@ pub record AreFewAndEnough {N : Type 0} (newest : Bool) (number : N → ℕ) (of
 pub record AreRounds {N : Type 0} (newest : Bool) (number : N → ℕ) (offer : Offer N) (level : Level N) : Type 0 where
   pub round : ℕ
   pub near : (owner : ℕ) → owner < offer.nodes
-      → IsRoundMark (writes_in offer.lists.now owner) (marks number offer.low.now owner) (if newest then round + 1 else round) (marks number level.near.items owner)
+      → IsRoundMark (writes_in offer.lists.now owner) (marks number offer.low.now owner) (if newest then round + 1 else round)
+      (marks number level.near.items owner)
   pub far : (owner : ℕ) → owner < offer.nodes
-      → IsRoundMark (writes_in offer.lists.now owner) (marks number offer.low.now owner) (if newest then round else round + 1) (marks number level.far.items owner)
+      → IsRoundMark (writes_in offer.lists.now owner) (marks number offer.low.now owner) (if newest then round else round + 1)
+      (marks number level.far.items owner)

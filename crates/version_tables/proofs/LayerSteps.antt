@@ -1,17 +1,17 @@
 -- Layers of an offer, gone over as long as they fit.
 -- Serves nothing yet.
-use Rattle.std.proofs.Common.{◌≡◌, ℕ, zero, suc, ◌+◌, ◌-◌, ◌<◌, ◌≤◌, Bool, true, false, cond, ltb, List, [], ◌∷◌, ◌++◌, length, take, get_or, map, inl, inr, refl, sym, ap, ◌∙◌, subst, arith}
+use Rattle.std.proofs.Common.{◌≡◌, ℕ, ◌+◌, ◌-◌, ◌<◌, ◌≤◌, true, false, cond, ltb, List, [], ◌∷◌, ◌++◌, length, take, get_or, map, inl, inr, refl, sym, ap, ◌∙◌, subst, arith}
 use Rattle.std.proofs.lemmas.Bool.{cases_lt, lt-ltb, le-ltb}
 use Rattle.std.proofs.lemmas.List.{length-map}
 use Rattle.bench_types.specs.Budget.{amount_of}
-use Rattle.planes.specs.Planes.{Cells, count_between, HasEach, HasNoneAbove, IsNextAbove, IsLeastAbove}
+use Rattle.planes.specs.Planes.{Cells, count_between, HasEach, IsNextAbove, IsLeastAbove}
 use Rattle.planes.specs.inner.Elementwise.{AreChanged}
 use Rattle.planes.specs.Sums.{sum_below}
 use Rattle.planes.proofs.Sums.{sum_below-same, sum_below-plus, sum_below-le}
 use Rattle.version_tables.specs.declared.weights.Offer.{Offer}
 use Rattle.version_tables.specs.inner.Offered.{cells_in, marks, weights_in, weight_in, count_in, IsOffer}
 use Rattle.version_tables.specs.inner.Plans.{raised, IsNextMark, AreLayersSoFar}
-use Rattle.version_tables.specs.inner.Shares.{IsLayerMark, NumbersDiffer}
+use Rattle.version_tables.specs.inner.Shares.{IsLayerMark}
 use Rattle.version_tables.proofs.Columns.{where_true, sum_below-none}
 use Rattle.version_tables.proofs.Layers.{counted-next, layer-stays, layer-next}
 use Rattle.version_tables.proofs.WeightLaws.{weight_of-none, weight_of-upto, weight_of-all, sum_below-each_none}
@@ -60,8 +60,11 @@ module _ {N : Type 0} (number : N → ℕ) (most : ℕ) (offer : Offer N) (is : 
     next = next;
     more = raises;
     whole = sym (sum_below-none offer.nodes _ (λ owner lt. weight_of-none (λ _. 1) cells offer.keys owner (low owner) (low owner) (omega arith)));
-    within = omega (arith, sum_below-none offer.nodes (λ owner. Rattle.version_tables.specs.inner.Weights.weight_of (weights_in offer owner) cells offer.keys owner (low owner) (low owner))
-        (λ owner lt. weight_of-none (weights_in offer owner) cells offer.keys owner (low owner) (low owner) (omega arith)));
+    within = omega (
+      arith,
+      sum_below-none offer.nodes (λ owner. Rattle.version_tables.specs.inner.Weights.weight_of (weights_in offer owner) cells offer.keys owner (low owner) (low owner))
+          (λ owner lt. weight_of-none (weights_in offer owner) cells offer.keys owner (low owner) (low owner) (omega arith)),
+    );
   }
 
   module _ (near far : ℕ → ℕ) (count added : ℕ) (so_far : AreLayersSoFar number offer near far count added) where
@@ -88,8 +91,12 @@ module _ {N : Type 0} (number : N → ℕ) (most : ℕ) (offer : Offer N) (is : 
 
     pub layers-upto : count + added ≤ count_in number offer low high
     layers-upto =
-        omega (arith, layers-count, sum_below-le offer.nodes (λ owner. count_between cells offer.keys owner (low owner) (far owner)) (λ owner. count_between cells offer.keys owner (low owner) (high owner))
-        (λ owner lt. weight_of-upto (λ _. 1) cells offer.keys owner (low owner) (far owner) (high owner) (is.covered owner lt)))
+        omega (
+          arith,
+          layers-count,
+          sum_below-le offer.nodes (λ owner. count_between cells offer.keys owner (low owner) (far owner)) (λ owner. count_between cells offer.keys owner (low owner) (high owner))
+              (λ owner lt. weight_of-upto (λ _. 1) cells offer.keys owner (low owner) (far owner) (high owner) (is.covered owner lt)),
+        )
 
     -- where not all fits, a layer that does has something
     pub layers-more : weight_in number offer low far ≤ amount_of offer.budget → amount_of offer.budget < weight_in number offer low high → 0 < added

@@ -1,7 +1,6 @@
 -- Runs of an offer, gone over as long as they fit.
 -- Serves nothing yet.
-use Rattle.std.proofs.Common.{◌≡◌, ℕ, zero, suc, ◌+◌, ◌-◌, ◌*◌, ◌<◌, ◌≤◌, ◌⊎◌, Bool, true, false, cond, eqb, ltb, List, length, get_or, map, inl, inr, refl, sym, ap, ◌∙◌, subst, arith}
-use Rattle.std.proofs.Math.Nat.{mul-le-mul_left, mul-le-mul_right}
+use Rattle.std.proofs.Common.{◌≡◌, ℕ, zero, suc, ◌+◌, ◌-◌, ◌*◌, ◌<◌, ◌≤◌, cond, eqb, ltb, List, length, get_or, map, inl, inr, refl, sym, ap, ◌∙◌, subst, arith}
 use Rattle.std.proofs.lemmas.Bool.{cases_lt, cases_eq, eq-eqb, ne_eqb, lt-ltb, le-ltb}
 use Rattle.std.proofs.lemmas.List.{length-map}
 use Rattle.bench_types.specs.Budget.{amount_of}
@@ -51,18 +50,18 @@ module _ (cells : Cells) (keys owner low high : ℕ) (covered : HasNoneAbove cel
       → count_between cells keys owner low far ≡ count_between cells keys owner low near + where_true (eqb (count_above cells keys owner low) size) 1 * size
   run-count size near far longer next = elim (cases_lt (count_above cells keys owner low) size) [
     | inl shorter ↦ omega (
-        arith,
-        ap (count_between cells keys owner low) (next.none shorter),
-        ap (count_between cells keys owner low) (longer.none (omega (arith, shorter))),
-        ap (λ b. where_true b 1 * size) (ne_eqb (count_above cells keys owner low) size (λ e. omega (arith, e, shorter))),
-      )
+      arith,
+      ap (count_between cells keys owner low) (next.none shorter),
+      ap (count_between cells keys owner low) (longer.none (omega (arith, shorter))),
+      ap (λ b. where_true b 1 * size) (ne_eqb (count_above cells keys owner low) size (λ e. omega (arith, e, shorter))),
+    )
     | inr no_shorter ↦ elim (cases_lt size (count_above cells keys owner low)) [
       | inl more ↦ omega (
-          arith,
-          ap (count_between cells keys owner low) (next.all (omega (arith, no_shorter))),
-          ap (count_between cells keys owner low) (longer.all (omega (arith, more))),
-          ap (λ b. where_true b 1 * size) (ne_eqb (count_above cells keys owner low) size (λ e. omega (arith, e, more))),
-        )
+        arith,
+        ap (count_between cells keys owner low) (next.all (omega (arith, no_shorter))),
+        ap (count_between cells keys owner low) (longer.all (omega (arith, more))),
+        ap (λ b. where_true b 1 * size) (ne_eqb (count_above cells keys owner low) size (λ e. omega (arith, e, more))),
+      )
       | inr no_more ↦
           let same : count_above cells keys owner low ≡ size = omega (arith, no_shorter, no_more) in
           omega (
@@ -87,9 +86,9 @@ module _ (cells : Cells) (keys owner low high : ℕ) (covered : HasNoneAbove cel
 from-next : (count low high size mark next : ℕ) → IsMarkFrom count low high (size + 1) mark → next ≡ cond (eqb count size) high mark → IsMarkFrom count low high size next
 from-next count low high size mark next from is = elim (cases_eq count size) [
   | inl same ↦ record {
-      all = λ le. is ∙ ap (λ b. cond b high mark) (eq-eqb count size same);
-      none = λ lt. absurd (omega (arith, same, lt));
-    }
+    all = λ le. is ∙ ap (λ b. cond b high mark) (eq-eqb count size same);
+    none = λ lt. absurd (omega (arith, same, lt));
+  }
   | inr other ↦
       let stays : next ≡ mark = is ∙ ap (λ b. cond b high mark) (ne_eqb count size other) in
       record {
@@ -158,8 +157,11 @@ module _ {N : Type 0} (number : N → ℕ) (most : ℕ) (offer : Offer N) (is : 
   runs-start size step longest runs =
       runs-added low (marks number step.marks.items) size 0 step.more (runs-first size longest) runs.marked runs.more
       (sym (sum_below-none offer.nodes _ (λ owner lt. weight_of-none (λ _. 1) cells offer.keys owner (low owner) (low owner) (omega arith))))
-      (omega (arith, sum_below-none offer.nodes (λ owner. weight_of (weights_in offer owner) cells offer.keys owner (low owner) (low owner))
-      (λ owner lt. weight_of-none (weights_in offer owner) cells offer.keys owner (low owner) (low owner) (omega arith))))
+      (omega (
+        arith,
+        sum_below-none offer.nodes (λ owner. weight_of (weights_in offer owner) cells offer.keys owner (low owner) (low owner))
+            (λ owner lt. weight_of-none (weights_in offer owner) cells offer.keys owner (low owner) (low owner) (omega arith)),
+      ))
 
   -- and those of one number less
   pub runs-next : (near far : ℕ → ℕ) (size count added : ℕ) (step : Step N) → AreRunsSoFar number offer near far size count added → 0 < size → weight_in number offer low far ≤ amount_of offer.budget
@@ -194,11 +196,11 @@ module _ {N : Type 0} (number : N → ℕ) (most : ℕ) (offer : Offer N) (is : 
       higher there = elim (cases_lt (low owner) (high owner)) [
         | inl above ↦ above
         | inr not_above ↦ absurd (omega (
-            arith,
-            there,
-            count-covered cells offer.keys owner (low owner) (high owner) (is.covered owner lt),
-            weight_of-none (λ _. 1) cells offer.keys owner (low owner) (high owner) (omega (arith, not_above)),
-          ))
+          arith,
+          there,
+          count-covered cells offer.keys owner (low owner) (high owner) (is.covered owner lt),
+          weight_of-none (λ _. 1) cells offer.keys owner (low owner) (high owner) (omega (arith, not_above)),
+        ))
       ]
 
 -- no owner has more than so many

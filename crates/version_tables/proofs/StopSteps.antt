@@ -1,14 +1,13 @@
 -- An owner's numbers gone over one after another.
 -- Serves nothing yet.
-use Rattle.std.proofs.Common.{◌≡◌, ◌≢◌, ℕ, zero, suc, ◌+◌, ◌-◌, ◌<◌, ◌≤◌, ◌⊎◌, min, max, inl, inr, refl, sym, ap, ◌∙◌, subst, arith}
-use Rattle.std.proofs.lemmas.Bool.{cases_lt, cases_eq}
-use Rattle.planes.specs.Planes.{Cells, count_between}
+use Rattle.std.proofs.Common.{◌≡◌, ◌≢◌, ℕ, zero, suc, ◌+◌, ◌<◌, ◌≤◌, ◌⊎◌, min, max, inl, inr, refl, ap, ◌∙◌, subst, arith}
+use Rattle.std.proofs.lemmas.Bool.{cases_lt}
+use Rattle.planes.specs.Planes.{Cells}
 use Rattle.planes.specs.Sums.{sum_below}
 use Rattle.version_tables.specs.inner.Shares.{NumbersDiffer}
 use Rattle.version_tables.specs.inner.Stops.{HasBetween, IsNextUp, IsNextDown}
 use Rattle.version_tables.specs.inner.Weights.{weight_of}
-use Rattle.version_tables.proofs.Columns.{sum_below-one}
-use Rattle.version_tables.proofs.WeightLaws.{part, part-in, part-low, part-high, part-cases, weight_of-split, weight_of-none}
+use Rattle.version_tables.proofs.WeightLaws.{part, part-in, part-low, part-high, part-cases, weight_of-split}
 
 -- a single number of an owner lies between two marks
 pub weight_of-one : (weight : ℕ → ℕ) (cells : Cells) (keys owner low high key number : ℕ) → key < keys → cells owner key ≡ number → low < number → number ≤ high

@@ -1,9 +1,9 @@
 -- The owners' turns in a level.
 -- Serves nothing yet.
-use Rattle.std.proofs.Common.{◌≡◌, ◌≢◌, ℕ, zero, suc, ◌+◌, ◌-◌, ◌*◌, ◌<◌, ◌≤◌, Bool, true, false, ltb, leb, List, length, get_or, set, map, inl, inr, refl, sym, ap, ◌∙◌, subst, arith}
+use Rattle.std.proofs.Common.{◌≡◌, ◌≢◌, ℕ, zero, suc, ◌+◌, ◌-◌, ◌*◌, ◌<◌, ◌≤◌, true, false, ltb, leb, List, length, get_or, set, map, inl, inr, refl, sym, ap, ◌∙◌, subst, arith}
 use Rattle.std.proofs.lemmas.List.{get_or-set_same, get_or-set_other, length-map, map-set}
 use Rattle.bench_types.specs.declared.exchanges.Budget.TheVariants.{Entries}
-use Rattle.bench_types.specs.declared.limits.TheConstants.{MOST_NODES, MOST_KEYS}
+use Rattle.bench_types.specs.declared.limits.TheConstants.{MOST_NODES, MOST_KEYS, MOST_ENTRY_SIZE}
 use Rattle.std.proofs.lemmas.Bool.{cases_lt, cases_eq, lt-ltb, le-ltb, le-leb, lt-leb, leb-false, ltb-true}
 use Rattle.bench_types.specs.declared.exchanges.Mode.{Mode}
 use Rattle.bench_types.specs.declared.exchanges.Mode.TheVariants.{ScuttleBreadth, ScuttleDepth, PreciseOldest, PreciseNewest}
@@ -14,7 +14,6 @@ use Rattle.planes.proofs.Sums.{sum_below-same, sum_below-plus}
 use Rattle.reconcile.specs.Order.{rotated}
 use Rattle.reconcile.proofs.Apart.{rotated-injective, rotated-is}
 use Rattle.version_tables.specs.declared.weights.Offer.{Offer}
-use Rattle.version_tables.specs.inner.Levels.{comes_first}
 use Rattle.version_tables.specs.inner.Offered.{cells_in, marks, weights_in, IsOffer}
 use Rattle.version_tables.specs.inner.Plans.{weight_on, count_on, AreFarther}
 use Rattle.version_tables.specs.inner.Shares.{lets_through}
@@ -22,8 +21,9 @@ use Rattle.version_tables.specs.inner.Sharing.{AreShared}
 use Rattle.version_tables.specs.inner.Stops.{IsStopUp, IsStopDown}
 use Rattle.version_tables.specs.inner.Turns.{part_between, AreTurnsPassed, IsStop}
 use Rattle.version_tables.specs.inner.Weights.{weight_of, weight_between, one_each, writes_in}
-use Rattle.version_tables.proofs.WeightLaws.{part, part-in, part-low, part-high, weight_of-split, weight_of-same, number_share-one, count_between-most}
-use Rattle.version_tables.proofs.OfferWeights.{offer-few}
+use Rattle.version_tables.proofs.WeightLaws.{part, part-in, part-low, part-high, weight_of-split, weight_of-same, weight_of-most, number_share-one, count_between-most}
+use Rattle.version_tables.proofs.OfferWeights.{offer-few, share-most}
+use Rattle.owner_lists.specs.Numbers.{write_numbered}
 
 -- a sum that changes at one index
 sum_below-changed : (n r d : ℕ) (f g : ℕ → ℕ) → r < n → ((i : ℕ) → i < n → i ≢ r → g i ≡ f i) → g r ≡ f r + d → sum_below n g ≡ sum_below n f + d
@@ -261,12 +261,12 @@ module _ {N : Type 0} (number : N → ℕ) (most : ℕ) (offer : Offer N) (is : 
         own = λ k lt _. ap (λ m. lets_through mode m (cells owner k)) here ∙ stop.own k lt;
         above = λ r lt. elim (cases_eq r owner) [
           | inl same ↦ omega (
-              arith,
-              ap low same,
-              ap next same,
-              here,
-              above-low mode (low owner) (near owner) (far owner) stop_mark (level owner in_nodes) stop.between.0 stop.between.1,
-            )
+            arith,
+            ap low same,
+            ap next same,
+            here,
+            above-low mode (low owner) (near owner) (far owner) stop_mark (level owner in_nodes) stop.between.0 stop.between.1,
+          )
           | inr other ↦ elim (cases_lt (rotated offer.nodes rotation r) turn) [
             | inl before ↦ omega (arith, others r lt other, so_far.passed r lt before, (level-ends mode (low r) (near r) (far r) (level r lt)).1)
             | inr later ↦ omega (arith, others r lt other, so_far.waiting r lt (omega (arith, later)), (level-ends mode (low r) (near r) (far r) (level r lt)).0)
@@ -324,3 +324,21 @@ count_on-few ScuttleBreadth number most offer is mark = offer-few number most of
 count_on-few ScuttleDepth number most offer is mark = offer-few number most offer is (marks number offer.low.now) mark
 count_on-few PreciseOldest number most offer is mark = offer-few number most offer is (marks number offer.low.now) mark
 count_on-few PreciseNewest number most offer is mark = offer-few number most offer is mark (marks number offer.high.now)
+
+-- a part without numbers weighs nothing
+pub part-none : {N : Type 0} (offer : Offer N) (mode : Mode) (cells : Cells) (keys owner near far : ℕ) → part_between mode (λ _. 1) cells keys owner near far ≡ 0 → part_between mode (weights_in offer owner) cells keys owner near far ≡ 0
+part-none offer mode cells keys owner near far none = by_mode mode none
+  where
+    nothing : (low high : ℕ) → weight_of (λ _. 1) cells keys owner low high ≡ 0 → weight_of (weights_in offer owner) cells keys owner low high ≡ 0
+    nothing low high empty =
+        omega (
+          arith,
+          weight_of-most (weights_in offer owner) MOST_ENTRY_SIZE cells keys owner low high (λ n. share-most offer.budget (write_numbered (writes_in offer.lists.now owner) n)),
+          ap (λ n. n * MOST_ENTRY_SIZE) empty,
+        )
+
+    by_mode : (m : Mode) → part_between m (λ _. 1) cells keys owner near far ≡ 0 → part_between m (weights_in offer owner) cells keys owner near far ≡ 0
+    by_mode ScuttleBreadth empty = nothing near far empty
+    by_mode ScuttleDepth empty = nothing near far empty
+    by_mode PreciseOldest empty = nothing near far empty
+    by_mode PreciseNewest empty = nothing far near empty

@@ -1,15 +1,15 @@
 -- What numbers weigh between marks.
 -- Serves nothing yet.
-use Rattle.std.proofs.Common.{◌≡◌, ◌≢◌, ℕ, zero, suc, ◌+◌, ◌*◌, ◌<◌, ◌≤◌, Bool, true, false, cond, ltb, leb, List, [], ◌∷◌, length, Option, Some, None, ◌⊎◌, inl, inr, refl, sym, ap, ◌∙◌, subst, arith}
+use Rattle.std.proofs.Common.{◌≡◌, ℕ, zero, suc, ◌+◌, ◌*◌, ◌<◌, ◌≤◌, Bool, true, false, ltb, leb, List, [], ◌∷◌, length, Some, ◌⊎◌, inl, inr, refl, sym, ap, ◌∙◌, arith}
 use Rattle.std.proofs.lemmas.Bool.{cases_lt, lt-ltb, le-ltb, le-leb, lt-leb}
 use Rattle.bench_types.specs.declared.entries.Entry.{Entry}
 use Rattle.bench_types.specs.declared.exchanges.Budget.{Budget}
-use Rattle.bench_types.specs.declared.exchanges.Budget.TheVariants.{Entries, Bytes}
+use Rattle.bench_types.specs.declared.exchanges.Budget.TheVariants.{Entries}
 use Rattle.owner_lists.specs.Numbers.{write_from, write_numbered}
 use Rattle.planes.specs.Planes.{Cells, count_between, HasNoneAbove}
 use Rattle.planes.specs.Sums.{sum_below}
 use Rattle.planes.proofs.Sums.{sum_below-same, sum_below-le, sum_below-plus}
-use Rattle.version_tables.specs.inner.Weights.{number_share, share_or_none, weight_of, weight_between, count_all_between, one_each}
+use Rattle.version_tables.specs.inner.Weights.{number_share, share_or_none, weight_of, weight_between, count_all_between}
 use Rattle.version_tables.proofs.Columns.{where_true, sum_below-none}
 
 -- the write of a number within the list

@@ -22,7 +22,8 @@ fn settle<N: Number>(next: &mut [N], marks: &[N]) -> u32
     requires room { length next.old ≤ MOST_NODES }
     ensures next { AreChanged (λ r x y. y ≡ (if nat_lt x N.most then x else slice_index (map N.number marks.now) r))
         (map N.number next.old) (map N.number next.new) }
-    ensures count { result ≡ sum_below (length next.old) (λ r. if nat_lt (slice_index (map N.number next.old) r) N.most then 1 else 0) }
+    ensures count { result ≡ sum_below (length next.old)
+        (λ r. if nat_lt (slice_index (map N.number next.old) r) N.most then 1 else 0) }
 {
     let mut count = 0;
     for r in 0..next.len() {
@@ -39,8 +40,10 @@ fn one_more<N: Number>(alloc: Global, offer: &Offer<N>, near: &[N]) -> Result<St
     requires offer { IsOffer N.number N.most offer.now }
     requires near { length near.now ≡ offer.now.nodes }
     ensures marks { IfOk result (λ s. HasEach offer.now.nodes
-        (λ r n. IsNextMark (cells_in N.number offer.now) offer.now.keys r (marks N.number near.now r) n) (map N.number s.marks.items)) }
-    ensures more { IfOk result (λ s. s.more ≡ raised offer.now.nodes (marks N.number near.now) (marks N.number s.marks.items)) }
+        (λ r n. IsNextMark (cells_in N.number offer.now) offer.now.keys r (marks N.number near.now r) n)
+        (map N.number s.marks.items)) }
+    ensures more { IfOk result (λ s. s.more ≡ raised offer.now.nodes (marks N.number near.now)
+        (marks N.number s.marks.items)) }
     ensures only { IsOkUnless result OutOfMemory }
 {
     let mut marks = least_above(alloc, offer.cells, offer.nodes, offer.keys, near)?;

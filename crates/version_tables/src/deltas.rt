@@ -168,7 +168,8 @@ fn either<'a, N: Number, H: Written>(
     requires nodes { sender.now.nodes ≡ receiver.now.nodes }
     requires ahead { kind ≡ Precise → HasEachPlace sender.now.nodes sender.now.keys
         (λ r k n. n ≡ number_ahead (cell sender.now.cells sender.now.nodes r k)
-        (cell receiver.now.cells sender.now.nodes r k) (slice_index (map N.number low.now) r)) (map N.number ahead.now) }
+        (cell receiver.now.cells sender.now.nodes r k) (slice_index (map N.number low.now) r))
+        (map N.number ahead.now) }
     ensures { AreOffered kind sender.now receiver.now (map N.number low.now) (map N.number result.now) }
 {
     match kind {

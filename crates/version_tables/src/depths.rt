@@ -36,7 +36,8 @@ fn raise_runs<N: Number>(marks: &mut [N], high: &[N], counts: &[N], size: u32) -
     requires room { length marks.old ≤ MOST_NODES }
     ensures marks { AreChanged (λ r x y. y ≡ (if nat_eq (slice_index (map N.number counts.now) r) size
         then slice_index (map N.number high.now) r else x)) (map N.number marks.old) (map N.number marks.new) }
-    ensures count { result ≡ sum_below (length marks.old) (λ r. if nat_eq (slice_index (map N.number counts.now) r) size then 1 else 0) }
+    ensures count { result ≡ sum_below (length marks.old)
+        (λ r. if nat_eq (slice_index (map N.number counts.now) r) size then 1 else 0) }
 {
     let mut count = 0;
     for r in 0..marks.len() {
@@ -57,7 +58,8 @@ fn next_runs<N: Number>(
 ) -> Result<Step<N>, Fault>
     requires offer { IsOffer N.number N.most offer.now }
     requires near { length near.now ≡ offer.now.nodes }
-    requires counts { HasEach offer.now.nodes (λ r n. n ≡ owner_count_in N.number offer.now r) (map N.number counts.now) }
+    requires counts { HasEach offer.now.nodes (λ r n. n ≡ owner_count_in N.number offer.now r)
+        (map N.number counts.now) }
     requires few { size ≤ MOST_KEYS }
     ensures runs { IfOk result (λ s. AreNextRuns N.number offer.now (marks N.number near.now) size s) }
     ensures only { IsOkUnless result OutOfMemory }

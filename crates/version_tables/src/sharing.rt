@@ -1,4 +1,5 @@
-//! A level that doesn't fit, shared out: the owners take turns from the rotation on, up to the first number that doesn't fit.
+//! A level that doesn't fit, shared out: the owners take turns from the rotation on, up to the first number that
+//! doesn't fit.
 
 ghost use Rattle.std.specs.Prelude.{◌≡◌, ℕ, ◌+◌, ◌-◌, ◌<◌, ◌≤◌, IfOk, IsOkUnless, length, map};
 ghost use Rattle.bench_types.specs.Budget.{amount_of};
@@ -43,11 +44,14 @@ impl<'a, N: Number> Offer<'a, N> {
     fn weight_of_part(&self, mode: Mode, owner: usize, near: N, far: N, count: u32) -> u32
         requires offer { IsOffer N.number N.most self.now }
         requires owner { owner < self.now.nodes }
-        requires count { count ≡ part_between mode (λ _. 1) (cells_in N.number self.now) self.now.keys owner (N.number near) (N.number far) }
-        ensures { result ≡ part_between mode (weights_in self.now owner) (cells_in N.number self.now) self.now.keys owner (N.number near) (N.number far) }
+        requires count { count ≡ part_between mode (λ _. 1) (cells_in N.number self.now) self.now.keys owner
+            (N.number near) (N.number far) }
+        ensures { result ≡ part_between mode (weights_in self.now owner) (cells_in N.number self.now) self.now.keys
+            owner (N.number near) (N.number far) }
     {
         match self.budget {
             Budget::Entries(_) => count,
+            Budget::Bytes(_) if count == 0 => 0,
             Budget::Bytes(_) => match mode {
                 Mode::PreciseNewest => self.weight_of(owner, far, near),
                 Mode::ScuttleBreadth | Mode::ScuttleDepth | Mode::PreciseOldest => {
@@ -61,8 +65,10 @@ impl<'a, N: Number> Offer<'a, N> {
     fn stop(&self, mode: Mode, owner: usize, near: N, far: N, room: u32) -> Stop<N>
         requires offer { IsOffer N.number N.most self.now }
         requires owner { owner < self.now.nodes }
-        requires beyond { room < part_between mode (weights_in self.now owner) (cells_in N.number self.now) self.now.keys owner (N.number near) (N.number far) }
-        ensures { IsStop mode (weights_in self.now owner) (cells_in N.number self.now) self.now.keys owner (N.number near) (N.number far) room (N.number result.mark) result.sent }
+        requires beyond { room < part_between mode (weights_in self.now owner) (cells_in N.number self.now)
+            self.now.keys owner (N.number near) (N.number far) }
+        ensures { IsStop mode (weights_in self.now owner) (cells_in N.number self.now) self.now.keys owner
+            (N.number near) (N.number far) room (N.number result.mark) result.sent }
     {
         match mode {
             Mode::PreciseNewest => self.stop_down(owner, far, near, room),
@@ -95,10 +101,24 @@ impl<'a, N: Number> Offer<'a, N> {
     {
         match mode {
             Mode::PreciseNewest => {
-                counts_between(alloc, self.cells, self.nodes, self.keys, &level.far, &level.near)
+                counts_between(
+                    alloc,
+                    self.cells,
+                    self.nodes,
+                    self.keys,
+                    &level.far,
+                    &level.near,
+                )
             }
             Mode::ScuttleBreadth | Mode::ScuttleDepth | Mode::PreciseOldest => {
-                counts_between(alloc, self.cells, self.nodes, self.keys, &level.near, &level.far)
+                counts_between(
+                    alloc,
+                    self.cells,
+                    self.nodes,
+                    self.keys,
+                    &level.near,
+                    &level.far,
+                )
             }
         }
     }
@@ -118,12 +138,15 @@ impl<'a, N: Number> Offer<'a, N> {
         requires level { IsLevel mode N.number self.now level.now }
         requires counts { ArePartCounts mode N.number self.now level.now (map N.number counts.now) }
         requires mark { mark.old ≡ level.now.near.items }
-        requires room { weight_on mode N.number self.now (marks N.number level.now.near.items) + room ≡ amount_of self.now.budget }
+        requires room { weight_on mode N.number self.now (marks N.number level.now.near.items) + room
+            ≡ amount_of self.now.budget }
         ensures owner { result.owner < self.now.nodes }
         ensures size { length mark.new ≡ self.now.nodes }
-        ensures passed { AreTurnsPassed mode N.number self.now rotation (marks N.number level.now.near.items) (marks N.number level.now.far.items)
+        ensures passed { AreTurnsPassed mode N.number self.now rotation (marks N.number level.now.near.items)
+            (marks N.number level.now.far.items)
             (marks N.number mark.new) (rotated self.now.nodes rotation result.owner) result.left result.sent }
-        ensures beyond { result.left < part_between mode (weights_in self.now result.owner) (cells_in N.number self.now) self.now.keys result.owner
+        ensures beyond { result.left < part_between mode (weights_in self.now result.owner) (cells_in N.number self.now)
+            self.now.keys result.owner
             (marks N.number level.now.near.items result.owner) (marks N.number level.now.far.items result.owner) }
     {
         let mut left = room;
@@ -159,7 +182,8 @@ impl<'a, N: Number> Offer<'a, N> {
         requires counts { ArePartCounts mode N.number self.now level.now (map N.number counts.now) }
         requires mark { mark.old ≡ level.now.near.items }
         ensures size { length mark.new ≡ self.now.nodes }
-        ensures shared { AreShared mode rotation N.number self.now (marks N.number level.now.near.items) (marks N.number level.now.far.items) (marks N.number mark.new) result }
+        ensures shared { AreShared mode rotation N.number self.now (marks N.number level.now.near.items)
+            (marks N.number level.now.far.items) (marks N.number mark.new) result }
     {
         let room = self.budget.amount() - self.weight_of_whole(mode, level);
         let passed = self.pass_turns(mode, rotation, level, counts, mark, room);
@@ -184,7 +208,8 @@ pub(crate) fn share<N: Number>(
     requires level { IsLevel mode N.number offer.now level.now }
     requires rotation { rotation < offer.now.nodes }
     ensures size { IfOk result (λ s. length s.mark.items ≡ offer.now.nodes) }
-    ensures shared { IfOk result (λ s. AreShared mode rotation N.number offer.now (marks N.number level.now.near.items) (marks N.number level.now.far.items) (marks N.number s.mark.items) s.sent) }
+    ensures shared { IfOk result (λ s. AreShared mode rotation N.number offer.now (marks N.number level.now.near.items)
+        (marks N.number level.now.far.items) (marks N.number s.mark.items) s.sent) }
     ensures only { IsOkUnless result OutOfMemory }
 {
     let counts = offer.parts(alloc, mode, level)?;

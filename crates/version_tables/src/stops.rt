@@ -21,7 +21,8 @@ impl<'a, N: Number> Offer<'a, N> {
         requires offer { IsOffer N.number N.most self.now }
         requires owner { owner < self.now.nodes }
         requires some { HasBetween (cells_in N.number self.now) self.now.keys owner (N.number low) (N.number high) }
-        ensures { IsNextUp (cells_in N.number self.now) self.now.keys owner (N.number low) (N.number high) (N.number result) }
+        ensures { IsNextUp (cells_in N.number self.now) self.now.keys owner (N.number low) (N.number high)
+            (N.number result) }
     {
         let mut next = high;
         for key in 0..self.keys {
@@ -38,7 +39,8 @@ impl<'a, N: Number> Offer<'a, N> {
         requires offer { IsOffer N.number N.most self.now }
         requires owner { owner < self.now.nodes }
         requires some { HasBetween (cells_in N.number self.now) self.now.keys owner (N.number low) (N.number high) }
-        ensures { IsNextDown (cells_in N.number self.now) self.now.keys owner (N.number low) (N.number high) (N.number result) }
+        ensures { IsNextDown (cells_in N.number self.now) self.now.keys owner (N.number low) (N.number high)
+            (N.number result) }
     {
         let mut next = low;
         for key in 0..self.keys {
@@ -54,8 +56,10 @@ impl<'a, N: Number> Offer<'a, N> {
     pub(crate) fn stop_up(&self, owner: usize, low: N, high: N, room: u32) -> Stop<N>
         requires offer { IsOffer N.number N.most self.now }
         requires owner { owner < self.now.nodes }
-        requires beyond { room < weight_of (weights_in self.now owner) (cells_in N.number self.now) self.now.keys owner (N.number low) (N.number high) }
-        ensures { IsStopUp (weights_in self.now owner) (cells_in N.number self.now) self.now.keys owner (N.number low) (N.number high) room (N.number result.mark) result.sent }
+        requires beyond { room < weight_of (weights_in self.now owner) (cells_in N.number self.now) self.now.keys owner
+            (N.number low) (N.number high) }
+        ensures { IsStopUp (weights_in self.now owner) (cells_in N.number self.now) self.now.keys owner (N.number low)
+            (N.number high) room (N.number result.mark) result.sent }
     {
         let mut mark = low;
         let mut sent = 0;
@@ -76,8 +80,10 @@ impl<'a, N: Number> Offer<'a, N> {
     pub(crate) fn stop_down(&self, owner: usize, low: N, high: N, room: u32) -> Stop<N>
         requires offer { IsOffer N.number N.most self.now }
         requires owner { owner < self.now.nodes }
-        requires beyond { room < weight_of (weights_in self.now owner) (cells_in N.number self.now) self.now.keys owner (N.number low) (N.number high) }
-        ensures { IsStopDown (weights_in self.now owner) (cells_in N.number self.now) self.now.keys owner (N.number low) (N.number high) room (N.number result.mark) result.sent }
+        requires beyond { room < weight_of (weights_in self.now owner) (cells_in N.number self.now) self.now.keys owner
+            (N.number low) (N.number high) }
+        ensures { IsStopDown (weights_in self.now owner) (cells_in N.number self.now) self.now.keys owner (N.number low)
+            (N.number high) room (N.number result.mark) result.sent }
     {
         let mut mark = high;
         let mut sent = 0;

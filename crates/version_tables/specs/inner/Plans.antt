@@ -1,6 +1,6 @@
 -- Levels of what is offered, as marks: near marks let through whole levels, and far marks one level more, which doesn't
 -- fit. Source: this project.
-use Rattle.std.specs.Prelude.{◌≡◌, ◌⊎◌, ℕ, ◌+◌, ◌*◌, ◌<◌, ◌≤◌, nat_eq, nat_lt, List, length, map, if◌then◌else◌}
+use Rattle.std.specs.Prelude.{◌≡◌, ◌⊎◌, ℕ, ◌+◌, ◌*◌, ◌<◌, ◌≤◌, nat_eq, nat_lt, length, if◌then◌else◌}
 use Rattle.bench_types.specs.declared.exchanges.Mode.{Mode}
 use Rattle.bench_types.specs.declared.exchanges.Mode.TheVariants.{ScuttleBreadth, ScuttleDepth, PreciseOldest, PreciseNewest}
 use Rattle.bench_types.specs.Budget.{amount_of}
@@ -14,7 +14,8 @@ use Rattle.version_tables.specs.inner.Shares.{IsLayerMark, IsRunMark}
 
 -- a mark goes on to the owner's next number, or stays where there is none
 abbrev pub IsNextMark : Cells → ℕ → ℕ → ℕ → ℕ → Type 0
-IsNextMark cells keys owner mark next = (HasNoneAbove cells keys owner mark × (next ≡ mark)) ⊎ IsLeastAbove cells keys owner mark next
+IsNextMark cells keys owner mark next =
+    (HasNoneAbove cells keys owner mark × (next ≡ mark)) ⊎ IsLeastAbove cells keys owner mark next
 
 -- how many of the owners' marks are raised
 abbrev pub raised : ℕ → (ℕ → ℕ) → (ℕ → ℕ) → ℕ
@@ -45,7 +46,8 @@ pub record IsLevel {N : Type 0} (mode : Mode) (number : N → ℕ) (offer : Offe
   pub near : length level.near.items ≡ offer.nodes
   pub far : length level.far.items ≡ offer.nodes
   pub farther : (owner : ℕ) → owner < offer.nodes
-      → AreFarther mode (marks number offer.low.now owner) (marks number level.near.items owner) (marks number level.far.items owner)
+      → AreFarther mode (marks number offer.low.now owner) (marks number level.near.items owner)
+      (marks number level.far.items owner)
   pub whole : level.whole ≡ count_on mode number offer (marks number level.near.items)
   pub within : weight_on mode number offer (marks number level.near.items) ≤ amount_of offer.budget
   pub beyond : amount_of offer.budget < weight_on mode number offer (marks number level.far.items)
@@ -54,24 +56,30 @@ pub record IsLevel {N : Type 0} (mode : Mode) (number : N → ℕ) (offer : Offe
 pub record AreLayers {N : Type 0} (number : N → ℕ) (offer : Offer N) (level : Level N) : Type 0 where
   pub layers : ℕ
   pub near : (owner : ℕ) → owner < offer.nodes
-      → IsLayerMark (cells_in number offer) offer.keys owner (marks number offer.low.now owner) layers (marks number level.near.items owner)
+      → IsLayerMark (cells_in number offer) offer.keys owner (marks number offer.low.now owner) layers
+      (marks number level.near.items owner)
   pub far : (owner : ℕ) → owner < offer.nodes
-      → IsLayerMark (cells_in number offer) offer.keys owner (marks number offer.low.now owner) (layers + 1) (marks number level.far.items owner)
+      → IsLayerMark (cells_in number offer) offer.keys owner (marks number offer.low.now owner) (layers + 1)
+      (marks number level.far.items owner)
 
 -- near marks let through the runs that are longer than one length, and far marks those of that length too
 pub record AreRuns {N : Type 0} (number : N → ℕ) (offer : Offer N) (level : Level N) : Type 0 where
   pub size : ℕ
   pub near : (owner : ℕ) → owner < offer.nodes
-      → IsRunMark (cells_in number offer) offer.keys owner (marks number offer.low.now owner) (size + 1) (marks number level.near.items owner)
+      → IsRunMark (cells_in number offer) offer.keys owner (marks number offer.low.now owner) (size + 1)
+      (marks number level.near.items owner)
   pub far : (owner : ℕ) → owner < offer.nodes
-      → IsRunMark (cells_in number offer) offer.keys owner (marks number offer.low.now owner) size (marks number level.far.items owner)
+      → IsRunMark (cells_in number offer) offer.keys owner (marks number offer.low.now owner) size
+      (marks number level.far.items owner)
 
 -- layers as far as they were gone over: the first fit, and the next is known
-pub record AreLayersSoFar {N : Type 0} (number : N → ℕ) (offer : Offer N) (near far : ℕ → ℕ) (count added : ℕ) : Type 0 where
+pub record AreLayersSoFar {N : Type 0} (number : N → ℕ) (offer : Offer N) (near far : ℕ → ℕ)
+    (count added : ℕ) : Type 0 where
   pub layers : ℕ
   pub layered : (owner : ℕ) → owner < offer.nodes
       → IsLayerMark (cells_in number offer) offer.keys owner (marks number offer.low.now owner) layers (near owner)
-  pub next : (owner : ℕ) → owner < offer.nodes → IsNextMark (cells_in number offer) offer.keys owner (near owner) (far owner)
+  pub next : (owner : ℕ) → owner < offer.nodes
+      → IsNextMark (cells_in number offer) offer.keys owner (near owner) (far owner)
   pub more : added ≡ raised offer.nodes near far
   pub whole : count ≡ count_in number offer (marks number offer.low.now) near
   pub within : weight_in number offer (marks number offer.low.now) near ≤ amount_of offer.budget
@@ -82,18 +90,24 @@ pub record IsMarkFrom (count low high size mark : ℕ) : Type 0 where
   pub none : count < size → mark ≡ low
 
 -- all numbers of the owners that have so many are added
-pub record AreNextRuns {N : Type 0} (number : N → ℕ) (offer : Offer N) (near : ℕ → ℕ) (size : ℕ) (step : Step N) : Type 0 where
+pub record AreNextRuns {N : Type 0} (number : N → ℕ) (offer : Offer N) (near : ℕ → ℕ) (size : ℕ)
+    (step : Step N) : Type 0 where
   pub count : length step.marks.items ≡ offer.nodes
   pub marked : (owner : ℕ) → owner < offer.nodes
-      → marks number step.marks.items owner ≡ (if nat_eq (owner_count_in number offer owner) size then marks number offer.high.now owner else near owner)
-  pub more : step.more ≡ sum_below offer.nodes (λ owner. if nat_eq (owner_count_in number offer owner) size then 1 else 0) * size
+      → marks number step.marks.items owner ≡ (if nat_eq (owner_count_in number offer owner) size
+      then marks number offer.high.now owner else near owner)
+  pub more : step.more ≡ sum_below offer.nodes
+      (λ owner. if nat_eq (owner_count_in number offer owner) size then 1 else 0) * size
 
 -- runs as far as they were gone over: the longer ones fit, and those of this size are next
-pub record AreRunsSoFar {N : Type 0} (number : N → ℕ) (offer : Offer N) (near far : ℕ → ℕ) (size count added : ℕ) : Type 0 where
+pub record AreRunsSoFar {N : Type 0} (number : N → ℕ) (offer : Offer N) (near far : ℕ → ℕ)
+    (size count added : ℕ) : Type 0 where
   pub longer : (owner : ℕ) → owner < offer.nodes
-      → IsMarkFrom (owner_count_in number offer owner) (marks number offer.low.now owner) (marks number offer.high.now owner) (size + 1) (near owner)
+      → IsMarkFrom (owner_count_in number offer owner) (marks number offer.low.now owner)
+      (marks number offer.high.now owner) (size + 1) (near owner)
   pub next : (owner : ℕ) → owner < offer.nodes
-      → IsMarkFrom (owner_count_in number offer owner) (marks number offer.low.now owner) (marks number offer.high.now owner) size (far owner)
+      → IsMarkFrom (owner_count_in number offer owner) (marks number offer.low.now owner)
+      (marks number offer.high.now owner) size (far owner)
   pub whole : count ≡ count_in number offer (marks number offer.low.now) near
   pub more : count + added ≡ count_in number offer (marks number offer.low.now) far
   pub within : weight_in number offer (marks number offer.low.now) near ≤ amount_of offer.budget

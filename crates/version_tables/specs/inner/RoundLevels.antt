@@ -39,8 +39,8 @@ pub record AreFewAndEnough {N : Type 0} (newest : Bool) (number : N → ℕ) (of
 pub record AreRounds {N : Type 0} (newest : Bool) (number : N → ℕ) (offer : Offer N) (level : Level N) : Type 0 where
   pub round : ℕ
   pub near : (owner : ℕ) → owner < offer.nodes
-      → IsRoundMark (writes_in offer.lists.now owner) (marks number offer.low.now owner) (if newest then round + 1 else round)
-      (marks number level.near.items owner)
+      → IsRoundMark (writes_in offer.lists.now owner) (marks number offer.low.now owner)
+      (if newest then round + 1 else round) (marks number level.near.items owner)
   pub far : (owner : ℕ) → owner < offer.nodes
-      → IsRoundMark (writes_in offer.lists.now owner) (marks number offer.low.now owner) (if newest then round else round + 1)
-      (marks number level.far.items owner)
+      → IsRoundMark (writes_in offer.lists.now owner) (marks number offer.low.now owner)
+      (if newest then round else round + 1) (marks number level.far.items owner)

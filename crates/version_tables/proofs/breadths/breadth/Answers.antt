@@ -1,11 +1,10 @@
-use Rattle.std.proofs.Common.{◌≡◌, ℕ, ◌+◌, ◌-◌, ◌≤◌, ◌<◌, IsTrue, length, map, refl, sym, ap, ◌∙◌, subst, arith}
+use Rattle.std.proofs.Common.{◌≡◌, ℕ, ◌+◌, ◌≤◌, ◌<◌, length, sym, ap, ◌∙◌, subst, arith}
 use Rattle.std.proofs.lemmas.List.{length-map}
 use Rattle.bench_types.specs.Budget.{amount_of}
 use Rattle.version_tables.specs.inner.Offered.{cells_in, marks, count_in, weight_in}
-use Rattle.version_tables.specs.inner.Plans.{AreLayersSoFar, AreLayers, IsNextMark, raised}
+use Rattle.version_tables.specs.inner.Plans.{AreLayersSoFar, IsNextMark, raised}
 use Rattle.version_tables.proofs.LayerSteps.{layers-first, layers-count, layers-upto, layers-more, layers-next, layers-far, smaller_by}
 use Rattle.version_tables.proofs.OfferWeights.{offer-few}
-use Rattle.version_tables.proofs.breadths.breadth.Given as given
 use Rattle.version_tables.proofs.breadths.breadth.Goals as goal
 
 pub loop-alloc-init : goal.loop-alloc-init
@@ -52,7 +51,7 @@ pub loop-alloc-smaller : goal.loop-alloc-smaller
 loop-alloc-smaller g c =
     let number = g.N.Number.number in
     let fits = subst (λ xs. weight_in number c.args.offer.now (marks number c.args.offer.now.low.now) (marks number xs) ≤ amount_of c.args.offer.now.budget) c.deref-in-loop-alloc.ensures.value
-        (c.fits.ensures.0 c.loop-alloc-test.true)
+    (c.fits.ensures.0 c.loop-alloc-test.true)
     in
     smaller_by _ c.loop-alloc.whole c.loop-alloc.more
     (layers-more number g.N.Number.most c.args.offer.now c.requires.offer (marks number c.loop-alloc.near.items) (marks number c.loop-alloc.far.items) c.loop-alloc.whole c.loop-alloc.more c.loop-alloc.invariant.so_far fits c.requires.cut)
@@ -64,7 +63,7 @@ loop-alloc-preserved g c =
     let offer = c.args.offer.now in
     let next = c.in_ok-next.ensures.marks in
     let fits = subst (λ xs. weight_in number offer (marks number offer.low.now) (marks number xs) ≤ amount_of offer.budget) c.deref-in-loop-alloc.ensures.value
-        (c.fits.ensures.0 c.loop-alloc-test.true)
+    (c.fits.ensures.0 c.loop-alloc-test.true)
     in
     record {
       near = c.loop-alloc.invariant.far;

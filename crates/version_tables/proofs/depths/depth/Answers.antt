@@ -1,21 +1,22 @@
-use Rattle.std.proofs.Common.{◌≡◌, ℕ, suc, ◌+◌, ◌-◌, ◌*◌, ◌≤◌, ◌<◌, length, get_or, map, inl, inr, refl, sym, ap, ◌∙◌, subst, arith}
+use Rattle.std.proofs.Common.{◌≡◌, ℕ, ◌+◌, ◌-◌, ◌≤◌, ◌<◌, length, get_or, map, inl, inr, sym, ap, ◌∙◌, subst, arith}
 use Rattle.std.proofs.lemmas.Bool.{cases_lt, both_ways}
 use Rattle.std.proofs.lemmas.List.{length-map}
 use Rattle.bench_types.specs.Budget.{amount_of}
 use Rattle.bench_types.specs.declared.limits.TheConstants.{MOST_KEYS}
-use Rattle.planes.specs.Planes.{HasEach}
-use Rattle.version_tables.specs.inner.Offered.{marks, owner_count_in, count_in, weight_in}
+use Rattle.version_tables.specs.inner.Offered.{marks, count_in, weight_in}
 use Rattle.version_tables.specs.inner.Plans.{AreRunsSoFar, AreNextRuns}
 use Rattle.version_tables.proofs.OfferWeights.{offer-few}
 use Rattle.version_tables.proofs.RunSteps.{runs-start, runs-next, runs-some, runs-of_level, runs-farther, counts-few}
-use Rattle.version_tables.proofs.depths.depth.Given as given
 use Rattle.version_tables.proofs.depths.depth.Goals as goal
 
 pub greatest_of-size-requires : goal.greatest_of-size-requires
 greatest_of-size-requires g c = (
   c.type_bounds.send-N,
-  (c.type_bounds.sync-N, subst (λ xs. (r : ℕ) → r < length xs → get_or (map g.N.Number.number xs) r 0 ≤ MOST_KEYS) (sym c.deref.ensures.value)
-      (counts-few g.N.Number.number g.N.Number.most c.args.offer.now c.requires.offer c.in_ok-counts.counts.items c.in_ok-counts.ensures.counts)),
+  (
+    c.type_bounds.sync-N,
+    subst (λ xs. (r : ℕ) → r < length xs → get_or (map g.N.Number.number xs) r 0 ≤ MOST_KEYS) (sym c.deref.ensures.value)
+        (counts-few g.N.Number.number g.N.Number.most c.args.offer.now c.requires.offer c.in_ok-counts.counts.items c.in_ok-counts.ensures.counts),
+  ),
 )
 
 pub loop-alloc-init : goal.loop-alloc-init
@@ -70,7 +71,7 @@ loop-alloc-preserved g c =
     let offer = c.args.offer.now in
     let some = runs-some number g.N.Number.most offer c.requires.offer (marks number c.loop-alloc.near.items) (marks number c.loop-alloc.far.items) c.loop-alloc.size c.loop-alloc.whole c.loop-alloc.more c.loop-alloc.invariant.so_far c.requires.cut in
     let fits = subst (λ xs. weight_in number offer (marks number offer.low.now) (marks number xs) ≤ amount_of offer.budget) c.deref-in-loop-alloc.ensures.value
-        (c.fits.ensures.0 c.loop-alloc-test.true)
+    (c.fits.ensures.0 c.loop-alloc-test.true)
     in
     let runs = subst (λ xs. AreNextRuns number offer (marks number xs) (c.loop-alloc.size - 1) c.in_ok-next.next) c.deref-in-loop-alloc-3.ensures.value c.in_ok-next.ensures.runs in
     record {

@@ -1,9 +1,8 @@
-use Rattle.std.proofs.Common.{◌≡◌, ◌*◌, ◌≤◌, ◌++◌, eqb, get_or, length, map, take, drop, refl, sym, ap, ◌∙◌, subst, arith}
+use Rattle.std.proofs.Common.{◌≡◌, ◌≤◌, ◌++◌, eqb, get_or, length, map, take, drop, sym, ap, ◌∙◌, arith}
 use Rattle.std.proofs.lemmas.List.{length-map}
 use Rattle.std.proofs.Math.Nat.{mul-le-mul_left, mul-le-mul_right}
-use Rattle.bench_types.specs.declared.limits.TheConstants.{MOST_NODES, MOST_KEYS}
+use Rattle.bench_types.specs.declared.limits.TheConstants.{MOST_NODES}
 use Rattle.planes.proofs.Counts.{count_le}
-use Rattle.version_tables.specs.inner.Offered.{marks, owner_count_in}
 use Rattle.version_tables.proofs.LayerSteps.{take_whole}
 use Rattle.version_tables.proofs.RunSteps.{next-count, next-marked, next-more}
 use Rattle.version_tables.proofs.depths.next_runs.Goals as goal
@@ -12,15 +11,15 @@ pub overflow_mul-more : goal.overflow_mul-more
 overflow_mul-more g c =
     let owners = c.raise_runs-owners.result in
     let few : owners ≤ MOST_NODES =
-        omega (
-          arith,
-          c.raise_runs-owners.ensures.count,
-          count_le (length c.deref_mut.result.now) (λ r. eqb (get_or (map g.N.Number.number c.args.counts.now) r 0) c.args.size),
-          ap length c.deref_mut.ensures.value,
-          ap length c.in_ok-marks.ensures.items,
-          c.requires.near,
-          c.requires.offer.grid.few_nodes,
-        )
+    omega (
+      arith,
+      c.raise_runs-owners.ensures.count,
+      count_le (length c.deref_mut.result.now) (λ r. eqb (get_or (map g.N.Number.number c.args.counts.now) r 0) c.args.size),
+      ap length c.deref_mut.ensures.value,
+      ap length c.in_ok-marks.ensures.items,
+      c.requires.near,
+      c.requires.offer.grid.few_nodes,
+    )
     in
     omega (arith, mul-le-mul_right {m = owners} {n = MOST_NODES} c.args.size few, mul-le-mul_left MOST_NODES c.requires.few)
 

@@ -1,8 +1,7 @@
-use Rattle.std.proofs.Common.{◌≡◌, ◌+◌, length, eqb, get_or, ◌∙◌, refl, sym, ap, arith, map, if◌then◌else◌}
+use Rattle.std.proofs.Common.{length, eqb, get_or, ◌∙◌, refl, arith, map, if◌then◌else◌}
 use Rattle.std.proofs.lemmas.List.{length-map}
 use Rattle.planes.proofs.Elementwise.{number-at, changed_none, changed_all, written_next}
 use Rattle.planes.proofs.Counts.{count_fits, sum_next, sum_whole}
-use Rattle.version_tables.proofs.depths.raise_runs.Given as given
 use Rattle.version_tables.proofs.depths.raise_runs.Goals as goal
 
 pub loop-r-init : goal.loop-r-init

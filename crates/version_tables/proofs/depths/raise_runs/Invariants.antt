@@ -1,4 +1,4 @@
-use Rattle.std.proofs.Common.{◌≡◌, ◌≤◌, eqb, slice_index, map, if◌then◌else◌}
+use Rattle.std.proofs.Common.{◌≡◌, eqb, slice_index, map, if◌then◌else◌}
 use Rattle.planes.specs.inner.Elementwise.{AreChangedUpto}
 use Rattle.planes.specs.Sums.{sum_below}
 use Rattle.version_tables.proofs.depths.raise_runs.Given as goal

@@ -1,4 +1,4 @@
-use Rattle.std.proofs.Common.{◌≡◌, ◌<◌, ltb, leb, min, max, refl, sym, ap, ◌∙◌, subst, arith}
+use Rattle.std.proofs.Common.{◌≡◌, leb, max, sym, ap, ◌∙◌, subst, arith}
 use Rattle.std.proofs.lemmas.Bool.{leb-true, leb-false}
 use Rattle.version_tables.specs.inner.Offered.{cells_in}
 use Rattle.version_tables.proofs.StopSteps.{IsGreatestSoFar, greatest-first, greatest-here, greatest-past, greatest-found}

@@ -1,4 +1,4 @@
-use Rattle.std.proofs.Common.{◌≡◌, ◌<◌, ltb, leb, min, max, refl, sym, ap, ◌∙◌, subst, arith}
+use Rattle.std.proofs.Common.{◌≡◌, ltb, min, sym, ap, ◌∙◌, subst, arith}
 use Rattle.std.proofs.lemmas.Bool.{ltb-true, ltb-false}
 use Rattle.version_tables.specs.inner.Offered.{cells_in}
 use Rattle.version_tables.proofs.StopSteps.{IsLeastSoFar, least-first, least-here, least-past, least-found}

@@ -1,12 +1,8 @@
-use Rattle.std.proofs.Common.{◌≡◌, ℕ, ◌+◌, ◌-◌, ◌*◌, ◌<◌, ◌≤◌, length, set, refl, sym, ap, ◌∙◌, subst, arith}
+use Rattle.std.proofs.Common.{◌<◌, length, set, sym, ap, ◌∙◌, subst, arith}
 use Rattle.std.proofs.lemmas.List.{length-set}
-use Rattle.bench_types.specs.declared.limits.TheConstants.{MOST_NODES, MOST_KEYS}
-use Rattle.bench_types.specs.Budget.{amount_of}
 use Rattle.version_tables.specs.inner.Offered.{cells_in, marks, weights_in}
-use Rattle.version_tables.specs.inner.Plans.{weight_on}
 use Rattle.version_tables.specs.inner.Turns.{part_between, AreTurnsPassed}
 use Rattle.version_tables.proofs.TurnSteps.{turns-first, turns-next, turns-end, put-here, put-other, part-few, count_on-few}
-use Rattle.version_tables.proofs.weights.Offer.pass_turns.Given as given
 use Rattle.version_tables.proofs.weights.Offer.pass_turns.Goals as goal
 
 pub loop-turn-init : goal.loop-turn-init

@@ -1,10 +1,8 @@
-use Rattle.std.proofs.Common.{◌≡◌, ℕ, ◌+◌, ◌-◌, ◌*◌, ◌<◌, ◌≤◌, length, set, refl, sym, ap, ◌∙◌, subst, arith}
+use Rattle.std.proofs.Common.{◌<◌, length, set, refl, ap, ◌∙◌, subst, arith}
 use Rattle.std.proofs.lemmas.List.{length-set}
-use Rattle.bench_types.specs.declared.limits.TheConstants.{MOST_NODES, MOST_KEYS}
-use Rattle.bench_types.specs.Budget.{amount_of}
 use Rattle.reconcile.specs.Order.{rotated}
 use Rattle.version_tables.specs.inner.Offered.{cells_in, marks, weights_in}
-use Rattle.version_tables.specs.inner.Turns.{part_between, IsStop}
+use Rattle.version_tables.specs.inner.Turns.{IsStop}
 use Rattle.version_tables.proofs.TurnSteps.{turns-shared, put-here, put-other, part-few, count_on-few}
 use Rattle.version_tables.proofs.weights.Offer.share_into.Goals as goal
 
@@ -37,7 +35,7 @@ returns g c =
     let far = c.number_at-far.ensures ∙ ap (λ xs. marks number xs owner) c.deref-2.ensures.value in
     let in_mark : owner < length mark = omega (arith, c.pass_turns-passed.ensures.owner, c.pass_turns-passed.ensures.size) in
     let stop = subst (λ n. IsStop c.args.mode (weights_in offer owner) (cells_in number offer) offer.keys owner (marks number level.near.items owner) n passed.left (number c.stop-stop.result.mark) c.stop-stop.result.sent) far
-        (subst (λ n. IsStop c.args.mode (weights_in offer owner) (cells_in number offer) offer.keys owner n (number c.number_at-far.result) passed.left (number c.stop-stop.result.mark) c.stop-stop.result.sent) near c.stop-stop.ensures)
+    (subst (λ n. IsStop c.args.mode (weights_in offer owner) (cells_in number offer) offer.keys owner n (number c.number_at-far.result) passed.left (number c.stop-stop.result.mark) c.stop-stop.result.sent) near c.stop-stop.ensures)
     in
     record {
       size = length-set mark owner c.stop-stop.result.mark ∙ c.pass_turns-passed.ensures.size;

@@ -1,12 +1,7 @@
-use Rattle.std.proofs.Common.{◌≡◌, ◌+◌, ◌-◌, ◌<◌, ◌≤◌, refl, sym, ap, ◌∙◌, subst, arith}
-use Rattle.bench_types.specs.declared.limits.TheConstants.{MOST_KEYS}
-use Rattle.planes.specs.Planes.{Cells, count_between}
+use Rattle.std.proofs.Common.{◌≡◌, ◌+◌, sym, ap, ◌∙◌, arith}
 use Rattle.version_tables.specs.inner.Offered.{cells_in, weights_in}
-use Rattle.version_tables.specs.inner.Stops.{HasBetween, IsNextDown}
-use Rattle.version_tables.specs.inner.Weights.{weight_of}
 use Rattle.version_tables.proofs.StopSteps.{has-between, down-next, down-rest}
 use Rattle.version_tables.proofs.WeightLaws.{weight_of-none, count_between-most}
-use Rattle.version_tables.proofs.weights.Offer.stop_down.Given as given
 use Rattle.version_tables.proofs.weights.Offer.stop_down.Goals as goal
 
 pub next_down-next-requires-clause-some : goal.next_down-next-requires-clause-some

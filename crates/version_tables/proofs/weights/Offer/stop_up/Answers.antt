@@ -1,12 +1,7 @@
-use Rattle.std.proofs.Common.{◌≡◌, ◌+◌, ◌-◌, ◌<◌, ◌≤◌, refl, sym, ap, ◌∙◌, subst, arith}
-use Rattle.bench_types.specs.declared.limits.TheConstants.{MOST_KEYS}
-use Rattle.planes.specs.Planes.{Cells, count_between}
+use Rattle.std.proofs.Common.{◌+◌, sym, ap, ◌∙◌, arith}
 use Rattle.version_tables.specs.inner.Offered.{cells_in, weights_in}
-use Rattle.version_tables.specs.inner.Stops.{HasBetween, IsNextUp}
-use Rattle.version_tables.specs.inner.Weights.{weight_of}
 use Rattle.version_tables.proofs.StopSteps.{has-between, up-next, up-rest}
 use Rattle.version_tables.proofs.WeightLaws.{weight_of-none, count_between-most}
-use Rattle.version_tables.proofs.weights.Offer.stop_up.Given as given
 use Rattle.version_tables.proofs.weights.Offer.stop_up.Goals as goal
 
 pub next_up-next-requires-clause-some : goal.next_up-next-requires-clause-some

@@ -1,6 +1,5 @@
-use Rattle.std.proofs.Common.{◌≡◌, ltb, ◌+◌, ◌*◌, ◌≤◌, refl, sym, ap, ◌∙◌, arith}
+use Rattle.std.proofs.Common.{ltb, sym, ◌∙◌, arith}
 use Rattle.std.proofs.lemmas.Bool.{ltb-false}
-use Rattle.bench_types.specs.Budget.{largest_share}
 use Rattle.version_tables.specs.inner.Offered.{cells_in, marks, weights_in}
 use Rattle.version_tables.specs.inner.Weights.{weight_of}
 use Rattle.version_tables.proofs.WeightLaws.{weight_of-none, weight-next}
@@ -15,10 +14,10 @@ loop-owner-preserved g c =
     let high = marks g.N.Number.number c.args.high.now in
     elim c.if-is_above.branch [
       | then-is_above w ↦ record {
-          weight = weight-next (weights_in self) cells c.loop-owner.owner self.keys low high c.loop-owner.weight c.if-is_above.weight w.weight_of-weight.result c.loop-owner.invariant.weight w.weight-is
-              (w.weight_of-weight.ensures.weight ∙ (λ i. weight_of (weights_in self c.loop-owner.owner) cells self.keys c.loop-owner.owner (c.number_at-from.ensures i) (c.number_at-to.ensures i)));
-          limit = omega (arith, w.weight-is, w.weight_of-weight.ensures.limit, c.loop-owner.invariant.limit);
-        }
+        weight = weight-next (weights_in self) cells c.loop-owner.owner self.keys low high c.loop-owner.weight c.if-is_above.weight w.weight_of-weight.result c.loop-owner.invariant.weight w.weight-is
+            (w.weight_of-weight.ensures.weight ∙ (λ i. weight_of (weights_in self c.loop-owner.owner) cells self.keys c.loop-owner.owner (c.number_at-from.ensures i) (c.number_at-to.ensures i)));
+        limit = omega (arith, w.weight-is, w.weight_of-weight.ensures.limit, c.loop-owner.invariant.limit);
+      }
       | else-is_above w ↦
           let le = ltb-false (low c.loop-owner.owner) (high c.loop-owner.owner) ((λ i. ltb (sym c.number_at-from.ensures i) (sym c.number_at-to.ensures i)) ∙ sym c.is_above.ensures ∙ w.if-is_above.false) in
           let none = weight_of-none (weights_in self c.loop-owner.owner) cells self.keys c.loop-owner.owner (low c.loop-owner.owner) (high c.loop-owner.owner) le in

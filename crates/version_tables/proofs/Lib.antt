@@ -4,6 +4,10 @@ pub mod Grids
 pub mod Offers
 pub mod Numbers
 pub mod Told
+pub mod Lifts
+pub mod Delivered
+pub mod MarkedLaws
+pub mod RoundMarks
 pub mod Starts
 pub mod Levels
 pub mod Shares
@@ -17,5 +21,10 @@ pub mod Fitting
 pub mod Clearing
 pub mod WeightLaws
 pub mod OfferWeights
+pub mod LayerSteps
 pub mod TakenNumbers
 pub mod TakenTables
+pub mod TakenViews
+pub mod RunSteps
+pub mod StopSteps
+pub mod TurnSteps

@@ -1,11 +1,11 @@
 -- Writes by their numbers: which there are, and how their marks compare.
 -- Serves nothing yet.
-use Rattle.std.proofs.Common.{◌≡◌, ◌≢◌, ℕ, zero, suc, ◌+◌, ◌-◌, ◌<◌, ◌≤◌, Bool, true, false, List, [], ◌∷◌, length, get_or, Option, Some, None, inl, inr, refl, sym, ap, ◌∙◌, subst, arith}
+use Rattle.std.proofs.Common.{◌≡◌, ℕ, zero, suc, ◌<◌, ◌≤◌, List, [], ◌∷◌, length, Some, None, inl, inr, refl, sym, ap, ◌∙◌, subst, arith}
 use Rattle.std.specs.Prelude.{nat_lt}
 use Rattle.std.proofs.lemmas.Bool.{cases_lt, lt-ltb, le-ltb}
 use Rattle.std.proofs.lemmas.Option.{same_Some}
 use Rattle.bench_types.specs.declared.entries.Entry.{Entry}
-use Rattle.bench_types.specs.Mark.{mark_of, is_before, IsBefore, IsUpTo}
+use Rattle.bench_types.specs.Mark.{mark_of, is_before, IsUpTo}
 use Rattle.bench_types.proofs.Marks.{before-yes, before-no, before-up_to, up_to-itself}
 use Rattle.owner_lists.specs.Numbers.{write_from, write_numbered}
 use Rattle.version_tables.specs.inner.Offers.{IsHistory}

@@ -1,20 +1,19 @@
 -- What an offer's numbers take of its budget.
 -- Serves nothing yet.
-use Rattle.std.proofs.Common.{◌≡◌, ℕ, zero, suc, ◌+◌, ◌*◌, ◌%◌, ◌<◌, ◌≤◌, List, length, Option, Some, None, refl, sym, ap, ◌∙◌, subst, arith}
-use Rattle.std.proofs.Math.Nat.{mul-le-mul_right, mul-le-mul_left}
+use Rattle.std.proofs.Common.{◌≡◌, ℕ, ◌*◌, ◌≤◌, Option, Some, None, arith}
+use Rattle.std.proofs.Math.Nat.{mul-le-mul_right}
 use Rattle.bench_types.specs.declared.entries.Entry.{Entry}
 use Rattle.bench_types.specs.declared.exchanges.Budget.{Budget}
 use Rattle.bench_types.specs.declared.exchanges.Budget.TheVariants.{Entries, Bytes}
 use Rattle.bench_types.specs.declared.limits.TheConstants.{MOST_NODES, MOST_KEYS, MOST_ENTRY_SIZE}
-use Rattle.bench_types.specs.Budget.{share_of}
 use Rattle.owner_lists.specs.Numbers.{write_numbered}
 use Rattle.version_tables.specs.declared.weights.Offer.{Offer}
 use Rattle.version_tables.specs.inner.Offered.{cells_in, weights_in, weight_in, count_in, IsOffer}
-use Rattle.version_tables.specs.inner.Weights.{number_share, share_or_none, number_shares, writes_in, one_each}
+use Rattle.version_tables.specs.inner.Weights.{share_or_none, writes_in, one_each}
 use Rattle.version_tables.proofs.WeightLaws.{weight_between-same, weight_between-most, number_share-one, count_all_between-most}
 
 -- no write takes more than the largest share
-share-most : (budget : Budget) (o : Option Entry) → share_or_none budget o ≤ MOST_ENTRY_SIZE
+pub share-most : (budget : Budget) (o : Option Entry) → share_or_none budget o ≤ MOST_ENTRY_SIZE
 share-most budget None = omega arith
 share-most (Entries n) (Some e) = omega arith
 share-most (Bytes n) (Some e) = omega arith

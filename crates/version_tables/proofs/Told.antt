@@ -1,20 +1,18 @@
 -- What a digest tells, by numbers: which of the sender's writes the receiver lacks.
 -- Serves nothing yet.
-use Rattle.std.proofs.Common.{◌≡◌, ◌≢◌, ℕ, zero, suc, ◌+◌, ◌-◌, ◌<◌, ◌≤◌, max, Bool, true, false, cond, not, eqb, List, length, Option, Some, None, ◌⊎◌, inl, inr, refl, sym, ap, ◌∙◌, subst, arith}
+use Rattle.std.proofs.Common.{◌≡◌, ℕ, ◌-◌, ◌<◌, ◌≤◌, max, true, false, cond, not, List, length, Option, Some, None, inl, inr, refl, sym, ap, ◌∙◌, subst, arith}
 use Rattle.std.specs.Prelude.{nat_lt, ◌&&◌}
 use Rattle.std.proofs.lemmas.Bool.{cases_lt, cases_eq, lt-ltb, le-ltb, eq-eqb, ne_eqb}
-use Rattle.std.proofs.lemmas.Option.{same_Some}
 use Rattle.bench_types.specs.declared.entries.Entry.{Entry}
 use Rattle.bench_types.specs.declared.entries.Item.{Item}
 use Rattle.bench_types.specs.declared.entries.Mark.{Mark}
 use Rattle.bench_types.specs.declared.exchanges.Mode.{Mode}
-use Rattle.bench_types.specs.declared.exchanges.Mode.TheVariants.{ScuttleBreadth, ScuttleDepth, PreciseOldest, PreciseNewest}
 use Rattle.bench_types.specs.declared.exchanges.DigestKind.{DigestKind}
 use Rattle.bench_types.specs.declared.exchanges.DigestKind.TheVariants.{Scuttle, Precise}
-use Rattle.bench_types.specs.Mark.{absent, mark_of, mark_held, is_before, IsBefore, IsUpTo}
+use Rattle.bench_types.specs.Mark.{mark_of, mark_held, is_before, IsUpTo}
 use Rattle.bench_types.specs.Mode.{digest_kind}
-use Rattle.bench_types.proofs.Marks.{before-yes, before-no, up_to-itself, absent-first}
-use Rattle.node_table.specs.Table.{Table, entry_at, mark_at, greatest_mark, generation_held, IsProper}
+use Rattle.bench_types.proofs.Marks.{before-yes, before-no, absent-first}
+use Rattle.node_table.specs.Table.{Table, mark_at, greatest_mark, generation_held, IsProper}
 use Rattle.node_table.proofs.Greatest.{greatest_mark-unique}
 use Rattle.reconcile.specs.Candidates.{known_mark}
 use Rattle.owner_lists.specs.Numbers.{write_numbered}
@@ -142,14 +140,14 @@ ahead-above number peer low = elim (cases_lt (max peer low) number) [
 ]
 
 -- and it is the number itself, or 0
-offered-is : (kind : DigestKind) (sender receiver : Cells) (low : ℕ → ℕ) (owner key : ℕ) → 0 < offered_by kind sender receiver low owner key → offered_by kind sender receiver low owner key ≡ sender owner key
+pub offered-is : (kind : DigestKind) (sender receiver : Cells) (low : ℕ → ℕ) (owner key : ℕ) → 0 < offered_by kind sender receiver low owner key → offered_by kind sender receiver low owner key ≡ sender owner key
 offered-is Scuttle sender receiver low owner key some = refl
 offered-is Precise sender receiver low owner key some = elim (nat_lt (max (receiver owner key) (low owner)) (sender owner key)) as (λ b. 0 < cond b (sender owner key) 0 → cond b (sender owner key) 0 ≡ sender owner key) [
   | true ↦ λ _. refl
   | false ↦ λ none. absurd (omega (arith, none))
 ] some
 
-offered-upto : (kind : DigestKind) (sender receiver : Cells) (low : ℕ → ℕ) (owner key : ℕ) → offered_by kind sender receiver low owner key ≤ sender owner key
+pub offered-upto : (kind : DigestKind) (sender receiver : Cells) (low : ℕ → ℕ) (owner key : ℕ) → offered_by kind sender receiver low owner key ≤ sender owner key
 offered-upto Scuttle sender receiver low owner key = omega arith
 offered-upto Precise sender receiver low owner key = elim (nat_lt (max (receiver owner key) (low owner)) (sender owner key)) as (λ b. cond b (sender owner key) 0 ≤ sender owner key) [
   | true ↦ omega arith

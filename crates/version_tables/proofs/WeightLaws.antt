@@ -1,15 +1,15 @@
 -- What numbers weigh between marks.
 -- Serves nothing yet.
-use Rattle.std.proofs.Common.{◌≡◌, ◌≢◌, ℕ, zero, suc, ◌+◌, ◌*◌, ◌<◌, ◌≤◌, Bool, true, false, cond, ltb, leb, List, [], ◌∷◌, length, Option, Some, None, ◌⊎◌, inl, inr, refl, sym, ap, ◌∙◌, subst, arith}
+use Rattle.std.proofs.Common.{◌≡◌, ℕ, zero, suc, ◌+◌, ◌*◌, ◌<◌, ◌≤◌, Bool, true, false, ltb, leb, List, [], ◌∷◌, length, Some, ◌⊎◌, inl, inr, refl, sym, ap, ◌∙◌, arith}
 use Rattle.std.proofs.lemmas.Bool.{cases_lt, lt-ltb, le-ltb, le-leb, lt-leb}
 use Rattle.bench_types.specs.declared.entries.Entry.{Entry}
 use Rattle.bench_types.specs.declared.exchanges.Budget.{Budget}
-use Rattle.bench_types.specs.declared.exchanges.Budget.TheVariants.{Entries, Bytes}
+use Rattle.bench_types.specs.declared.exchanges.Budget.TheVariants.{Entries}
 use Rattle.owner_lists.specs.Numbers.{write_from, write_numbered}
-use Rattle.planes.specs.Planes.{Cells, count_between}
+use Rattle.planes.specs.Planes.{Cells, count_between, HasNoneAbove}
 use Rattle.planes.specs.Sums.{sum_below}
 use Rattle.planes.proofs.Sums.{sum_below-same, sum_below-le, sum_below-plus}
-use Rattle.version_tables.specs.inner.Weights.{number_share, share_or_none, weight_of, weight_between, count_all_between, one_each}
+use Rattle.version_tables.specs.inner.Weights.{number_share, share_or_none, weight_of, weight_between, count_all_between}
 use Rattle.version_tables.proofs.Columns.{where_true, sum_below-none}
 
 -- the write of a number within the list
@@ -157,3 +157,31 @@ pub weight-next : (weights : ℕ → ℕ → ℕ) (cells : Cells) (owner keys : 
     → here ≡ weight_of (weights owner) cells keys owner (low owner) (high owner) → after ≡ weight_between weights cells (owner + 1) keys low high
 weight-next weights cells owner keys low high before after here is now of_owner =
     now ∙ (λ i. is i + of_owner i) ∙ ap (λ n. weight_between weights cells n keys low high) {x = suc owner} {y = owner + 1} (omega arith)
+
+-- marks above all numbers let through as much as any such
+module _ (weight : ℕ → ℕ) (cells : Cells) (keys owner low mark high : ℕ) (covered : HasNoneAbove cells keys owner high) where
+  pub weight_of-upto : weight_of weight cells keys owner low mark ≤ weight_of weight cells keys owner low high
+  weight_of-upto = sum_below-le keys (λ key. part weight low mark (cells owner key)) (λ key. part weight low high (cells owner key)) (λ key lt. at (cells owner key) (covered key lt))
+    where
+      at : (number : ℕ) → number ≤ high → part weight low mark number ≤ part weight low high number
+      at number le = elim (part-cases weight low mark number) [
+        | inl here ↦ omega (arith, here.2, part-in weight low high number here.0 le)
+        | inr none ↦ omega (arith, none)
+      ]
+
+  pub weight_of-all : HasNoneAbove cells keys owner mark → weight_of weight cells keys owner low mark ≡ weight_of weight cells keys owner low high
+  weight_of-all none = sum_below-same keys (λ key. part weight low mark (cells owner key)) (λ key. part weight low high (cells owner key)) (λ key lt. at (cells owner key) (none key lt) (covered key lt))
+    where
+      at : (number : ℕ) → number ≤ mark → number ≤ high → part weight low mark number ≡ part weight low high number
+      at number le le_high = elim (cases_lt low number) [
+        | inl above ↦ part-in weight low mark number above le ∙ sym (part-in weight low high number above le_high)
+        | inr not_above ↦ part-low weight low mark number (omega (arith, not_above)) ∙ sym (part-low weight low high number (omega (arith, not_above)))
+      ]
+
+-- where a sum is 0, each term is
+pub sum_below-each_none : (n : ℕ) (f : ℕ → ℕ) → sum_below n f ≡ 0 → (i : ℕ) → i < n → f i ≡ 0
+sum_below-each_none zero f none i lt = absurd (omega (arith, lt))
+sum_below-each_none (suc n) f none i lt = elim (cases_lt i n) [
+  | inl below ↦ sum_below-each_none n f (omega (arith, none)) i below
+  | inr here ↦ ap f {x = i} {y = n} (omega (arith, lt, here)) ∙ omega (arith, none)
+]

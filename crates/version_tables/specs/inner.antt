@@ -11,3 +11,9 @@ pub mod Histories
 pub mod Codes
 pub mod Deltas
 pub mod Offered
+pub mod Plans
+pub mod RoundLevels
+pub mod Sharing
+pub mod Marked
+pub mod Stops
+pub mod Turns

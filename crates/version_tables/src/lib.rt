@@ -2,9 +2,15 @@
 //! number, the owners' lists tell.
 #![tactic(auto)]
 
+mod breadths;
 mod deltas;
+mod depths;
 mod histories;
 mod laws;
+mod marked;
+mod rounds;
+mod sharing;
+mod stops;
 mod tables;
 mod taking;
 mod told_marks;

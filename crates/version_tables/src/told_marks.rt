@@ -32,21 +32,9 @@ pub(crate) fn told<N: Number>(
         (map N.number v.items)) }
     ensures only { IsOkUnless result OutOfMemory }
 {
-    let mut told = copy_of(alloc, greatest)?;
+    let mut told = Vec::from_slice(alloc, greatest)?;
     put_told(&mut told, kind, node, lists, bases);
     Ok(told)
-}
-
-// The same numbers again.
-fn copy_of<N: Number>(alloc: Global, numbers: &[N]) -> Result<Vec<N>, Fault>
-    ensures numbers { IfOk result (λ v. map N.number v.items ≡ map N.number numbers.now) }
-    ensures only { IsOkUnless result OutOfMemory }
-{
-    let mut copy = Vec::with_capacity(alloc, numbers.len())?;
-    for r in 0..numbers.len() {
-        copy.push(numbers[r])?;
-    }
-    Ok(copy)
 }
 
 // Puts what is told in place of each greatest number.

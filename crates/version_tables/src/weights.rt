@@ -1,6 +1,6 @@
-//! What is offered, as numbers of writes, and what these weigh.
+//! What is offered, as numbers of writes, what these weigh, and levels of them.
 
-ghost use Rattle.std.specs.Prelude.{◌≡◌, ℕ, ◌*◌, ◌<◌, ◌≤◌, ◌↔◌, IsTrue, length};
+ghost use Rattle.std.specs.Prelude.{◌≡◌, ℕ, ◌*◌, ◌<◌, ◌≤◌, ◌↔◌, IsTrue, length, if◌then◌else◌};
 ghost use Rattle.bench_types.specs.Budget.{amount_of, largest_share};
 ghost use Rattle.bench_types.specs.declared.limits.TheConstants.{MOST_NODES, MOST_KEYS};
 ghost use Rattle.version_tables.specs.inner.Offered.{cells_in, count_in, marks, weight_in, weights_in, IsOffer};
@@ -21,6 +21,40 @@ pub(crate) struct Offer<'a, N: Number> {
     pub(crate) high: &'a [N],
     pub(crate) lists: &'a [OwnerList],
     pub(crate) budget: Budget,
+}
+
+/// Near marks let through whole levels, `whole` numbers in all, and far marks one level more, which doesn't fit.
+#[derive(Drop)]
+pub(crate) struct Level<N: Number> {
+    pub(crate) near: Vec<N>,
+    pub(crate) far: Vec<N>,
+    pub(crate) whole: u32,
+}
+
+/// Marks up to which is sent, or in the last mode above which, and how many numbers these are.
+#[derive(Drop)]
+pub(crate) struct Share<N: Number> {
+    pub(crate) mark: Vec<N>,
+    pub(crate) sent: u32,
+}
+
+/// Marks of one level more, and how many numbers it has.
+#[derive(Drop)]
+pub(crate) struct Step<N: Number> {
+    pub(crate) marks: Vec<N>,
+    pub(crate) more: u32,
+}
+
+pub(crate) fn pick<N: Number>(test: bool, number: N, other: N) -> N
+    ensures { N.number result ≡ (if test then N.number number else N.number other) }
+{
+    if test { number } else { other }
+}
+
+pub(crate) fn one_if(test: bool) -> u32
+    ensures { result ≡ (if test then 1 else 0) }
+{
+    u32::from(test)
 }
 
 // The number at a place.
@@ -58,7 +92,8 @@ impl<'a, N: Number> Offer<'a, N> {
     pub(crate) fn weight_of(&self, owner: usize, low: N, high: N) -> u32
         requires offer { IsOffer N.number N.most self.now }
         requires owner { owner < self.now.nodes }
-        ensures weight { result ≡ weight_of (weights_in self.now owner) (cells_in N.number self.now) self.now.keys owner (N.number low) (N.number high) }
+        ensures weight { result ≡ weight_of (weights_in self.now owner) (cells_in N.number self.now) self.now.keys owner
+            (N.number low) (N.number high) }
         ensures limit { result ≤ self.now.keys * largest_share self.now.budget }
     {
         let mut weight = 0;
@@ -109,7 +144,8 @@ impl<'a, N: Number> Offer<'a, N> {
         requires low { length low.now ≡ self.now.nodes }
         requires high { length high.now ≡ self.now.nodes }
         requires count { count ≡ count_in N.number self.now (marks N.number low.now) (marks N.number high.now) }
-        ensures { IsTrue result ↔ (weight_in N.number self.now (marks N.number low.now) (marks N.number high.now) ≤ amount_of self.now.budget) }
+        ensures { IsTrue result ↔ (weight_in N.number self.now (marks N.number low.now) (marks N.number high.now)
+            ≤ amount_of self.now.budget) }
     {
         match self.budget {
             Budget::Entries(amount) => count <= amount,

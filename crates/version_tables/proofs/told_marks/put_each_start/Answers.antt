@@ -1,12 +1,10 @@
-use Rattle.std.proofs.Common.{◌≡◌, ◌<◌, length, get_or, sym, ◌∙◌, subst, arith, map}
+use Rattle.std.proofs.Common.{◌<◌, length, get_or, sym, ◌∙◌, subst, arith, map}
 use Rattle.std.proofs.lemmas.List.{length-map}
 use Rattle.owner_lists.specs.OwnerListView.{entries_of}
 use Rattle.planes.proofs.Elementwise.{number-at, written_next}
 use Rattle.version_tables.specs.inner.Offers.{IsNumberedHistory}
 use Rattle.version_tables.specs.inner.Told.{IsEarlierStart}
-use Rattle.version_tables.specs.inner.Weights.{writes_in}
 use Rattle.version_tables.proofs.Starts.{writes_in-here}
-use Rattle.version_tables.proofs.told_marks.put_each_start.Given as given
 use Rattle.version_tables.proofs.told_marks.put_each_start.Goals as goal
 
 pub earlier_start-requires-clause-numbered : goal.earlier_start-requires-clause-numbered

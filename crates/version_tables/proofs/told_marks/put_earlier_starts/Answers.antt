@@ -1,4 +1,4 @@
-use Rattle.std.proofs.Common.{length, get_or, refl, sym, arith, map}
+use Rattle.std.proofs.Common.{length, get_or, refl, arith, map}
 use Rattle.std.proofs.lemmas.List.{length-map}
 use Rattle.version_tables.proofs.Starts.{none-upto}
 use Rattle.version_tables.proofs.told_marks.put_earlier_starts.Goals as goal

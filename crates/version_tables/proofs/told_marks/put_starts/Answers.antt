@@ -1,4 +1,4 @@
-use Rattle.std.proofs.Common.{◌<◌, length, get_or, sym, ◌∙◌, ap, subst, arith, map}
+use Rattle.std.proofs.Common.{◌<◌, length, get_or, sym, ◌∙◌, ap, arith, map}
 use Rattle.owner_lists.specs.OwnerListView.{list_of_owner}
 use Rattle.version_tables.specs.inner.Offers.{start_of}
 use Rattle.version_tables.proofs.Starts.{writes_in-is, start-own, start-lowered}

@@ -1,4 +1,4 @@
-use Rattle.std.proofs.Common.{◌≡◌, get_or, set, sym, ◌∙◌, ap, subst, arith, map}
+use Rattle.std.proofs.Common.{◌≡◌, set, sym, ◌∙◌, ap, subst, arith, map}
 use Rattle.std.proofs.lemmas.List.{map-set}
 use Rattle.planes.specs.inner.Elementwise.{AreChanged}
 use Rattle.version_tables.specs.inner.Offers.{told_mark}

@@ -1,8 +1,7 @@
-use Rattle.std.proofs.Common.{◌≡◌, ◌*◌, ◌≤◌, ap, arith, rules}
+use Rattle.std.proofs.Common.{ap, arith, rules}
 use Rattle.bench_types.specs.Budget.{amount_of}
 use Rattle.version_tables.specs.inner.Offered.{marks}
 use Rattle.version_tables.proofs.OfferWeights.{offer-entries, offer-most, offer-few}
-use Rattle.version_tables.proofs.weights.Offer.fits.Given as given
 use Rattle.version_tables.proofs.weights.Offer.fits.Goals as goal
 
 pub overflow_mul-count : goal.overflow_mul-count

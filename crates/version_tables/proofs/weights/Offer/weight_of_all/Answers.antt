@@ -1,6 +1,5 @@
-use Rattle.std.proofs.Common.{◌≡◌, ltb, ◌+◌, ◌*◌, ◌≤◌, refl, sym, ap, ◌∙◌, arith}
+use Rattle.std.proofs.Common.{ltb, sym, ◌∙◌, arith}
 use Rattle.std.proofs.lemmas.Bool.{ltb-false}
-use Rattle.bench_types.specs.Budget.{largest_share}
 use Rattle.version_tables.specs.inner.Offered.{cells_in, marks, weights_in}
 use Rattle.version_tables.specs.inner.Weights.{weight_of}
 use Rattle.version_tables.proofs.WeightLaws.{weight_of-none, weight-next}

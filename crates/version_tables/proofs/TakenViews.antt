@@ -62,7 +62,7 @@ module _ (rules : Rules) (rotation : ℕ) (written : ℕ → List Entry) (most :
   in_sender_keys : (key : ℕ) → key < to.keys → key < from.keys
   in_sender_keys key lt = omega (arith, lt, keys)
 
-  sent_above : (owner key : ℕ) → sent owner key ≡ true → receiver owner key < sender owner key
+  pub sent_above : (owner key : ℕ) → sent owner key ≡ true → receiver owner key < sender owner key
   sent_above owner key yes' =
       let parts = and_parts (nat_lt (max (receiver owner key) (slice_index low owner)) (sender owner key)) (nat_le (sender owner key) (slice_index high owner)) yes' in
       omega (arith, ltb-true (max (receiver owner key) (slice_index low owner)) (sender owner key) parts.0)

@@ -3,6 +3,8 @@
 #![tactic(auto)]
 
 mod deltas;
+mod digests;
+mod exchanges;
 mod histories;
 mod laws;
 mod tables;

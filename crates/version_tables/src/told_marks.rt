@@ -38,7 +38,7 @@ pub(crate) fn told<N: Number>(
 }
 
 // The same numbers again.
-fn copy_of<N: Number>(alloc: Global, numbers: &[N]) -> Result<Vec<N>, Fault>
+pub(crate) fn copy_of<N: Number>(alloc: Global, numbers: &[N]) -> Result<Vec<N>, Fault>
     ensures numbers { IfOk result (λ v. map N.number v.items ≡ map N.number numbers.now) }
     ensures only { IsOkUnless result OutOfMemory }
 {

@@ -20,3 +20,5 @@ pub mod OfferWeights
 pub mod TakenNumbers
 pub mod TakenTables
 pub mod TakenViews
+pub mod ExchangedViews
+pub mod DigestSizes

@@ -11,3 +11,4 @@ pub mod Histories
 pub mod Codes
 pub mod Deltas
 pub mod Offered
+pub mod FitsKept

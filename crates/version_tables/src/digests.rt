@@ -3,7 +3,7 @@
 ghost use Rattle.std.specs.Prelude.{◌≡◌};
 ghost use Rattle.bench_types.specs.Mode.{digest_kind};
 ghost use Rattle.reconcile.specs.Digests.{digest_size};
-ghost use Rattle.version_tables.specs.Views.{table_in};
+ghost use Rattle.version_tables.specs.Views.{table_in, IsKept};
 
 use crate::tables::{VersionTable, Written};
 use bench_types::{DigestKind, Mode};
@@ -11,7 +11,8 @@ use planes::Number;
 
 /// Of how many owners something is held, or how many entries are.
 pub(crate) fn digest_size<N: Number, H: Written>(table: &VersionTable<N, H>, mode: Mode) -> u32
-    ensures { result ≡ digest_size (digest_kind mode) (table_in H.lists table.now) }
+    ensures size { result ≡ digest_size (digest_kind mode) (table_in H.lists table.now) }
+    ensures kept { IsKept H.lists table.now }
 {
     let nodes = table.nodes as usize;
     match mode.digest_kind() {

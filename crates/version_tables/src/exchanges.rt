@@ -10,7 +10,7 @@ ghost use Rattle.exchange.specs.Exchanging.{MayBeExchanged, MakesOf};
 ghost use Rattle.planes.specs.Planes.{HasEach};
 ghost use Rattle.reconcile.specs.Deltas.{DeltaView};
 ghost use Rattle.reconcile.specs.Digests.{digest_size};
-ghost use Rattle.version_tables.specs.Views.{table_in, VersionTableView};
+ghost use Rattle.version_tables.specs.Views.{table_in, IsKept, VersionTableView};
 ghost use Rattle.version_tables.specs.inner.Deltas.{AreMarksOf};
 ghost use Rattle.version_tables.specs.inner.Histories.{bases_in, FitsHistories};
 ghost use Rattle.version_tables.specs.inner.Offers.{IsNumberedHistory};
@@ -68,6 +68,7 @@ fn exchange_deltas<N: Number, H: Written>(
     rules: &Rules,
 ) -> Result<Record, Fault>
     requires came { plan.now.lost1 ≡ false }
+    requires kept { IsKept H.lists initiator.old }
     requires digest1 { digest1 ≡ digest_size (digest_kind rules.now.mode) (table_in H.lists initiator.old) }
     requires budget { IsLawfulBudget rules.now.budget }
     requires tables { MayBeExchanged plan.now (table_in H.lists initiator.old) (table_in H.lists responder.old) }

@@ -5,6 +5,7 @@
 mod deltas;
 mod digests;
 mod exchanges;
+mod exchanging;
 mod histories;
 mod laws;
 mod tables;

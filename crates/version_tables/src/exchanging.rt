@@ -1,0 +1,37 @@
+//! Tables of versions as tables of which exchanges are made. They read the histories of all owners.
+
+use crate::exchanges::exchange;
+use crate::histories::Histories;
+use crate::tables::{VersionTable, Written};
+use bench_types::{Exchange, Fault, Record, Rules};
+use exchange::{Exchanging, MemoryTable};
+use planes::Number;
+use std::alloc::Global;
+
+impl<N: Number, H: Written> MemoryTable for VersionTable<N, H> {
+    ghost use Rattle.version_tables.specs.Views.{table_in};
+
+    ghost table = { table_in H.lists };
+}
+
+impl<N: Number, H: Written> Exchanging for VersionTable<N, H> {
+    ghost use Rattle.version_tables.specs.inner.Histories.{FitsHistories};
+    ghost use Rattle.version_tables.specs.inner.FitsKept.{fits_stays};
+
+    type Shared = Histories<N, H>;
+
+    ghost fits = { FitsHistories };
+
+    ghost stays_fit = { fits_stays };
+
+    fn exchange(
+        alloc: Global,
+        histories: &Histories<N, H>,
+        initiator: &mut VersionTable<N, H>,
+        responder: &mut VersionTable<N, H>,
+        plan: &Exchange,
+        rules: &Rules,
+    ) -> Result<Record, Fault> {
+        exchange(alloc, histories, initiator, responder, plan, rules)
+    }
+}

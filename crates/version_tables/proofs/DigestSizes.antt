@@ -90,11 +90,11 @@ module _ (written : ℕ → List Entry) (v : VersionTableView) (kept : IsKept wr
           let mark : mark_at t r key ≡ mark_held (Some there.0) = ap mark_held held in
           lt-ltb 0 (slice_index v.greatest r) some
           ∙ sym (lt-ltb 0 (greatest_version t r) (omega (
-              arith,
-              (kept.proper.in_place r key there.0 held).written,
-              ap (λ (m : Mark). m.version) mark,
-              upto.version (omega (arith, ap (λ (m : Mark). m.generation) mark, kept.proper.copies r key there.0 held)),
-            )))
+            arith,
+            (kept.proper.in_place r key there.0 held).written,
+            ap (λ (m : Mark). m.version) mark,
+            upto.version (omega (arith, ap (λ (m : Mark). m.generation) mark, kept.proper.copies r key there.0 held)),
+          )))
     ]
   ]
 
@@ -102,9 +102,9 @@ module _ (written : ℕ → List Entry) (v : VersionTableView) (kept : IsKept wr
   owners-size =
       sum_below-same v.nodes _ (λ r. cond (nat_lt 0 (greatest_version t (0 + r))) 1 0)
       (λ r lt. first (nat_lt 0 (cell v.greatest v.nodes r 0))
-        ∙ ap {B = ℕ} (λ i. cond (nat_lt 0 (slice_index v.greatest i)) 1 0) {x = 0 * v.nodes + r} {y = r} (omega arith)
-        ∙ ap {B = ℕ} (λ b. cond b 1 0) (owner_here r lt)
-        ∙ ap {B = ℕ} (λ i. cond (nat_lt 0 (greatest_version t i)) 1 0) {x = r} {y = 0 + r} (omega arith))
+      ∙ ap {B = ℕ} (λ i. cond (nat_lt 0 (slice_index v.greatest i)) 1 0) {x = 0 * v.nodes + r} {y = r} (omega arith)
+      ∙ ap {B = ℕ} (λ b. cond b 1 0) (owner_here r lt)
+      ∙ ap {B = ℕ} (λ i. cond (nat_lt 0 (greatest_version t i)) 1 0) {x = r} {y = 0 + r} (omega arith))
       ∙ sym (count-range (λ r. nat_lt 0 (greatest_version t r)) 0 v.nodes)
     where
       first : (b : Bool) → 0 + cond b 1 0 ≡ cond b 1 0

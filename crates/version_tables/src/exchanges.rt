@@ -52,9 +52,7 @@ pub(crate) fn exchange<N: Number, H: Written>(
     if plan.lost1 {
         return Ok(sent_before_an_answer(digest1));
     }
-    exchange_deltas(
-        alloc, histories, initiator, responder, digest1, plan, rules,
-    )
+    exchange_deltas(alloc, histories, initiator, responder, digest1, plan, rules)
 }
 
 // The exchange from the second message on. The first one came.
@@ -80,37 +78,16 @@ fn exchange_deltas<N: Number, H: Written>(
     ensures responder_stays { OnErr result (responder.new ≡ responder.old) }
     ensures only { IsOkUnless result OutOfMemory }
 {
-    let back = delta(
-        alloc,
-        responder,
-        initiator,
-        histories,
-        rules,
-        plan.rotation,
-    )?;
+    let back = delta(alloc, responder, initiator, histories, rules, plan.rotation)?;
     let digest2 = digest_size(responder, rules.mode);
     if plan.lost2 {
         return Ok(sent_back(digest1, digest2, &back));
     }
-    let forth = delta(
-        alloc,
-        initiator,
-        responder,
-        histories,
-        rules,
-        plan.rotation,
-    )?;
+    let forth = delta(alloc, initiator, responder, histories, rules, plan.rotation)?;
     let lists = histories.lists();
     let bases = histories.bases();
     take_both(
-        alloc,
-        initiator,
-        responder,
-        &back,
-        &forth,
-        bases,
-        lists,
-        plan.lost3,
+        alloc, initiator, responder, &back, &forth, bases, lists, plan.lost3,
     )?;
     Ok(sent_both(digest1, digest2, &back, &forth, plan.lost3))
 }
@@ -139,9 +116,9 @@ fn take_both<N: Number, H: Written>(
         (map N.number back.now.low.items) (map N.number back.now.high.items) }
     requires responder { (after : VersionTableView)
         → HasTaken (writes_in lists.now) (bases_in lists.now) initiator.old responder.old.cells
-            (map N.number back.now.low.items) (map N.number back.now.high.items) after
+        (map N.number back.now.low.items) (map N.number back.now.high.items) after
         → StaysOne H.lists (writes_in lists.now) (bases_in lists.now) responder.old after.cells
-            (map N.number forth.now.low.items) (map N.number forth.now.high.items) }
+        (map N.number forth.now.low.items) (map N.number forth.now.high.items) }
     ensures initiator { OnOk result (HasTaken (writes_in lists.now) (bases_in lists.now) initiator.old responder.old.cells
         (map N.number back.now.low.items) (map N.number back.now.high.items) initiator.new) }
     ensures responder { OnOk result (HasTakenUnless lost3 (writes_in lists.now) (bases_in lists.now) responder.old

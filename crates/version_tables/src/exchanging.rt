@@ -14,11 +14,11 @@ impl<N: Number, H: Written> MemoryTable for VersionTable<N, H> {
     ghost table = { table_in H.lists };
 }
 
-impl<N: Number, H: Written> Exchanging for VersionTable<N, H> {
+impl<H: Written + Send + Sync> Exchanging for VersionTable<u16, H> {
     ghost use Rattle.version_tables.specs.inner.Histories.{FitsHistories};
     ghost use Rattle.version_tables.specs.inner.FitsKept.{fits_stays};
 
-    type Shared = Histories<N, H>;
+    type Shared = Histories<u16, H>;
 
     ghost fits = { FitsHistories };
 
@@ -26,9 +26,31 @@ impl<N: Number, H: Written> Exchanging for VersionTable<N, H> {
 
     fn exchange(
         alloc: Global,
-        histories: &Histories<N, H>,
-        initiator: &mut VersionTable<N, H>,
-        responder: &mut VersionTable<N, H>,
+        histories: &Histories<u16, H>,
+        initiator: &mut VersionTable<u16, H>,
+        responder: &mut VersionTable<u16, H>,
+        plan: &Exchange,
+        rules: &Rules,
+    ) -> Result<Record, Fault> {
+        exchange(alloc, histories, initiator, responder, plan, rules)
+    }
+}
+
+impl<H: Written + Send + Sync> Exchanging for VersionTable<u32, H> {
+    ghost use Rattle.version_tables.specs.inner.Histories.{FitsHistories};
+    ghost use Rattle.version_tables.specs.inner.FitsKept.{fits_stays};
+
+    type Shared = Histories<u32, H>;
+
+    ghost fits = { FitsHistories };
+
+    ghost stays_fit = { fits_stays };
+
+    fn exchange(
+        alloc: Global,
+        histories: &Histories<u32, H>,
+        initiator: &mut VersionTable<u32, H>,
+        responder: &mut VersionTable<u32, H>,
         plan: &Exchange,
         rules: &Rules,
     ) -> Result<Record, Fault> {

@@ -5,8 +5,8 @@ use Rattle.bench_types.specs.declared.exchanges.Exchange.{Exchange}
 use Rattle.bench_types.specs.declared.exchanges.Rules.{Rules}
 use Rattle.node_table.specs.Table.{Table}
 use Rattle.node_table.proofs.Laws.{frame-applied}
-use Rattle.reconcile.specs.Deltas.{DeltaView, delta_between}
-use Rattle.exchange.specs.Exchanged.{exchanged, fate_of}
+use Rattle.reconcile.specs.Deltas.{delta_between}
+use Rattle.exchange.specs.Exchanged.{fate_of}
 use Rattle.exchange.specs.Exchanging.{MayBeExchanged, IsKeptByExchanges}
 use Rattle.exchange.specs.Laws.{MayMeet}
 use Rattle.exchange.proofs.Cases.{initiator_after-either, responder_after-either}
@@ -18,13 +18,13 @@ pub fits_stays : (h : HistoriesView) → IsKeptByExchanges (FitsHistories h)
 fits_stays h rules e p q may fit_p fit_q = (
   record {
     proper = initiator_proper rules e p q meet;
-    nodes = initiator_after-either (λ (t : Table). t.nodes ≡ length h.lists) (fate_of e) p back fit_p.nodes ((frame-applied p back.items).nodes ∙ fit_p.nodes);
+    nodes = initiator_after-either (λ (t : Table). t.nodes ≡ length h.lists) (fate_of e) p (delta_between rules.mode e.rotation rules.budget q p) fit_p.nodes ((frame-applied p (delta_between rules.mode e.rotation rules.budget q p).items).nodes ∙ fit_p.nodes);
     holds = λ owner key x found. elim (initiator_either rules e p q meet owner key x found) [ inl held ↦ fit_p.holds owner key x held | inr held ↦ fit_q.holds owner key x held ];
     made = fit_p.made;
   },
   record {
     proper = responder_proper rules e p q meet;
-    nodes = responder_after-either (λ (t : Table). t.nodes ≡ length h.lists) (fate_of e) q forth fit_q.nodes ((frame-applied q forth.items).nodes ∙ fit_q.nodes);
+    nodes = responder_after-either (λ (t : Table). t.nodes ≡ length h.lists) (fate_of e) q (delta_between rules.mode e.rotation rules.budget p q) fit_q.nodes ((frame-applied q (delta_between rules.mode e.rotation rules.budget p q).items).nodes ∙ fit_q.nodes);
     holds = λ owner key x found. elim (responder_either rules e p q meet owner key x found) [ inl held ↦ fit_p.holds owner key x held | inr held ↦ fit_q.holds owner key x held ];
     made = fit_q.made;
   },
@@ -32,9 +32,3 @@ fits_stays h rules e p q may fit_p fit_q = (
   where
     meet : MayMeet e p q
     meet = record { initiator = fit_p.proper; responder = fit_q.proper; nodes = may.nodes; keys = may.keys; rotation = may.rotation }
-
-    abbrev back : DeltaView
-    back = delta_between rules.mode e.rotation rules.budget q p
-
-    abbrev forth : DeltaView
-    forth = delta_between rules.mode e.rotation rules.budget p q

@@ -28,3 +28,5 @@ pub mod TakenViews
 pub mod RunSteps
 pub mod StopSteps
 pub mod TurnSteps
+pub mod ExchangedViews
+pub mod DigestSizes

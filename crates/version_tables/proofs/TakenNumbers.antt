@@ -50,3 +50,7 @@ module _ (lists : ℕ → List Entry) (bases : ℕ → ℕ) (sent low high : Lis
 
   pub has-taken : HasTaken lists bases v sent low high (record old { cells = cells; greatest = greatest })
   has-taken = subst (λ w. HasTaken lists bases w sent low high (record old { cells = cells; greatest = greatest })) is (record { taken = taken; rest = refl })
+
+-- what holds of three lists holds of the same ones
+pub along_three : (P : List ℕ → List ℕ → List ℕ → Type 0) (a b c d x y : List ℕ) → a ≡ b → c ≡ d → x ≡ y → P a c x → P b d y
+along_three P a b c d x y one two three holds = subst (λ s. P s d y) one (subst (λ s. P a s y) two (subst (λ s. P a c s) three holds))

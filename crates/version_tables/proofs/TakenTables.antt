@@ -78,12 +78,12 @@ module _ (writes : List Entry) (history : IsHistory writes) (numbered : IsNumber
 pub drop-cases : (writes : List Entry) (old base new : ℕ) → (drop_start writes old base new ≡ 0) ⊎ ((0 < old) × (old ≤ base) × (old < new) × (drop_start writes old base new ≡ start_of writes new))
 drop-cases writes old base new = elim ((nat_lt 0 old && nat_le old base) && nat_lt old new) as
     (λ b. ((nat_lt 0 old && nat_le old base) && nat_lt old new) ≡ b → (cond b (start_of writes new) 0 ≡ 0) ⊎ ((0 < old) × (old ≤ base) × (old < new) × (cond b (start_of writes new) 0 ≡ start_of writes new))) [
-  | false ↦ λ _. inl refl
-  | true ↦ λ yes'.
-      let parts = and_parts (nat_lt 0 old && nat_le old base) (nat_lt old new) yes' in
-      let first = and_parts (nat_lt 0 old) (nat_le old base) parts.0 in
-      inr (ltb-true 0 old first.0, leb-true old base first.1, ltb-true old new parts.1, refl)
-] refl
+      | false ↦ λ _. inl refl
+      | true ↦ λ yes'.
+          let parts = and_parts (nat_lt 0 old && nat_le old base) (nat_lt old new) yes' in
+          let first = and_parts (nat_lt 0 old) (nat_le old base) parts.0 in
+          inr (ltb-true 0 old first.0, leb-true old base first.1, ltb-true old new parts.1, refl)
+    ] refl
 
 pub drop-here : (writes : List Entry) (old base new : ℕ) → 0 < old → old ≤ base → old < new → drop_start writes old base new ≡ start_of writes new
 drop-here writes old base new some upto lt = (λ i. cond (((lt-ltb 0 old some) i && (le-leb old base upto) i) && (lt-ltb old new lt) i) (start_of writes new) 0)
@@ -154,22 +154,22 @@ module _ (from to : Table) (from_proper : IsProper from) (to_proper : IsProper t
     | inr newer ↦ inr newer
     | inl before ↦ elim (entry_at from owner bound) as (λ o. entry_at from owner bound ≡ o → ((key : ℕ) (e : Entry) → key < suc bound → entry_at from owner key ≡ Some e → sent owner key ≡ true → e.generation ≤ generation_held to owner) ⊎ SendsNewer from to sent owner) [
       | None ↦ λ none. inl (λ key e lt held yes'. elim (cases_lt key bound) [
-          | inl earlier ↦ before key e earlier held yes'
-          | inr not_earlier ↦ absurd (nothing e (sym none ∙ ap (entry_at from owner) {x = bound} {y = key} (omega (arith, lt, not_earlier)) ∙ held))
-        ])
+        | inl earlier ↦ before key e earlier held yes'
+        | inr not_earlier ↦ absurd (nothing e (sym none ∙ ap (entry_at from owner) {x = bound} {y = key} (omega (arith, lt, not_earlier)) ∙ held))
+      ])
       | Some d ↦ λ here. elim (cases_lt (generation_held to owner) d.generation) [
         | inr not_newer ↦ inl (λ key e lt held yes'. elim (cases_lt key bound) [
-            | inl earlier ↦ before key e earlier held yes'
-            | inr not_earlier ↦
-                let same : Some d ≡ Some e = sym here ∙ ap (entry_at from owner) {x = bound} {y = key} (omega (arith, lt, not_earlier)) ∙ held in
-                omega (arith, not_newer, ap (λ (x : Entry). x.generation) (same_Some d e same))
-          ])
+          | inl earlier ↦ before key e earlier held yes'
+          | inr not_earlier ↦
+              let same : Some d ≡ Some e = sym here ∙ ap (entry_at from owner) {x = bound} {y = key} (omega (arith, lt, not_earlier)) ∙ held in
+              omega (arith, not_newer, ap (λ (x : Entry). x.generation) (same_Some d e same))
+        ])
         | inl is_newer ↦ elim (sent owner bound) as (λ b. sent owner bound ≡ b → ((key : ℕ) (e : Entry) → key < suc bound → entry_at from owner key ≡ Some e → sent owner key ≡ true → e.generation ≤ generation_held to owner) ⊎ SendsNewer from to sent owner) [
           | true ↦ λ yes'. inr (record { key = bound; entry = d; held = here; is_sent = yes'; newer = is_newer })
           | false ↦ λ no'. inl (λ key e lt held yes'. elim (cases_lt key bound) [
-              | inl earlier ↦ before key e earlier held yes'
-              | inr not_earlier ↦ absurd (both_ways (sent owner bound) no' (ap (sent owner) {x = bound} {y = key} (omega (arith, lt, not_earlier)) ∙ yes'))
-            ])
+            | inl earlier ↦ before key e earlier held yes'
+            | inr not_earlier ↦ absurd (both_ways (sent owner bound) no' (ap (sent owner) {x = bound} {y = key} (omega (arith, lt, not_earlier)) ∙ yes'))
+          ])
         ] refl
       ]
     ] refl
@@ -191,15 +191,15 @@ module _ (from to : Table) (from_proper : IsProper from) (to_proper : IsProper t
       ∙ elim (cases_lt 0 (receiver key)) [
         | inr none ↦ ap (number_kept start) {x = receiver key} {y = 0} (omega (arith, none)) ∙ kept-zero start ∙ omega (arith, none)
         | inl some ↦ kept-above start (receiver key) (elim (drop-cases writes old base new) [
-            | inl none ↦ omega (arith, none, some)
-            | inr (some_old, upto, raised, is) ↦ elim (cases_lt start (receiver key)) [
-              | inl below ↦ below
-              | inr not_below ↦
-                  let at = of_new raised in
-                  let here = held_to key lt some in
-                  absurd (omega (arith, start-older writes history numbered (receiver key) new here.0 at.1 here.1 at.2 (omega (arith, not_below, is)), here.2, no_newer at.0 at.1 at.5 at.4))
-            ]
-          ])
+          | inl none ↦ omega (arith, none, some)
+          | inr (some_old, upto, raised, is) ↦ elim (cases_lt start (receiver key)) [
+            | inl below ↦ below
+            | inr not_below ↦
+                let at = of_new raised in
+                let here = held_to key lt some in
+                absurd (omega (arith, start-older writes history numbered (receiver key) new here.0 at.1 here.1 at.2 (omega (arith, not_below, is)), here.2, no_newer at.0 at.1 at.5 at.4))
+          ]
+        ])
       ]
 
   -- and where something does, they are dropped

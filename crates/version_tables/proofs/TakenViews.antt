@@ -62,7 +62,7 @@ module _ (rules : Rules) (rotation : ℕ) (written : ℕ → List Entry) (most :
   in_sender_keys : (key : ℕ) → key < to.keys → key < from.keys
   in_sender_keys key lt = omega (arith, lt, keys)
 
-  sent_above : (owner key : ℕ) → sent owner key ≡ true → receiver owner key < sender owner key
+  pub sent_above : (owner key : ℕ) → sent owner key ≡ true → receiver owner key < sender owner key
   sent_above owner key yes' =
       let parts = and_parts (nat_lt (max (receiver owner key) (slice_index low owner)) (sender owner key)) (nat_le (sender owner key) (slice_index high owner)) yes' in
       omega (arith, ltb-true (max (receiver owner key) (slice_index low owner)) (sender owner key) parts.0)
@@ -131,23 +131,23 @@ module _ (rules : Rules) (rotation : ℕ) (written : ℕ → List Entry) (most :
           (λ k k_lt. sent_above owner k) (λ k k_lt. y_sent owner k) (λ k k_lt. y_stays owner k)
           (slice_index to.greatest owner) (slice_index greatest owner) (to_kept.most owner in_nodes).upto (to_kept.most owner in_nodes).held
           (taken.raised owner in_nodes).rises new_upto new_from key lt no') [
-        | inl stays ↦ inl (stays.0, kept_is key lt ∙ stays.1)
-        | inr gone ↦ inr (gone.0, kept_is key lt ∙ gone.1)
-      ]
+            | inl stays ↦ inl (stays.0, kept_is key lt ∙ stays.1)
+            | inr gone ↦ inr (gone.0, kept_is key lt ∙ gone.1)
+          ]
 
       most_here : IsGreatest (cell cells to.nodes) to.keys owner (slice_index greatest owner)
       most_here = record {
         upto = λ key lt. omega (
-            arith,
-            kept_is key lt,
-            greatest_upto (table_in written from) (table_in written to) from_kept.proper to_kept.proper keys owner (writes_in h.lists owner) (so_far owner).history (so_far owner).numbered (bases_in h.lists owner)
-            (newest_in h.lists owner (are owner)) sent (sender owner) (receiver owner) (y owner)
-            (λ k k_lt. has_sender owner k (in_sender owner in_nodes) (in_sender_keys k k_lt)) (λ k k_lt. has_receiver owner k in_nodes k_lt)
-            (λ k k_lt. sender_upto owner k in_nodes k_lt) (λ k k_lt. receiver_upto owner k in_nodes k_lt)
-            (λ k k_lt. sent_above owner k) (λ k k_lt. y_sent owner k) (λ k k_lt. y_stays owner k)
-            (slice_index to.greatest owner) (slice_index greatest owner) (to_kept.most owner in_nodes).upto (to_kept.most owner in_nodes).held
-            (taken.raised owner in_nodes).rises new_upto new_from key lt,
-          );
+          arith,
+          kept_is key lt,
+          greatest_upto (table_in written from) (table_in written to) from_kept.proper to_kept.proper keys owner (writes_in h.lists owner) (so_far owner).history (so_far owner).numbered (bases_in h.lists owner)
+              (newest_in h.lists owner (are owner)) sent (sender owner) (receiver owner) (y owner)
+              (λ k k_lt. has_sender owner k (in_sender owner in_nodes) (in_sender_keys k k_lt)) (λ k k_lt. has_receiver owner k in_nodes k_lt)
+              (λ k k_lt. sender_upto owner k in_nodes k_lt) (λ k k_lt. receiver_upto owner k in_nodes k_lt)
+              (λ k k_lt. sent_above owner k) (λ k k_lt. y_sent owner k) (λ k k_lt. y_stays owner k)
+              (slice_index to.greatest owner) (slice_index greatest owner) (to_kept.most owner in_nodes).upto (to_kept.most owner in_nodes).held
+              (taken.raised owner in_nodes).rises new_upto new_from key lt,
+        );
         held = elim
             (greatest_from (table_in written from) (table_in written to) from_kept.proper to_kept.proper keys owner (writes_in h.lists owner) (so_far owner).history (so_far owner).numbered (bases_in h.lists owner)
             (newest_in h.lists owner (are owner)) sent (sender owner) (receiver owner) (y owner)
@@ -156,9 +156,9 @@ module _ (rules : Rules) (rotation : ℕ) (written : ℕ → List Entry) (most :
             (λ k k_lt. sent_above owner k) (λ k k_lt. y_sent owner k) (λ k k_lt. y_stays owner k)
             (slice_index to.greatest owner) (slice_index greatest owner) (to_kept.most owner in_nodes).upto (to_kept.most owner in_nodes).held
             (taken.raised owner in_nodes).rises new_upto new_from) [
-          | inl none ↦ inl none
-          | inr (key, lt, is) ↦ inr (key, lt, kept_is key lt ∙ is)
-        ];
+              | inl none ↦ inl none
+              | inr (key, lt, is) ↦ inr (key, lt, kept_is key lt ∙ is)
+            ];
       }
 
     pub are_taken : AreTakenCells (table_in written from) (table_in written to) sent sender receiver (cell cells to.nodes)
@@ -200,7 +200,7 @@ module _ (rules : Rules) (rotation : ℕ) (written : ℕ → List Entry) (most :
         let in_key : key < to.keys = omega (arith, in_keys, frame.keys) in
         taken_cells rules rotation (table_in written from) (table_in written to) from_kept.proper to_kept.proper nodes keys (writes_in h.lists) sender receiver (cell cells to.nodes) has_sender has_receiver sent marks are_taken owner key in_nodes in_keys
         ∙ (so_far owner).begins (cell cells to.nodes owner key)
-          (by_number (λ n. n ≤ length (writes_in h.lists owner)) owner key in_node in_key (omega arith) (receiver_upto owner key in_node in_key) (sender_upto owner key in_node in_key))
+        (by_number (λ n. n ≤ length (writes_in h.lists owner)) owner key in_node in_key (omega arith) (receiver_upto owner key in_node in_key) (sender_upto owner key in_node in_key))
 
     -- the table is the model's
     pub becomes_applied : table_of_cells written to.node to.nodes to.keys to.generation (cell cells to.nodes) ≡ after

@@ -17,3 +17,4 @@ pub mod Sharing
 pub mod Marked
 pub mod Stops
 pub mod Turns
+pub mod FitsKept

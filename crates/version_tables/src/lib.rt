@@ -5,6 +5,9 @@
 mod breadths;
 mod deltas;
 mod depths;
+mod digests;
+mod exchanges;
+mod exchanging;
 mod histories;
 mod laws;
 mod marked;

@@ -10,7 +10,6 @@ ghost use Rattle.version_tables.specs.inner.Histories.{bases_in};
 ghost use Rattle.version_tables.specs.inner.Taken.{drop_start, number_kept, HasTaken, IsTaken, StaysOne};
 ghost use Rattle.version_tables.specs.inner.Weights.{writes_in};
 
-use crate::histories::Histories;
 use crate::tables::{VersionTable, Written};
 use owner_lists::OwnerList;
 use planes::Number;
@@ -165,22 +164,23 @@ pub(crate) fn take<N: Number, H: Written>(
     low: &[N],
     high: &[N],
     before: &[N],
-    histories: &Histories<N, H>,
+    bases: &[N],
+    lists: &[OwnerList],
 )
     requires sent { length sent.now ≡ length table.old.cells }
     requires low { length low.now ≡ table.old.nodes }
     requires high { length high.now ≡ table.old.nodes }
     requires before { map N.number before.now ≡ table.old.greatest }
-    requires nodes { length histories.now.lists ≡ table.old.nodes }
-    requires stays { StaysOne H.lists (writes_in histories.now.lists) (bases_in histories.now.lists) table.old
-        (map N.number sent.now) (map N.number low.now) (map N.number high.now) }
-    ensures { HasTaken (writes_in histories.now.lists) (bases_in histories.now.lists) table.old (map N.number sent.now)
-        (map N.number low.now) (map N.number high.now) table.new }
+    requires bases { HasEach table.old.nodes (λ r n. n ≡ bases_in lists.now r) (map N.number bases.now) }
+    requires lists { length lists.now ≡ table.old.nodes }
+    requires numbered { (owner : ℕ) → IsNumberedHistory (writes_in lists.now owner) }
+    requires stays { StaysOne H.lists (writes_in lists.now) (bases_in lists.now) table.old (map N.number sent.now)
+        (map N.number low.now) (map N.number high.now) }
+    ensures { HasTaken (writes_in lists.now) (bases_in lists.now) table.old (map N.number sent.now) (map N.number low.now)
+        (map N.number high.now) table.new }
 {
     let nodes = table.nodes as usize;
     let keys = table.keys as usize;
-    let bases = histories.bases();
-    let lists = histories.lists();
     take_numbers(
         &mut table.cells,
         &mut table.greatest,

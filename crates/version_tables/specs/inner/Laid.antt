@@ -1,10 +1,6 @@
 -- How a table of versions lies in memory: a plane for each key, with a cell for each owner, which has the number of the
 -- write that is held, 0 for none. What the owners write is told by their lists. Source: this project.
-<<<<<<< HEAD
 use Rattle.std.specs.Prelude.{◌≡◌, ◌≢◌, ℕ, zero, suc, ◌+◌, ◌*◌, ◌<◌, ◌≤◌, List, [], ◌∷◌, ◌++◌, ◌⊎◌, length, map, slice_index, Option, Some, None}
-=======
-use Rattle.std.specs.Prelude.{◌≡◌, ℕ, zero, suc, ◌+◌, ◌*◌, ◌<◌, ◌≤◌, List, [], ◌∷◌, ◌++◌, ◌⊎◌, length, map, slice_index, Option, Some, None}
->>>>>>> 7a8d81bede12e7f2a12cd8038cbe8099f4f10721
 use Rattle.std.specs.List.{range_with_len}
 use Rattle.bench_types.specs.declared.entries.Entry.{Entry}
 use Rattle.node_table.specs.Table.{Table, IsProper}

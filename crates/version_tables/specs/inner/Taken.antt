@@ -73,3 +73,8 @@ StaysOne written lists bases to sent low high =
 pub record HasTaken (lists : ℕ → List Entry) (bases : ℕ → ℕ) (to : VersionTableView) (sent low high : List ℕ) (new : VersionTableView) : Type 0 where
   pub taken : IsTaken lists bases to.nodes to.keys to.cells to.greatest sent low high new.cells new.greatest
   pub rest : new ≡ record to { cells = new.cells; greatest = new.greatest }
+
+-- or nothing, where the message that has the delta was lost
+abbrev pub HasTakenUnless : Bool → (ℕ → List Entry) → (ℕ → ℕ) → VersionTableView → List ℕ → List ℕ → List ℕ → VersionTableView → Type 0
+HasTakenUnless true lists bases to sent low high new = new ≡ to
+HasTakenUnless false lists bases to sent low high new = HasTaken lists bases to sent low high new

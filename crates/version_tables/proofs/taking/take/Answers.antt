@@ -22,31 +22,28 @@ module _ (g : given.Over) (c : goal.After-table-2-1 g) where
     greatest = map g.N.Number.number c.table.inside.greatest.items;
   }
 
-  taken : IsTaken (writes_in c.args.histories.now.lists) (bases_in c.args.histories.now.lists) old.nodes old.keys old.cells old.greatest
+  taken : IsTaken (writes_in c.args.lists.now) (bases_in c.args.lists.now) old.nodes old.keys old.cells old.greatest
       (map g.N.Number.number c.args.sent.now) (map g.N.Number.number c.args.low.now) (map g.N.Number.number c.args.high.now)
       (map g.N.Number.number (with_items c.table.inside.cells c.take_numbers.new.cells).items) (map g.N.Number.number (with_items c.table.inside.greatest c.take_numbers.new.greatest).items)
   taken =
-      subst (λ xs. IsTaken (writes_in c.args.histories.now.lists) (bases_in c.args.histories.now.lists) old.nodes old.keys old.cells old.greatest (map g.N.Number.number c.args.sent.now) (map g.N.Number.number c.args.low.now) (map g.N.Number.number c.args.high.now)
-        (map g.N.Number.number xs) (map g.N.Number.number (with_items c.table.inside.greatest c.take_numbers.new.greatest).items))
+      subst (λ xs. IsTaken (writes_in c.args.lists.now) (bases_in c.args.lists.now) old.nodes old.keys old.cells old.greatest (map g.N.Number.number c.args.sent.now) (map g.N.Number.number c.args.low.now) (map g.N.Number.number c.args.high.now)
+      (map g.N.Number.number xs) (map g.N.Number.number (with_items c.table.inside.greatest c.take_numbers.new.greatest).items))
       (sym (with_items_is c.table.inside.cells c.take_numbers.new.cells (c.take_numbers.auto.cells ∙ c.deref_mut.ensures.len)))
-      (subst (λ ys. IsTaken (writes_in c.args.histories.now.lists) (bases_in c.args.histories.now.lists) old.nodes old.keys old.cells old.greatest (map g.N.Number.number c.args.sent.now) (map g.N.Number.number c.args.low.now) (map g.N.Number.number c.args.high.now)
-        (map g.N.Number.number c.take_numbers.new.cells) (map g.N.Number.number ys))
+      (subst (λ ys. IsTaken (writes_in c.args.lists.now) (bases_in c.args.lists.now) old.nodes old.keys old.cells old.greatest (map g.N.Number.number c.args.sent.now) (map g.N.Number.number c.args.low.now) (map g.N.Number.number c.args.high.now)
+      (map g.N.Number.number c.take_numbers.new.cells) (map g.N.Number.number ys))
       (sym (with_items_is c.table.inside.greatest c.take_numbers.new.greatest (c.take_numbers.auto.greatest ∙ c.deref_mut-2.ensures.len)))
-      (subst (λ ls. IsTaken (writes_in ls) (bases_in ls) old.nodes old.keys old.cells old.greatest (map g.N.Number.number c.args.sent.now) (map g.N.Number.number c.args.low.now) (map g.N.Number.number c.args.high.now)
-        (map g.N.Number.number c.take_numbers.new.cells) (map g.N.Number.number c.take_numbers.new.greatest))
-      c.lists-lists.ensures.value
-      (subst (λ xs. IsTaken (writes_in c.lists-lists.result.now) (bases_in c.lists-lists.result.now) old.nodes old.keys (map g.N.Number.number xs) old.greatest (map g.N.Number.number c.args.sent.now) (map g.N.Number.number c.args.low.now) (map g.N.Number.number c.args.high.now)
-        (map g.N.Number.number c.take_numbers.new.cells) (map g.N.Number.number c.take_numbers.new.greatest))
+      (subst (λ xs. IsTaken (writes_in c.args.lists.now) (bases_in c.args.lists.now) old.nodes old.keys (map g.N.Number.number xs) old.greatest (map g.N.Number.number c.args.sent.now) (map g.N.Number.number c.args.low.now) (map g.N.Number.number c.args.high.now)
+      (map g.N.Number.number c.take_numbers.new.cells) (map g.N.Number.number c.take_numbers.new.greatest))
       c.deref_mut.ensures.value
-      (subst (λ ys. IsTaken (writes_in c.lists-lists.result.now) (bases_in c.lists-lists.result.now) old.nodes old.keys (map g.N.Number.number c.deref_mut.result.now) (map g.N.Number.number ys) (map g.N.Number.number c.args.sent.now) (map g.N.Number.number c.args.low.now) (map g.N.Number.number c.args.high.now)
-        (map g.N.Number.number c.take_numbers.new.cells) (map g.N.Number.number c.take_numbers.new.greatest))
+      (subst (λ ys. IsTaken (writes_in c.args.lists.now) (bases_in c.args.lists.now) old.nodes old.keys (map g.N.Number.number c.deref_mut.result.now) (map g.N.Number.number ys) (map g.N.Number.number c.args.sent.now) (map g.N.Number.number c.args.low.now) (map g.N.Number.number c.args.high.now)
+      (map g.N.Number.number c.take_numbers.new.cells) (map g.N.Number.number c.take_numbers.new.greatest))
       c.deref_mut-2.ensures.value
-      c.take_numbers.ensures))))
+      c.take_numbers.ensures)))
 
 pub invariant_of-table : goal.invariant_of-table
 invariant_of-table g c =
-    take-stays (writes_in c.args.histories.now.lists) (bases_in c.args.histories.now.lists) _ _ _ (old g c) c.args.table.now c.table.view_is _ _ (taken g c) g.H.Written.lists c.requires.stays
+    take-stays (writes_in c.args.lists.now) (bases_in c.args.lists.now) _ _ _ (old g c) c.args.table.now c.table.view_is _ _ (taken g c) g.H.Written.lists c.requires.stays
 
 pub returns : goal.returns
 returns g c =
-    has-taken (writes_in c.args.histories.now.lists) (bases_in c.args.histories.now.lists) _ _ _ (old g c) c.args.table.now c.table.view_is _ _ (taken g c)
+    has-taken (writes_in c.args.lists.now) (bases_in c.args.lists.now) _ _ _ (old g c) c.args.table.now c.table.view_is _ _ (taken g c)

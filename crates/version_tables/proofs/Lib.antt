@@ -14,6 +14,7 @@ pub mod DeltaMarks
 pub mod Laid
 pub mod TakenCells
 pub mod Fitting
+pub mod OwnCalls
 pub mod Clearing
 pub mod WeightLaws
 pub mod OfferWeights

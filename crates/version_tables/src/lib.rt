@@ -5,6 +5,7 @@
 mod deltas;
 mod histories;
 mod laws;
+mod owners;
 mod tables;
 mod taking;
 mod told_marks;

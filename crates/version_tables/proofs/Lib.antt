@@ -15,6 +15,7 @@ pub mod Laid
 pub mod TakenCells
 pub mod Fitting
 pub mod OwnCalls
+pub mod NextWrites
 pub mod Clearing
 pub mod WeightLaws
 pub mod OfferWeights

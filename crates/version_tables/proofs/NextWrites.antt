@@ -1,6 +1,6 @@
 -- What an owner writes next stands under the number behind all that it wrote, above what its table holds of it.
 -- Serves nothing yet.
-use Rattle.std.proofs.Common.{◌≡◌, ◌≢◌, ℕ, zero, suc, ◌+◌, ◌-◌, ◌<◌, ◌≤◌, List, ◌++◌, length, get_or, Option, Some, None, inl, inr, refl, sym, ap, ◌∙◌, subst, arith}
+use Rattle.std.proofs.Common.{◌≡◌, ℕ, zero, suc, ◌+◌, ◌-◌, ◌<◌, ◌≤◌, List, length, get_or, Some, None, inl, inr, refl, sym, ap, ◌∙◌, subst, arith}
 use Rattle.std.specs.Prelude.{slice_index}
 use Rattle.std.proofs.lemmas.Bool.{cases_lt}
 use Rattle.std.proofs.lemmas.List.{length-append, get_or_append_left, get_or-append_right}
@@ -8,7 +8,7 @@ use Rattle.std.proofs.lemmas.List.Elements.{All-get_or}
 use Rattle.std.proofs.lemmas.Option.{same_Some}
 use Rattle.bench_types.specs.declared.entries.Entry.{Entry}
 use Rattle.bench_types.specs.Mark.{mark_of, mark_held, IsUpTo}
-use Rattle.node_table.specs.Table.{Table, entry_at, greatest_mark, greatest_version, own_write}
+use Rattle.node_table.specs.Table.{Table, entry_at, greatest_mark, greatest_version}
 use Rattle.node_table.proofs.Greatest.{mark_at-up_to_greatest}
 use Rattle.owner_lists.specs.Numbers.{write_from, write_numbered}
 use Rattle.owner_lists.specs.OwnerListView.{OwnerListView, AreWrites, entries_of, next_entry}

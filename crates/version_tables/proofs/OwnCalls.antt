@@ -1,6 +1,6 @@
 -- A node's own calls on its table: its numbers lie as those of the table that the model has then.
 -- Serves nothing yet.
-use Rattle.std.proofs.Common.{◌≡◌, ◌≢◌, ℕ, zero, suc, ◌+◌, ◌*◌, ◌<◌, ◌≤◌, ◌==◌, Bool, true, false, cond, List, length, get_or, set, Option, Some, None, ◌⊎◌, inl, inr, refl, sym, ap, ◌∙◌, subst, arith}
+use Rattle.std.proofs.Common.{◌≡◌, ◌≢◌, ℕ, ◌+◌, ◌*◌, ◌<◌, ◌≤◌, ◌==◌, cond, List, length, get_or, set, Some, None, ◌⊎◌, inl, inr, sym, ap, ◌∙◌, subst, arith}
 use Rattle.std.specs.Prelude.{slice_index}
 use Rattle.std.proofs.Math.Nat.{mul-le-mul_right}
 use Rattle.std.proofs.lemmas.Bool.{cases_lt, cases_eq, eq-eqb, ne_eqb}
@@ -10,17 +10,17 @@ use Rattle.bench_types.specs.declared.entries.Entry.{Entry}
 use Rattle.bench_types.specs.declared.limits.TheConstants.{MOST_NODES, LEAST_KEYS, MOST_KEYS}
 use Rattle.bench_types.specs.Mark.{mark_of, IsBefore}
 use Rattle.bench_types.proofs.Marks.{not_both, up_to-itself}
-use Rattle.node_table.specs.Table.{Table, entry_at, empty_table, own_write, with_own_write, without_others, without_all, IsProper}
+use Rattle.node_table.specs.Table.{Table, entry_at, empty_table, with_own_write, without_others, without_all, IsProper}
 use Rattle.node_table.proofs.Laws.{entry_at-own_write, entry_at-own_write_other, entry_at-without_others_own, entry_at-without_others_other, entry_at-without_all, entry_at-empty_table}
 use Rattle.node_table.proofs.ProperLaws.{proper-empty_table, proper-with_own_write, proper-without_others, proper-without_all}
 use Rattle.owner_lists.specs.Numbers.{write_numbered}
-use Rattle.planes.specs.Planes.{Cells, cell, ArePlanesChanged, HasEach}
+use Rattle.planes.specs.Planes.{cell, ArePlanesChanged, HasEach}
 use Rattle.planes.specs.inner.Elementwise.{AreChanged}
 use Rattle.version_tables.specs.Views.{VersionTableView, table_in, IsKept}
 use Rattle.version_tables.specs.Writes.{IsNextWrite, HasOwnWrite}
 use Rattle.version_tables.specs.inner.Histories.{IsBeginning}
 use Rattle.version_tables.specs.inner.Laid.{table_of_cells, AreNumbers, IsFirst, IsGreatest, IsVersionTable}
-use Rattle.version_tables.specs.inner.Offers.{HasCells, IsHistory}
+use Rattle.version_tables.specs.inner.Offers.{IsHistory}
 use Rattle.version_tables.proofs.Laid.{has_cells, cells_table}
 use Rattle.version_tables.proofs.Numbers.{numbered-some, numbered-within}
 use Rattle.version_tables.proofs.Offers.{numbers-before}

@@ -1,4 +1,4 @@
-use Rattle.std.proofs.Common.{◌≡◌, ◌==◌, get_or, set, if◌then◌else◌, sym, ◌∙◌, ap, subst, arith, map}
+use Rattle.std.proofs.Common.{◌≡◌, ◌==◌, set, if◌then◌else◌, sym, ◌∙◌, ap, subst, arith, map}
 use Rattle.std.proofs.lemmas.List.{length-map, map-set}
 use Rattle.planes.proofs.Elementwise.{number-at}
 use Rattle.planes.specs.inner.Elementwise.{AreChanged}

@@ -18,6 +18,8 @@ pub mod DeltaMarks
 pub mod Laid
 pub mod TakenCells
 pub mod Fitting
+pub mod OwnCalls
+pub mod NextWrites
 pub mod Clearing
 pub mod WeightLaws
 pub mod OfferWeights

@@ -14,6 +14,7 @@ mod marked;
 mod rounds;
 mod sharing;
 mod stops;
+mod owners;
 mod tables;
 mod taking;
 mod told_marks;

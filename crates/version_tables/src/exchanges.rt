@@ -22,7 +22,6 @@ use crate::digests::digest_size;
 use crate::histories::Histories;
 use crate::tables::{VersionTable, Written};
 use crate::taking::take;
-use crate::told_marks::copy_of;
 use bench_types::{Exchange, Fate, Fault, Record, Rules};
 use owner_lists::OwnerList;
 use planes::Number;
@@ -205,4 +204,12 @@ fn sent_both<N: Number>(
         forth_cut: forth.cut,
         fate: if lost3 { Fate::Lost3 } else { Fate::Ok },
     }
+}
+
+// The same numbers again.
+fn copy_of<N: Number>(alloc: Global, numbers: &[N]) -> Result<Vec<N>, Fault>
+    ensures numbers { IfOk result (λ v. map N.number v.items ≡ map N.number numbers.now) }
+    ensures only { IsOkUnless result OutOfMemory }
+{
+    Ok(Vec::from_slice(alloc, numbers)?)
 }

@@ -20,3 +20,4 @@ pub mod OfferWeights
 pub mod TakenNumbers
 pub mod TakenTables
 pub mod TakenViews
+pub mod HistoryCalls

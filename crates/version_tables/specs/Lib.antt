@@ -1,3 +1,4 @@
 pub mod SentSets
 pub mod Views
+pub mod ListChanges
 pub mod inner

@@ -3,7 +3,7 @@
 use Rattle.std.proofs.Common.{◌≡◌, ◌≢◌, ℕ, zero, suc, ◌+◌, ◌-◌, ◌*◌, ◌<◌, ◌≤◌, List, [], ◌∷◌, ◌++◌, length, get_or, set, map, Some, ◌⊎◌, inl, inr, refl, sym, ap, ◌∙◌, subst, arith, length-append}
 use Rattle.std.proofs.Math.Nat.{mul-le-mul_right}
 use Rattle.std.proofs.lemmas.Bool.{cases_lt, cases_eq}
-use Rattle.std.proofs.lemmas.List.{get_or-set_same, get_or-set_other, get_or_append_left, get_or_push, length-set, get_or-map, get_or-append-add, get_or-append_right, get_or_default, length-map, map-append, append_assoc, append-nil}
+use Rattle.std.proofs.lemmas.List.{get_or-set_same, get_or-set_other, get_or_append_left, get_or_push, length-set, get_or-map, get_or-append-add, get_or-append_right, get_or_default, length-map, map-append, map-set, append_assoc, append-nil}
 use Rattle.std.proofs.lemmas.Option.{same_Some}
 use Rattle.bench_types.specs.declared.entries.Entry.{Entry}
 use Rattle.bench_types.specs.declared.limits.TheConstants.{MOST_NODES}
@@ -449,6 +449,10 @@ pub number-here : {A : Type 0} (number : A → ℕ) (xs : List A) (nodes owner :
 number-here number xs nodes owner x P each lt here =
     let within : owner < length xs = omega (arith, lt, each.size, length-map xs number) in
     subst (P owner) (get_or-map number xs owner x 0 within ∙ sym (ap number here)) (each.each owner lt)
+
+-- one number is set
+pub numbers-set : {A : Type 0} (number : A → ℕ) (xs : List A) (owner : ℕ) (x : A) (n : ℕ) → number x ≡ n → map number (set xs owner x) ≡ set (map number xs) owner n
+numbers-set number xs owner x n is = map-set number xs owner x ∙ ap (set (map number xs) owner) is
 
 -- numbers behind others
 pub numbers-appended : {A : Type 0} (number : A → ℕ) (old held more new : List A) → new ≡ old ++ held → held ≡ more → map number new ≡ map number old ++ map number more

@@ -32,3 +32,4 @@ pub mod StopSteps
 pub mod TurnSteps
 pub mod ExchangedViews
 pub mod DigestSizes
+pub mod HistoryCalls

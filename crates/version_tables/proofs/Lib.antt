@@ -10,3 +10,4 @@ pub mod LevelMarks
 pub mod DeltaMarks
 pub mod Laid
 pub mod TakenCells
+pub mod Missed

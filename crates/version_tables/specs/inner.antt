@@ -4,3 +4,4 @@ pub mod Levels
 pub mod Shares
 pub mod Laid
 pub mod Taken
+pub mod Missed

@@ -11,3 +11,4 @@ pub mod DeltaMarks
 pub mod Laid
 pub mod TakenCells
 pub mod Missed
+pub mod Lagging

@@ -20,6 +20,10 @@ pub trait Number: Copy + Send + Sync {
     fn widen(self) -> u32
         ensures { result ≡ number self };
 
+    fn narrow(wide: u32) -> Self
+        requires { wide ≤ most }
+        ensures { number result ≡ wide };
+
     fn is_above(self, other: Self) -> bool
         ensures { result ≡ nat_lt (number other) (number self) };
 
@@ -64,6 +68,10 @@ impl Number for u16 {
         u32::from(self)
     }
 
+    fn narrow(wide: u32) -> u16 {
+        wide as u16
+    }
+
     fn is_above(self, other: u16) -> bool {
         self > other
     }
@@ -105,6 +113,10 @@ impl Number for u32 {
 
     fn widen(self) -> u32 {
         self
+    }
+
+    fn narrow(wide: u32) -> u32 {
+        wide
     }
 
     fn is_above(self, other: u32) -> bool {

@@ -10,5 +10,6 @@ pub mod LevelMarks
 pub mod DeltaMarks
 pub mod Laid
 pub mod TakenCells
+pub mod Fitting
 pub mod Missed
 pub mod Lagging

@@ -1,2 +1,3 @@
 pub mod SentSets
+pub mod Views
 pub mod inner

@@ -5,3 +5,8 @@ pub mod Shares
 pub mod Laid
 pub mod Taken
 pub mod Missed
+pub mod Weights
+pub mod Rounds
+pub mod Histories
+pub mod Codes
+pub mod Deltas

@@ -2,8 +2,11 @@
 //! number, the owners' lists tell.
 #![tactic(auto)]
 
+mod deltas;
+mod histories;
 mod laws;
 mod tables;
 
+pub use histories::Histories;
 pub use laws::deltas_have_their_sets;
 pub use tables::{VersionTable, Written};

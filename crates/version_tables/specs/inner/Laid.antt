@@ -1,6 +1,6 @@
 -- How a table of versions lies in memory: a plane for each key, with a cell for each owner, which has the number of the
 -- write that is held, 0 for none. What the owners write is told by their lists. Source: this project.
-use Rattle.std.specs.Prelude.{◌≡◌, ℕ, zero, suc, ◌+◌, ◌*◌, ◌<◌, ◌≤◌, List, [], ◌∷◌, ◌++◌, ◌⊎◌, length, map, slice_index, Option, Some, None}
+use Rattle.std.specs.Prelude.{◌≡◌, ◌≢◌, ℕ, zero, suc, ◌+◌, ◌*◌, ◌<◌, ◌≤◌, List, [], ◌∷◌, ◌++◌, ◌⊎◌, length, map, slice_index, Option, Some, None}
 use Rattle.std.specs.List.{range_with_len}
 use Rattle.bench_types.specs.declared.entries.Entry.{Entry}
 use Rattle.node_table.specs.Table.{Table, IsProper}
@@ -37,10 +37,15 @@ pub record IsGreatest (cells : Cells) (keys owner greatest : ℕ) : Type 0 where
   pub upto : (key : ℕ) → key < keys → cells owner key ≤ greatest
   pub held : (greatest ≡ 0) ⊎ ((key : ℕ) × (key < keys) × (cells owner key ≡ greatest))
 
+-- a number's write stands under no lesser number
+abbrev pub IsFirst : List Entry → ℕ → Type 0
+IsFirst writes number = (m : ℕ) → m < number → write_numbered writes m ≢ write_numbered writes number
+
 -- what a table of versions keeps
 pub record IsVersionTable (lists : ℕ → List Entry) (node nodes keys generation : ℕ) (cells greatest : List ℕ) : Type 0 where
   pub proper : IsProper (table_of_cells lists node nodes keys generation (cell cells nodes))
   pub cell_count : length cells ≡ keys * nodes
   pub greatest_count : length greatest ≡ nodes
   pub numbers : AreNumbers lists nodes keys (cell cells nodes)
+  pub first : (owner key : ℕ) → owner < nodes → key < keys → IsFirst (lists owner) (cell cells nodes owner key)
   pub most : (owner : ℕ) → owner < nodes → IsGreatest (cell cells nodes) keys owner (slice_index greatest owner)

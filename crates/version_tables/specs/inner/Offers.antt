@@ -1,21 +1,32 @@
 -- What one table offers another, told by numbers of writes: each owner's writes are numbered from 1, through all its
 -- generations, so within one owner numbers compare as marks. Source: this project.
-use Rattle.std.specs.Prelude.{◌≡◌, ◌≢◌, ◌↔◌, ℕ, zero, suc, ◌+◌, ◌<◌, ◌≤◌, not, ◌&&◌, ◌==◌, true, false, if◌then◌else◌, nat_lt, Bool, List, [], ◌∷◌, length, slice_index_or, Option, Some, None}
+use Rattle.std.specs.Prelude.{◌≡◌, ◌≢◌, ◌↔◌, ℕ, zero, suc, ◌+◌, ◌-◌, ◌<◌, ◌≤◌, not, ◌&&◌, ◌==◌, true, false, if◌then◌else◌, nat_lt, Bool, List, [], ◌∷◌, length, slice_index_or, Option, Some, None}
 use Rattle.bench_types.specs.declared.entries.Entry.{Entry}
 use Rattle.bench_types.specs.declared.entries.Item.{Item}
 use Rattle.bench_types.specs.declared.exchanges.Mode.{Mode}
 use Rattle.bench_types.specs.Mark.{mark_of, is_before, IsBefore}
 use Rattle.bench_types.specs.Mode.{digest_kind}
+use Rattle.bench_types.specs.declared.exchanges.DigestKind.{DigestKind}
+use Rattle.bench_types.specs.declared.exchanges.DigestKind.TheVariants.{Scuttle, Precise}
 use Rattle.node_table.specs.Table.{Table, entry_at}
 use Rattle.reconcile.specs.Candidates.{known_mark}
 use Rattle.planes.specs.Sums.{sum_below}
-use Rattle.planes.specs.Planes.{Cells}
+use Rattle.planes.specs.Planes.{Cells, number_ahead}
 use Rattle.owner_lists.specs.Numbers.{write_numbered}
 
 -- the marks of an owner's writes rise, and births never fall
 pub record IsHistory (writes : List Entry) : Type 0 where
   pub rise : (i j : ℕ) (d : Entry) → i < j → j < length writes → IsBefore (mark_of (slice_index_or writes i d)) (mark_of (slice_index_or writes j d))
   pub born : (i j : ℕ) (d : Entry) → i ≤ j → j < length writes → (slice_index_or writes i d).born ≤ (slice_index_or writes j d).born
+
+-- each generation's writes have the versions from 1 on, one after another: up to a write there are as many of its
+-- generation as its version, and all before those are of older ones
+pub record IsNumberedHistory (writes : List Entry) : Type 0 where
+  pub counted : (number : ℕ) (e : Entry) → write_numbered writes number ≡ Some e → (1 ≤ e.version) × (e.version ≤ number)
+  pub older : (m n : ℕ) (d e : Entry) → write_numbered writes m ≡ Some d → write_numbered writes n ≡ Some e
+      → m + e.version ≤ n → d.generation < e.generation
+  pub alike : (m n : ℕ) (d e : Entry) → write_numbered writes m ≡ Some d → write_numbered writes n ≡ Some e
+      → m ≤ n → n < m + e.version → d.generation ≡ e.generation
 
 -- a table holds the writes of these numbers
 abbrev pub HasCells : (ℕ → List Entry) → Cells → Table → Type 0
@@ -42,3 +53,24 @@ offered_sum from cells low g =
 abbrev pub rank_above : Cells → ℕ → ℕ → ℕ → ℕ → ℕ
 rank_above cells keys owner mark number =
     sum_below keys (λ key. if nat_lt mark (cells owner key) then (if nat_lt (cells owner key) number then 1 else 0) else 0)
+
+-- how many writes there are before the generation of a write, 0 for none
+abbrev pub start_before : ℕ → Option Entry → ℕ
+start_before number None = 0
+start_before number (Some e) = number - e.version
+
+abbrev pub start_of : List Entry → ℕ → ℕ
+start_of writes number = start_before number (write_numbered writes number)
+
+-- what of an owner isn't offered to a receiver that has a number as the greatest of it; the most for the receiver itself
+abbrev pub told_by : DigestKind → List Entry → ℕ → ℕ
+told_by Scuttle writes greatest = greatest
+told_by Precise writes greatest = start_of writes greatest
+
+abbrev pub told_mark : DigestKind → ℕ → ℕ → (ℕ → List Entry) → (ℕ → ℕ) → ℕ → ℕ
+told_mark kind most node lists greatest owner = if owner == node then most else told_by kind (lists owner) (greatest owner)
+
+-- the numbers offered: in a precise digest's modes those ahead of the receiver's, and 0 in place of the others
+abbrev pub offered_by : DigestKind → Cells → Cells → (ℕ → ℕ) → Cells
+offered_by Scuttle sender receiver low = sender
+offered_by Precise sender receiver low = λ owner key. number_ahead (sender owner key) (receiver owner key) (low owner)

@@ -1,9 +1,13 @@
 -- The cells of a table that has taken a delta. Source: this project.
-use Rattle.std.specs.Prelude.{◌≡◌, ℕ, ◌<◌, ◌≤◌, ◌↔◌, ◌⊎◌, Bool, true, false, List, Contains, Some}
+use Rattle.std.specs.Prelude.{◌≡◌, ℕ, ◌<◌, ◌≤◌, ◌↔◌, ◌⊎◌, ◌&&◌, Bool, true, false, max, nat_lt, nat_le, List, Contains, Some}
 use Rattle.bench_types.specs.declared.entries.Entry.{Entry}
 use Rattle.bench_types.specs.declared.entries.Item.{Item}
 use Rattle.node_table.specs.Table.{Table, entry_at, generation_held}
 use Rattle.planes.specs.Planes.{Cells}
+
+-- a sent number is taken that is above the receiver's and one mark, and up to another
+abbrev pub is_taken : ℕ → ℕ → ℕ → ℕ → Bool
+is_taken number sent low high = nat_lt (max number low) sent && nat_le sent high
 
 -- these places of the sender's are what a delta has
 pub record AreSent (from : Table) (items : List Item) (sent : ℕ → ℕ → Bool) : Type 0 where

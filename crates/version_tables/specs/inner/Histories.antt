@@ -1,0 +1,52 @@
+-- What the owners wrote so far, beside all that they write in the run. Source: this project.
+use Rattle.std.specs.Prelude.{◌≡◌, ℕ, ◌+◌, ◌<◌, ◌≤◌, List, length, Contains, Some}
+use Rattle.bench_types.specs.declared.entries.Entry.{Entry}
+use Rattle.bench_types.specs.declared.limits.TheConstants.{MOST_NODES}
+use Rattle.bench_types.specs.Mark.{mark_of}
+use Rattle.node_table.specs.Table.{Table, entry_at, IsProper}
+use Rattle.owner_lists.specs.OwnerListView.{OwnerListView, AreWrites, list_of_owner}
+use Rattle.owner_lists.specs.Numbers.{write_numbered}
+use Rattle.planes.specs.Planes.{HasEach}
+use Rattle.version_tables.specs.Views.{HistoriesView}
+use Rattle.version_tables.specs.inner.Offers.{IsHistory, IsNumberedHistory}
+use Rattle.version_tables.specs.inner.Rounds.{AreEnds}
+use Rattle.version_tables.specs.inner.Weights.{writes_in}
+
+-- some writes are the first of all
+abbrev pub IsBeginning : List Entry → List Entry → Type 0
+IsBeginning some all = (number : ℕ) → number ≤ length some → write_numbered some number ≡ write_numbered all number
+
+-- none was made later than in a round, and none before round 1
+pub record AreMadeBy (round : ℕ) (writes : List Entry) : Type 0 where
+  pub first : (number : ℕ) (e : Entry) → write_numbered writes number ≡ Some e → 1 ≤ e.born
+  pub last : (number : ℕ) (e : Entry) → write_numbered writes number ≡ Some e → e.born ≤ round
+
+-- what an owner wrote so far, of all that it writes, whose numbers are below a bound
+pub record IsWrittenSoFar (all : List Entry) (most rounds : ℕ) (so_far : List Entry) : Type 0 where
+  pub begins : IsBeginning so_far all
+  pub few : length so_far < most
+  pub history : IsHistory so_far
+  pub numbered : IsNumberedHistory so_far
+  pub made : AreMadeBy (rounds + 1) so_far
+
+-- what is kept of all owners' writes: counts of all and of those of earlier generations, and where the rounds end
+pub record AreHistories (written : ℕ → List Entry) (most : ℕ) (lists : List OwnerListView) (counts bases ends : List ℕ) (rounds : ℕ) : Type 0 where
+  pub few_nodes : length lists ≤ MOST_NODES
+  pub counted : HasEach (length lists) (λ r n. n ≡ length (writes_in lists r)) counts
+  pub based : HasEach (length lists) (λ r n. n ≡ length (list_of_owner lists r).earlier) bases
+  pub are : (owner : ℕ) → AreWrites (list_of_owner lists owner)
+  pub so_far : (owner : ℕ) → IsWrittenSoFar (written owner) most rounds (writes_in lists owner)
+  pub ended : AreEnds (writes_in lists) (length lists) rounds ends
+
+-- what a table owes to the histories: its entries were written, and no later than in the last round
+pub record FitsHistories (h : HistoriesView) (t : Table) : Type 0 where
+  pub proper : IsProper t
+  pub nodes : t.nodes ≡ length h.lists
+  pub holds : (owner key : ℕ) (e : Entry) → entry_at t owner key ≡ Some e → Contains (writes_in h.lists owner) e
+  pub made : (owner : ℕ) → AreMadeBy h.rounds (writes_in h.lists owner)
+
+-- an entry is what an owner writes under a number, which is below a bound, and no two of its writes have one mark
+pub record IsWriteUnder (written : ℕ → List Entry) (most owner number : ℕ) (e : Entry) : Type 0 where
+  pub is : write_numbered (written owner) number ≡ Some e
+  pub below : number < most
+  pub apart : (m n : ℕ) (d c : Entry) → write_numbered (written owner) m ≡ Some d → write_numbered (written owner) n ≡ Some c → mark_of d ≡ mark_of c → d ≡ c

@@ -2,3 +2,4 @@ pub mod Sums
 pub mod Elementwise
 pub mod Counts
 pub mod Places
+pub mod Behind

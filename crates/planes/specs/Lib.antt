@@ -1,3 +1,4 @@
 pub mod Sums
 pub mod Planes
+pub mod Lags
 pub mod inner

@@ -13,7 +13,7 @@ use bench_types::Fault;
 use std::alloc::Global;
 
 // The plane of a key.
-fn plane_of<N: Number>(cells: &[N], nodes: usize, key: usize) -> &[N]
+pub(crate) fn plane_of<N: Number>(cells: &[N], nodes: usize, key: usize) -> &[N]
     requires within { key * nodes + nodes ≤ length cells.now }
     requires room { length cells.now ≤ MOST_KEYS * MOST_NODES }
     ensures { HasEach nodes (λ r n. n ≡ cell (map N.number cells.now) nodes r key) (map N.number result.now) }
@@ -23,7 +23,7 @@ fn plane_of<N: Number>(cells: &[N], nodes: usize, key: usize) -> &[N]
 }
 
 // So many times the same number.
-fn all_of<N: Number>(alloc: Global, count: usize, number: N) -> Result<Vec<N>, Fault>
+pub(crate) fn all_of<N: Number>(alloc: Global, count: usize, number: N) -> Result<Vec<N>, Fault>
     ensures numbers { IfOk result (λ v. HasEach count (λ r n. n ≡ N.number number) (map N.number v.items)) }
     ensures only { IsOkUnless result OutOfMemory }
 {

@@ -14,7 +14,7 @@ fn is_between<N: Number>(number: N, low: N, high: N) -> bool
     number.is_above(low) & number.is_upto(high)
 }
 
-fn pick<N: Number>(test: bool, number: N, other: N) -> N
+pub(crate) fn pick<N: Number>(test: bool, number: N, other: N) -> N
     ensures { N.number result ≡ (if test then N.number number else N.number other) }
 {
     if test { number } else { other }

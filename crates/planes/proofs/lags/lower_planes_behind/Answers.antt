@@ -1,0 +1,24 @@
+use Rattle.std.proofs.Common.{◌≤◌, slice_index, subst, map}
+use Rattle.planes.specs.Planes.{cell}
+use Rattle.planes.specs.Lags.{IsLoweredBehind, IsLeastBehind}
+use Rattle.planes.proofs.Places.{each-next, each-whole, each-other}
+use Rattle.planes.proofs.Behind.{behind-start, behind-next}
+use Rattle.planes.proofs.lags.lower_planes_behind.Goals as goal
+
+pub loop-key-init : goal.loop-key-init
+loop-key-init g c = behind-start c.args.nodes g.N.Number.most (cell (map g.N.Number.number c.args.cells.now) c.args.nodes) (cell (map g.N.Number.number c.args.last.now) c.args.nodes) (map g.N.Number.number c.args.least.now) c.requires.least
+
+pub loop-key-preserved : goal.loop-key-preserved
+loop-key-preserved g c =
+    each-next c.args.nodes _ _ _ (map g.N.Number.number c.loop-key.least) (map g.N.Number.number c.lower_to_behind.new.least) c.loop-key.invariant c.lower_to_behind.ensures.least
+    (λ r x y lt is now. behind-next g.N.Number.most (cell (map g.N.Number.number c.args.cells.now) c.args.nodes) (cell (map g.N.Number.number c.args.last.now) c.args.nodes) c.loop-key.key r x y is.0
+    (subst (λ n. IsLoweredBehind g.N.Number.most n (cell (map g.N.Number.number c.args.cells.now) c.args.nodes r c.loop-key.key) x y) (c.plane_of-of_last.ensures.each r lt)
+    (subst (λ n. IsLoweredBehind g.N.Number.most (slice_index (map g.N.Number.number c.plane_of-of_last.result.now) r) n x y) (c.plane_of-plane.ensures.each r lt) now)) is.1)
+
+pub returns : goal.returns
+returns g c = record {
+  least =
+      each-other c.args.nodes _ _ (map g.N.Number.number c.loop-key.least) (λ r n is. is.1)
+      (each-whole (λ key r n. (n ≤ g.N.Number.most) × IsLeastBehind g.N.Number.most (cell (map g.N.Number.number c.args.cells.now) c.args.nodes) (cell (map g.N.Number.number c.args.last.now) c.args.nodes) key r n)
+      c.args.nodes c.loop-key.key c.args.keys (map g.N.Number.number c.loop-key.least) c.loop-key-test.false c.loop-key.auto.key-end c.loop-key.invariant);
+}

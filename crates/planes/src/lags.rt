@@ -1,0 +1,125 @@
+//! Loops over all planes of a table that compare its numbers with the last ones.
+
+ghost use Rattle.std.specs.Prelude.{◌≡◌, ℕ, length, map, min, nat_lt, slice_index, IfOk, IsOkUnless};
+ghost use Rattle.bench_types.specs.declared.faults.Fault.TheVariants.{OutOfMemory};
+ghost use Rattle.planes.specs.inner.Elementwise.{AreChanged};
+ghost use Rattle.planes.specs.Lags.{IsLeastBehind, IsLoweredBehind};
+ghost use Rattle.planes.specs.Planes.{cell, total_of, ArePlanesChanged, HasEach, IsGrid};
+
+use crate::grids::{all_of, plane_of};
+use crate::numbers::Number;
+use crate::planes;
+use bench_types::Fault;
+use std::alloc::Global;
+
+// Lowers each owner's number to the one in a plane.
+fn lower<N: Number>(least: &mut [N], plane: &[N])
+    requires plane { length plane.now ≡ length least.old }
+    ensures least { AreChanged (λ r x y. y ≡ min x (slice_index (map N.number plane.now) r))
+        (map N.number least.old) (map N.number least.new) }
+{
+    for r in 0..least.len() {
+        least[r] = least[r].min_with(plane[r]);
+    }
+}
+
+// Lowers each owner's number to the one in a plane, where that is below the last one.
+fn lower_to_behind<N: Number>(least: &mut [N], plane: &[N], last: &[N])
+    requires plane { length plane.now ≡ length least.old }
+    requires last { length last.now ≡ length least.old }
+    ensures least { AreChanged (λ r x y. IsLoweredBehind N.most (slice_index (map N.number last.now) r)
+        (slice_index (map N.number plane.now) r) x y) (map N.number least.old) (map N.number least.new) }
+{
+    for r in 0..least.len() {
+        least[r] = least[r].min_with(planes::pick(
+            last[r].is_above(plane[r]),
+            plane[r],
+            N::greatest(),
+        ));
+    }
+}
+
+/// Lowers each number to another one.
+pub fn lower_all<N: Number>(least: &mut [N], cells: &[N], nodes: usize, keys: usize)
+    requires grid { IsGrid nodes keys (length least.old) }
+    requires cells { length cells.now ≡ length least.old }
+    ensures least { ArePlanesChanged (λ r k x y. y ≡ min x (cell (map N.number cells.now) nodes r k)) nodes keys
+        (map N.number least.old) (map N.number least.new) }
+{
+    for key in 0..keys {
+        let plane = plane_of(cells, nodes, key);
+        let start = key * nodes;
+        let block = &mut least[start..start + nodes];
+        lower(block, plane);
+    }
+}
+
+/// How many numbers are below the last ones. It lowers the least to each number: one pass, plane by plane.
+pub fn count_behind<N: Number>(
+    least: &mut [N],
+    cells: &[N],
+    last: &[N],
+    nodes: usize,
+    keys: usize,
+) -> u32
+    requires grid { IsGrid nodes keys (length least.old) }
+    requires cells { length cells.now ≡ length least.old }
+    requires last { length last.now ≡ length least.old }
+    ensures count { result ≡ total_of nodes keys
+        (λ r k. nat_lt (cell (map N.number cells.now) nodes r k) (cell (map N.number last.now) nodes r k)) }
+    ensures least { ArePlanesChanged (λ r k x y. y ≡ min x (cell (map N.number cells.now) nodes r k)) nodes keys
+        (map N.number least.old) (map N.number least.new) }
+{
+    let mut count = 0;
+    for key in 0..keys {
+        let plane = plane_of(cells, nodes, key);
+        let of_last = plane_of(last, nodes, key);
+        count += planes::how_many_above(of_last, plane);
+        let start = key * nodes;
+        let block = &mut least[start..start + nodes];
+        lower(block, plane);
+    }
+    count
+}
+
+// Lowers the most to the least of each owner's numbers that are below the last ones.
+fn lower_planes_behind<N: Number>(
+    least: &mut [N],
+    cells: &[N],
+    last: &[N],
+    nodes: usize,
+    keys: usize,
+)
+    requires grid { IsGrid nodes keys (length cells.now) }
+    requires last { length last.now ≡ length cells.now }
+    requires least { HasEach nodes (λ r n. n ≡ N.most) (map N.number least.old) }
+    ensures least { HasEach nodes
+        (λ r n. IsLeastBehind N.most (cell (map N.number cells.now) nodes) (cell (map N.number last.now) nodes) keys r n)
+        (map N.number least.new) }
+{
+    for key in 0..keys {
+        let plane = plane_of(cells, nodes, key);
+        let of_last = plane_of(last, nodes, key);
+        lower_to_behind(least, plane, of_last);
+    }
+}
+
+/// For each owner the least of its numbers that are below the last ones, or `N::greatest()` where none is.
+pub fn least_behind<N: Number>(
+    alloc: Global,
+    cells: &[N],
+    last: &[N],
+    nodes: usize,
+    keys: usize,
+) -> Result<Vec<N>, Fault>
+    requires grid { IsGrid nodes keys (length cells.now) }
+    requires last { length last.now ≡ length cells.now }
+    ensures least { IfOk result (λ v. HasEach nodes
+        (λ r n. IsLeastBehind N.most (cell (map N.number cells.now) nodes) (cell (map N.number last.now) nodes) keys r n)
+        (map N.number v.items)) }
+    ensures only { IsOkUnless result OutOfMemory }
+{
+    let mut least = all_of(alloc, nodes, N::greatest())?;
+    lower_planes_behind(&mut least, cells, last, nodes, keys);
+    Ok(least)
+}

@@ -13,3 +13,4 @@ pub mod TakenCells
 pub mod Fitting
 pub mod Missed
 pub mod Lagging
+pub mod Pieces

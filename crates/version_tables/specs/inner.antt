@@ -5,6 +5,7 @@ pub mod Shares
 pub mod Laid
 pub mod Taken
 pub mod Missed
+pub mod Pieces
 pub mod Weights
 pub mod Rounds
 pub mod Histories

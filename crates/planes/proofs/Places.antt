@@ -1,6 +1,6 @@
 -- The numbers of a table's planes, one after another.
 -- Serves nothing yet.
-use Rattle.std.proofs.Common.{◌≡◌, ℕ, zero, suc, Fits, w32, ◌+◌, ◌*◌, ◌-◌, ◌<◌, ◌≤◌, ◌&&◌, Bool, true, false, cond, List, [], ◌∷◌, ◌++◌, length, get_or, map, take, drop, nat_lt, nat_le, inl, inr, refl, sym, ap, ◌∙◌, subst, arith}
+use Rattle.std.proofs.Common.{◌≡◌, ℕ, zero, suc, Fits, w32, ◌+◌, ◌*◌, ◌-◌, ◌<◌, ◌≤◌, ◌&&◌, Bool, true, false, cond, List, [], ◌∷◌, ◌++◌, length, get_or, map, take, drop, nat_lt, nat_le, max, inl, inr, refl, sym, ap, ◌∙◌, subst, arith}
 use Rattle.std.proofs.Math.Nat.{mul-le-mul_right}
 use Rattle.std.proofs.lemmas.Bool.{cases_lt, lt-ltb, le-ltb}
 use Rattle.std.proofs.lemmas.List.{get_or-take, get_or-drop, length-map, length-append, length-drop, length-take-le, get_or_append_left, get_or-append_right, get_or_at, map-append, take-map}
@@ -10,7 +10,7 @@ use Rattle.bench_types.specs.declared.limits.TheConstants.{MOST_NODES, MOST_KEYS
 use Rattle.planes.specs.inner.Elementwise.{AreChanged}
 use Rattle.planes.specs.Sums.{sum_below}
 use Rattle.planes.specs.Planes.{Cells}
-use Rattle.planes.specs.Planes.{IsLeastAbove, HasNoneAbove, count_between}
+use Rattle.planes.specs.Planes.{IsLeastAbove, IsRaised, HasNoneAbove, count_between}
 use Rattle.planes.specs.Planes.{cell, next_above, total_of, IsLowered, IsGrid, HasEach, IsNextAbove, ArePlanesChangedUpto, ArePlanesChanged}
 use Rattle.planes.proofs.Counts.{count_le}
 use Rattle.planes.proofs.Sums.{sum_below-same, sum_below-turned}
@@ -280,3 +280,25 @@ each-pushed number xs x n m before is = record {
   where
     mapped : map number (xs ++ x ∷ []) ≡ map number xs ++ number x ∷ []
     mapped = map-append number xs (x ∷ [])
+
+-- a mark raised to one number more
+pub raised-none : (cells : Cells) (owner x : ℕ) → IsRaised cells 0 owner x x
+raised-none cells owner x = record { rises = omega arith; upto = λ k lt. absurd (omega (arith, lt)); from = inl refl }
+
+pub raised-next : (cells : Cells) (key owner x y z : ℕ) → IsRaised cells key owner x y → z ≡ max y (cells owner key) → IsRaised cells (key + 1) owner x z
+raised-next cells key owner x y z before now = record {
+  rises = omega (arith, before.rises, now);
+  upto = λ k lt. elim (cases_lt k key) [
+    | inl earlier ↦ omega (arith, before.upto k earlier, now)
+    | inr not_earlier ↦ subst (λ j. cells owner j ≤ z) {x = key} {y = k} (omega (arith, lt, not_earlier)) (omega (arith, now))
+  ];
+  from = elim (cases_lt y (cells owner key)) [
+    | inl lower ↦ inr (key, omega arith, omega (arith, now, lower))
+    | inr not_lower ↦
+        let same : z ≡ y = omega (arith, now, not_lower) in
+        elim before.from [
+          | inl old ↦ inl (same ∙ old)
+          | inr (k, lt, is) ↦ inr (k, omega (arith, lt), is ∙ sym same)
+        ]
+  ];
+}

@@ -83,3 +83,9 @@ pub record ArePlanesChanged (changed : ℕ → ℕ → ℕ → ℕ → Type 0) (
 pub record HasEachPlace (nodes keys : ℕ) (is : ℕ → ℕ → ℕ → Type 0) (xs : List ℕ) : Type 0 where
   pub size : length xs ≡ keys * nodes
   pub each : (owner key : ℕ) → owner < nodes → key < keys → is owner key (cell xs nodes owner key)
+
+-- y is x raised to the greatest of an owner's numbers
+pub record IsRaised (cells : Cells) (keys owner x y : ℕ) : Type 0 where
+  pub rises : x ≤ y
+  pub upto : (key : ℕ) → key < keys → cells owner key ≤ y
+  pub from : (y ≡ x) ⊎ ((key : ℕ) × (key < keys) × (cells owner key ≡ y))

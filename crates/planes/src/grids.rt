@@ -4,7 +4,7 @@ ghost use Rattle.std.specs.Prelude.{◌≡◌, ℕ, ◌+◌, ◌*◌, ◌<◌, �
 ghost use Rattle.bench_types.specs.declared.faults.Fault.TheVariants.{OutOfMemory};
 ghost use Rattle.bench_types.specs.declared.limits.TheConstants.{MOST_NODES, MOST_KEYS};
 ghost use Rattle.planes.specs.Planes.{count_above};
-ghost use Rattle.planes.specs.Planes.{cell, number_ahead, number_taken, total_of, ArePlanesChanged, HasEach, HasEachPlace, IsGrid, IsNextAbove};
+ghost use Rattle.planes.specs.Planes.{cell, number_ahead, number_taken, total_of, ArePlanesChanged, HasEach, HasEachPlace, IsGrid, IsNextAbove, IsRaised};
 ghost use Rattle.planes.specs.Planes.{count_between};
 
 use crate::numbers::Number;
@@ -259,5 +259,19 @@ pub fn take<N: Number>(
         let start = key * nodes;
         let block = &mut cells[start..start + nodes];
         planes::take_plane(block, plane, low, high);
+    }
+}
+
+/// Raises each owner's mark to the greatest of its numbers.
+pub fn raise<N: Number>(marks: &mut [N], cells: &[N], nodes: usize, keys: usize)
+    requires grid { IsGrid nodes keys (length cells.now) }
+    requires marks { length marks.old ≡ nodes }
+    ensures marks { HasEach nodes
+        (λ r y. IsRaised (cell (map N.number cells.now) nodes) keys r (slice_index (map N.number marks.old) r) y)
+        (map N.number marks.new) }
+{
+    for key in 0..keys {
+        let plane = plane_of(cells, nodes, key);
+        planes::raise(marks, plane);
     }
 }

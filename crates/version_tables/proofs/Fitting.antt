@@ -3,8 +3,10 @@
 use Rattle.std.proofs.Common.{◌≡◌, ◌≢◌, ℕ, zero, suc, ◌+◌, ◌<◌, ◌≤◌, List, [], ◌∷◌, length, get_or, Option, Some, None, inl, inr, refl, sym, ap, ◌∙◌, subst, arith}
 use Rattle.std.specs.Prelude.{Contains}
 use Rattle.std.proofs.lemmas.Bool.{cases_lt}
+use Rattle.std.proofs.lemmas.List.{get_or-map}
 use Rattle.bench_types.specs.declared.entries.Entry.{Entry}
 use Rattle.node_table.specs.Table.{Table, entry_at}
+use Rattle.owner_lists.specs.OwnerListView.{OwnerListView, entries_of}
 use Rattle.owner_lists.specs.Numbers.{write_from, write_numbered}
 use Rattle.planes.specs.Planes.{Cells, cell}
 use Rattle.version_tables.specs.Views.{VersionTableView, HistoriesView, table_in, IsKept}
@@ -13,6 +15,10 @@ use Rattle.version_tables.specs.inner.Offers.{HasCells}
 use Rattle.version_tables.specs.inner.Weights.{writes_in}
 use Rattle.version_tables.proofs.Laid.{has_cells}
 use Rattle.version_tables.proofs.Offers.{write_from-at}
+
+-- what is read of a list of lists
+pub list-writes : (lists : List OwnerListView) (owner : ℕ) (x : OwnerListView) → owner < length lists → x ≡ get_or lists owner x → entries_of x ≡ writes_in lists owner
+list-writes lists owner x lt is = ap entries_of is ∙ sym (get_or-map entries_of lists owner x [] lt)
 
 -- there is a write at each place, and what is contained has one
 pub write_from-in : (writes : List Entry) (place : ℕ) → place < length writes → (e : Entry) × (write_from writes place ≡ Some e)

@@ -14,3 +14,4 @@ pub mod Fitting
 pub mod Missed
 pub mod Lagging
 pub mod Pieces
+pub mod Clearing

@@ -40,7 +40,7 @@ impl<N: Number, H: Written> Model for Histories<N, H> {
 
 impl<N: Number, H: Written> Histories<N, H> {
     ghost use Rattle.std.specs.Prelude.{ℕ, map, length};
-    ghost use Rattle.owner_lists.specs.OwnerListView.{list_of_owner};
+    ghost use Rattle.owner_lists.specs.OwnerListView.{list_of_owner, AreWrites};
     ghost use Rattle.planes.specs.Planes.{HasEach};
     ghost use Rattle.version_tables.specs.inner.Histories.{IsWrittenSoFar};
     ghost use Rattle.version_tables.specs.inner.Rounds.{AreEnds};
@@ -70,8 +70,9 @@ impl<N: Number, H: Written> Histories<N, H> {
 
     // How many of them are of earlier generations.
     pub(crate) fn bases(&self) -> &[N]
-        ensures { HasEach (length self.now.lists) (λ r n. n ≡ length (list_of_owner self.now.lists r).earlier)
+        ensures value { HasEach (length self.now.lists) (λ r n. n ≡ length (list_of_owner self.now.lists r).earlier)
             (map N.number result.now) }
+        ensures writes { (owner : ℕ) → AreWrites (list_of_owner self.now.lists owner) }
     {
         &self.bases
     }

@@ -6,6 +6,7 @@ mod deltas;
 mod histories;
 mod laws;
 mod tables;
+mod taking;
 
 pub use histories::Histories;
 pub use laws::deltas_have_their_sets;

@@ -1,9 +1,11 @@
 -- The cells of a table that has taken a delta. Source: this project.
-use Rattle.std.specs.Prelude.{◌≡◌, ℕ, ◌<◌, ◌≤◌, ◌↔◌, ◌⊎◌, ◌&&◌, Bool, true, false, max, nat_lt, nat_le, List, Contains, Some}
+use Rattle.std.specs.Prelude.{◌≡◌, ℕ, ◌-◌, ◌<◌, ◌≤◌, ◌↔◌, ◌⊎◌, ◌&&◌, Bool, true, false, max, nat_lt, nat_le, List, length, slice_index, Contains, Option, None, Some, if◌then◌else◌}
 use Rattle.bench_types.specs.declared.entries.Entry.{Entry}
 use Rattle.bench_types.specs.declared.entries.Item.{Item}
 use Rattle.node_table.specs.Table.{Table, entry_at, generation_held}
-use Rattle.planes.specs.Planes.{Cells}
+use Rattle.owner_lists.specs.Numbers.{write_numbered}
+use Rattle.planes.specs.Planes.{Cells, cell, number_taken, IsRaised}
+use Rattle.version_tables.specs.Views.{VersionTableView}
 
 -- a sent number is taken that is above the receiver's and one mark, and up to another
 abbrev pub is_taken : ℕ → ℕ → ℕ → ℕ → Bool
@@ -33,3 +35,37 @@ pub record AreTakenCells (from to : Table) (sent : ℕ → ℕ → Bool) (sender
   pub came : (owner key : ℕ) → owner < to.nodes → key < to.keys → sent owner key ≡ true → taken owner key ≡ sender owner key
   pub others : (owner key : ℕ) → owner < to.nodes → key < to.keys → sent owner key ≡ false
       → (SendsNoNewer from to sent owner × (taken owner key ≡ receiver owner key)) ⊎ (SendsNewer from to sent owner × (taken owner key ≡ 0))
+
+-- how many writes an owner had made before the generation of a number's write
+abbrev pub start_from : ℕ → Option Entry → ℕ
+start_from number None = 0
+start_from number (Some e) = number - e.version
+
+abbrev pub start_of : List Entry → ℕ → ℕ
+start_of writes number = start_from number (write_numbered writes number)
+
+-- up to where an owner's numbers are dropped, where its greatest one was raised: to where the newest generation starts, if
+-- the old one is of an earlier generation than the owner's, which has so many writes before it
+abbrev pub drop_start : List Entry → ℕ → ℕ → ℕ → ℕ
+drop_start writes old base new =
+    if (nat_lt 0 old && nat_le old base) && nat_lt old new then start_of writes new else 0
+
+-- a number that is above a mark, else 0
+abbrev pub number_kept : ℕ → ℕ → ℕ
+number_kept start number = if nat_le number start then 0 else number
+
+-- a receiver's numbers with those of a sender that marks let through
+abbrev pub numbers_taken : VersionTableView → List ℕ → List ℕ → List ℕ → Cells
+numbers_taken to sent low high owner key =
+    number_taken (cell to.cells to.nodes owner key) (cell sent to.nodes owner key) (slice_index low owner) (slice_index high owner)
+
+-- a receiver's numbers and greatest ones once it took them, and dropped what is of older generations
+pub record IsTaken (lists : ℕ → List Entry) (bases : ℕ → ℕ) (to : VersionTableView) (sent low high cells greatest : List ℕ) : Type 0 where
+  pub cell_count : length cells ≡ length to.cells
+  pub greatest_count : length greatest ≡ to.nodes
+  pub raised : (owner : ℕ) → owner < to.nodes
+      → IsRaised (numbers_taken to sent low high) to.keys owner (slice_index to.greatest owner) (slice_index greatest owner)
+  pub kept : (owner key : ℕ) → owner < to.nodes → key < to.keys
+      → cell cells to.nodes owner key
+      ≡ number_kept (drop_start (lists owner) (slice_index to.greatest owner) (bases owner) (slice_index greatest owner))
+      (numbers_taken to sent low high owner key)

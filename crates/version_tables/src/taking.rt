@@ -1,0 +1,123 @@
+//! What a table holds once it has taken a delta.
+
+ghost use Rattle.std.specs.Prelude.{◌≡◌, ◌==◌, ℕ, ◌<◌, ◌≤◌, ◌&&◌, List, length, map, nat_lt, nat_le, slice_index, if◌then◌else◌, None, Some};
+ghost use Rattle.bench_types.specs.declared.entries.Entry.{Entry};
+ghost use Rattle.owner_lists.specs.OwnerListView.{OwnerListView, entries_of};
+ghost use Rattle.owner_lists.specs.Numbers.{write_numbered};
+ghost use Rattle.planes.specs.Planes.{cell, ArePlanesChanged, IsGrid};
+ghost use Rattle.version_tables.specs.inner.Offers.{IsNumberedHistory};
+ghost use Rattle.version_tables.specs.inner.Taken.{drop_start, number_kept, start_of};
+ghost use Rattle.version_tables.specs.inner.Weights.{writes_in};
+
+use owner_lists::OwnerList;
+use planes::Number;
+
+// How many writes an owner had made before the generation of a number's write.
+fn start_of(list: &OwnerList, number: u32) -> u32
+    requires { (e : Entry) → write_numbered (entries_of list.now) number ≡ Some e → e.version ≤ number }
+    ensures { result ≡ start_of (entries_of list.now) number }
+{
+    match list.numbered(number) {
+        Some(write) => number - write.version,
+        None => 0,
+    }
+}
+
+// Drops what an owner's keys have up to a mark.
+fn clear_column<N: Number>(cells: &mut [N], nodes: usize, keys: usize, owner: usize, start: u32)
+    requires grid { IsGrid nodes keys (length cells.old) }
+    requires owner { owner < nodes }
+    ensures { ArePlanesChanged (λ r k x y. y ≡ (if r == owner then number_kept start x else x)) nodes keys
+        (map N.number cells.old) (map N.number cells.new) }
+{
+    for key in 0..keys {
+        let cell = &mut cells[key * nodes + owner];
+        *cell = kept_above(*cell, start);
+    }
+}
+
+// A number that is above a mark, else 0.
+fn kept_above<N: Number>(number: N, start: u32) -> N
+    ensures { N.number result ≡ number_kept start (N.number number) }
+{
+    if number.widen() <= start {
+        N::zero()
+    } else {
+        number
+    }
+}
+
+// Up to where an owner's numbers are dropped, where its greatest one was raised.
+fn drop_from<N: Number>(list: &OwnerList, old: N, base: N, new: N) -> u32
+    requires { IsNumberedHistory (entries_of list.now) }
+    ensures { result ≡ drop_start (entries_of list.now) (N.number old) (N.number base) (N.number new) }
+{
+    if old.is_above(N::zero()) && old.is_upto(base) && new.is_above(old) {
+        start_of(list, new.widen())
+    } else {
+        0
+    }
+}
+
+// Drops of one owner what is of older generations than its greatest number.
+fn drop_owner<N: Number>(cells: &mut [N], nodes: usize, keys: usize, owner: usize, start: u32)
+    requires grid { IsGrid nodes keys (length cells.old) }
+    requires owner { owner < nodes }
+    ensures { ArePlanesChanged (λ r k x y. y ≡ (if r == owner then number_kept start x else x)) nodes keys
+        (map N.number cells.old) (map N.number cells.new) }
+{
+    if start > 0 {
+        clear_column(cells, nodes, keys, owner, start);
+    }
+}
+
+// And so of each owner.
+fn drop_each<N: Number>(
+    cells: &mut [N],
+    nodes: usize,
+    keys: usize,
+    before: &[N],
+    greatest: &[N],
+    bases: &[N],
+    lists: &[OwnerList],
+)
+    requires grid { IsGrid nodes keys (length cells.old) }
+    requires before { length before.now ≡ nodes }
+    requires greatest { length greatest.now ≡ nodes }
+    requires bases { length bases.now ≡ nodes }
+    requires lists { length lists.now ≡ nodes }
+    requires numbered { (owner : ℕ) → IsNumberedHistory (writes_in lists.now owner) }
+    ensures { ArePlanesChanged (λ r k x y. y ≡ number_kept (drop_start (writes_in lists.now r)
+        (slice_index (map N.number before.now) r) (slice_index (map N.number bases.now) r)
+        (slice_index (map N.number greatest.now) r)) x) nodes keys (map N.number cells.old) (map N.number cells.new) }
+{
+    for owner in 0..nodes {
+        let start = drop_from(&lists[owner], before[owner], bases[owner], greatest[owner]);
+        drop_owner(cells, nodes, keys, owner, start);
+    }
+}
+
+// The same, with one look at whether any owner's old number is of an earlier generation.
+fn drop_older<N: Number>(
+    cells: &mut [N],
+    nodes: usize,
+    keys: usize,
+    before: &[N],
+    greatest: &[N],
+    bases: &[N],
+    lists: &[OwnerList],
+)
+    requires grid { IsGrid nodes keys (length cells.old) }
+    requires before { length before.now ≡ nodes }
+    requires greatest { length greatest.now ≡ nodes }
+    requires bases { length bases.now ≡ nodes }
+    requires lists { length lists.now ≡ nodes }
+    requires numbered { (owner : ℕ) → IsNumberedHistory (writes_in lists.now owner) }
+    ensures { ArePlanesChanged (λ r k x y. y ≡ number_kept (drop_start (writes_in lists.now r)
+        (slice_index (map N.number before.now) r) (slice_index (map N.number bases.now) r)
+        (slice_index (map N.number greatest.now) r)) x) nodes keys (map N.number cells.old) (map N.number cells.new) }
+{
+    if planes::total_upto(before, nodes, 1, bases) > 0 {
+        drop_each(cells, nodes, keys, before, greatest, bases, lists);
+    }
+}

@@ -121,6 +121,20 @@ module _ (round : ℕ) (v : OwnerListView) (are : AreWrites v) where
       let d : Entry = record { key = 0; generation = 0; version = 0; value = 0; born = 0 } in
       omega (arith, ap (λ (x : Write). x.version) (get_or-map write_of_entry v.current i d w within), (are.current i d within).1)
 
+  -- each key that the owner wrote is one that its table has
+  module _ (t : Table) (proper : IsProper t) (beside : StandsBeside t v) where
+    pub key_held : (m : ℕ) (d : Entry) → write_numbered all m ≡ Some d → base_of v < m → d.key < t.keys
+    key_held m d is current = elim (entry_at t t.node d.key) as (λ o. entry_at t t.node d.key ≡ o → d.key < t.keys) [
+      | Some x ↦ λ held. (proper.in_place t.node d.key x held).key_below
+      | None ↦ λ none.
+          let at = current-numbered v are m d is current in
+          let w = write_of_entry d in
+          let here : get_or (written v) at.place w ≡ w = get_or-map write_of_entry v.current at.place d w at.within ∙ ap write_of_entry (at.there d) in
+          absurd (missed_some (written v) d.key 0 at.place w (omega (arith, at.within, length-map v.current write_of_entry))
+          (ap (λ (x : Write). x.key) here) (omega (arith, ap (λ (x : Write). x.version) here, ap (λ (x : Entry). x.version) (at.there d), (are.current at.place d at.within).1))
+          (fresh (written v) d.key 0 numbered-written (subst (λ o. IfSome o (λ w. w.version ≤ 0)) (ap (option_map write_of_entry) (sym none) ∙ beside.own_part d.key) tt)))
+    ] refl
+
   -- the owner's own number is that of its last write of the key
   module _ (t : Table) (proper : IsProper t) (beside : StandsBeside t v) (key c : ℕ) (held : entry_at t t.node key ≡ write_numbered all c) (within : c ≤ length all) where
     last_is : last_write (written v) key ≡ option_map write_of_entry (write_numbered all c)

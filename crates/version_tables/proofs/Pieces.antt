@@ -17,8 +17,29 @@ use Rattle.planes.proofs.Sums.{sum_below-same}
 use Rattle.round_tables.specs.Histories.{BirthsRise, StandsBeside, StandsAmong}
 use Rattle.staleness.specs.Figures.{most_below, writes_of_owner, generation_at, staleness_of, staleness_at, is_left_over, leftover_at, stale_count, rounds_behind, copy_figures, node_figures}
 use Rattle.version_tables.specs.inner.Missed.{base_of, IsNumberAt, number_staleness, IsLastNumber}
-use Rattle.version_tables.specs.inner.Pieces.{keys_in, AreCountable, AreLastNumbers, IsLeastHeld, IsPiece}
-use Rattle.version_tables.proofs.Lagging.{last_fresh, stale_by_number, lag-least, left_over-by_number, own_is_last}
+use Rattle.version_tables.specs.inner.Pieces.{keys_in, StandTogether, AreCountable, AreLastNumbers, IsLeastHeld, IsPiece}
+use Rattle.version_tables.proofs.Lagging.{last_fresh, stale_by_number, lag-least, left_over-by_number, own_is_last, key_held}
+
+module _ (tables : List Table) (lists : List OwnerListView) (are : StandTogether tables lists) where
+  node-is : (r : ℕ) → r < length tables → (table_of_node tables r).node ≡ r
+  node-is r lt = (are.cluster.tables r lt).node
+
+  beside : (r : ℕ) → r < length tables → StandsBeside (table_of_node tables r) (list_of_owner lists r)
+  beside r lt = subst (λ o. StandsBeside (table_of_node tables r) (list_of_owner lists o)) (node-is r lt) (are.standing r lt).own
+
+  proper-is : (r : ℕ) → r < length tables → IsProper (table_of_node tables r)
+  proper-is r lt = (are.standing r lt).proper
+
+  -- an owner's own number is its last one
+  pub own_last : (r k c : ℕ) → r < length tables → IsNumberAt lists (table_of_node tables r) r k c → IsLastNumber (list_of_owner lists r) k c
+  own_last r k c lt at =
+      own_is_last 0 (list_of_owner lists r) (are.writes r) (table_of_node tables r) (proper-is r lt) (beside r lt) k c
+      (ap (λ o. entry_at (table_of_node tables r) o k) (node-is r lt) ∙ at.held) at.written
+
+  -- each key that an owner wrote is one of the keys
+  pub key_within : (r m : ℕ) (e : Entry) → r < length tables → write_numbered (entries_of (list_of_owner lists r)) m ≡ Some e → base_of (list_of_owner lists r) < m → e.key < keys_in tables
+  key_within r m e lt is current =
+      omega (arith, key_held 0 (list_of_owner lists r) (are.writes r) (table_of_node tables r) (proper-is r lt) (beside r lt) m e is current, (are.cluster.tables r lt).keys)
 
 module _ (round : ℕ) (tables : List Table) (lists : List OwnerListView) (are : AreCountable round tables lists) where
   abbrev n : ℕ
@@ -30,6 +51,9 @@ module _ (round : ℕ) (tables : List Table) (lists : List OwnerListView) (are :
   abbrev list : ℕ → OwnerListView
   list r = list_of_owner lists r
 
+  abbrev writes : (r : ℕ) → AreWrites (list r)
+  writes r = are.together.writes r
+
   abbrev lag : ℕ → ℕ → ℕ → ℕ
   lag r k c = rounds_behind (number_staleness round (list r) k c)
 
@@ -39,38 +63,23 @@ module _ (round : ℕ) (tables : List Table) (lists : List OwnerListView) (are :
   births : (r : ℕ) → BirthsRise (entries_of (list r))
   births r = are.written.in_order r
 
-  node-is : (r : ℕ) → r < n → (table_of_node tables r).node ≡ r
-  node-is r lt = (are.cluster.tables r lt).node
-
-  beside : (r : ℕ) → r < n → StandsBeside (table_of_node tables r) (list r)
-  beside r lt = subst (λ o. StandsBeside (table_of_node tables r) (list o)) (node-is r lt) (are.standing r lt).own
-
-  proper-is : (r : ℕ) → r < n → IsProper (table_of_node tables r)
-  proper-is r lt = (are.standing r lt).proper
-
-  -- an owner's own number is its last one
-  pub own_last : (r k c : ℕ) → r < n → IsNumberAt lists (table_of_node tables r) r k c → IsLastNumber (list r) k c
-  own_last r k c lt at =
-      own_is_last round (list r) (are.writes r) (table_of_node tables r) (proper-is r lt) (beside r lt) k c
-      (ap (λ o. entry_at (table_of_node tables r) o k) (node-is r lt) ∙ at.held) at.written
-
   module _ (p r k c : ℕ) (in_p : p < n) (in_r : r < n) (at : IsNumberAt lists (table_of_node tables p) r k c) where
     at_own : p ≡ r → IsLastNumber (list r) k c
-    at_own same = own_last r k c in_r (subst (λ q. IsNumberAt lists (table_of_node tables q) r k c) same at)
+    at_own same = own_last tables lists are.together r k c in_r (subst (λ q. IsNumberAt lists (table_of_node tables q) r k c) same at)
 
     -- a copy has been behind for as long as its number
     pub place_staleness : staleness_at round tables (lists_in lists) p r k ≡ number_staleness round (list r) k c
     place_staleness = elim (cases_eq p r) [
       | inl same ↦
           ap (λ b. if b then None else staleness_of round (generation_at tables r) (writes_of_owner (lists_in lists) r) k (mark_at (table_of_node tables p) r k)) (eq-eqb p r same)
-          ∙ sym (last_fresh round (list r) (are.writes r) k c c (at_own same) (omega arith) at.written)
+          ∙ sym (last_fresh round (list r) (writes r) k c c (at_own same) (omega arith) at.written)
       | inr other ↦
           ap (λ b. if b then None else staleness_of round (generation_at tables r) (writes_of_owner (lists_in lists) r) k (mark_at (table_of_node tables p) r k)) (ne_eqb p r other)
-          ∙ (λ i. staleness_of round ((beside r in_r).generation i) (list_read lists r no_writes [] (omega (arith, in_r, are.one_list_each)) i) k (mark_held (at.held i)))
+          ∙ (λ i. staleness_of round ((beside tables lists are.together r in_r).generation i) (list_read lists r no_writes [] (omega (arith, in_r, are.together.one_list_each)) i) k (mark_held (at.held i)))
     ]
 
     pub place_stale : (last : ℕ) → IsLastNumber (list r) k last → stale_count (staleness_at round tables (lists_in lists) p r k) ≡ (if nat_lt c last then 1 else 0)
-    place_stale last is = ap stale_count place_staleness ∙ stale_by_number round (list r) (are.writes r) k last c is at.written
+    place_stale last is = ap stale_count place_staleness ∙ stale_by_number round (list r) (writes r) k last c is at.written
 
     -- of a node's own part nothing is left over
     own_stays : p ≡ r → (nat_lt 0 c && nat_le c (base_of (list r))) ≡ false
@@ -92,7 +101,7 @@ module _ (round : ℕ) (tables : List Table) (lists : List OwnerListView) (are :
           ∙ sym (ap {B = ℕ} (λ b. if b then 1 else 0) (own_stays same))
       | inr other ↦
           ap {B = ℕ} (λ b. if b then 0 else (if is_left_over (generation_at tables r) (entry_at (table_of_node tables p) r k) then 1 else 0)) (ne_eqb p r other)
-          ∙ ap {B = ℕ} (λ b. if b then 1 else 0) ((λ i. is_left_over ((beside r in_r).generation i) (at.held i)) ∙ left_over-by_number round (list r) (are.writes r) c at.written)
+          ∙ ap {B = ℕ} (λ b. if b then 1 else 0) ((λ i. is_left_over ((beside tables lists are.together r in_r).generation i) (at.held i)) ∙ left_over-by_number round (list r) (writes r) c at.written)
     ]
 
   -- a table's numbers
@@ -101,7 +110,7 @@ module _ (round : ℕ) (tables : List Table) (lists : List OwnerListView) (are :
 
   module _ (p : ℕ) (in_p : p < n) (cells : List ℕ) (at : AreNumbersAt p cells) where
     own-keys : (table_of_node tables p).keys ≡ keys
-    own-keys = (are.cluster.tables p in_p).keys
+    own-keys = (are.together.cluster.tables p in_p).keys
 
     -- the sums of a node
     pub node_stale : (last : List ℕ) → AreLastNumbers tables lists last → (node_figures round tables (lists_in lists) p).stale ≡ total_of n keys (λ r k. nat_lt (cell cells n r k) (cell last n r k))
@@ -116,7 +125,7 @@ module _ (round : ℕ) (tables : List Table) (lists : List OwnerListView) (are :
 
   -- before any table, and after one more
   least-none : (from r k last : ℕ) → IsLastNumber (list r) k last → IsLeastHeld round tables lists from 0 r k last
-  least-none from r k last is = record { written = is.written; most = sym (ap rounds_behind (last_fresh round (list r) (are.writes r) k last last is (omega arith) is.written)) }
+  least-none from r k last is = record { written = is.written; most = sym (ap rounds_behind (last_fresh round (list r) (writes r) k last last is (omega arith) is.written)) }
 
   least-more : (from count r k x c : ℕ) → from + count < n → r < n → IsLeastHeld round tables lists from count r k x → IsNumberAt lists (table_of_node tables (from + count)) r k c → IsLeastHeld round tables lists from (count + 1) r k (min x c)
   least-more from count r k x c in_p in_r before at = record {
@@ -124,7 +133,7 @@ module _ (round : ℕ) (tables : List Table) (lists : List OwnerListView) (are :
     most =
         ap (λ m. most_below m (λ i. behind (from + i) r k)) {x = count + 1} {y = suc count} (omega arith)
         ∙ (λ i. max (before.most i) (rounds_behind (place_staleness (from + count) r k c in_p in_r at i)))
-        ∙ lag-least round (list r) (are.writes r) k (births r) x c before.written at.written;
+        ∙ lag-least round (list r) (writes r) k (births r) x c before.written at.written;
   }
 
   most_below-joined : (f : ℕ → ℕ) (a b : ℕ) → max (most_below a f) (most_below b (λ k. f (a + k))) ≡ most_below (a + b) f
@@ -150,7 +159,7 @@ module _ (round : ℕ) (tables : List Table) (lists : List OwnerListView) (are :
         sym (most_below-joined (λ i. behind (from + i) r k) a b)
         ∙ ap (max (most_below a (λ i. behind (from + i) r k))) (most_below-alike _ _ b (λ i. moved (λ p. behind p r k) from a i))
         ∙ (λ i. max (one.most i) (other.most i))
-        ∙ lag-least round (list r) (are.writes r) k (births r) x y one.written other.written;
+        ∙ lag-least round (list r) (writes r) k (births r) x y one.written other.written;
   }
 
   pub piece-none : (from : ℕ) (last : List ℕ) → AreLastNumbers tables lists last → IsPiece round tables lists from 0 0 0 last

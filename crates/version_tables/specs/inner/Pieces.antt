@@ -1,5 +1,5 @@
 -- What is counted of some of the tables at the end of a round. Source: this project.
-use Rattle.std.specs.Prelude.{◌≡◌, ℕ, ◌+◌, ◌*◌, ◌<◌, ◌≤◌, List, length, map}
+use Rattle.std.specs.Prelude.{◌≡◌, ℕ, ◌+◌, ◌*◌, ◌^◌, ◌<◌, ◌≤◌, List, length, map}
 use Rattle.bench_types.specs.declared.entries.Entry.{Entry}
 use Rattle.bench_types.specs.declared.limits.TheConstants.{MOST_NODES, MOST_KEYS, MOST_ROUNDS}
 use Rattle.node_table.specs.Table.{Table}
@@ -10,6 +10,7 @@ use Rattle.planes.specs.Planes.{HasEachPlace}
 use Rattle.round_tables.specs.Histories.{AreWrittenBy, StandsAmong}
 use Rattle.staleness.specs.Figures.{most_below, staleness_at, rounds_behind, node_figures}
 use Rattle.version_tables.specs.Views.{VersionTableView, table_in}
+use Rattle.version_tables.specs.inner.Histories.{IsBeginning}
 use Rattle.version_tables.specs.inner.Missed.{number_staleness, IsLastNumber}
 
 -- the tables of all nodes, where this is what the owners write
@@ -20,16 +21,26 @@ tables_in written views = map (table_in written) views
 abbrev pub keys_in : List Table → ℕ
 keys_in tables = (table_of_node tables 0).keys
 
--- what the figures of a round are counted from
-pub record AreCountable (round : ℕ) (tables : List Table) (lists : List OwnerListView) : Type 0 where
+-- the tables of all nodes beside the owners' lists
+pub record StandTogether (tables : List Table) (lists : List OwnerListView) : Type 0 where
   pub cluster : IsCluster (length tables) tables
   pub one_list_each : length lists ≡ length tables
   pub few_nodes : length tables ≤ MOST_NODES
   pub few_keys : keys_in tables ≤ MOST_KEYS
-  pub round_limit : round ≤ MOST_ROUNDS
-  pub written : AreWrittenBy round lists
   pub writes : (owner : ℕ) → AreWrites (list_of_owner lists owner)
   pub standing : HoldsOfEach (StandsAmong lists) tables
+
+-- what the figures of a round are counted from
+pub record AreCountable (round : ℕ) (tables : List Table) (lists : List OwnerListView) : Type 0 where
+  pub together : StandTogether tables lists
+  pub round_limit : round ≤ MOST_ROUNDS
+  pub written : AreWrittenBy round lists
+
+-- the tables lie as numbers of what the owners wrote so far, of all that they write
+pub record AreLaid (written : ℕ → List Entry) (views : List VersionTableView) (lists : List OwnerListView) : Type 0 where
+  pub together : StandTogether (tables_in written views) lists
+  pub begins : (owner : ℕ) → IsBeginning (entries_of (list_of_owner lists owner)) (written owner)
+  pub few_writes : (owner : ℕ) → length (entries_of (list_of_owner lists owner)) < 2 ^ 32
 
 -- the last numbers of all owners' keys
 abbrev pub AreLastNumbers : List Table → List OwnerListView → List ℕ → Type 0

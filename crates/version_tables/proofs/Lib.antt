@@ -14,4 +14,6 @@ pub mod Fitting
 pub mod Missed
 pub mod Lagging
 pub mod Pieces
+pub mod Walks
+pub mod Standing
 pub mod Clearing

@@ -42,3 +42,8 @@ pub record IsLastNumber (v : OwnerListView) (key number : ℕ) : Type 0 where
   pub written : number ≤ length (entries_of v)
   pub last : HasNoneMissed v key number
   pub there : (below : ℕ) → below < number → (e : Entry) × IsMissed v key below number e
+
+-- no write of the generation up to a place is above the least number of its key
+abbrev pub NonePassUpto : OwnerListView → (ℕ → ℕ) → ℕ → Type 0
+NonePassUpto v least place =
+    (m : ℕ) (e : Entry) → write_numbered (entries_of v) m ≡ Some e → base_of v < m → m ≤ place → m ≤ least e.key

@@ -16,4 +16,5 @@ pub mod Lagging
 pub mod Pieces
 pub mod Walks
 pub mod Standing
+pub mod Counted
 pub mod Clearing

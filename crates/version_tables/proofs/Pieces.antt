@@ -166,8 +166,6 @@ module _ (round : ℕ) (tables : List Table) (lists : List OwnerListView) (are :
   piece-none from last lasts = record {
     stale_is = refl;
     leftover_is = refl;
-    few_stale = omega arith;
-    few_leftover = omega arith;
     least_is = record { size = lasts.size; each = λ r k in_r in_k. least-none from r k (cell last n r k) (lasts.each r k in_r in_k) };
   }
 
@@ -176,14 +174,11 @@ module _ (round : ℕ) (tables : List Table) (lists : List OwnerListView) (are :
 
   pub piece-more : (from count stale leftover x y : ℕ) (old new cells last : List ℕ) → from + count < n → AreLastNumbers tables lists last → AreNumbersAt (from + count) cells
       → x ≡ total_of n keys (λ r k. nat_lt (cell cells n r k) (cell last n r k)) → y ≡ total_of n keys (λ r k. nat_lt 0 (cell cells n r k) && nat_le (cell cells n r k) (base_of (list r)))
-      → x ≤ MOST_NODES * MOST_KEYS → y ≤ MOST_NODES * MOST_KEYS
       → ArePlanesChanged (λ r k a b. b ≡ min a (cell cells n r k)) n keys old new
       → IsPiece round tables lists from count stale leftover old → IsPiece round tables lists from (count + 1) (stale + x) (leftover + y) new
-  piece-more from count stale leftover x y old new cells last in_p lasts at x_is y_is few_x few_y changed before = record {
+  piece-more from count stale leftover x y old new cells last in_p lasts at x_is y_is changed before = record {
     stale_is = sum_more (λ i. (node_figures round tables (lists_in lists) (from + i)).stale) count stale x before.stale_is (x_is ∙ sym (node_stale (from + count) in_p cells at last lasts));
     leftover_is = sum_more (λ i. (node_figures round tables (lists_in lists) (from + i)).leftover) count leftover y before.leftover_is (y_is ∙ sym (node_left (from + count) in_p cells at));
-    few_stale = omega (arith, before.few_stale, few_x);
-    few_leftover = omega (arith, before.few_leftover, few_y);
     least_is = record {
       size = changed.size ∙ before.least_is.size;
       each = λ r k in_r in_k.
@@ -203,8 +198,6 @@ module _ (round : ℕ) (tables : List Table) (lists : List OwnerListView) (are :
         (λ i. one.leftover_is i + two.leftover_is i)
         ∙ ap (λ m. sum_below a (λ i. (node_figures round tables (lists_in lists) (from + i)).leftover) + m) (sym (sum_below-same b _ _ (λ i lt. moved (λ p. (node_figures round tables (lists_in lists) p).leftover) from a i)))
         ∙ sum_below-joined (λ i. (node_figures round tables (lists_in lists) (from + i)).leftover) a b;
-    few_stale = omega (arith, one.few_stale, two.few_stale);
-    few_leftover = omega (arith, one.few_leftover, two.few_leftover);
     least_is = record {
       size = changed.size ∙ one.least_is.size;
       each = λ r k in_r in_k.

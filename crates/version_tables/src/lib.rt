@@ -3,6 +3,7 @@
 #![tactic(auto)]
 
 mod deltas;
+mod figures;
 mod histories;
 mod laws;
 mod tables;

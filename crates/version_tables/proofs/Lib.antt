@@ -17,4 +17,5 @@ pub mod Pieces
 pub mod Walks
 pub mod Standing
 pub mod Counted
+pub mod Parts
 pub mod Clearing

@@ -4,6 +4,9 @@ use Rattle.std.specs.List.{AllZip, range_with_len}
 use Rattle.rayon.specs.Numbers.{nat_range}
 use Rattle.rayon.proofs.ListFacts.{IfOk-then}
 use Rattle.rayon.proofs.ToStd.{nat_range-All}
+use denote.Exit.{yes}
+use denote.Param.Send.{Quiet-if}
+use mir.Syntax.{of_param}
 use Rattle.version_tables.specs.inner.Pieces.{tables_in, IsPartOf}
 use Rattle.version_tables.proofs.figures.parts_of.Goals as goal
 
@@ -12,7 +15,8 @@ collect-requires-clause-ready g c κs within =
     let ends = c.into_par_iter.ensures in
     let last = length c.args.tables.now / c.args.size in
     let inside = nat_range-All (λ i. i ≤ last) 0 (last + 1) (λ i low high. omega arith) in
-    rw (c.map.ensures.base, c.map.ensures.f, c.with_min_len.ensures.base, ends.0, ends.1) ?
+    rw (c.map.ensures.base, c.map.ensures.f, c.with_min_len.ensures.base, ends.0, ends.1)
+    (λ n d lt. (((c.requires.laid, c.requires.last, c.requires.forgot, c.requires.some, inside n d lt), (c.type_bounds.send-N, record { owned = c.type_bounds.send-H.owned; leaving = λ k. Quiet-if (k (of_param 1)) _ _ (λ x w. tt) (λ x w. tt) }, c.type_bounds.sync-N, record { shared = c.type_bounds.sync-H.shared })), λ y p. tt))
 
 pub returns : goal.returns
 returns g c =

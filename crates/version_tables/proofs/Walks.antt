@@ -1,6 +1,7 @@
 -- The first write of an owner that some copy misses has been missed for longest.
 -- Serves nothing yet.
-use Rattle.std.proofs.Common.{◌≡◌, ◌≢◌, ℕ, zero, suc, ◌+◌, ◌-◌, ◌<◌, ◌≤◌, min, max, List, length, map, Option, Some, None, ◌⊎◌, inl, inr, refl, sym, ap, ◌∙◌, subst, arith}
+use Rattle.std.proofs.Common.{◌≡◌, ◌≢◌, ℕ, zero, suc, ◌+◌, ◌-◌, ◌*◌, ◌<◌, ◌≤◌, min, max, List, length, map, Option, Some, None, ◌⊎◌, inl, inr, refl, sym, ap, ◌∙◌, subst, arith}
+use Rattle.std.proofs.Math.Nat.{mul-le-mul_right}
 use Rattle.std.proofs.lemmas.Bool.{cases_lt, cases_eq}
 use Rattle.std.proofs.lemmas.Option.{same_Some}
 use Rattle.bench_types.specs.declared.entries.Entry.{Entry}
@@ -9,6 +10,8 @@ use Rattle.owner_lists.specs.Numbers.{write_numbered}
 use Rattle.round_tables.specs.Histories.{BirthsRise}
 use Rattle.staleness.specs.Figures.{most_below, rounds_behind}
 use Rattle.version_tables.specs.inner.Missed.{base_of, number_staleness, IsMissed, IsFirstMissed, HasNoneMissed, IsLastNumber, NonePassUpto}
+use Rattle.version_tables.specs.inner.Pieces.{WalksFrom}
+use Rattle.version_tables.proofs.Offers.{write_from-at}
 use Rattle.version_tables.proofs.Fitting.{numbered-upto}
 use Rattle.version_tables.proofs.Missed.{missed_cases}
 use Rattle.version_tables.proofs.Lagging.{born-by_number}
@@ -94,3 +97,16 @@ module _ (v : OwnerListView) (least : ℕ → ℕ) where
               ap rounds_behind found.1.1.1
               ∙ ap (λ (x : Entry). round - x.born + 1) (same_Some found.1.0 e (sym missed.written ∙ ap (write_numbered all) same ∙ is))
         ]
+
+-- what a walk reads
+module _ (round nodes keys owner first : ℕ) (v : OwnerListView) (least : List ℕ) (walks : WalksFrom round nodes keys owner first v least) (place : ℕ) (e : Entry) (current : base_of v ≤ place) (is : write_numbered (entries_of v) (place + 1) ≡ Some e) where
+  pub walk-keyed : e.key < keys
+  walk-keyed = walks.may.keyed (place + 1) e is (omega (arith, current))
+
+  pub walk-index : e.key * nodes + owner < length least
+  walk-index = omega (arith, walks.may.size, walks.may.among, mul-le-mul_right {m = e.key + 1} {n = keys} nodes (omega (arith, walk-keyed)))
+
+  pub walk-born : e.born ≤ round
+  walk-born =
+      let at = write_from-at (entries_of v) place e e (ap (write_numbered (entries_of v)) {x = suc place} {y = place + 1} (omega arith) ∙ is) in
+      subst (λ (x : Entry). x.born ≤ round) at.1 (walks.may.born place e at.0)

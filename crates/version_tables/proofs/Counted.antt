@@ -1,6 +1,6 @@
 -- What is counted where no node has forgotten.
 -- Serves nothing yet.
-use Rattle.std.proofs.Common.{◌≡◌, ℕ, zero, suc, ◌+◌, ◌*◌, ◌<◌, ◌≤◌, Bool, true, false, cond, ◌&&◌, List, [], length, get_or, map, refl, sym, ap, ◌∙◌, arith, inl, inr}
+use Rattle.std.proofs.Common.{◌≡◌, ℕ, zero, suc, ◌+◌, ◌*◌, ◌<◌, ◌≤◌, Bool, true, false, cond, ◌&&◌, List, [], length, get_or, map, refl, sym, ap, ◌∙◌, subst, arith, inl, inr}
 use Rattle.std.specs.Prelude.{nat_lt, nat_le}
 use Rattle.std.proofs.lemmas.Bool.{cases_lt, lt-ltb, le-ltb, lt-leb, both_ways}
 use Rattle.std.proofs.Math.Nat.{mul-le-mul_right}
@@ -10,7 +10,7 @@ use Rattle.planes.specs.Sums.{sum_below}
 use Rattle.planes.specs.Planes.{Cells, total_of}
 use Rattle.planes.proofs.Elementwise.{number-at}
 use Rattle.version_tables.specs.Views.{VersionTableView, IsKept}
-use Rattle.version_tables.specs.inner.Pieces.{own_number, AreAlike}
+use Rattle.version_tables.specs.inner.Pieces.{own_number, AreAlike, IsOwnNumber}
 use Rattle.planes.proofs.Sums.{sum_below-same}
 
 sum_of-none : (m : ℕ) → sum_below m (λ _. 0) ≡ 0
@@ -46,6 +46,13 @@ module _ (written : ℕ → List Entry) (views : List VersionTableView) (keys ke
   own-read number r v cells x lt is kept same at =
       number-at number cells (key * length views + r) x (omega (arith, own-within r v lt is kept, ap length same, length-map cells number)) at
       ∙ ap (λ xs. get_or xs (key * length views + r) 0) (same ∙ ap (λ (y : VersionTableView). y.cells) (is ∙ get_or_default views r v (record { node = 0; nodes = 0; keys = 0; generation = 0; cells = []; greatest = [] }) lt))
+
+  pub own-number : {N : Type 0} (number : N → ℕ) (r : ℕ) (v : VersionTableView) (cells : List N) (x : N) → r < length views → v ≡ get_or views r v → IsKept written v → map number cells ≡ v.cells
+      → x ≡ get_or cells (key * length views + r) x → IsOwnNumber written views r key (number x)
+  own-number number r v cells x lt is kept same at = record {
+    is = own-read number r v cells x lt is kept same at;
+    kept = subst (IsKept written) (is ∙ get_or_default views r v (record { node = 0; nodes = 0; keys = 0; generation = 0; cells = []; greatest = [] }) lt) kept;
+  }
 
 pub not_above : (none number : ℕ) → none ≡ 0 → nat_lt none number ≡ false → number ≡ 0
 not_above none number is not = elim (cases_lt none number) [

@@ -18,4 +18,5 @@ pub mod Walks
 pub mod Standing
 pub mod Counted
 pub mod Parts
+pub mod Whole
 pub mod Clearing

@@ -1,9 +1,13 @@
 -- Pieces of tables as code counts them, table by table and part by part.
 -- Serves nothing yet.
 use Rattle.std.proofs.Common.{◌≡◌, ◌≢◌, ℕ, zero, suc, ◌+◌, ◌-◌, ◌*◌, ◌<◌, ◌≤◌, min, max, Bool, true, false, cond, ◌&&◌, List, [], ◌++◌, take, drop, length, get_or, map, refl, sym, ap, ◌∙◌, subst, arith}
-use Rattle.std.specs.Prelude.{nat_lt, nat_le}
+use Rattle.std.specs.Prelude.{nat_lt, nat_le, Result, Ok, IfOk}
+use Rattle.std.specs.List.{AllZip, range_with_len}
+use Rattle.std.proofs.lemmas.List.FromFn.{length-range_with_len}
+use Rattle.std.proofs.lemmas.Slice.Zip.{AllZip-long}
 use Rattle.std.proofs.lemmas.List.{length-map, append-nil, drop_all, take_all}
 use Rattle.bench_types.specs.declared.entries.Entry.{Entry}
+use Rattle.bench_types.specs.declared.faults.Fault.{Fault}
 use Rattle.bench_types.specs.declared.limits.TheConstants.{MOST_NODES, MOST_KEYS}
 use Rattle.node_table.specs.Table.{Table}
 use Rattle.cluster.specs.Tables.{table_of_node}
@@ -12,10 +16,12 @@ use Rattle.planes.specs.Sums.{sum_below}
 use Rattle.planes.specs.Planes.{Cells, cell, total_of, HasEach, HasEachPlace, ArePlanesChanged, IsGrid}
 use Rattle.planes.proofs.Sums.{sum_below-same}
 use Rattle.planes.proofs.Counts.{count_le}
+use Rattle.staleness.proofs.Counting.{at_place}
+use Rattle.staleness.proofs.Places.{one_more}
 use Rattle.staleness.proofs.Sums.{sum_below-le}
 use Rattle.version_tables.specs.Views.{VersionTableView, IsKept}
 use Rattle.version_tables.specs.inner.Missed.{base_of, IsNumberAt}
-use Rattle.version_tables.specs.inner.Pieces.{tables_in, keys_in, AreLaid, AreLastNumbers, IsPieceOf}
+use Rattle.version_tables.specs.inner.Pieces.{tables_in, keys_in, AreLaid, AreLastNumbers, IsPieceOf, IsPartOf}
 use Rattle.version_tables.proofs.Pieces.{piece-none, piece-more, piece-joined}
 use Rattle.version_tables.proofs.Standing.{count-tables_in, cells-count, numbers-at}
 
@@ -91,6 +97,28 @@ module _ (written : ℕ → List Entry) (views : List VersionTableView) (lists :
           (subst (λ m. ArePlanesChanged (λ r k c d. d ≡ min c (cell other m r k)) m (keys_in tables) old new) (sym same)
           (subst (λ ks. ArePlanesChanged (λ r k c d. d ≡ min c (cell other nodes r k)) nodes ks old new) keys_are changed));
     }
+
+    -- the first parts, and the next one
+    pub part-next : (size p stale leftover x y : ℕ) (old new other : List ℕ) → p * size ≤ nodes → IsPieceOf tables lists 0 (min (p * size) nodes) stale leftover old → IsPartOf tables lists size p x y other
+        → ArePlanesChanged (λ r k c d. d ≡ min c (cell other nodes r k)) nodes keys old new → IsPieceOf tables lists 0 (min ((p + 1) * size) nodes) (stale + x) (leftover + y) new
+    part-next size p stale leftover x y old new other inside one two changed =
+        let behind : p * size ≡ 0 + min (p * size) nodes = omega (arith, inside) in
+        let up : min (p * size) nodes + min size (length tables - p * size) ≡ min ((p + 1) * size) nodes = omega (arith, inside, same, one_more p size) in
+        subst (λ m. IsPieceOf tables lists 0 m (stale + x) (leftover + y) new) up
+        (part-joined 0 (min (p * size) nodes) (min size (length tables - p * size)) stale leftover x y old new other one (subst (λ f. IsPieceOf tables lists f (min size (length tables - p * size)) x y other) behind two) changed)
+
+-- what was found of a part
+pub part-found : {X : Type 0} (P : ℕ → X → Type 0) (count : ℕ) (items parts : List (Result X Fault)) (k : ℕ) (r : Result X Fault) (x : X) → items ≡ parts → AllZip (λ part found. IfOk found (P part)) (range_with_len 0 count) parts
+    → k < length items → r ≡ get_or items k r → r ≡ Ok x → P k x × (k < count)
+part-found {X} P count items parts k r x same each lt is ok =
+    let many : length parts ≡ count = AllZip-long (λ part found. IfOk found (P part)) (range_with_len 0 count) parts each ∙ length-range_with_len 0 count in
+    let below : k < count = omega (arith, lt, ap length same, many) in
+    let here : 0 + k ≡ k = omega arith in
+    let at : IfOk (get_or parts k r) (P (0 + k)) = at_place (λ part found. IfOk found (P part)) 0 count parts each k r below in
+    (subst (λ n. P n x) here (subst (λ o. IfOk o (P (0 + k))) (sym (is ∙ ap (λ xs. get_or xs k r) same) ∙ ok) at), below)
+
+pub many-parts : {X : Type 0} (P : ℕ → X → Type 0) (count : ℕ) (parts : List (Result X Fault)) → AllZip (λ part found. IfOk found (P part)) (range_with_len 0 count) parts → length parts ≡ count
+many-parts P count parts each = AllZip-long (λ part found. IfOk found (P part)) (range_with_len 0 count) parts each ∙ length-range_with_len 0 count
 
 -- a slice that was written into is all of its vector again
 pub all_written : {X : Type 0} (len : ℕ) (new items : List X) → length new ≡ length items → len ≡ length items → take len (new ++ drop (length new) items) ≡ new

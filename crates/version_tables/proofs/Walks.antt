@@ -5,12 +5,13 @@ use Rattle.std.proofs.Math.Nat.{mul-le-mul_right}
 use Rattle.std.proofs.lemmas.Bool.{cases_lt, cases_eq}
 use Rattle.std.proofs.lemmas.Option.{same_Some}
 use Rattle.bench_types.specs.declared.entries.Entry.{Entry}
-use Rattle.owner_lists.specs.OwnerListView.{OwnerListView, entries_of, AreWrites}
+use Rattle.owner_lists.specs.OwnerListView.{OwnerListView, entries_of, list_of_owner, AreWrites}
 use Rattle.owner_lists.specs.Numbers.{write_numbered}
+use Rattle.planes.specs.Planes.{cell}
 use Rattle.round_tables.specs.Histories.{BirthsRise}
 use Rattle.staleness.specs.Figures.{most_below, rounds_behind}
 use Rattle.version_tables.specs.inner.Missed.{base_of, number_staleness, IsMissed, IsFirstMissed, HasNoneMissed, IsLastNumber, NonePassUpto}
-use Rattle.version_tables.specs.inner.Pieces.{WalksFrom}
+use Rattle.version_tables.specs.inner.Pieces.{MayWalk, WalksFrom}
 use Rattle.version_tables.proofs.Offers.{write_from-at}
 use Rattle.version_tables.proofs.Fitting.{numbered-upto}
 use Rattle.version_tables.proofs.Missed.{missed_cases}
@@ -99,7 +100,7 @@ module _ (v : OwnerListView) (least : ℕ → ℕ) where
         ]
 
 -- what a walk reads
-module _ (round nodes keys owner first : ℕ) (v : OwnerListView) (least : List ℕ) (walks : WalksFrom round nodes keys owner first v least) (place : ℕ) (e : Entry) (current : base_of v ≤ place) (is : write_numbered (entries_of v) (place + 1) ≡ Some e) where
+module _ (round most nodes keys owner first : ℕ) (v : OwnerListView) (least : List ℕ) (walks : WalksFrom round most nodes keys owner first v least) (place : ℕ) (e : Entry) (current : base_of v ≤ place) (is : write_numbered (entries_of v) (place + 1) ≡ Some e) where
   pub walk-keyed : e.key < keys
   walk-keyed = walks.may.keyed (place + 1) e is (omega (arith, current))
 
@@ -110,3 +111,17 @@ module _ (round nodes keys owner first : ℕ) (v : OwnerListView) (least : List 
   walk-born =
       let at = write_from-at (entries_of v) place e e (ap (write_numbered (entries_of v)) {x = suc place} {y = place + 1} (omega arith) ∙ is) in
       subst (λ (x : Entry). x.born ≤ round) at.1 (walks.may.born place e at.0)
+
+-- an owner's list among those of all
+pub walks-from : (round most nodes keys r first : ℕ) (lists : List OwnerListView) (v : OwnerListView) (least last : List ℕ) → v ≡ list_of_owner lists r → MayWalk round most nodes keys r (list_of_owner lists r) least
+    → ((k : ℕ) → k < keys → IsLastNumber (list_of_owner lists r) k (cell last nodes r k))
+    → ((k : ℕ) → k < keys → cell least nodes r k < cell last nodes r k → first ≤ cell least nodes r k) → WalksFrom round most nodes keys r first v least
+walks-from round most nodes keys r first lists v least last is may lasts upto =
+    subst (λ w. WalksFrom round most nodes keys r first w least) (sym is) (record {
+      may = may;
+      start = walk-start (list_of_owner lists r) (cell least nodes r) keys first (cell last nodes r) may.keyed lasts upto;
+    })
+
+-- one more owner
+pub most-next : (f : ℕ → ℕ) (r x y z : ℕ) → x ≡ most_below r f → z ≡ max x y → y ≡ f r → z ≡ most_below (r + 1) f
+most-next f r x y z is joined now = joined ∙ (λ i. max (is i) (now i)) ∙ ap (λ m. most_below m f) {x = suc r} {y = r + 1} (omega arith)

@@ -13,7 +13,7 @@ ghost use Rattle.planes.specs.Planes.{cell, total_of, ArePlanesChanged, HasEach,
 ghost use Rattle.round_tables.specs.Histories.{BirthsRise, AreWrittenBy, StandsAmong};
 ghost use Rattle.staleness.specs.Figures.{most_below, rounds_behind, figures_of};
 ghost use Rattle.version_tables.specs.inner.Missed.{IsLastNumber};
-ghost use Rattle.version_tables.specs.inner.Pieces.{keys_in, tables_in, own_number, AreAlike, AreCountable, AreLaid, AreLastNumbers, IsPieceOf, IsPartOf, NoneForgot, MayWalk, WalksFrom, most_lag};
+ghost use Rattle.version_tables.specs.inner.Pieces.{keys_in, tables_in, AreAlike, AreCountable, AreLaid, AreLastNumbers, IsOwnNumber, IsPieceOf, IsPartOf, NoneForgot, MayWalk, WalksFrom, most_lag};
 
 use crate::histories::Histories;
 use crate::tables::{VersionTable, Written};
@@ -77,7 +77,8 @@ fn put_own_numbers<N: Number, H: Written>(
     requires few_keys { keys ≤ MOST_KEYS }
     requires alike { AreAlike keys tables.now }
     requires key { key < keys }
-    ensures { AreChanged (λ r x y. y ≡ own_number tables.now r key) (map N.number plane.old) (map N.number plane.new) }
+    ensures { AreChanged (λ r x y. IsOwnNumber H.lists tables.now r key y)
+        (map N.number plane.old) (map N.number plane.new) }
 {
     let nodes = tables.len();
     for owner in 0..plane.len() {
@@ -93,7 +94,7 @@ fn put_last_numbers<N: Number, H: Written>(
 )
     requires grid { IsGrid (length tables.now) keys (length last.old) }
     requires alike { AreAlike keys tables.now }
-    ensures { ArePlanesChanged (λ r k x y. y ≡ own_number tables.now r k) (length tables.now) keys
+    ensures { ArePlanesChanged (λ r k x y. IsOwnNumber H.lists tables.now r k y) (length tables.now) keys
         (map N.number last.old) (map N.number last.new) }
 {
     let nodes = tables.len();
@@ -113,7 +114,7 @@ fn last_numbers<N: Number, H: Written>(
     requires few { length tables.now ≤ MOST_NODES }
     requires few_keys { keys ≤ MOST_KEYS }
     requires alike { AreAlike keys tables.now }
-    ensures own { IfOk result (λ v. HasEachPlace (length tables.now) keys (λ r k y. y ≡ own_number tables.now r k)
+    ensures own { IfOk result (λ v. HasEachPlace (length tables.now) keys (IsOwnNumber H.lists tables.now)
         (map N.number v.items)) }
     ensures only { IsOkUnless result OutOfMemory }
 {
@@ -243,8 +244,8 @@ fn parts_of<N: Number, H: Written>(
         .collect(rt, alloc)
 }
 
-// For how many rounds a copy of an owner has missed a write at most: that since the first one that some copy
-// misses, which stands behind a number.
+// For how many rounds a copy of an owner has missed a write at most: since the first one that some copy misses,
+// which stands behind a number, the greatest where there is none.
 fn lag_of_owner<N: Number>(
     list: &OwnerList,
     owner: usize,
@@ -253,10 +254,13 @@ fn lag_of_owner<N: Number>(
     nodes: usize,
     round: u32,
 ) -> u32
-    requires { (keys : ℕ) × WalksFrom round nodes keys owner (N.number first) list.now (map N.number least.now) }
-    ensures { (keys : ℕ) → WalksFrom round nodes keys owner (N.number first) list.now (map N.number least.now)
+    requires { (keys : ℕ) × WalksFrom round N.most nodes keys owner (N.number first) list.now (map N.number least.now) }
+    ensures { (keys : ℕ) → WalksFrom round N.most nodes keys owner (N.number first) list.now (map N.number least.now)
         → result ≡ most_lag round nodes keys owner list.now (map N.number least.now) }
 {
+    if first.widen() == N::greatest().widen() {
+        return 0;
+    }
     let from = list.earlier_count().max(first.widen() as usize);
     for place in from..list.count() {
         if let Some(write) = list.numbered(place as u32 + 1) {
@@ -279,7 +283,7 @@ fn greatest_lag<N: Number>(
 ) -> Result<u32, Fault>
     requires grid { IsGrid (length lists.now) keys (length least.now) }
     requires walk { (r : ℕ) → r < length lists.now
-        → MayWalk round (length lists.now) keys r (list_of_owner lists.now r) (map N.number least.now) }
+        → MayWalk round N.most (length lists.now) keys r (list_of_owner lists.now r) (map N.number least.now) }
     requires last { HasEachPlace (length lists.now) keys (λ r k y. IsLastNumber (list_of_owner lists.now r) k y)
         (map N.number last.now) }
     ensures lag { IfOk result (λ x. x ≡ most_below (length lists.now)
@@ -294,4 +298,95 @@ fn greatest_lag<N: Number>(
         greatest = greatest.max(lag);
     }
     Ok(greatest)
+}
+
+// How many numbers are worth a thread of their own.
+const NUMBERS_OF_A_THREAD: usize = 65_536;
+
+// How many tables a thread gets, about half as many as would give each thread a part. It bears on time and
+// memory alone.
+fn tables_of_a_thread(rt: &impl Threads, tables: usize, keys: usize) -> usize
+    ensures { 1 ≤ result }
+{
+    let numbers = tables.saturating_mul(keys);
+    let least = NUMBERS_OF_A_THREAD / numbers.max(1);
+    (tables / current_num_threads(rt) / 2)
+        .max(least)
+        .saturating_add(1)
+}
+
+// What all tables say.
+fn counted<N: Number, H: Written>(
+    rt: &(impl Threads + Sync),
+    alloc: Global,
+    tables: &[VersionTable<N, H>],
+    histories: &Histories<N, H>,
+    last: &[N],
+) -> Result<Piece<N>, Fault>
+    requires laid { AreLaid H.lists tables.now histories.now.lists }
+    requires last { AreLastNumbers (tables_in H.lists tables.now) histories.now.lists (map N.number last.now) }
+    ensures piece { IfOk result (λ p. IsPieceOf (tables_in H.lists tables.now) histories.now.lists 0 (length tables.now)
+        p.stale p.leftover (map N.number p.least.items)) }
+    ensures only { IsOkUnless result OutOfMemory }
+{
+    let nodes = tables.len();
+    let keys = keys_of(tables);
+    let size = tables_of_a_thread(rt, nodes, keys);
+    let forgot = has_forgotten(histories.bases());
+    let parts = parts_of(rt, alloc, tables, histories, last, forgot, size)?;
+    let mut stale = 0;
+    let mut leftover = 0;
+    let mut least = copied(alloc, last)?;
+    for part in &parts {
+        match part {
+            Ok(part) => {
+                stale += part.stale;
+                leftover += part.leftover;
+                lower_all(&mut least, &part.least, nodes, keys);
+            }
+            Err(_) => return Err(Fault::OutOfMemory),
+        }
+    }
+    Ok(Piece {
+        stale,
+        leftover,
+        least,
+    })
+}
+
+/// The figures at the end of a round, down nodes included: how many keys of copies are below the
+/// last writes in their owners' lists, by marks, each list of its owner's generation; the greatest
+/// number of rounds since the first write that one of them missed, that round included; and how many
+/// entries of copies are of an older generation than their owner's.
+///
+/// It works in threads, where there are enough nodes, and what it answers does not depend on how. Each
+/// goes once over the numbers of some of the tables. Then each owner's list is walked over from the first
+/// write that some copy misses, if any, to the next one. It takes memory for the numbers of a table for
+/// each part of the tables and twice more, and an error is want of that.
+pub fn figures<N: Number, H: Written>(
+    rt: &(impl Threads + Sync),
+    alloc: Global,
+    tables: &[VersionTable<N, H>],
+    histories: &Histories<N, H>,
+    round: u32,
+) -> Result<Figures, Fault>
+    requires cluster { IsCluster (length tables.now) (tables_in H.lists tables.now) }
+    requires one_list_each { length histories.now.lists ≡ length tables.now }
+    requires round { round ≤ MOST_ROUNDS }
+    requires written { AreWrittenBy round histories.now.lists }
+    requires standing { HoldsOfEach (StandsAmong histories.now.lists) (tables_in H.lists tables.now) }
+    ensures figures { IfOk result
+        (λ f. f ≡ figures_of round (tables_in H.lists tables.now) (lists_in histories.now.lists)) }
+    ensures only { IsOkUnless result OutOfMemory }
+{
+    let keys = keys_of(tables);
+    let lists = histories.lists();
+    let last = last_numbers(alloc, tables, keys)?;
+    let whole = counted(rt, alloc, tables, histories, &last)?;
+    let greatest = greatest_lag(alloc, lists, &whole.least, &last, keys, round)?;
+    Ok(Figures {
+        stale: whole.stale,
+        greatest,
+        leftover: whole.leftover,
+    })
 }

@@ -1,5 +1,5 @@
 -- What is counted of some of the tables at the end of a round. Source: this project.
-use Rattle.std.specs.Prelude.{◌≡◌, ℕ, ◌+◌, ◌-◌, ◌*◌, ◌^◌, ◌<◌, ◌≤◌, min, max, All, List, [], length, map, slice_index_or, Some}
+use Rattle.std.specs.Prelude.{◌≡◌, ℕ, ◌+◌, ◌-◌, ◌*◌, ◌<◌, ◌≤◌, min, max, All, List, [], length, map, slice_index_or, Some}
 use Rattle.bench_types.specs.declared.entries.Entry.{Entry}
 use Rattle.bench_types.specs.declared.limits.TheConstants.{MOST_NODES, MOST_KEYS, MOST_ROUNDS}
 use Rattle.node_table.specs.Table.{Table}
@@ -10,7 +10,7 @@ use Rattle.planes.specs.Sums.{sum_below}
 use Rattle.planes.specs.Planes.{cell, HasEachPlace}
 use Rattle.round_tables.specs.Histories.{BirthsRise, AreWrittenBy, StandsAmong}
 use Rattle.staleness.specs.Figures.{most_below, staleness_at, rounds_behind, node_figures}
-use Rattle.version_tables.specs.Views.{VersionTableView, table_in}
+use Rattle.version_tables.specs.Views.{VersionTableView, table_in, IsKept}
 use Rattle.version_tables.specs.inner.Histories.{IsBeginning}
 use Rattle.version_tables.specs.inner.Missed.{base_of, number_staleness, IsLastNumber, NonePassUpto}
 
@@ -45,7 +45,6 @@ pub record AreCountable (round : ℕ) (tables : List Table) (lists : List OwnerL
 pub record AreLaid (written : ℕ → List Entry) (views : List VersionTableView) (lists : List OwnerListView) : Type 0 where
   pub together : StandTogether (tables_in written views) lists
   pub begins : (owner : ℕ) → IsBeginning (entries_of (list_of_owner lists owner)) (written owner)
-  pub few_writes : (owner : ℕ) → length (entries_of (list_of_owner lists owner)) < 2 ^ 32
 
 -- the last numbers of all owners' keys
 abbrev pub AreLastNumbers : List Table → List OwnerListView → List ℕ → Type 0
@@ -89,14 +88,19 @@ AreAlike keys views =
 abbrev pub own_number : List VersionTableView → ℕ → ℕ → ℕ
 own_number views owner key = cell (view_at views owner).cells (length views) owner key
 
+-- and so it was read
+pub record IsOwnNumber (written : ℕ → List Entry) (views : List VersionTableView) (owner key number : ℕ) : Type 0 where
+  pub is : number ≡ own_number views owner key
+  pub kept : IsKept written (view_at views owner)
+
 -- an owner's list may be walked over beside the least numbers held of its keys
-pub record MayWalk (round nodes keys owner : ℕ) (list : OwnerListView) (least : List ℕ) : Type 0 where
+pub record MayWalk (round most nodes keys owner : ℕ) (list : OwnerListView) (least : List ℕ) : Type 0 where
   pub among : owner < nodes
   pub few_nodes : nodes ≤ MOST_NODES
   pub few_keys : keys ≤ MOST_KEYS
   pub round_limit : round ≤ MOST_ROUNDS
   pub writes : AreWrites list
-  pub few_writes : length (entries_of list) < 2 ^ 32
+  pub few_writes : length (entries_of list) < most
   pub born : All (λ e. e.born ≤ round) (entries_of list)
   pub in_order : BirthsRise (entries_of list)
   pub keyed : (m : ℕ) (e : Entry) → write_numbered (entries_of list) m ≡ Some e → base_of list < m → e.key < keys
@@ -104,8 +108,8 @@ pub record MayWalk (round nodes keys owner : ℕ) (list : OwnerListView) (least 
   pub written : (key : ℕ) → key < keys → cell least nodes owner key ≤ length (entries_of list)
 
 -- from a number on
-pub record WalksFrom (round nodes keys owner first : ℕ) (list : OwnerListView) (least : List ℕ) : Type 0 where
-  pub may : MayWalk round nodes keys owner list least
+pub record WalksFrom (round most nodes keys owner first : ℕ) (list : OwnerListView) (least : List ℕ) : Type 0 where
+  pub may : MayWalk round most nodes keys owner list least
   pub start : NonePassUpto list (cell least nodes owner) (max (base_of list) first)
 
 -- the most rounds that a copy of an owner's keys has been behind

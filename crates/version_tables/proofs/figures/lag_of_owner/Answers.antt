@@ -16,7 +16,7 @@ offset_bounds-least-write g c =
     let w = c.requires in
     omega (
       arith,
-      walk-index c.args.round c.args.nodes w.0 c.args.owner (g.N.Number.number c.args.first) c.args.list.now (map g.N.Number.number c.args.least.now) w.1 c.loop-place.place c.in-Some.write
+      walk-index c.args.round g.N.Number.most c.args.nodes w.0 c.args.owner (g.N.Number.number c.args.first) c.args.list.now (map g.N.Number.number c.args.least.now) w.1 c.loop-place.place c.in-Some.write
       (omega (arith, c.loop-place.auto.place, c.max-from.ensures, c.earlier_count.ensures)) (sym c.in-Some.ensures),
       length-map c.args.least.now g.N.Number.number,
     )
@@ -26,7 +26,7 @@ bounds-least-write g c =
     let w = c.requires in
     omega (
       arith,
-      walk-index c.args.round c.args.nodes w.0 c.args.owner (g.N.Number.number c.args.first) c.args.list.now (map g.N.Number.number c.args.least.now) w.1 c.loop-place.place c.in-Some.write
+      walk-index c.args.round g.N.Number.most c.args.nodes w.0 c.args.owner (g.N.Number.number c.args.first) c.args.list.now (map g.N.Number.number c.args.least.now) w.1 c.loop-place.place c.in-Some.write
       (omega (arith, c.loop-place.auto.place, c.max-from.ensures, c.earlier_count.ensures)) (sym c.in-Some.ensures),
       length-map c.args.least.now g.N.Number.number,
     )
@@ -34,7 +34,7 @@ bounds-least-write g c =
 pub overflow_sub-result : goal.overflow_sub-result
 overflow_sub-result g c =
     let w = c.requires in
-    walk-born c.args.round c.args.nodes w.0 c.args.owner (g.N.Number.number c.args.first) c.args.list.now (map g.N.Number.number c.args.least.now) w.1 c.loop-place.place c.in-Some.write
+    walk-born c.args.round g.N.Number.most c.args.nodes w.0 c.args.owner (g.N.Number.number c.args.first) c.args.list.now (map g.N.Number.number c.args.least.now) w.1 c.loop-place.place c.in-Some.write
     (omega (arith, c.loop-place.auto.place, c.max-from.ensures, c.earlier_count.ensures)) (sym c.in-Some.ensures)
 
 pub returns-then-widen-place : goal.returns-then-widen-place
@@ -45,10 +45,10 @@ returns-then-widen-place g c keys walks =
     let place = c.loop-place.place in
     let is : write_numbered (entries_of v) (place + 1) ≡ Some e = sym c.in-Some.ensures in
     let current : base_of v ≤ place = omega (arith, c.loop-place.auto.place, c.max-from.ensures, c.earlier_count.ensures) in
-    let index = walk-index c.args.round c.args.nodes keys c.args.owner (g.N.Number.number c.args.first) v numbers walks place e current is in
+    let index = walk-index c.args.round g.N.Number.most c.args.nodes keys c.args.owner (g.N.Number.number c.args.first) v numbers walks place e current is in
     let here = number-at g.N.Number.number c.args.least.now (e.key * c.args.nodes + c.args.owner) c.index-least-write.result (omega (arith, index, length-map c.args.least.now g.N.Number.number)) c.index-least-write.is in
     sym (walk-found v (cell numbers c.args.nodes c.args.owner) c.args.round keys walks.may.writes walks.may.written walks.may.in_order place e c.loop-place.invariant current is
-    (walk-keyed c.args.round c.args.nodes keys c.args.owner (g.N.Number.number c.args.first) v numbers walks place e current is)
+    (walk-keyed c.args.round g.N.Number.most c.args.nodes keys c.args.owner (g.N.Number.number c.args.first) v numbers walks place e current is)
     (omega (arith, c.if-widen-place.true, c.widen-in-Some.ensures, here)))
 
 pub loop-place-preserved : goal.loop-place-preserved
@@ -62,7 +62,7 @@ loop-place-preserved g c =
           let x = w.in-Some.write in
           let same : x ≡ e = same_Some x e (sym w.in-Some.is ∙ c.numbered.ensures ∙ is) in
           let there : write_numbered (entries_of v) (place + 1) ≡ Some x = sym c.numbered.ensures ∙ w.in-Some.is in
-          let index = walk-index c.args.round c.args.nodes c.requires.0 c.args.owner (g.N.Number.number c.args.first) v numbers c.requires.1 place x current there in
+          let index = walk-index c.args.round g.N.Number.most c.args.nodes c.requires.0 c.args.owner (g.N.Number.number c.args.first) v numbers c.requires.1 place x current there in
           let here = number-at g.N.Number.number c.args.least.now (x.key * c.args.nodes + c.args.owner) w.index-least-write.result (omega (arith, index, length-map c.args.least.now g.N.Number.number)) w.index-least-write.is in
           omega (arith, w.if-widen-place.false, w.widen-in-Some.ensures, here, ap (λ (y : Entry). cell numbers c.args.nodes c.args.owner y.key) same)
       | in_default w ↦ absurd (w.in_default.not-Some e (c.numbered.ensures ∙ is))

@@ -1,4 +1,4 @@
-use Rattle.std.proofs.Common.{◌≡◌, ℕ, ◌+◌, ◌*◌, ◌<◌, ◌≤◌, max, length, get_or, map, sym, ap, ◌∙◌, subst, arith}
+use Rattle.std.proofs.Common.{rules, ◌≡◌, ℕ, ◌+◌, ◌*◌, ◌<◌, ◌≤◌, max, length, get_or, map, sym, ap, ◌∙◌, subst, arith}
 use Rattle.std.proofs.lemmas.List.{length-map, get_or_default}
 use Rattle.owner_lists.specs.OwnerListView.{OwnerListView, list_of_owner, no_writes}
 use Rattle.planes.specs.Planes.{cell}
@@ -30,7 +30,7 @@ loop-owner-preserved g c =
     let walks = walks-from c.args.round g.N.Number.most (length lists) c.args.keys r (g.N.Number.number c.index.result.now) lists c.index-lists-owner.result least (map g.N.Number.number c.args.last.now)
     list_is (c.requires.walk r lt) (λ k in_k. c.requires.last.each r k lt in_k)
     (λ k in_k behind. omega (arith, first, (firsts.each r lt).no_less k in_k behind)) in
-    let joined : c.max-greatest.result ≡ max c.loop-owner.greatest c.lag_of_owner-lag.result = omega arith in
+    let joined : c.max-greatest.result ≡ max c.loop-owner.greatest c.lag_of_owner-lag.result = search rules in
     most-next (λ q. most_lag c.args.round (length lists) c.args.keys q (list_of_owner lists q) least) r c.loop-owner.greatest c.lag_of_owner-lag.result c.max-greatest.result c.loop-owner.invariant
     joined
     (c.lag_of_owner-lag.ensures c.args.keys walks ∙ ap (λ v. most_lag c.args.round (length lists) c.args.keys r v least) list_is)

@@ -1,4 +1,4 @@
-use Rattle.std.proofs.Common.{◌≡◌, ℕ, ◌+◌, ◌*◌, ◌<◌, ◌≤◌, Some, None, length, map, sym, ap, ◌∙◌, subst, arith}
+use Rattle.std.proofs.Common.{◌≡◌, ℕ, ◌+◌, ◌*◌, ◌<◌, ◌≤◌, Some, None, max, length, map, sym, ap, ◌∙◌, subst, arith}
 use Rattle.std.proofs.lemmas.List.{length-map}
 use Rattle.std.proofs.lemmas.Option.{same_Some}
 use Rattle.bench_types.specs.declared.entries.Entry.{Entry}
@@ -10,6 +10,13 @@ use Rattle.version_tables.specs.inner.Missed.{base_of}
 use Rattle.version_tables.proofs.Walks.{walk-next, walk-none, walk-found, walk-keyed, walk-index, walk-born}
 use Rattle.version_tables.proofs.figures.lag_of_owner.Goals as goal
 use Rattle.version_tables.proofs.figures.lag_of_owner.Goals.{in-Some+else-widen-place, in_default}
+
+pub returns-then-widen : goal.returns-then-widen
+returns-then-widen g c keys walks =
+    let v = c.args.list.now in
+    let numbers = map g.N.Number.number c.args.least.now in
+    sym (walk-none v (cell numbers c.args.nodes c.args.owner) c.args.round keys walks.may.writes walks.may.written (max (base_of v) (g.N.Number.number c.args.first)) walks.start
+    (omega (arith, walks.may.few_writes, c.if-widen.true, c.widen.ensures, c.widen-2.ensures, c.greatest.ensures)))
 
 pub offset_bounds-least-write : goal.offset_bounds-least-write
 offset_bounds-least-write g c =

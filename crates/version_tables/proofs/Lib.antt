@@ -20,6 +20,14 @@ pub mod TakenCells
 pub mod Fitting
 pub mod OwnCalls
 pub mod NextWrites
+pub mod Missed
+pub mod Lagging
+pub mod Pieces
+pub mod Walks
+pub mod Standing
+pub mod Counted
+pub mod Parts
+pub mod Whole
 pub mod Clearing
 pub mod WeightLaws
 pub mod OfferWeights

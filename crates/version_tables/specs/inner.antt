@@ -4,6 +4,8 @@ pub mod Levels
 pub mod Shares
 pub mod Laid
 pub mod Taken
+pub mod Missed
+pub mod Pieces
 pub mod Weights
 pub mod Rounds
 pub mod Told

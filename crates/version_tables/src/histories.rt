@@ -123,6 +123,7 @@ impl<N: Number, H: Written> Histories<N, H> {
     pub fn lists(&self) -> &[OwnerList]
         ensures value { result.now ≡ self.now.lists }
         ensures so_far { (owner : ℕ) → IsWrittenSoFar (H.lists owner) N.most self.now.rounds (writes_in self.now.lists owner) }
+        ensures writes { (owner : ℕ) → AreWrites (list_of_owner self.now.lists owner) }
     {
         &self.lists
     }

@@ -8,6 +8,7 @@ mod depths;
 mod digests;
 mod exchanges;
 mod exchanging;
+mod figures;
 mod histories;
 mod laws;
 mod marked;

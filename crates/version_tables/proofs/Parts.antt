@@ -1,0 +1,128 @@
+-- Pieces of tables as code counts them, table by table and part by part.
+-- Serves nothing yet.
+use Rattle.std.proofs.Common.{◌≡◌, ◌≢◌, ℕ, zero, suc, ◌+◌, ◌-◌, ◌*◌, ◌<◌, ◌≤◌, min, max, Bool, true, false, cond, ◌&&◌, List, [], ◌++◌, take, drop, length, get_or, map, refl, sym, ap, ◌∙◌, subst, arith}
+use Rattle.std.specs.Prelude.{nat_lt, nat_le, Result, Ok, IfOk}
+use Rattle.std.specs.List.{AllZip, range_with_len}
+use Rattle.std.proofs.lemmas.List.FromFn.{length-range_with_len}
+use Rattle.std.proofs.lemmas.Slice.Zip.{AllZip-long}
+use Rattle.std.proofs.lemmas.List.{length-map, append-nil, drop_all, take_all}
+use Rattle.bench_types.specs.declared.entries.Entry.{Entry}
+use Rattle.bench_types.specs.declared.faults.Fault.{Fault}
+use Rattle.bench_types.specs.declared.limits.TheConstants.{MOST_NODES, MOST_KEYS}
+use Rattle.node_table.specs.Table.{Table}
+use Rattle.cluster.specs.Tables.{table_of_node}
+use Rattle.owner_lists.specs.OwnerListView.{OwnerListView, list_of_owner}
+use Rattle.planes.specs.Sums.{sum_below}
+use Rattle.planes.specs.Planes.{Cells, cell, total_of, HasEach, HasEachPlace, ArePlanesChanged, IsGrid}
+use Rattle.planes.proofs.Sums.{sum_below-same}
+use Rattle.planes.proofs.Counts.{count_le}
+use Rattle.staleness.proofs.Counting.{at_place}
+use Rattle.staleness.proofs.Places.{one_more}
+use Rattle.staleness.proofs.Sums.{sum_below-le}
+use Rattle.version_tables.specs.Views.{VersionTableView, IsKept}
+use Rattle.version_tables.specs.inner.Missed.{base_of, IsNumberAt}
+use Rattle.version_tables.specs.inner.Pieces.{tables_in, keys_in, AreLaid, AreLastNumbers, IsPieceOf, IsPartOf}
+use Rattle.version_tables.proofs.Pieces.{piece-none, piece-more, piece-joined}
+use Rattle.version_tables.proofs.Standing.{count-tables_in, cells-count, numbers-at}
+
+pub total_le : (nodes keys : ℕ) (test : ℕ → ℕ → Bool) → nodes ≤ MOST_NODES → keys ≤ MOST_KEYS → total_of nodes keys test ≤ MOST_NODES * MOST_KEYS
+total_le nodes keys test few_nodes few_keys =
+    omega (arith, few_nodes, sum_below-le (λ r. sum_below keys (λ k. cond (test r k) 1 0)) nodes MOST_KEYS (λ r lt. omega (arith, few_keys, count_le keys (test r))))
+
+module _ (written : ℕ → List Entry) (views : List VersionTableView) (lists : List OwnerListView) (laid : AreLaid written views lists) where
+  abbrev tables : List Table
+  tables = tables_in written views
+
+  abbrev nodes : ℕ
+  nodes = length views
+
+  same : length tables ≡ nodes
+  same = count-tables_in written views
+
+  pub of_nodes-last : (last : List ℕ) → AreLastNumbers tables lists last → length last ≡ keys_in tables * nodes
+  of_nodes-last last lasts = lasts.size ∙ ap (λ m. keys_in tables * m) same
+
+  pub grid-piece : (keys size : ℕ) → keys ≡ keys_in tables → size ≡ keys_in tables * nodes → IsGrid nodes keys size
+  grid-piece keys size keys_are is = record {
+    whole = is ∙ ap (λ k. k * nodes) (sym keys_are);
+    few_nodes = omega (arith, laid.together.few_nodes, same);
+    few_keys = omega (arith, laid.together.few_keys, keys_are);
+  }
+
+  pub piece-size : {N : Type 0} (number : N → ℕ) (from count stale leftover : ℕ) (least : List N) → IsPieceOf tables lists from count stale leftover (map number least) → length least ≡ keys_in tables * nodes
+  piece-size number from count stale leftover least is = sym (length-map least number) ∙ is.size ∙ ap (λ m. keys_in tables * m) same
+
+  pub part-none : (from : ℕ) (last : List ℕ) → AreLastNumbers tables lists last → IsPieceOf tables lists from 0 0 0 last
+  part-none from last lasts = record {
+    few_stale = omega arith;
+    few_leftover = omega arith;
+    size = lasts.size;
+    counted = λ round are. piece-none round tables lists are from last lasts;
+  }
+
+  module _ (keys : ℕ) (keys_are : keys ≡ keys_in tables) where
+    pub part-more : (from count stale leftover x y : ℕ) (old new cells last : List ℕ) (bases : ℕ → ℕ) (v : VersionTableView) → from + count < nodes → v ≡ get_or views (from + count) v → IsKept written v → cells ≡ v.cells
+        → AreLastNumbers tables lists last → ((r : ℕ) → r < nodes → bases r ≡ base_of (list_of_owner lists r))
+        → x ≡ total_of nodes keys (λ r k. nat_lt (cell cells nodes r k) (cell last nodes r k)) → y ≡ total_of nodes keys (λ r k. nat_lt 0 (cell cells nodes r k) && nat_le (cell cells nodes r k) (bases r))
+        → ArePlanesChanged (λ r k a b. b ≡ min a (cell cells nodes r k)) nodes keys old new
+        → IsPieceOf tables lists from count stale leftover old → IsPieceOf tables lists from (count + 1) (stale + x) (leftover + y) new
+    part-more from count stale leftover x y old new cells last bases v in_views is kept cells_are lasts bases_are x_is y_is changed before =
+        let few_nodes : nodes ≤ MOST_NODES = omega (arith, laid.together.few_nodes, same) in
+        let few_keys : keys ≤ MOST_KEYS = omega (arith, laid.together.few_keys, keys_are) in
+        record {
+          few_stale = omega (arith, before.few_stale, x_is, total_le nodes keys (λ r k. nat_lt (cell cells nodes r k) (cell last nodes r k)) few_nodes few_keys);
+          few_leftover = omega (arith, before.few_leftover, y_is, total_le nodes keys (λ r k. nat_lt 0 (cell cells nodes r k) && nat_le (cell cells nodes r k) (bases r)) few_nodes few_keys);
+          size = changed.size ∙ before.size;
+          counted = λ round are.
+              piece-more round tables lists are from count stale leftover x y old new cells last (omega (arith, in_views, same)) lasts
+              (subst (λ m. HasEachPlace m (keys_in tables) (IsNumberAt lists (table_of_node tables (from + count))) cells) (sym same) (numbers-at written views lists laid (from + count) v in_views is kept cells cells_are))
+              (whole (λ m ks. x ≡ total_of m ks (λ r k. nat_lt (cell cells m r k) (cell last m r k))) x_is)
+              (whole (λ m ks. y ≡ total_of m ks (λ r k. nat_lt 0 (cell cells m r k) && nat_le (cell cells m r k) (base_of (list_of_owner lists r))))
+              (y_is ∙ sum_below-same nodes _ _ (λ r in_r. sum_below-same keys _ _ (λ k in_k i. cond (nat_lt 0 (cell cells nodes r k) && nat_le (cell cells nodes r k) (bases_are r in_r i)) 1 0))))
+              (whole (λ m ks. ArePlanesChanged (λ r k a b. b ≡ min a (cell cells m r k)) m ks old new) changed)
+              (before.counted round are);
+        }
+      where
+        whole : (P : ℕ → ℕ → Type 0) → P nodes keys → P (length tables) (keys_in tables)
+        whole P p = subst (λ m. P m (keys_in tables)) (sym same) (subst (P nodes) keys_are p)
+
+    pub part-joined : (from a b stale leftover x y : ℕ) (old new other : List ℕ) → IsPieceOf tables lists from a stale leftover old → IsPieceOf tables lists (from + a) b x y other
+        → ArePlanesChanged (λ r k c d. d ≡ min c (cell other nodes r k)) nodes keys old new → IsPieceOf tables lists from (a + b) (stale + x) (leftover + y) new
+    part-joined from a b stale leftover x y old new other one two changed = record {
+      few_stale = omega (arith, one.few_stale, two.few_stale);
+      few_leftover = omega (arith, one.few_leftover, two.few_leftover);
+      size = changed.size ∙ one.size;
+      counted = λ round are.
+          piece-joined round tables lists are from a b stale leftover x y old new other (one.counted round are) (two.counted round are)
+          (subst (λ m. ArePlanesChanged (λ r k c d. d ≡ min c (cell other m r k)) m (keys_in tables) old new) (sym same)
+          (subst (λ ks. ArePlanesChanged (λ r k c d. d ≡ min c (cell other nodes r k)) nodes ks old new) keys_are changed));
+    }
+
+    -- the first parts, and the next one
+    pub part-next : (size p stale leftover x y : ℕ) (old new other : List ℕ) → p * size ≤ nodes → IsPieceOf tables lists 0 (min (p * size) nodes) stale leftover old → IsPartOf tables lists size p x y other
+        → ArePlanesChanged (λ r k c d. d ≡ min c (cell other nodes r k)) nodes keys old new → IsPieceOf tables lists 0 (min ((p + 1) * size) nodes) (stale + x) (leftover + y) new
+    part-next size p stale leftover x y old new other inside one two changed =
+        let behind : p * size ≡ 0 + min (p * size) nodes = omega (arith, inside) in
+        let up : min (p * size) nodes + min size (length tables - p * size) ≡ min ((p + 1) * size) nodes = omega (arith, inside, same, one_more p size) in
+        subst (λ m. IsPieceOf tables lists 0 m (stale + x) (leftover + y) new) up
+        (part-joined 0 (min (p * size) nodes) (min size (length tables - p * size)) stale leftover x y old new other one (subst (λ f. IsPieceOf tables lists f (min size (length tables - p * size)) x y other) behind two) changed)
+
+-- what was found of a part
+pub part-found : {X : Type 0} (P : ℕ → X → Type 0) (count : ℕ) (items parts : List (Result X Fault)) (k : ℕ) (r : Result X Fault) (x : X) → items ≡ parts → AllZip (λ part found. IfOk found (P part)) (range_with_len 0 count) parts
+    → k < length items → r ≡ get_or items k r → r ≡ Ok x → P k x × (k < count)
+part-found {X} P count items parts k r x same each lt is ok =
+    let many : length parts ≡ count = AllZip-long (λ part found. IfOk found (P part)) (range_with_len 0 count) parts each ∙ length-range_with_len 0 count in
+    let below : k < count = omega (arith, lt, ap length same, many) in
+    let here : 0 + k ≡ k = omega arith in
+    let at : IfOk (get_or parts k r) (P (0 + k)) = at_place (λ part found. IfOk found (P part)) 0 count parts each k r below in
+    (subst (λ n. P n x) here (subst (λ o. IfOk o (P (0 + k))) (sym (is ∙ ap (λ xs. get_or xs k r) same) ∙ ok) at), below)
+
+pub many-parts : {X : Type 0} (P : ℕ → X → Type 0) (count : ℕ) (parts : List (Result X Fault)) → AllZip (λ part found. IfOk found (P part)) (range_with_len 0 count) parts → length parts ≡ count
+many-parts P count parts each = AllZip-long (λ part found. IfOk found (P part)) (range_with_len 0 count) parts each ∙ length-range_with_len 0 count
+
+-- a slice that was written into is all of its vector again
+pub all_written : {X : Type 0} (len : ℕ) (new items : List X) → length new ≡ length items → len ≡ length items → take len (new ++ drop (length new) items) ≡ new
+all_written len new items same is =
+    ap (λ xs. take len (new ++ xs)) (drop_all (length new) items (omega (arith, same)))
+    ∙ ap (take len) (append-nil new)
+    ∙ take_all len new (omega (arith, same, is))

@@ -1,0 +1,139 @@
+-- What is counted of all tables comes to the figures of a round.
+-- Serves nothing yet.
+use Rattle.std.proofs.Common.{◌≡◌, ◌≢◌, ℕ, zero, suc, ◌+◌, ◌*◌, ◌<◌, ◌≤◌, List, [], ◌∷◌, length, get_or, map, inl, inr, refl, sym, ap, ◌∙◌, subst, arith}
+use Rattle.std.proofs.lemmas.Bool.{cases_lt}
+use Rattle.std.proofs.lemmas.List.{get_or-map, get_or_default, get_or_past, length-map}
+use Rattle.bench_types.specs.declared.entries.Entry.{Entry}
+use Rattle.bench_types.specs.declared.rows.Figures.{Figures}
+use Rattle.bench_types.specs.declared.limits.TheConstants.{MOST_NODES, MOST_KEYS, MOST_ROUNDS}
+use Rattle.node_table.specs.Table.{Table}
+use Rattle.cluster.specs.Tables.{table_of_node, IsCluster, HoldsOfEach}
+use Rattle.owner_lists.specs.OwnerListView.{OwnerListView, entries_of, list_of_owner, lists_in, no_writes, AreWrites}
+use Rattle.planes.specs.Sums.{sum_below}
+use Rattle.planes.specs.Planes.{cell, HasEachPlace}
+use Rattle.planes.proofs.Sums.{sum_below-same}
+use Rattle.round_tables.specs.Histories.{AreWrittenBy, StandsAmong}
+use Rattle.staleness.specs.Figures.{most_below, staleness_at, rounds_behind, node_figures, figures_of}
+use Rattle.staleness.specs.inner.Copies.{owner_staleness}
+use Rattle.staleness.proofs.Counting.{most_by_owner}
+use Rattle.staleness.proofs.Sums.{most_below-same}
+use Rattle.version_tables.specs.Views.{VersionTableView, table_in, IsKept}
+use Rattle.version_tables.specs.inner.Histories.{IsBeginning, IsWrittenSoFar}
+use Rattle.version_tables.specs.inner.Weights.{writes_in}
+use Rattle.version_tables.specs.inner.Missed.{IsLastNumber}
+use Rattle.version_tables.specs.inner.Pieces.{tables_in, keys_in, view_at, AreAlike, StandTogether, AreCountable, AreLaid, AreLastNumbers, IsOwnNumber, IsPiece, IsPieceOf, IsLeastHeld, MayWalk, most_lag}
+use Rattle.version_tables.proofs.Pieces.{own_last, key_within}
+use Rattle.version_tables.proofs.Standing.{count-tables_in, table-read, numbers-at}
+
+-- an owner's writes in two spellings
+pub writes-same : (lists : List OwnerListView) (r : ℕ) → writes_in lists r ≡ entries_of (list_of_owner lists r)
+writes-same lists r = elim (cases_lt r (length lists)) [
+  | inl lt ↦ get_or-map entries_of lists r no_writes [] lt
+  | inr past ↦ get_or_past (map entries_of lists) r [] (omega (arith, past, length-map lists entries_of)) ∙ ap entries_of (sym (get_or_past lists r no_writes past))
+]
+
+few-standing : (ts : List Table) (lists : List OwnerListView) → length lists ≡ length ts → HoldsOfEach (StandsAmong lists) ts → (length ts ≤ MOST_NODES) × (keys_in ts ≤ MOST_KEYS)
+few-standing [] lists one_each standing = (omega arith, omega arith)
+few-standing (t ∷ ts) lists one_each standing =
+    let first = standing 0 (omega arith) in
+    (omega (arith, one_each, first.nodes, first.proper.nodes_limit), first.proper.keys_limit)
+
+module _ (written : ℕ → List Entry) (views : List VersionTableView) (lists : List OwnerListView) where
+  abbrev tables : List Table
+  tables = tables_in written views
+
+  same : length tables ≡ length views
+  same = count-tables_in written views
+
+  pub alike-is : IsCluster (length views) tables → AreAlike (keys_in tables) views
+  alike-is cluster p d lt =
+      let read = table-read written views p (get_or views p d) lt (get_or_default views p d (get_or views p d) lt) in
+      let here = cluster.tables p lt in
+      (ap (λ (t : Table). t.nodes) (sym read) ∙ here.nodes, ap (λ (t : Table). t.keys) (sym read) ∙ here.keys)
+
+  pub laid-is : (most rounds : ℕ) → IsCluster (length views) tables → length lists ≡ length views → HoldsOfEach (StandsAmong lists) tables → ((r : ℕ) → AreWrites (list_of_owner lists r))
+      → ((r : ℕ) → IsWrittenSoFar (written r) most rounds (writes_in lists r)) → AreLaid written views lists
+  laid-is most rounds cluster one_each standing writes so_far =
+      let each = one_each ∙ sym same in
+      let few = few-standing tables lists each standing in
+      record {
+        together = record {
+          cluster = subst (λ m. IsCluster m tables) (sym same) cluster;
+          one_list_each = each;
+          few_nodes = few.0;
+          few_keys = few.1;
+          writes = writes;
+          standing = standing;
+        };
+        begins = λ r. subst (λ es. IsBeginning es (written r)) (writes-same lists r) (so_far r).begins;
+      }
+
+  module _ (laid : AreLaid written views lists) where
+    abbrev together : StandTogether tables lists
+    together = laid.together
+
+    last-at : (r k y : ℕ) → r < length views → k < keys_in tables → IsOwnNumber written views r k y → IsLastNumber (list_of_owner lists r) k y
+    last-at r k y lt in_k own =
+        let v = view_at views r in
+        let is : v ≡ get_or views r v = get_or_default views r (record { node = 0; nodes = 0; keys = 0; generation = 0; cells = []; greatest = [] }) v lt in
+        let at = (numbers-at written views lists laid r v lt is own.kept v.cells refl).each r k lt in_k in
+        subst (IsLastNumber (list_of_owner lists r) k) (sym own.is) (own_last tables lists together r k (cell v.cells (length views) r k) (omega (arith, lt, same)) at)
+
+    pub lasts-are : (keys : ℕ) → keys ≡ keys_in tables → (last : List ℕ) → HasEachPlace (length views) keys (IsOwnNumber written views) last → AreLastNumbers tables lists last
+    lasts-are keys keys_are last own =
+        let owns = subst (λ k. HasEachPlace (length views) k (IsOwnNumber written views) last) keys_are own in
+        subst (λ m. HasEachPlace m (keys_in tables) (λ r k y. IsLastNumber (list_of_owner lists r) k y) last) (sym same) (record {
+          size = owns.size;
+          each = λ r k lt in_k. last-at r k (cell last (length views) r k) lt in_k (owns.each r k lt in_k);
+        })
+
+    pub lasts-by_list : (keys : ℕ) → keys ≡ keys_in tables → (last : List ℕ) → AreLastNumbers tables lists last → HasEachPlace (length lists) keys (λ r k y. IsLastNumber (list_of_owner lists r) k y) last
+    lasts-by_list keys keys_are last lasts =
+        subst (λ m. HasEachPlace m keys (λ r k y. IsLastNumber (list_of_owner lists r) k y) last) (sym together.one_list_each)
+        (subst (λ ks. HasEachPlace (length tables) ks (λ r k y. IsLastNumber (list_of_owner lists r) k y) last) (sym keys_are) lasts)
+
+    module _ (round stale leftover : ℕ) (least : List ℕ) (round_limit : round ≤ MOST_ROUNDS) (by : AreWrittenBy round lists) (piece : IsPieceOf tables lists 0 (length views) stale leftover least) (keys : ℕ) (keys_are : keys ≡ keys_in tables) where
+      whole : IsPiece round tables lists 0 (length views) stale leftover least
+      whole = piece.counted round (record { together = together; round_limit = round_limit; written = by })
+
+      held : HasEachPlace (length lists) (keys_in tables) (IsLeastHeld round tables lists 0 (length views)) least
+      held = subst (λ m. HasEachPlace m (keys_in tables) (IsLeastHeld round tables lists 0 (length views)) least) (sym together.one_list_each) whole.least_is
+
+      pub may-walk : (most : ℕ) → ((r : ℕ) → length (writes_in lists r) < most) → (r : ℕ) → r < length lists → MayWalk round most (length lists) keys r (list_of_owner lists r) least
+      may-walk most few r lt = subst (λ ks. MayWalk round most (length lists) ks r (list_of_owner lists r) least) (sym keys_are) (record {
+        among = lt;
+        few_nodes = omega (arith, together.few_nodes, together.one_list_each);
+        few_keys = together.few_keys;
+        round_limit = round_limit;
+        writes = together.writes r;
+        few_writes = subst (λ es. length es < most) (writes-same lists r) (few r);
+        born = by.born r;
+        in_order = by.in_order r;
+        keyed = λ m e is current. key_within tables lists together r m e (omega (arith, lt, together.one_list_each)) is current;
+        size = held.size;
+        written = λ k in_k. (held.each r k lt in_k).written;
+      })
+
+      behind : ℕ → ℕ → ℕ → ℕ
+      behind r k p = rounds_behind (staleness_at round tables (lists_in lists) p r k)
+
+      summed : (f : ℕ → ℕ) → sum_below (length views) (λ i. f (0 + i)) ≡ sum_below (length tables) f
+      summed f = sum_below-same (length views) (λ i. f (0 + i)) f (λ i lt. ap f {x = 0 + i} {y = i} (omega arith)) ∙ ap (λ m. sum_below m f) (sym same)
+
+      most-of : (f : ℕ → ℕ) → most_below (length views) (λ i. f (0 + i)) ≡ most_below (length tables) f
+      most-of f = most_below-same (λ i. f (0 + i)) f (length views) (λ i lt. ap f {x = 0 + i} {y = i} (omega arith)) ∙ ap (λ m. most_below m f) (sym same)
+
+      pub figures-are : (greatest : ℕ) → greatest ≡ most_below (length lists) (λ r. most_lag round (length lists) keys r (list_of_owner lists r) least)
+          → ◌≡◌ {A = Figures} (record { stale = stale; greatest = greatest; leftover = leftover }) (figures_of round tables (lists_in lists))
+      unfolding figures_of behind
+      figures-are greatest is =
+          let stale_all : stale ≡ (figures_of round tables (lists_in lists)).stale = whole.stale_is ∙ summed (λ p. (node_figures round tables (lists_in lists) p).stale) in
+          let leftover_all : leftover ≡ (figures_of round tables (lists_in lists)).leftover = whole.leftover_is ∙ summed (λ p. (node_figures round tables (lists_in lists) p).leftover) in
+          let greatest_all : greatest ≡ (figures_of round tables (lists_in lists)).greatest =
+          is
+          ∙ ap (λ ks. most_below (length lists) (λ r. most_lag round (length lists) ks r (list_of_owner lists r) least)) keys_are
+          ∙ most_below-same (λ r. most_lag round (length lists) (keys_in tables) r (list_of_owner lists r) least) (λ r. (owner_staleness round tables (lists_in lists) r).greatest) (length lists)
+          (λ r lt. most_below-same _ (λ k. most_below (length tables) (behind r k)) (keys_in tables) (λ k in_k. sym (held.each r k lt in_k).most ∙ most-of (behind r k)))
+          ∙ ap (λ m. most_below m (λ r. (owner_staleness round tables (lists_in lists) r).greatest)) together.one_list_each
+          ∙ most_by_owner round tables (lists_in lists) together.cluster in
+          λ i. record { stale = stale_all i; greatest = greatest_all i; leftover = leftover_all i }

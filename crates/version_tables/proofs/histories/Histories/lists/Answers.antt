@@ -1,0 +1,7 @@
+use Rattle.std.proofs.Common.{sym, ap, subst}
+use Rattle.owner_lists.specs.OwnerListView.{list_of_owner, AreWrites}
+use Rattle.version_tables.specs.Views.{HistoriesView}
+use Rattle.version_tables.proofs.histories.Histories.lists.Goals as goal
+
+pub returns-clause-writes : goal.returns-clause-writes
+returns-clause-writes g c owner = subst (λ (h : HistoriesView). AreWrites (list_of_owner h.lists owner)) c.self.view_is (c.self.invariant.are owner)

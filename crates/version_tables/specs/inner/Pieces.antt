@@ -1,0 +1,118 @@
+-- What is counted of some of the tables at the end of a round. Source: this project.
+use Rattle.std.specs.Prelude.{◌≡◌, ℕ, ◌+◌, ◌-◌, ◌*◌, ◌<◌, ◌≤◌, min, max, All, List, [], length, map, slice_index_or, Some}
+use Rattle.bench_types.specs.declared.entries.Entry.{Entry}
+use Rattle.bench_types.specs.declared.limits.TheConstants.{MOST_NODES, MOST_KEYS, MOST_ROUNDS}
+use Rattle.node_table.specs.Table.{Table}
+use Rattle.cluster.specs.Tables.{table_of_node, IsCluster, HoldsOfEach}
+use Rattle.owner_lists.specs.OwnerListView.{OwnerListView, entries_of, list_of_owner, lists_in, AreWrites}
+use Rattle.owner_lists.specs.Numbers.{write_numbered}
+use Rattle.planes.specs.Sums.{sum_below}
+use Rattle.planes.specs.Planes.{cell, HasEachPlace}
+use Rattle.round_tables.specs.Histories.{BirthsRise, AreWrittenBy, StandsAmong}
+use Rattle.staleness.specs.Figures.{most_below, staleness_at, rounds_behind, node_figures}
+use Rattle.version_tables.specs.Views.{VersionTableView, table_in, IsKept}
+use Rattle.version_tables.specs.inner.Histories.{IsBeginning}
+use Rattle.version_tables.specs.inner.Missed.{base_of, number_staleness, IsLastNumber, NonePassUpto}
+
+-- the table of a node, as it lies
+abbrev pub view_at : List VersionTableView → ℕ → VersionTableView
+view_at views node = slice_index_or views node (record { node = 0; nodes = 0; keys = 0; generation = 0; cells = []; greatest = [] })
+
+-- the tables of all nodes, where this is what the owners write
+abbrev pub tables_in : (ℕ → List Entry) → List VersionTableView → List Table
+tables_in written views = map (table_in written) views
+
+-- how many keys each node has
+abbrev pub keys_in : List Table → ℕ
+keys_in tables = (table_of_node tables 0).keys
+
+-- the tables of all nodes beside the owners' lists
+pub record StandTogether (tables : List Table) (lists : List OwnerListView) : Type 0 where
+  pub cluster : IsCluster (length tables) tables
+  pub one_list_each : length lists ≡ length tables
+  pub few_nodes : length tables ≤ MOST_NODES
+  pub few_keys : keys_in tables ≤ MOST_KEYS
+  pub writes : (owner : ℕ) → AreWrites (list_of_owner lists owner)
+  pub standing : HoldsOfEach (StandsAmong lists) tables
+
+-- what the figures of a round are counted from
+pub record AreCountable (round : ℕ) (tables : List Table) (lists : List OwnerListView) : Type 0 where
+  pub together : StandTogether tables lists
+  pub round_limit : round ≤ MOST_ROUNDS
+  pub written : AreWrittenBy round lists
+
+-- the tables lie as numbers of what the owners wrote so far, of all that they write
+pub record AreLaid (written : ℕ → List Entry) (views : List VersionTableView) (lists : List OwnerListView) : Type 0 where
+  pub together : StandTogether (tables_in written views) lists
+  pub begins : (owner : ℕ) → IsBeginning (entries_of (list_of_owner lists owner)) (written owner)
+
+-- the last numbers of all owners' keys
+abbrev pub AreLastNumbers : List Table → List OwnerListView → List ℕ → Type 0
+AreLastNumbers tables lists last = HasEachPlace (length tables) (keys_in tables) (λ owner key number. IsLastNumber (list_of_owner lists owner) key number) last
+
+-- of so many tables from one on, none holds an owner's key that has been behind for longer than a number is
+pub record IsLeastHeld (round : ℕ) (tables : List Table) (lists : List OwnerListView) (from count owner key least : ℕ) : Type 0 where
+  pub written : least ≤ length (entries_of (list_of_owner lists owner))
+  pub most : most_below count (λ at. rounds_behind (staleness_at round tables (lists_in lists) (from + at) owner key))
+      ≡ rounds_behind (number_staleness round (list_of_owner lists owner) key least)
+
+-- what is counted of so many tables from one on
+pub record IsPiece (round : ℕ) (tables : List Table) (lists : List OwnerListView) (from count stale leftover : ℕ) (least : List ℕ) : Type 0 where
+  pub stale_is : stale ≡ sum_below count (λ at. (node_figures round tables (lists_in lists) (from + at)).stale)
+  pub leftover_is : leftover ≡ sum_below count (λ at. (node_figures round tables (lists_in lists) (from + at)).leftover)
+  pub least_is : HasEachPlace (length tables) (keys_in tables) (IsLeastHeld round tables lists from count) least
+
+-- and so in any round
+pub record IsPieceOf (tables : List Table) (lists : List OwnerListView) (from count stale leftover : ℕ) (least : List ℕ) : Type 0 where
+  pub few_stale : stale ≤ count * (MOST_NODES * MOST_KEYS)
+  pub few_leftover : leftover ≤ count * (MOST_NODES * MOST_KEYS)
+  pub size : length least ≡ keys_in tables * length tables
+  pub counted : (round : ℕ) → AreCountable round tables lists → IsPiece round tables lists from count stale leftover least
+
+-- the part of so many tables, the last one of fewer
+abbrev pub IsPartOf : List Table → List OwnerListView → ℕ → ℕ → ℕ → ℕ → List ℕ → Type 0
+IsPartOf tables lists size part =
+    IsPieceOf tables lists (part * size) (min size (length tables - part * size))
+
+-- no owner has forgotten
+abbrev pub NoneForgot : List OwnerListView → Type 0
+NoneForgot lists = (owner : ℕ) → owner < length lists → base_of (list_of_owner lists owner) ≡ 0
+
+-- each table has as many nodes as there are tables, and so many keys
+abbrev pub AreAlike : ℕ → List VersionTableView → Type 0
+AreAlike keys views =
+    (p : ℕ) (d : VersionTableView) → p < length views
+    → ((slice_index_or views p d).nodes ≡ length views) × ((slice_index_or views p d).keys ≡ keys)
+
+-- the number of a key in its owner's table
+abbrev pub own_number : List VersionTableView → ℕ → ℕ → ℕ
+own_number views owner key = cell (view_at views owner).cells (length views) owner key
+
+-- and so it was read
+pub record IsOwnNumber (written : ℕ → List Entry) (views : List VersionTableView) (owner key number : ℕ) : Type 0 where
+  pub is : number ≡ own_number views owner key
+  pub kept : IsKept written (view_at views owner)
+
+-- an owner's list may be walked over beside the least numbers held of its keys
+pub record MayWalk (round most nodes keys owner : ℕ) (list : OwnerListView) (least : List ℕ) : Type 0 where
+  pub among : owner < nodes
+  pub few_nodes : nodes ≤ MOST_NODES
+  pub few_keys : keys ≤ MOST_KEYS
+  pub round_limit : round ≤ MOST_ROUNDS
+  pub writes : AreWrites list
+  pub few_writes : length (entries_of list) < most
+  pub born : All (λ e. e.born ≤ round) (entries_of list)
+  pub in_order : BirthsRise (entries_of list)
+  pub keyed : (m : ℕ) (e : Entry) → write_numbered (entries_of list) m ≡ Some e → base_of list < m → e.key < keys
+  pub size : length least ≡ keys * nodes
+  pub written : (key : ℕ) → key < keys → cell least nodes owner key ≤ length (entries_of list)
+
+-- from a number on
+pub record WalksFrom (round most nodes keys owner first : ℕ) (list : OwnerListView) (least : List ℕ) : Type 0 where
+  pub may : MayWalk round most nodes keys owner list least
+  pub start : NonePassUpto list (cell least nodes owner) (max (base_of list) first)
+
+-- the most rounds that a copy of an owner's keys has been behind
+abbrev pub most_lag : ℕ → ℕ → ℕ → ℕ → OwnerListView → List ℕ → ℕ
+most_lag round nodes keys owner list least =
+    most_below keys (λ key. rounds_behind (number_staleness round list key (cell least nodes owner key)))

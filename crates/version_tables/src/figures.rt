@@ -1,0 +1,392 @@
+//! How far the copies lag behind their owners, where tables keep versions alone: the figures of a round.
+
+ghost use Rattle.std.specs.Prelude.{◌≡◌, ℕ, ◌+◌, ◌-◌, ◌*◌, ◌/◌, ◌^◌, ◌<◌, ◌≤◌, ◌&&◌, map, length, nat_lt, nat_le, slice_index, IfOk, IsFalse, IsOkUnless};
+ghost use Rattle.std.specs.List.{AllZip, range_with_len};
+ghost use Rattle.bench_types.specs.declared.faults.Fault.TheVariants.{OutOfMemory};
+ghost use Rattle.bench_types.specs.declared.limits.TheConstants.{MOST_NODES, MOST_KEYS, MOST_ROUNDS};
+ghost use Rattle.cluster.specs.Tables.{IsCluster, HoldsOfEach};
+ghost use Rattle.owner_lists.specs.OwnerListView.{list_of_owner, lists_in, entries_of, AreWrites};
+ghost use Rattle.owner_lists.specs.Numbers.{write_numbered};
+ghost use Rattle.planes.specs.inner.Elementwise.{AreChanged};
+ghost use Rattle.planes.specs.Lags.{IsLeastBehind};
+ghost use Rattle.planes.specs.Planes.{cell, total_of, ArePlanesChanged, HasEach, HasEachPlace, IsGrid};
+ghost use Rattle.round_tables.specs.Histories.{BirthsRise, AreWrittenBy, StandsAmong};
+ghost use Rattle.staleness.specs.Figures.{most_below, rounds_behind, figures_of};
+ghost use Rattle.version_tables.specs.inner.Missed.{IsLastNumber};
+ghost use Rattle.version_tables.specs.inner.Pieces.{keys_in, tables_in, AreAlike, AreCountable, AreLaid, AreLastNumbers, IsOwnNumber, IsPieceOf, IsPartOf, NoneForgot, MayWalk, WalksFrom, most_lag};
+
+use crate::histories::Histories;
+use crate::tables::{VersionTable, Written};
+use bench_types::{Fault, Figures};
+use owner_lists::OwnerList;
+use planes::{Number, count_behind, least_behind, lower_all, total_upto};
+use rayon::current_num_threads;
+use rayon::prelude::*;
+use std::alloc::{AllocError, Global};
+use std::thread::Threads;
+
+// What some of the tables say.
+#[derive(Drop)]
+struct Piece<N: Number> {
+    stale: u64,
+    leftover: u64,
+    // Of each owner's key the least number that one of them holds, or the last one where none is below it.
+    least: Vec<N>,
+}
+
+fn keys_of<N: Number, H: Written>(tables: &[VersionTable<N, H>]) -> usize
+    ensures { result ≡ keys_in (tables_in H.lists tables.now) }
+{
+    match tables.first() {
+        Some(table) => table.keys() as usize,
+        None => 0,
+    }
+}
+
+fn zeros<N: Number>(alloc: Global, count: usize) -> Result<Vec<N>, Fault>
+    ensures count { IfOk result (λ v. length v.items ≡ count) }
+    ensures only { IsOkUnless result OutOfMemory }
+{
+    let mut numbers = Vec::with_capacity(alloc, count)?;
+    for done in 0..count {
+        numbers.push(N::zero())?;
+    }
+    Ok(numbers)
+}
+
+fn copied<N: Number>(alloc: Global, numbers: &[N]) -> Result<Vec<N>, Fault>
+    ensures same { IfOk result (λ v. v.items ≡ numbers.now) }
+    ensures only { IsOkUnless result OutOfMemory }
+{
+    let mut copy = Vec::with_capacity(alloc, numbers.len())?;
+    for number in numbers {
+        copy.push(*number)?;
+    }
+    Ok(copy)
+}
+
+// Puts the numbers of a key that the owners' own tables hold.
+fn put_own_numbers<N: Number, H: Written>(
+    plane: &mut [N],
+    tables: &[VersionTable<N, H>],
+    keys: usize,
+    key: usize,
+)
+    requires nodes { length plane.old ≡ length tables.now }
+    requires few { length tables.now ≤ MOST_NODES }
+    requires few_keys { keys ≤ MOST_KEYS }
+    requires alike { AreAlike keys tables.now }
+    requires key { key < keys }
+    ensures { AreChanged (λ r x y. IsOwnNumber H.lists tables.now r key y)
+        (map N.number plane.old) (map N.number plane.new) }
+{
+    let nodes = tables.len();
+    for owner in 0..plane.len() {
+        let cells = tables[owner].cells();
+        plane[owner] = cells[key * nodes + owner];
+    }
+}
+
+fn put_last_numbers<N: Number, H: Written>(
+    last: &mut [N],
+    tables: &[VersionTable<N, H>],
+    keys: usize,
+)
+    requires grid { IsGrid (length tables.now) keys (length last.old) }
+    requires alike { AreAlike keys tables.now }
+    ensures { ArePlanesChanged (λ r k x y. IsOwnNumber H.lists tables.now r k y) (length tables.now) keys
+        (map N.number last.old) (map N.number last.new) }
+{
+    let nodes = tables.len();
+    for key in 0..keys {
+        let start = key * nodes;
+        let plane = &mut last[start..start + nodes];
+        put_own_numbers(plane, tables, keys, key);
+    }
+}
+
+// For each key and owner the number of the last write, as the owner's own table has it.
+fn last_numbers<N: Number, H: Written>(
+    alloc: Global,
+    tables: &[VersionTable<N, H>],
+    keys: usize,
+) -> Result<Vec<N>, Fault>
+    requires few { length tables.now ≤ MOST_NODES }
+    requires few_keys { keys ≤ MOST_KEYS }
+    requires alike { AreAlike keys tables.now }
+    ensures own { IfOk result (λ v. HasEachPlace (length tables.now) keys (IsOwnNumber H.lists tables.now)
+        (map N.number v.items)) }
+    ensures only { IsOkUnless result OutOfMemory }
+{
+    let mut last = zeros(alloc, keys * tables.len())?;
+    put_last_numbers(&mut last, tables, keys);
+    Ok(last)
+}
+
+// Whether a node has forgotten.
+fn has_forgotten<N: Number>(bases: &[N]) -> bool
+    ensures { IsFalse result → (r : ℕ) → r < length bases.now → slice_index (map N.number bases.now) r ≡ 0 }
+{
+    for base in bases {
+        if base.is_above(N::zero()) {
+            return true;
+        }
+    }
+    false
+}
+
+// How many numbers are of an earlier generation than their owner's. Where no node has forgotten none is.
+fn left_over<N: Number>(cells: &[N], bases: &[N], nodes: usize, keys: usize, forgot: bool) -> u32
+    requires grid { IsGrid nodes keys (length cells.now) }
+    requires bases { length bases.now ≡ nodes }
+    requires forgot { IsFalse forgot → (r : ℕ) → r < nodes → slice_index (map N.number bases.now) r ≡ 0 }
+    ensures { result ≡ total_of nodes keys (λ r k. nat_lt 0 (cell (map N.number cells.now) nodes r k)
+        && nat_le (cell (map N.number cells.now) nodes r k) (slice_index (map N.number bases.now) r)) }
+{
+    if forgot {
+        total_upto(cells, nodes, keys, bases)
+    } else {
+        0
+    }
+}
+
+// What so many tables from one on say.
+fn piece_of<N: Number, H: Written>(
+    alloc: Global,
+    tables: &[VersionTable<N, H>],
+    histories: &Histories<N, H>,
+    last: &[N],
+    forgot: bool,
+    from: usize,
+    count: usize,
+) -> Result<Piece<N>, Fault>
+    requires laid { AreLaid H.lists tables.now histories.now.lists }
+    requires last { AreLastNumbers (tables_in H.lists tables.now) histories.now.lists (map N.number last.now) }
+    requires forgot { IsFalse forgot → NoneForgot histories.now.lists }
+    requires within { from + count ≤ length tables.now }
+    ensures piece { IfOk result (λ p. IsPieceOf (tables_in H.lists tables.now) histories.now.lists from count
+        p.stale p.leftover (map N.number p.least.items)) }
+    ensures only { IsOkUnless result OutOfMemory }
+{
+    let nodes = tables.len();
+    let keys = keys_of(tables);
+    let bases = histories.bases();
+    let mut stale = 0;
+    let mut leftover = 0;
+    let mut least = copied(alloc, last)?;
+    for at in 0..count {
+        let cells = tables[from + at].cells();
+        let behind = count_behind(&mut least, cells, last, nodes, keys);
+        stale += u64::from(behind);
+        leftover += u64::from(left_over(cells, bases, nodes, keys, forgot));
+    }
+    Ok(Piece {
+        stale,
+        leftover,
+        least,
+    })
+}
+
+// What the tables of a part of so many say.
+fn part_of<N: Number, H: Written>(
+    alloc: Global,
+    tables: &[VersionTable<N, H>],
+    histories: &Histories<N, H>,
+    last: &[N],
+    forgot: bool,
+    size: usize,
+    part: usize,
+) -> Result<Piece<N>, Fault>
+    requires laid { AreLaid H.lists tables.now histories.now.lists }
+    requires last { AreLastNumbers (tables_in H.lists tables.now) histories.now.lists (map N.number last.now) }
+    requires forgot { IsFalse forgot → NoneForgot histories.now.lists }
+    requires part { part ≤ length tables.now / size }
+    requires some { 1 ≤ size }
+    ensures piece { IfOk result (λ p. IsPartOf (tables_in H.lists tables.now) histories.now.lists size part
+        p.stale p.leftover (map N.number p.least.items)) }
+    ensures only { IsOkUnless result OutOfMemory }
+{
+    let from = part * size;
+    let count = size.min(tables.len() - from);
+    piece_of(alloc, tables, histories, last, forgot, from, count)
+}
+
+// What the tables of each part of so many say, in order.
+fn parts_of<N: Number, H: Written>(
+    rt: &(impl Threads + Sync),
+    alloc: Global,
+    tables: &[VersionTable<N, H>],
+    histories: &Histories<N, H>,
+    last: &[N],
+    forgot: bool,
+    size: usize,
+) -> Result<Vec<Result<Piece<N>, Fault>>, AllocError>
+    requires laid { AreLaid H.lists tables.now histories.now.lists }
+    requires last { AreLastNumbers (tables_in H.lists tables.now) histories.now.lists (map N.number last.now) }
+    requires forgot { IsFalse forgot → NoneForgot histories.now.lists }
+    requires some { 1 ≤ size }
+    ensures { IfOk result (λ v. AllZip (λ part found. IfOk found
+        (λ p. IsPartOf (tables_in H.lists tables.now) histories.now.lists size part p.stale p.leftover
+        (map N.number p.least.items))) (range_with_len 0 (length tables.now / size + 1)) v.items) }
+{
+    (0..tables.len() / size + 1)
+        .into_par_iter()
+        .with_min_len(1)
+        .map(
+            |part: usize| -> Result<Piece<N>, Fault>
+                requires { (AreLaid H.lists tables.now histories.now.lists)
+                    × AreLastNumbers (tables_in H.lists tables.now) histories.now.lists (map N.number last.now)
+                    × (IsFalse forgot → NoneForgot histories.now.lists) × (1 ≤ size) × (part ≤ length tables.now / size) }
+                ensures { IfOk result (λ p. IsPartOf (tables_in H.lists tables.entry.now) histories.entry.now.lists size part
+                    p.stale p.leftover (map N.number p.least.items)) }
+            { part_of(alloc, tables, histories, last, forgot, size, part) },
+        )
+        .collect(rt, alloc)
+}
+
+// For how many rounds a copy of an owner has missed a write at most: since the first one that some copy misses,
+// which stands behind a number, the greatest where there is none.
+fn lag_of_owner<N: Number>(
+    list: &OwnerList,
+    owner: usize,
+    first: N,
+    least: &[N],
+    nodes: usize,
+    round: u32,
+) -> u32
+    requires { (keys : ℕ) × WalksFrom round N.most nodes keys owner (N.number first) list.now (map N.number least.now) }
+    ensures { (keys : ℕ) → WalksFrom round N.most nodes keys owner (N.number first) list.now (map N.number least.now)
+        → result ≡ most_lag round nodes keys owner list.now (map N.number least.now) }
+{
+    if first.widen() == N::greatest().widen() {
+        return 0;
+    }
+    let from = list.earlier_count().max(first.widen() as usize);
+    for place in from..list.count() {
+        if let Some(write) = list.numbered(place as u32 + 1) {
+            if least[write.key as usize * nodes + owner].widen() <= place as u32 {
+                return round - write.born + 1;
+            }
+        }
+    }
+    0
+}
+
+// The most rounds that a copy of any owner has missed a write.
+fn greatest_lag<N: Number>(
+    alloc: Global,
+    lists: &[OwnerList],
+    least: &[N],
+    last: &[N],
+    keys: usize,
+    round: u32,
+) -> Result<u32, Fault>
+    requires grid { IsGrid (length lists.now) keys (length least.now) }
+    requires walk { (r : ℕ) → r < length lists.now
+        → MayWalk round N.most (length lists.now) keys r (list_of_owner lists.now r) (map N.number least.now) }
+    requires last { HasEachPlace (length lists.now) keys (λ r k y. IsLastNumber (list_of_owner lists.now r) k y)
+        (map N.number last.now) }
+    ensures lag { IfOk result (λ x. x ≡ most_below (length lists.now)
+        (λ r. most_lag round (length lists.now) keys r (list_of_owner lists.now r) (map N.number least.now))) }
+    ensures only { IsOkUnless result OutOfMemory }
+{
+    let nodes = lists.len();
+    let firsts = least_behind(alloc, least, last, nodes, keys)?;
+    let mut greatest = 0;
+    for owner in 0..nodes {
+        let lag = lag_of_owner(&lists[owner], owner, firsts[owner], least, nodes, round);
+        greatest = greatest.max(lag);
+    }
+    Ok(greatest)
+}
+
+// How many numbers are worth a thread of their own.
+const NUMBERS_OF_A_THREAD: usize = 65_536;
+
+// How many tables a thread gets, about half as many as would give each thread a part. It bears on time and
+// memory alone.
+fn tables_of_a_thread(rt: &impl Threads, tables: usize, keys: usize) -> usize
+    ensures { 1 ≤ result }
+{
+    let numbers = tables.saturating_mul(keys);
+    let least = NUMBERS_OF_A_THREAD / numbers.max(1);
+    (tables / current_num_threads(rt) / 2)
+        .max(least)
+        .saturating_add(1)
+}
+
+// What all tables say.
+fn counted<N: Number, H: Written>(
+    rt: &(impl Threads + Sync),
+    alloc: Global,
+    tables: &[VersionTable<N, H>],
+    histories: &Histories<N, H>,
+    last: &[N],
+) -> Result<Piece<N>, Fault>
+    requires laid { AreLaid H.lists tables.now histories.now.lists }
+    requires last { AreLastNumbers (tables_in H.lists tables.now) histories.now.lists (map N.number last.now) }
+    ensures piece { IfOk result (λ p. IsPieceOf (tables_in H.lists tables.now) histories.now.lists 0 (length tables.now)
+        p.stale p.leftover (map N.number p.least.items)) }
+    ensures only { IsOkUnless result OutOfMemory }
+{
+    let nodes = tables.len();
+    let keys = keys_of(tables);
+    let size = tables_of_a_thread(rt, nodes, keys);
+    let forgot = has_forgotten(histories.bases());
+    let parts = parts_of(rt, alloc, tables, histories, last, forgot, size)?;
+    let mut stale = 0;
+    let mut leftover = 0;
+    let mut least = copied(alloc, last)?;
+    for part in &parts {
+        match part {
+            Ok(part) => {
+                stale += part.stale;
+                leftover += part.leftover;
+                lower_all(&mut least, &part.least, nodes, keys);
+            }
+            Err(_) => return Err(Fault::OutOfMemory),
+        }
+    }
+    Ok(Piece {
+        stale,
+        leftover,
+        least,
+    })
+}
+
+/// The figures at the end of a round, down nodes included: how many keys of copies are below the
+/// last writes in their owners' lists, by marks, each list of its owner's generation; the greatest
+/// number of rounds since the first write that one of them missed, that round included; and how many
+/// entries of copies are of an older generation than their owner's.
+///
+/// It works in threads, where there are enough nodes, and what it answers does not depend on how. Each
+/// goes once over the numbers of some of the tables. Then each owner's list is walked over from the first
+/// write that some copy misses, if any, to the next one. It takes memory for the numbers of a table for
+/// each part of the tables and twice more, and an error is want of that.
+pub fn figures<N: Number, H: Written>(
+    rt: &(impl Threads + Sync),
+    alloc: Global,
+    tables: &[VersionTable<N, H>],
+    histories: &Histories<N, H>,
+    round: u32,
+) -> Result<Figures, Fault>
+    requires cluster { IsCluster (length tables.now) (tables_in H.lists tables.now) }
+    requires one_list_each { length histories.now.lists ≡ length tables.now }
+    requires round { round ≤ MOST_ROUNDS }
+    requires written { AreWrittenBy round histories.now.lists }
+    requires standing { HoldsOfEach (StandsAmong histories.now.lists) (tables_in H.lists tables.now) }
+    ensures figures { IfOk result
+        (λ f. f ≡ figures_of round (tables_in H.lists tables.now) (lists_in histories.now.lists)) }
+    ensures only { IsOkUnless result OutOfMemory }
+{
+    let keys = keys_of(tables);
+    let lists = histories.lists();
+    let last = last_numbers(alloc, tables, keys)?;
+    let whole = counted(rt, alloc, tables, histories, &last)?;
+    let greatest = greatest_lag(alloc, lists, &whole.least, &last, keys, round)?;
+    Ok(Figures {
+        stale: whole.stale,
+        greatest,
+        leftover: whole.leftover,
+    })
+}

@@ -1,6 +1,6 @@
 //! The exchange of an initiator and a responder whose tables keep versions alone.
 
-ghost use Rattle.std.specs.Prelude.{◌≡◌, ℕ, ◌<◌, length, map, IfOk, OnOk, OnErr, IsOkUnless, Bool, true, false};
+ghost use Rattle.std.specs.Prelude.{◌≡◌, ◌==◌, ℕ, ◌<◌, length, map, IfOk, OnOk, OnErr, IsOkUnless, Bool, true, false};
 ghost use Rattle.bench_types.specs.declared.faults.Fault.TheVariants.{OutOfMemory};
 ghost use Rattle.bench_types.specs.declared.exchanges.Fate.TheVariants as fate;
 ghost use Rattle.bench_types.specs.Budget.{IsLawfulBudget};
@@ -21,7 +21,7 @@ use crate::deltas::{DeltaMarks, delta};
 use crate::digests::digest_size;
 use crate::histories::Histories;
 use crate::tables::{VersionTable, Written};
-use crate::taking::take;
+use crate::taking::take_unless;
 use bench_types::{Exchange, Fate, Fault, Record, Rules};
 use owner_lists::OwnerList;
 use planes::Number;
@@ -86,12 +86,26 @@ fn exchange_deltas<N: Number, H: Written>(
     let lists = histories.lists();
     let bases = histories.bases();
     take_both(
-        alloc, initiator, responder, &back, &forth, bases, lists, plan.lost3,
+        alloc,
+        initiator,
+        responder,
+        &back,
+        &forth,
+        bases,
+        lists,
+        is_nothing(back.sent),
+        plan.lost3 | is_nothing(forth.sent),
     )?;
     Ok(sent_both(digest1, digest2, &back, &forth, plan.lost3))
 }
 
-// Each side takes what came to it. The third message, which has the second delta, may be lost.
+fn is_nothing(sent: u32) -> bool
+    ensures { result ≡ (sent == 0) }
+{
+    sent == 0
+}
+
+// Each side takes what came to it, unless that is nothing. The second delta may also be lost.
 fn take_both<N: Number, H: Written>(
     alloc: Global,
     initiator: &mut VersionTable<N, H>,
@@ -100,7 +114,8 @@ fn take_both<N: Number, H: Written>(
     forth: &DeltaMarks<N>,
     bases: &[N],
     lists: &[OwnerList],
-    lost3: bool,
+    nothing_back: bool,
+    nothing_forth: bool,
 ) -> Result<(), Fault>
     requires cells { length responder.old.cells ≡ length initiator.old.cells }
     requires nodes { responder.old.nodes ≡ initiator.old.nodes }
@@ -114,42 +129,43 @@ fn take_both<N: Number, H: Written>(
     requires initiator { StaysOne H.lists (writes_in lists.now) (bases_in lists.now) initiator.old responder.old.cells
         (map N.number back.now.low.items) (map N.number back.now.high.items) }
     requires responder { (after : VersionTableView)
-        → HasTaken (writes_in lists.now) (bases_in lists.now) initiator.old responder.old.cells
+        → HasTakenUnless nothing_back (writes_in lists.now) (bases_in lists.now) initiator.old responder.old.cells
         (map N.number back.now.low.items) (map N.number back.now.high.items) after
         → StaysOne H.lists (writes_in lists.now) (bases_in lists.now) responder.old after.cells
         (map N.number forth.now.low.items) (map N.number forth.now.high.items) }
-    ensures initiator { OnOk result (HasTaken (writes_in lists.now) (bases_in lists.now) initiator.old responder.old.cells
-        (map N.number back.now.low.items) (map N.number back.now.high.items) initiator.new) }
-    ensures responder { OnOk result (HasTakenUnless lost3 (writes_in lists.now) (bases_in lists.now) responder.old
-        initiator.new.cells (map N.number forth.now.low.items) (map N.number forth.now.high.items) responder.new) }
+    ensures initiator { OnOk result (HasTakenUnless nothing_back (writes_in lists.now) (bases_in lists.now) initiator.old
+        responder.old.cells (map N.number back.now.low.items) (map N.number back.now.high.items) initiator.new) }
+    ensures responder { OnOk result (HasTakenUnless nothing_forth (writes_in lists.now) (bases_in lists.now)
+        responder.old initiator.new.cells (map N.number forth.now.low.items) (map N.number forth.now.high.items)
+        responder.new) }
     ensures initiator_stays { OnErr result (initiator.new ≡ initiator.old) }
     ensures responder_stays { OnErr result (responder.new ≡ responder.old) }
     ensures only { IsOkUnless result OutOfMemory }
 {
     let initiator_before = copy_of(alloc, initiator.greatest())?;
     let responder_before = copy_of(alloc, responder.greatest())?;
-    let came = responder.cells();
-    take(
+    let came_back = responder.cells();
+    take_unless(
+        nothing_back,
         initiator,
-        came,
+        came_back,
         &back.low,
         &back.high,
         &initiator_before,
         bases,
         lists,
     );
-    if !lost3 {
-        let came = initiator.cells();
-        take(
-            responder,
-            came,
-            &forth.low,
-            &forth.high,
-            &responder_before,
-            bases,
-            lists,
-        );
-    }
+    let came_forth = initiator.cells();
+    take_unless(
+        nothing_forth,
+        responder,
+        came_forth,
+        &forth.low,
+        &forth.high,
+        &responder_before,
+        bases,
+        lists,
+    );
     Ok(())
 }
 

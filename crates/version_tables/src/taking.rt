@@ -7,7 +7,7 @@ ghost use Rattle.owner_lists.specs.Numbers.{write_numbered};
 ghost use Rattle.planes.specs.Planes.{cell, ArePlanesChanged, HasEach, IsGrid};
 ghost use Rattle.version_tables.specs.inner.Offers.{start_of, IsNumberedHistory};
 ghost use Rattle.version_tables.specs.inner.Histories.{bases_in};
-ghost use Rattle.version_tables.specs.inner.Taken.{drop_start, number_kept, HasTaken, IsTaken, StaysOne};
+ghost use Rattle.version_tables.specs.inner.Taken.{drop_start, number_kept, HasTaken, HasTakenUnless, IsTaken, StaysOne};
 ghost use Rattle.version_tables.specs.inner.Weights.{writes_in};
 
 use crate::tables::{VersionTable, Written};
@@ -156,9 +156,9 @@ fn take_numbers<N: Number>(
     drop_older(cells, nodes, keys, before, greatest, bases, lists);
 }
 
-/// Takes what marks let through of a sender's numbers, and drops of each owner what is of older generations than its
-/// newest. The greatest numbers before it are given.
-pub(crate) fn take<N: Number, H: Written>(
+// Takes what marks let through of a sender's numbers, and drops of each owner what is of older generations than its
+// newest. The greatest numbers before it are given.
+fn take<N: Number, H: Written>(
     table: &mut VersionTable<N, H>,
     sent: &[N],
     low: &[N],
@@ -193,4 +193,33 @@ pub(crate) fn take<N: Number, H: Written>(
         bases,
         lists,
     );
+}
+
+/// Takes what marks let through of a sender's numbers, and drops of each owner what is of older generations than its
+/// newest, unless there is nothing to take. The greatest numbers before it are given.
+pub(crate) fn take_unless<N: Number, H: Written>(
+    nothing: bool,
+    table: &mut VersionTable<N, H>,
+    sent: &[N],
+    low: &[N],
+    high: &[N],
+    before: &[N],
+    bases: &[N],
+    lists: &[OwnerList],
+)
+    requires sent { length sent.now ≡ length table.old.cells }
+    requires low { length low.now ≡ table.old.nodes }
+    requires high { length high.now ≡ table.old.nodes }
+    requires before { map N.number before.now ≡ table.old.greatest }
+    requires bases { HasEach table.old.nodes (λ r n. n ≡ bases_in lists.now r) (map N.number bases.now) }
+    requires lists { length lists.now ≡ table.old.nodes }
+    requires numbered { (owner : ℕ) → IsNumberedHistory (writes_in lists.now owner) }
+    requires stays { StaysOne H.lists (writes_in lists.now) (bases_in lists.now) table.old (map N.number sent.now)
+        (map N.number low.now) (map N.number high.now) }
+    ensures { HasTakenUnless nothing (writes_in lists.now) (bases_in lists.now) table.old (map N.number sent.now)
+        (map N.number low.now) (map N.number high.now) table.new }
+{
+    if !nothing {
+        take(table, sent, low, high, before, bases, lists);
+    }
 }

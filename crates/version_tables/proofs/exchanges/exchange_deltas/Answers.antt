@@ -1,4 +1,5 @@
 use Rattle.std.proofs.Common.{List, ℕ, ◌+◌, ◌*◌, ◌≡◌, map, ap, sym, ◌∙◌, length}
+use Rattle.std.specs.Prelude.{◌||◌}
 use Rattle.version_tables.proofs.ExchangedViews.{lost_second, stays_back, stays_forth, exchange_whole}
 use Rattle.version_tables.proofs.exchanges.exchange_deltas.Goals as goal
 
@@ -19,11 +20,11 @@ take_both-requires-clause-initiator g c = λ κs out.
 pub take_both-requires-clause-responder : goal.take_both-requires-clause-responder
 take_both-requires-clause-responder g c = λ κs out.
     stays_forth g.H.Written.lists c.args.rules.now c.args.plan.now g.N.Number.most c.args.histories.now c.lists-lists.ensures.so_far c.bases-bases.ensures.writes c.args.initiator.now c.args.responder.now c.requires.kept c.digest_size-digest2.ensures.kept
-    c.requires.initiator c.requires.responder c.requires.tables.nodes c.requires.tables.keys _ _ _ _ _ _ _ _ c.in_ok-back.ensures.delta c.in_ok-forth.ensures.delta c.lists-lists.result.now c.lists-lists.ensures.value
+    c.requires.initiator c.requires.responder c.requires.tables.nodes c.requires.tables.keys _ _ _ _ _ _ _ _ c.in_ok-back.ensures.delta c.in_ok-forth.ensures.delta c.lists-lists.result.now c.lists-lists.ensures.value c.is_nothing.result
 
 pub returns-clause-ok : goal.returns-clause-ok
 returns-clause-ok g c =
     exchange_whole g.H.Written.lists c.args.rules.now c.args.plan.now g.N.Number.most c.args.histories.now c.lists-lists.ensures.so_far c.bases-bases.ensures.writes c.args.initiator.now c.args.responder.now c.requires.kept c.digest_size-digest2.ensures.kept
     c.requires.initiator c.requires.responder c.requires.tables.nodes c.requires.tables.keys _ _ _ _ _ _ _ _ c.in_ok-back.ensures.delta c.in_ok-forth.ensures.delta c.lists-lists.result.now c.lists-lists.ensures.value
-    c.args.digest1 c.digest_size-digest2.result c.requires.digest1 c.digest_size-digest2.ensures.size c.requires.came c.if-plan.false
+    c.args.digest1 c.digest_size-digest2.result c.requires.digest1 c.digest_size-digest2.ensures.size c.requires.came c.if-plan.false _ _ c.is_nothing.ensures (ap (λ b. c.args.plan.now.lost3 || b) c.is_nothing-2.ensures)
     c.take_both.new.initiator c.take_both.new.responder c.in_ok-take_both.ensures.initiator c.in_ok-take_both.ensures.responder c.sent_both.result c.sent_both.ensures

@@ -1,6 +1,6 @@
 -- Tables of versions beside the owners' lists so far: what their numbers are.
 -- Serves nothing yet.
-use Rattle.std.proofs.Common.{◌≡◌, ◌≢◌, ℕ, zero, suc, ◌+◌, ◌*◌, ◌<◌, ◌≤◌, List, [], length, get_or, map, Option, Some, None, inl, inr, refl, sym, ap, ◌∙◌, subst, arith}
+use Rattle.std.proofs.Common.{◌≡◌, ℕ, suc, ◌*◌, ◌<◌, ◌≤◌, List, length, get_or, Some, inl, inr, refl, sym, ap, ◌∙◌, subst, arith}
 use Rattle.std.specs.Prelude.{Contains}
 use Rattle.std.proofs.lemmas.Bool.{cases_lt}
 use Rattle.std.proofs.lemmas.List.{get_or-map, length-map}
@@ -10,7 +10,7 @@ use Rattle.node_table.specs.Table.{Table, entry_at, empty_table}
 use Rattle.cluster.specs.Tables.{table_of_node}
 use Rattle.owner_lists.specs.OwnerListView.{OwnerListView, entries_of, list_of_owner}
 use Rattle.owner_lists.specs.Numbers.{write_numbered}
-use Rattle.planes.specs.Planes.{Cells, cell, HasEachPlace, IsGrid}
+use Rattle.planes.specs.Planes.{cell, HasEachPlace, IsGrid}
 use Rattle.version_tables.specs.Views.{VersionTableView, table_in, IsKept}
 use Rattle.version_tables.specs.inner.Missed.{IsNumberAt}
 use Rattle.version_tables.specs.inner.Pieces.{tables_in, keys_in, StandTogether, AreLaid}

@@ -1,8 +1,8 @@
 -- The first write of an owner that some copy misses has been missed for longest.
 -- Serves nothing yet.
-use Rattle.std.proofs.Common.{◌≡◌, ◌≢◌, ℕ, zero, suc, ◌+◌, ◌-◌, ◌*◌, ◌<◌, ◌≤◌, min, max, List, length, map, Option, Some, None, ◌⊎◌, inl, inr, refl, sym, ap, ◌∙◌, subst, arith}
+use Rattle.std.proofs.Common.{◌≡◌, ℕ, zero, suc, ◌+◌, ◌-◌, ◌*◌, ◌<◌, ◌≤◌, max, List, length, Some, inl, inr, refl, sym, ap, ◌∙◌, subst, arith}
 use Rattle.std.proofs.Math.Nat.{mul-le-mul_right}
-use Rattle.std.proofs.lemmas.Bool.{cases_lt, cases_eq}
+use Rattle.std.proofs.lemmas.Bool.{cases_lt}
 use Rattle.std.proofs.lemmas.Option.{same_Some}
 use Rattle.bench_types.specs.declared.entries.Entry.{Entry}
 use Rattle.owner_lists.specs.OwnerListView.{OwnerListView, entries_of, list_of_owner, AreWrites}
@@ -10,7 +10,7 @@ use Rattle.owner_lists.specs.Numbers.{write_numbered}
 use Rattle.planes.specs.Planes.{cell}
 use Rattle.round_tables.specs.Histories.{BirthsRise}
 use Rattle.staleness.specs.Figures.{most_below, rounds_behind}
-use Rattle.version_tables.specs.inner.Missed.{base_of, number_staleness, IsMissed, IsFirstMissed, HasNoneMissed, IsLastNumber, NonePassUpto}
+use Rattle.version_tables.specs.inner.Missed.{base_of, number_staleness, IsMissed, IsLastNumber, NonePassUpto}
 use Rattle.version_tables.specs.inner.Pieces.{MayWalk, WalksFrom}
 use Rattle.version_tables.proofs.Offers.{write_from-at}
 use Rattle.version_tables.proofs.Fitting.{numbered-upto}

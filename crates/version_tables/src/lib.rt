@@ -3,12 +3,13 @@
 #![tactic(auto)]
 
 mod deltas;
-mod figures;
 mod histories;
+mod lags;
 mod laws;
 mod tables;
 mod taking;
 
 pub use histories::Histories;
+pub use lags::figures;
 pub use laws::deltas_have_their_sets;
 pub use tables::{VersionTable, Written};

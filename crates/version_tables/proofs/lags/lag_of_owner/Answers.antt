@@ -1,0 +1,82 @@
+use Rattle.std.proofs.Common.{◌≡◌, ◌+◌, ◌*◌, ◌≤◌, Some, max, map, sym, ap, ◌∙◌, arith}
+use Rattle.std.proofs.lemmas.List.{length-map}
+use Rattle.std.proofs.lemmas.Option.{same_Some}
+use Rattle.bench_types.specs.declared.entries.Entry.{Entry}
+use Rattle.owner_lists.specs.OwnerListView.{entries_of}
+use Rattle.owner_lists.specs.Numbers.{write_numbered}
+use Rattle.planes.specs.Planes.{cell}
+use Rattle.planes.proofs.Elementwise.{number-at}
+use Rattle.version_tables.specs.inner.Missed.{base_of}
+use Rattle.version_tables.proofs.Walks.{walk-next, walk-none, walk-found, walk-keyed, walk-index, walk-born}
+use Rattle.version_tables.proofs.lags.lag_of_owner.Goals as goal
+use Rattle.version_tables.proofs.lags.lag_of_owner.Goals.{in-Some+else-widen-place, in_default}
+
+pub returns-then-widen : goal.returns-then-widen
+returns-then-widen g c keys walks =
+    let v = c.args.list.now in
+    let numbers = map g.N.Number.number c.args.least.now in
+    sym (walk-none v (cell numbers c.args.nodes c.args.owner) c.args.round keys walks.may.writes walks.may.written (max (base_of v) (g.N.Number.number c.args.first)) walks.start
+    (omega (arith, walks.may.few_writes, c.if-widen.true, c.widen.ensures, c.widen-2.ensures, c.greatest.ensures)))
+
+pub offset_bounds-least-write : goal.offset_bounds-least-write
+offset_bounds-least-write g c =
+    let w = c.requires in
+    omega (
+      arith,
+      walk-index c.args.round g.N.Number.most c.args.nodes w.0 c.args.owner (g.N.Number.number c.args.first) c.args.list.now (map g.N.Number.number c.args.least.now) w.1 c.loop-place.place c.in-Some.write
+      (omega (arith, c.loop-place.auto.place, c.max-from.ensures, c.earlier_count.ensures)) (sym c.in-Some.ensures),
+      length-map c.args.least.now g.N.Number.number,
+    )
+
+pub bounds-least-write : goal.bounds-least-write
+bounds-least-write g c =
+    let w = c.requires in
+    omega (
+      arith,
+      walk-index c.args.round g.N.Number.most c.args.nodes w.0 c.args.owner (g.N.Number.number c.args.first) c.args.list.now (map g.N.Number.number c.args.least.now) w.1 c.loop-place.place c.in-Some.write
+      (omega (arith, c.loop-place.auto.place, c.max-from.ensures, c.earlier_count.ensures)) (sym c.in-Some.ensures),
+      length-map c.args.least.now g.N.Number.number,
+    )
+
+pub overflow_sub-result : goal.overflow_sub-result
+overflow_sub-result g c =
+    let w = c.requires in
+    walk-born c.args.round g.N.Number.most c.args.nodes w.0 c.args.owner (g.N.Number.number c.args.first) c.args.list.now (map g.N.Number.number c.args.least.now) w.1 c.loop-place.place c.in-Some.write
+    (omega (arith, c.loop-place.auto.place, c.max-from.ensures, c.earlier_count.ensures)) (sym c.in-Some.ensures)
+
+pub returns-then-widen-place : goal.returns-then-widen-place
+returns-then-widen-place g c keys walks =
+    let v = c.args.list.now in
+    let numbers = map g.N.Number.number c.args.least.now in
+    let e = c.in-Some.write in
+    let place = c.loop-place.place in
+    let is : write_numbered (entries_of v) (place + 1) ≡ Some e = sym c.in-Some.ensures in
+    let current : base_of v ≤ place = omega (arith, c.loop-place.auto.place, c.max-from.ensures, c.earlier_count.ensures) in
+    let index = walk-index c.args.round g.N.Number.most c.args.nodes keys c.args.owner (g.N.Number.number c.args.first) v numbers walks place e current is in
+    let here = number-at g.N.Number.number c.args.least.now (e.key * c.args.nodes + c.args.owner) c.index-least-write.result (omega (arith, index, length-map c.args.least.now g.N.Number.number)) c.index-least-write.is in
+    sym (walk-found v (cell numbers c.args.nodes c.args.owner) c.args.round keys walks.may.writes walks.may.written walks.may.in_order place e c.loop-place.invariant current is
+    (walk-keyed c.args.round g.N.Number.most c.args.nodes keys c.args.owner (g.N.Number.number c.args.first) v numbers walks place e current is)
+    (omega (arith, c.if-widen-place.true, c.widen-in-Some.ensures, here)))
+
+pub loop-place-preserved : goal.loop-place-preserved
+loop-place-preserved g c =
+    let v = c.args.list.now in
+    let numbers = map g.N.Number.number c.args.least.now in
+    let place = c.loop-place.place in
+    let current : base_of v ≤ place = omega (arith, c.loop-place.auto.place, c.max-from.ensures, c.earlier_count.ensures) in
+    walk-next v (cell numbers c.args.nodes c.args.owner) place c.loop-place.invariant (λ e is. elim c.match-numbered.branch [
+      | in-Some+else-widen-place w ↦
+          let x = w.in-Some.write in
+          let same : x ≡ e = same_Some x e (sym w.in-Some.is ∙ c.numbered.ensures ∙ is) in
+          let there : write_numbered (entries_of v) (place + 1) ≡ Some x = sym c.numbered.ensures ∙ w.in-Some.is in
+          let index = walk-index c.args.round g.N.Number.most c.args.nodes c.requires.0 c.args.owner (g.N.Number.number c.args.first) v numbers c.requires.1 place x current there in
+          let here = number-at g.N.Number.number c.args.least.now (x.key * c.args.nodes + c.args.owner) w.index-least-write.result (omega (arith, index, length-map c.args.least.now g.N.Number.number)) w.index-least-write.is in
+          omega (arith, w.if-widen-place.false, w.widen-in-Some.ensures, here, ap (λ (y : Entry). cell numbers c.args.nodes c.args.owner y.key) same)
+      | in_default w ↦ absurd (w.in_default.not-Some e (c.numbered.ensures ∙ is))
+    ])
+
+pub returns : goal.returns
+returns g c keys walks =
+    let v = c.args.list.now in
+    let numbers = map g.N.Number.number c.args.least.now in
+    sym (walk-none v (cell numbers c.args.nodes c.args.owner) c.args.round keys walks.may.writes walks.may.written c.loop-place.place c.loop-place.invariant (omega (arith, c.loop-place-test.false, c.count-place-end.ensures)))

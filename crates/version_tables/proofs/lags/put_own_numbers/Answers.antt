@@ -1,0 +1,12 @@
+use Rattle.std.proofs.Common.{map, arith}
+use Rattle.std.proofs.lemmas.List.{length-map}
+use Rattle.planes.proofs.Elementwise.{written_next}
+use Rattle.version_tables.proofs.Counted.{own-number}
+use Rattle.version_tables.proofs.lags.put_own_numbers.Goals as goal
+
+pub loop-owner-preserved : goal.loop-owner-preserved
+loop-owner-preserved g c =
+    written_next _ (map g.N.Number.number c.args.plane.now) g.N.Number.number c.loop-owner.plane c.loop-owner.owner c.index-cells-key.result c.loop-owner.invariant
+    (omega (arith, c.loop-owner-test.true, length-map c.args.plane.now g.N.Number.number))
+    (own-number g.H.Written.lists c.args.tables.now c.args.keys c.args.key c.requires.alike c.requires.key g.N.Number.number c.loop-owner.owner c.index-tables-owner.result c.cells-cells.result.now c.index-cells-key.result
+    (omega (arith, c.loop-owner-test.true, c.requires.nodes)) c.index-tables-owner.is c.cells-cells.ensures.kept c.cells-cells.ensures.value c.index-cells-key.is)

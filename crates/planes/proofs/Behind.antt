@@ -48,14 +48,17 @@ module _ (most : ℕ) (cells last : Cells) (key owner x y : ℕ) (fits : x ≤ m
   }
 
   pub behind-next : (y ≤ most) × IsLeastBehind most cells last (key + 1) owner y
-  behind-next = (omega (arith, now.lowered, fits), elim (cases_lt (cells owner key) (last owner key)) [
-    | inl behind ↦
-        let found : next_behind most (last owner key) (cells owner key) ≡ cells owner key = ap (λ b. cond b (cells owner key) most) (lt-ltb (cells owner key) (last owner key) behind) in
-        elim (cases_lt (cells owner key) x) [
-          | inl lower ↦ here_behind behind (omega (arith, now.lowered, found, lower))
-          | inr not_lower ↦ not_here (omega (arith, now.lowered, found, not_lower)) (λ _. omega (arith, now.lowered, found, not_lower))
-        ]
-    | inr not_behind ↦
-        let found : next_behind most (last owner key) (cells owner key) ≡ most = ap (λ b. cond b (cells owner key) most) (le-ltb (cells owner key) (last owner key) not_behind) in
-        not_here (omega (arith, now.lowered, found, fits)) (λ behind. absurd (omega (arith, behind, not_behind)))
-  ])
+  behind-next = (
+    omega (arith, now.lowered, fits),
+    elim (cases_lt (cells owner key) (last owner key)) [
+      | inl behind ↦
+          let found : next_behind most (last owner key) (cells owner key) ≡ cells owner key = ap (λ b. cond b (cells owner key) most) (lt-ltb (cells owner key) (last owner key) behind) in
+          elim (cases_lt (cells owner key) x) [
+            | inl lower ↦ here_behind behind (omega (arith, now.lowered, found, lower))
+            | inr not_lower ↦ not_here (omega (arith, now.lowered, found, not_lower)) (λ _. omega (arith, now.lowered, found, not_lower))
+          ]
+      | inr not_behind ↦
+          let found : next_behind most (last owner key) (cells owner key) ≡ most = ap (λ b. cond b (cells owner key) most) (le-ltb (cells owner key) (last owner key) not_behind) in
+          not_here (omega (arith, now.lowered, found, fits)) (λ behind. absurd (omega (arith, behind, not_behind)))
+    ],
+  )

@@ -75,8 +75,12 @@ module _ (round : ℕ) (v : OwnerListView) (are : AreWrites v) where
               | inl none ↦ absurd (none.0 later.0 e before)
               | inr sooner ↦
                   let first = sooner.1.1.0 in
-                  omega (arith, ap rounds_behind later.1.1.1, ap rounds_behind sooner.1.1.1,
-                    born-by_number all rise sooner.0 later.0 sooner.1.0 e first.missed.written missed.written (first.first later.0 e before))
+                  omega (
+                    arith,
+                    ap rounds_behind later.1.1.1,
+                    ap rounds_behind sooner.1.1.1,
+                    born-by_number all rise sooner.0 later.0 sooner.1.0 e first.missed.written missed.written (first.first later.0 e before),
+                  )
             ]
       ]
 

@@ -62,12 +62,15 @@ module _ (v : OwnerListView) (least : ℕ → ℕ) where
     lag k = rounds_behind (number_staleness round v k (least k))
 
     pub walk-none : (place : ℕ) → NonePassUpto v least place → length all ≤ place → most_below keys lag ≡ 0
-    walk-none place none past = omega (arith, most_below-le lag keys 0 (λ k in_keys. elim (missed_cases v are k (least k) (within k in_keys) round) [
-      | inl nothing ↦ omega (arith, ap rounds_behind nothing.1)
-      | inr found ↦
-          let missed = found.1.1.0.missed in
-          absurd (omega (arith, missed.over, none found.0 found.1.0 missed.written missed.current (omega (arith, past, (numbered-upto all found.0 found.1.0 missed.written).1)), ap least missed.keyed))
-    ]))
+    walk-none place none past = omega (
+      arith,
+      most_below-le lag keys 0 (λ k in_keys. elim (missed_cases v are k (least k) (within k in_keys) round) [
+        | inl nothing ↦ omega (arith, ap rounds_behind nothing.1)
+        | inr found ↦
+            let missed = found.1.1.0.missed in
+            absurd (omega (arith, missed.over, none found.0 found.1.0 missed.written missed.current (omega (arith, past, (numbered-upto all found.0 found.1.0 missed.written).1)), ap least missed.keyed))
+      ]),
+    )
 
     pub walk-found : BirthsRise all → (place : ℕ) (e : Entry) → NonePassUpto v least place → base_of v ≤ place → write_numbered all (place + 1) ≡ Some e → e.key < keys → least e.key ≤ place → most_below keys lag ≡ round - e.born + 1
     walk-found rise place e none current is in_keys over = most_below-is lag keys e.key (round - e.born + 1) in_keys here upto

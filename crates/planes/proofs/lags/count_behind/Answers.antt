@@ -17,7 +17,7 @@ overflow_add-count g c =
 pub loop-key-preserved : goal.loop-key-preserved
 loop-key-preserved g c = record {
   count = total_suc _ c.loop-key.key c.loop-key.count c.how_many_above-count.result c.loop-key.invariant.count (plane-behind c.args.nodes (length c.plane_of-of_last.result.now) c.how_many_above-count.result _ _ _ _ c.plane_of-plane.ensures c.plane_of-of_last.ensures
-    (sym (length-map c.plane_of-of_last.result.now g.N.Number.number) ∙ c.plane_of-of_last.ensures.size) c.how_many_above-count.ensures);
+      (sym (length-map c.plane_of-of_last.result.now g.N.Number.number) ∙ c.plane_of-of_last.ensures.size) c.how_many_above-count.ensures);
   least =
       planes-written _ c.args.nodes (map g.N.Number.number c.args.least.now) g.N.Number.number c.loop-key.least c.lower.new.least c.loop-key.key
       (c.loop-key.key * c.args.nodes + c.args.nodes - c.loop-key.key * c.args.nodes) _ (omega arith) c.loop-key.invariant.least

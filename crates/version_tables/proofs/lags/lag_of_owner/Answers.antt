@@ -24,7 +24,7 @@ offset_bounds-least-write g c =
     omega (
       arith,
       walk-index c.args.round g.N.Number.most c.args.nodes w.0 c.args.owner (g.N.Number.number c.args.first) c.args.list.now (map g.N.Number.number c.args.least.now) w.1 c.loop-place.place c.in-Some.write
-      (omega (arith, c.loop-place.auto.place, c.max-from.ensures, c.earlier_count.ensures)) (sym c.in-Some.ensures),
+          (omega (arith, c.loop-place.auto.place, c.max-from.ensures, c.earlier_count.ensures)) (sym c.in-Some.ensures),
       length-map c.args.least.now g.N.Number.number,
     )
 
@@ -34,7 +34,7 @@ bounds-least-write g c =
     omega (
       arith,
       walk-index c.args.round g.N.Number.most c.args.nodes w.0 c.args.owner (g.N.Number.number c.args.first) c.args.list.now (map g.N.Number.number c.args.least.now) w.1 c.loop-place.place c.in-Some.write
-      (omega (arith, c.loop-place.auto.place, c.max-from.ensures, c.earlier_count.ensures)) (sym c.in-Some.ensures),
+          (omega (arith, c.loop-place.auto.place, c.max-from.ensures, c.earlier_count.ensures)) (sym c.in-Some.ensures),
       length-map c.args.least.now g.N.Number.number,
     )
 

@@ -236,9 +236,10 @@ fn parts_of<N: Number, H: Written>(
             |part: usize| -> Result<Piece<N>, Fault>
                 requires { (AreLaid H.lists tables.now histories.now.lists)
                     × AreLastNumbers (tables_in H.lists tables.now) histories.now.lists (map N.number last.now)
-                    × (IsFalse forgot → NoneForgot histories.now.lists) × (1 ≤ size) × (part ≤ length tables.now / size) }
-                ensures { IfOk result (λ p. IsPartOf (tables_in H.lists tables.entry.now) histories.entry.now.lists size part
-                    p.stale p.leftover (map N.number p.least.items)) }
+                    × (IsFalse forgot → NoneForgot histories.now.lists) × (1 ≤ size)
+                    × (part ≤ length tables.now / size) }
+                ensures { IfOk result (λ p. IsPartOf (tables_in H.lists tables.entry.now) histories.entry.now.lists
+                    size part p.stale p.leftover (map N.number p.least.items)) }
             { part_of(alloc, tables, histories, last, forgot, size, part) },
         )
         .collect(rt, alloc)

@@ -11,6 +11,7 @@ use Rattle.bench_types.specs.declared.faults.Fault.{Fault}
 use Rattle.bench_types.specs.declared.rows.Row.{Row}
 use Rattle.bench_types.specs.declared.sinks.Sink.{Ghosts as Sink}
 use Rattle.bench_types.specs.Mode.{modes}
+use Rattle.node_table.specs.Table.{Table}
 use Rattle.pool.specs.Runs.{IsPoolFault}
 use Rattle.report.specs.Compare.{compare_header_line, compare_line, compare_lines}
 use Rattle.bench_types.specs.Output.{IsWritten, IsWriteFault}
@@ -27,7 +28,7 @@ pub nothing_written : {W : Type 0} (sink : Sink W) (now : W) → sink.failed now
 nothing_written sink now sound flushed = record { taken = Appends-nil (sink.taken now); flushed = flushed; sound = sound; was_sound = sound }
 
 -- the lines of so many rounds of a scenario are written
-pub record AreRoundsWritten {W : Type 0} (sink : Sink W) (old now : W) (s : Settings) (sim : SimView) (rounds : ℕ) : Type 0 where
+pub record AreRoundsWritten {T W : Type 0} (sink : Sink W) (old now : W) (s : Settings) (sim : SimView T) (rounds : ℕ) : Type 0 where
   pub settings : sim.settings ≡ s
   pub unbroken : sim.broken ≡ false
   pub done : sim.rounds_done ≡ rounds
@@ -37,7 +38,7 @@ pub record AreRoundsWritten {W : Type 0} (sink : Sink W) (old now : W) (s : Sett
 pub stops_before : {W : Type 0} (sink : Sink W) (old now : W) (s : Settings) (rounds workers : ℕ) (fault : Fault) → rounds < s.rounds → IsWritten sink old now (lines_upto s rounds) → IsPoolFault workers fault → IsFaultInRounds sink old now [] s workers fault
 stops_before sink old now s rounds workers fault more written pool = record { rounds = rounds; within = more; stops = inl (pool, written) }
 
-pub stops_at_step : {W : Type 0} (sink : Sink W) (old now : W) (s : Settings) (sim sim' : SimView) (rounds workers : ℕ) (fault : Fault) → AreRoundsWritten sink old now s sim rounds → rounds < s.rounds → IsStepFault workers sim sim' fault → IsFaultInRounds sink old now [] s workers fault
+pub stops_at_step : {T W : Type 0} (sink : Sink W) (old now : W) (s : Settings) (sim sim' : SimView T) (rounds workers : ℕ) (fault : Fault) → AreRoundsWritten sink old now s sim rounds → rounds < s.rounds → IsStepFault workers sim sim' fault → IsFaultInRounds sink old now [] s workers fault
 stops_at_step sink old now s sim sim' rounds workers fault so_far more stop =
     let left : sim.rounds_done < sim.settings.rounds = subst (λ (t : Settings). sim.rounds_done < t.rounds) (sym so_far.settings) (omega (arith, more, so_far.done)) in
     stops_before sink old now s rounds workers fault more so_far.written (step_fault workers sim sim' fault so_far.unbroken left stop)
@@ -50,7 +51,7 @@ in_round_behind sink old now new text whole line workers fault first stop = elim
 ]
 
 -- the next round was played
-module _ {W : Type 0} (sink : Sink W) (old now : W) (s : Settings) (sim sim' : SimView) (rounds : ℕ) (round : RoundView) (so_far : AreRoundsWritten sink old now s sim rounds) (played : PlaysNext sim sim' round) (format : ℕ) (format_is : format ≡ s.format) (mode : Mode) (mode_is : mode ≡ s.mode) (row : Row) (row_is : row ≡ round.row) where
+module _ {T W : Type 0} (table : T → Table) (sink : Sink W) (old now : W) (s : Settings) (sim sim' : SimView T) (rounds : ℕ) (round : RoundView) (so_far : AreRoundsWritten sink old now s sim rounds) (played : PlaysNext table sim sim' round) (format : ℕ) (format_is : format ≡ s.format) (mode : Mode) (mode_is : mode ≡ s.mode) (row : Row) (row_is : row ≡ round.row) where
   row_here : row ≡ row_in s (rounds + 1)
   row_here = row_is ∙ ap (λ (r : RoundView). r.row) played.played ∙ (λ i. row_in ((played.settings ∙ so_far.settings) i) ((played.done ∙ ap (λ n. n + 1) so_far.done) i))
 

@@ -2,3 +2,4 @@ pub mod InputFacts
 pub mod Reporting
 pub mod Comparison
 pub mod Endings
+pub mod Numbers

@@ -11,6 +11,7 @@ use Rattle.bench_types.specs.declared.exchanges.Record.{Record}
 use Rattle.bench_types.specs.declared.faults.Fault.{Fault}
 use Rattle.bench_types.specs.declared.rows.Row.{Row}
 use Rattle.bench_types.specs.declared.sinks.Sink.{Ghosts as Sink}
+use Rattle.node_table.specs.Table.{Table}
 use Rattle.round_plan.specs.Plan.{RoundListView}
 use Rattle.pool.specs.Runs.{IsPoolFault}
 use Rattle.bench_types.specs.Output.{IsWritten, IsWriteFault}
@@ -38,7 +39,7 @@ pub fault_behind : {W : Type 0} (sink : Sink W) (old now new : W) (text whole ne
 fault_behind sink old now new text whole next fault first stop = (stop.0, written_then sink old now stop.0 text whole first stop.1, stop.2)
 
 -- both texts after so many rounds
-pub record AreWrittenUpto {W X : Type 0} (sink : Sink W) (old now : W) (sink' : Sink X) (old' now' : X) (s : Settings) (sim : SimView) (rounds : ℕ) : Type 0 where
+pub record AreWrittenUpto {T W X : Type 0} (sink : Sink W) (old now : W) (sink' : Sink X) (old' now' : X) (s : Settings) (sim : SimView T) (rounds : ℕ) : Type 0 where
   pub settings : sim.settings ≡ s
   pub unbroken : sim.broken ≡ false
   pub done : sim.rounds_done ≡ rounds
@@ -46,7 +47,7 @@ pub record AreWrittenUpto {W X : Type 0} (sink : Sink W) (old now : W) (sink' : 
   pub trace : IsWritten sink' old' now' (trace_upto s rounds)
 
 -- the headers alone
-pub headers_written : {W X : Type 0} (sink : Sink W) (old now : W) (sink' : Sink X) (old' now' : X) (sim : SimView) (format : ℕ) → format ≡ sim.settings.format → sim.broken ≡ false → sim.rounds_done ≡ 0
+pub headers_written : {T W X : Type 0} (sink : Sink W) (old now : W) (sink' : Sink X) (old' now' : X) (sim : SimView T) (format : ℕ) → format ≡ sim.settings.format → sim.broken ≡ false → sim.rounds_done ≡ 0
     → IsWritten sink old now (report_header_line format) → IsWritten sink' old' now' trace_header_line → AreWrittenUpto sink old now sink' old' now' sim.settings sim 0
 headers_written sink old now sink' old' now' sim format format_is unbroken first header header' = record {
   settings = refl;
@@ -90,7 +91,7 @@ stopped_at sink old new sink' old' new' s workers r fault place handed stops =
     at_fault r fault (IsWritingFault sink old new sink' old' new' s workers) handed (record { place = place; stops = stops })
 
 -- where a round is left and none has failed, the fault of a step is that of its workers
-pub step_fault : (workers : ℕ) (sim sim' : SimView) (fault : Fault) → sim.broken ≡ false → sim.rounds_done < sim.settings.rounds → IsStepFault workers sim sim' fault → IsPoolFault workers fault
+pub step_fault : {T : Type 0} (workers : ℕ) (sim sim' : SimView T) (fault : Fault) → sim.broken ≡ false → sim.rounds_done < sim.settings.rounds → IsStepFault workers sim sim' fault → IsPoolFault workers fault
 step_fault workers sim sim' fault unbroken more stop = elim stop [
   | inl failed ↦ failed.0
   | inr refused ↦ elim refused.0 [
@@ -99,9 +100,9 @@ step_fault workers sim sim' fault unbroken more stop = elim stop [
   ]
 ]
 
-module _ {W X : Type 0} (sink : Sink W) (old now : W) (sink' : Sink X) (old' now' : X) (s : Settings) (sim : SimView) (rounds : ℕ) (so_far : AreWrittenUpto sink old now sink' old' now' s sim rounds) where
+module _ {T W X : Type 0} (sink : Sink W) (old now : W) (sink' : Sink X) (old' now' : X) (s : Settings) (sim : SimView T) (rounds : ℕ) (so_far : AreWrittenUpto sink old now sink' old' now' s sim rounds) where
   -- the next round wasn't played
-  pub stops_before : (workers : ℕ) (sim' : SimView) (fault : Fault) → rounds < s.rounds → IsStepFault workers sim sim' fault → StopsAt sink old now sink' old' now' s workers fault (round_after rounds)
+  pub stops_before : (workers : ℕ) (sim' : SimView T) (fault : Fault) → rounds < s.rounds → IsStepFault workers sim sim' fault → StopsAt sink old now sink' old' now' s workers fault (round_after rounds)
   stops_before workers sim' fault more stop =
       let left : sim.rounds_done < sim.settings.rounds = subst (λ (t : Settings). sim.rounds_done < t.rounds) (sym so_far.settings) (omega (arith, more, so_far.done)) in
       (more, step_fault workers sim sim' fault so_far.unbroken left stop, so_far.report, so_far.trace)
@@ -115,7 +116,7 @@ module _ {W X : Type 0} (sink : Sink W) (old now : W) (sink' : Sink X) (old' now
   }
 
   -- the next round was played
-  module _ (sim' : SimView) (round : RoundView) (played : PlaysNext sim sim' round) (lines : List ℕ) (lines_are : lines ≡ lines_of round) where
+  module _ (table : T → Table) (sim' : SimView T) (round : RoundView) (played : PlaysNext table sim sim' round) (lines : List ℕ) (lines_are : lines ≡ lines_of round) where
     lines_here : lines ≡ trace_in s (rounds + 1)
     lines_here = lines_are ∙ ap lines_of played.played ∙ (λ i. trace_in ((played.settings ∙ so_far.settings) i) ((played.done ∙ ap (λ n. n + 1) so_far.done) i))
 

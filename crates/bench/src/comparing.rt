@@ -3,19 +3,25 @@
 ghost use Rattle.std.specs.Prelude.{◌≡◌, ◌≤◌, [], true, false, IfOk, OnOk, IfErr};
 ghost use Rattle.bench_types.specs.declared.limits.TheConstants.{MOST_WORKERS};
 ghost use Rattle.bench_types.specs.Output.{IsWritten};
+ghost use Rattle.simulation.specs.Simulation.{MayWriteAll};
+ghost use Rattle.bench_types.specs.Mode.{modes};
+ghost use Rattle.bench.specs.inner.Writes.{AreWrittenIn, HasWritesBelow};
 ghost use Rattle.bench.specs.Runs.{TellsOfFailing, ComesOnceAccepted};
 ghost use Rattle.bench.specs.Comparisons.{lines_upto, lines_of_modes, IsFaultInRounds, IsFaultInModes, IsCompared, IsCompareFault};
 
-use crate::runs::{begin, check_input};
+use crate::runs::{begin, check_input, has_few_writes};
 use bench_types::limits::MOST_WORKERS;
 use bench_types::{Fault, Mode, Sink, Source};
 use pool::FreeGate;
 use report::{compare_header, write_compare_row};
+use round_tables::RoundTable;
 use scenario::Scenario;
 use simulation::Sim;
 use std::alloc::Global;
+use std::marker::Brand;
 use std::sync::Wait;
 use std::thread::Threads;
+use version_tables::{VersionTable, Written};
 
 /// Reads a scenario, and writes the comparison of the modes: the header, and for each mode, in the
 /// order of `Mode::ALL`, the row of each round of the scenario under that mode. The scenario's own
@@ -37,11 +43,55 @@ pub fn compare<H: Threads + Wait + Sync, R: Source, W: Sink>(
 {
     let scenario = check_input(alloc, reader)?;
     compare_header(alloc, writer, scenario.format())?;
-    write_modes(rt, alloc, scenario, &Mode::ALL, writer, workers)
+    if has_few_writes(&scenario) {
+        write_short_modes::<Brand, H, W>(rt, alloc, scenario, writer, workers)
+    } else {
+        write_long_modes::<Brand, H, W>(rt, alloc, scenario, writer, workers)
+    }
+}
+
+// All rounds of a scenario under each mode, by tables that keep versions alone, in numbers of 16 bits.
+fn write_short_modes<L: Written + Send + Sync, H: Threads + Wait + Sync, W: Sink>(
+    rt: &H,
+    alloc: Global,
+    scenario: Scenario,
+    writer: &mut W,
+    workers: u32,
+) -> Result<(), Fault>
+    requires few { 1 ≤ workers }
+    requires many { workers ≤ MOST_WORKERS }
+    requires written { AreWrittenIn L.lists scenario }
+    requires below { HasWritesBelow 65535 scenario }
+    requires sound { W.failed writer.old ≡ false }
+    requires flushed { W.flushed writer.old ≡ true }
+    ensures written { OnOk result (IsWritten W.Sink writer.old writer.new (lines_of_modes scenario modes)) }
+    ensures fault { IfErr result (IsFaultInModes W.Sink writer.old writer.new [] scenario modes workers) }
+{
+    write_modes::<VersionTable<u16, L>, H, W>(rt, alloc, scenario, &Mode::ALL, writer, workers)
+}
+
+// The same in numbers of 32 bits.
+fn write_long_modes<L: Written + Send + Sync, H: Threads + Wait + Sync, W: Sink>(
+    rt: &H,
+    alloc: Global,
+    scenario: Scenario,
+    writer: &mut W,
+    workers: u32,
+) -> Result<(), Fault>
+    requires few { 1 ≤ workers }
+    requires many { workers ≤ MOST_WORKERS }
+    requires written { AreWrittenIn L.lists scenario }
+    requires below { HasWritesBelow 4294967295 scenario }
+    requires sound { W.failed writer.old ≡ false }
+    requires flushed { W.flushed writer.old ≡ true }
+    ensures written { OnOk result (IsWritten W.Sink writer.old writer.new (lines_of_modes scenario modes)) }
+    ensures fault { IfErr result (IsFaultInModes W.Sink writer.old writer.new [] scenario modes workers) }
+{
+    write_modes::<VersionTable<u32, L>, H, W>(rt, alloc, scenario, &Mode::ALL, writer, workers)
 }
 
 // All rounds of a scenario under each of these modes in turn.
-fn write_modes<H: Threads + Wait + Sync, W: Sink>(
+fn write_modes<T: RoundTable, H: Threads + Wait + Sync, W: Sink>(
     rt: &H,
     alloc: Global,
     mut scenario: Scenario,
@@ -51,19 +101,26 @@ fn write_modes<H: Threads + Wait + Sync, W: Sink>(
 ) -> Result<(), Fault>
     requires few { 1 ≤ workers }
     requires many { workers ≤ MOST_WORKERS }
+    requires may_write { MayWriteAll T.may_write scenario }
     requires sound { W.failed writer.old ≡ false }
     requires flushed { W.flushed writer.old ≡ true }
     ensures written { OnOk result (IsWritten W.Sink writer.old writer.new (lines_of_modes scenario modes.now)) }
     ensures fault { IfErr result (IsFaultInModes W.Sink writer.old writer.new [] scenario modes.now workers) }
 {
     for mode in modes {
-        scenario = write_all_rounds(rt, alloc, scenario.with_mode(*mode), writer, workers)?;
+        scenario = write_all_rounds::<T, H, W>(
+            rt,
+            alloc,
+            scenario.with_mode(*mode),
+            writer,
+            workers,
+        )?;
     }
     Ok(())
 }
 
 // All rounds of a scenario, which is handed back.
-fn write_all_rounds<H: Threads + Wait + Sync, W: Sink>(
+fn write_all_rounds<T: RoundTable, H: Threads + Wait + Sync, W: Sink>(
     rt: &H,
     alloc: Global,
     scenario: Scenario,
@@ -72,6 +129,7 @@ fn write_all_rounds<H: Threads + Wait + Sync, W: Sink>(
 ) -> Result<Scenario, Fault>
     requires few { 1 ≤ workers }
     requires many { workers ≤ MOST_WORKERS }
+    requires may_write { MayWriteAll T.may_write scenario }
     requires sound { W.failed writer.old ≡ false }
     requires flushed { W.flushed writer.old ≡ true }
     ensures same { IfOk result (λ s. s ≡ scenario) }
@@ -80,16 +138,16 @@ fn write_all_rounds<H: Threads + Wait + Sync, W: Sink>(
 {
     let mode = scenario.mode();
     let rounds = scenario.rounds();
-    let mut sim = begin(alloc, scenario)?;
+    let mut sim = begin::<T>(alloc, scenario)?;
     write_rows(rt, alloc, &mut sim, mode, rounds, writer, workers)?;
     Ok(sim.into_scenario())
 }
 
 // The rows of all rounds of a simulation of this mode, which stands before the first of so many.
-fn write_rows<H: Threads + Wait + Sync, W: Sink>(
+fn write_rows<T: RoundTable, H: Threads + Wait + Sync, W: Sink>(
     rt: &H,
     alloc: Global,
-    sim: &mut Sim,
+    sim: &mut Sim<T>,
     mode: Mode,
     rounds: u32,
     writer: &mut W,

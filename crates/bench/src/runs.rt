@@ -1,20 +1,25 @@
 //! A whole run, from bytes to bytes.
 
-ghost use Rattle.std.specs.Prelude.{◌≡◌, ◌≤◌, false, Ok, IfOk, OnOk, IfErr, IsOkUnless};
+ghost use Rattle.std.specs.Prelude.{◌≡◌, ◌≤◌, true, false, Ok, IfOk, OnOk, IfErr, IsOkUnless};
 ghost use Rattle.bench_types.specs.declared.limits.TheConstants.{MOST_WORKERS};
+ghost use Rattle.simulation.specs.Simulation.{MayWriteAll};
 ghost use Rattle.bench.specs.Inputs.{IsRead, IsInputFault};
+ghost use Rattle.bench.specs.inner.Writes.{AreWrittenIn, HasWritesBelow};
 ghost use Rattle.bench.specs.Runs.{AreWritten, IsWritingFault, IsReported, IsRunFault, TellsOfFailing, ComesOnceAccepted};
 
 use crate::inputs::read_all;
-use bench_types::limits::MOST_WORKERS;
+use bench_types::limits::{MOST_WORKERS, MOST_WRITES};
 use bench_types::{Fault, Sink, Source};
 use pool::FreeGate;
 use report::{report_header, trace_header, write_report_row, write_trace_rows};
+use round_tables::RoundTable;
 use scenario::{Scenario, read};
 use simulation::Sim;
 use std::alloc::Global;
+use std::marker::Brand;
 use std::sync::Wait;
 use std::thread::Threads;
+use version_tables::{VersionTable, Written};
 
 /// Reads a scenario, and writes the report of its run to `writer` and its trace to `trace`: the two
 /// headers, and after each round its exchanges and its row. `Discard` serves where no trace is
@@ -43,8 +48,11 @@ pub fn run<H: Threads + Wait + Sync, R: Source, W: Sink, X: Sink>(
         TellsOfFailing W.Sink writer.old writer.new fault × TellsOfFailing X.Sink trace.old trace.new fault) }
 {
     let scenario = check_input(alloc, reader)?;
-    let mut sim = begin(alloc, scenario)?;
-    write_texts(rt, alloc, &mut sim, writer, trace, workers)
+    if has_few_writes(&scenario) {
+        write_short_run::<Brand, H, W, X>(rt, alloc, scenario, writer, trace, workers)
+    } else {
+        write_long_run::<Brand, H, W, X>(rt, alloc, scenario, writer, trace, workers)
+    }
 }
 
 /// Reads a scenario whole and checks it. An error is that of `read_all`, or else the fault of the first check
@@ -57,13 +65,82 @@ pub fn check_input<R: Source>(alloc: Global, reader: &mut R) -> Result<Scenario,
     read(alloc, &bytes)
 }
 
+/// Whether all that an owner writes in a run has numbers of 16 bits.
+pub(crate) fn has_few_writes(scenario: &Scenario) -> bool
+    ensures few { result ≡ true → HasWritesBelow 65535 scenario.now }
+    ensures some { HasWritesBelow 4294967295 scenario.now }
+{
+    MOST_WRITES * scenario.rounds() < u32::from(u16::MAX)
+}
+
+// The texts of a run, by tables that keep versions alone, in numbers of 16 bits.
+fn write_short_run<L: Written + Send + Sync, H: Threads + Wait + Sync, W: Sink, X: Sink>(
+    rt: &H,
+    alloc: Global,
+    scenario: Scenario,
+    writer: &mut W,
+    trace: &mut X,
+    workers: u32,
+) -> Result<(), Fault>
+    requires few { 1 ≤ workers }
+    requires many { workers ≤ MOST_WORKERS }
+    requires written { AreWrittenIn L.lists scenario }
+    requires below { HasWritesBelow 65535 scenario }
+    ensures written { OnOk result (AreWritten W.Sink writer.old writer.new X.Sink trace.old trace.new scenario) }
+    ensures fault { IfErr result
+        (IsWritingFault W.Sink writer.old writer.new X.Sink trace.old trace.new scenario workers) }
+{
+    write_run::<VersionTable<u16, L>, H, W, X>(rt, alloc, scenario, writer, trace, workers)
+}
+
+// The same in numbers of 32 bits.
+fn write_long_run<L: Written + Send + Sync, H: Threads + Wait + Sync, W: Sink, X: Sink>(
+    rt: &H,
+    alloc: Global,
+    scenario: Scenario,
+    writer: &mut W,
+    trace: &mut X,
+    workers: u32,
+) -> Result<(), Fault>
+    requires few { 1 ≤ workers }
+    requires many { workers ≤ MOST_WORKERS }
+    requires written { AreWrittenIn L.lists scenario }
+    requires below { HasWritesBelow 4294967295 scenario }
+    ensures written { OnOk result (AreWritten W.Sink writer.old writer.new X.Sink trace.old trace.new scenario) }
+    ensures fault { IfErr result
+        (IsWritingFault W.Sink writer.old writer.new X.Sink trace.old trace.new scenario workers) }
+{
+    write_run::<VersionTable<u32, L>, H, W, X>(rt, alloc, scenario, writer, trace, workers)
+}
+
+// The texts of a run, by tables of any representation.
+fn write_run<T: RoundTable, H: Threads + Wait + Sync, W: Sink, X: Sink>(
+    rt: &H,
+    alloc: Global,
+    scenario: Scenario,
+    writer: &mut W,
+    trace: &mut X,
+    workers: u32,
+) -> Result<(), Fault>
+    requires few { 1 ≤ workers }
+    requires many { workers ≤ MOST_WORKERS }
+    requires may_write { MayWriteAll T.may_write scenario }
+    ensures written { OnOk result (AreWritten W.Sink writer.old writer.new X.Sink trace.old trace.new scenario) }
+    ensures fault { IfErr result
+        (IsWritingFault W.Sink writer.old writer.new X.Sink trace.old trace.new scenario workers) }
+{
+    let mut sim = begin::<T>(alloc, scenario)?;
+    write_texts(rt, alloc, &mut sim, writer, trace, workers)
+}
+
 /// A simulation of the scenario, before its first round.
-pub(crate) fn begin(alloc: Global, scenario: Scenario) -> Result<Sim, Fault>
+pub(crate) fn begin<T: RoundTable>(alloc: Global, scenario: Scenario) -> Result<Sim<T>, Fault>
+    requires { MayWriteAll T.may_write scenario }
     ensures opens { IfOk result
         (λ sim. (sim.settings ≡ scenario) × (sim.rounds_done ≡ 0) × (sim.broken ≡ false)) }
     ensures only { IsOkUnless result Fault.OutOfMemory }
 {
-    match Sim::new(alloc, scenario) {
+    match Sim::of(alloc, scenario) {
         Ok(sim) => Ok(sim),
         Err((fault, _)) => Err(fault),
     }
@@ -71,10 +148,10 @@ pub(crate) fn begin(alloc: Global, scenario: Scenario) -> Result<Sim, Fault>
 
 // Both headers, and all rounds of a simulation that stands before its first: after each its exchanges,
 // then its row.
-fn write_texts<H: Threads + Wait + Sync, W: Sink, X: Sink>(
+fn write_texts<T: RoundTable, H: Threads + Wait + Sync, W: Sink, X: Sink>(
     rt: &H,
     alloc: Global,
-    sim: &mut Sim,
+    sim: &mut Sim<T>,
     writer: &mut W,
     trace: &mut X,
     workers: u32,

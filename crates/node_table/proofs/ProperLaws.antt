@@ -1,5 +1,5 @@
 -- The tables that start are proper, and what changes a table keeps it so.
--- Serves the functions of `layouts` and `tables`, `cluster`, `exchange`, `fixtures` and `simulation`.
+-- Serves the functions of `layouts` and `tables` and the crates above.
 use Rattle.std.proofs.Common.{◌≡◌, ◌≢◌, ℕ, ◌<◌, ◌≤◌, List, [], ◌∷◌, Some, None, All, ◌⊎◌, inl, inr, refl, sym, ap, ◌∙◌, subst, arith}
 use Rattle.std.proofs.lemmas.Bool.{cases_eq}
 use Rattle.std.proofs.lemmas.List.Elements.{All-head, All-tail}

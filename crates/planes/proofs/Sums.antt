@@ -1,5 +1,5 @@
 -- Sums below a bound.
--- Serves nothing yet.
+-- Serves `Places` and `version_tables`.
 use Rattle.std.proofs.Common.{◌≡◌, ℕ, zero, suc, ◌+◌, ◌<◌, ◌≤◌, refl, sym, arith}
 use Rattle.planes.specs.Sums.{sum_below}
 

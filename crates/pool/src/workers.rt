@@ -79,11 +79,12 @@ impl<'a, T: Exchanging, G: Gate> Workshop<'a, T, G> {
         let mut stamps = Vec::new(self.alloc);
         let backoff = Backoff::new();
         for _ in rt.forever() {
+            if self.sees_the_end(seat) {
+                break;
+            }
             if let Some(i) = tasks.next() {
                 self.try_one(seat, tasks, &mut stamps, i)?;
                 backoff.reset();
-            } else if self.sees_the_end(seat) {
-                break;
             } else {
                 backoff.snooze();
             }

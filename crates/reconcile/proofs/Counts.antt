@@ -1,5 +1,5 @@
 -- How many elements of a list pass a test that holds on one stretch of it.
--- Serves `Apart`, `Picked`, `Places`, `Ranked` and `SuffixLayers`.
+-- Serves `Apart`, `Picked`, `Places`, `Ranked`, `SuffixLayers` and `version_tables`.
 use Rattle.std.proofs.Common.{◌≡◌, ℕ, zero, suc, ◌+◌, ◌-◌, ◌<◌, ◌≤◌, Bool, true, false, cond, not, List, [], ◌∷◌, length, get_or, ◌⊎◌, inl, inr, refl, sym, ap, ◌∙◌, arith}
 use Rattle.std.specs.Prelude.{count_by, Contains}
 use Rattle.std.proofs.lemmas.List.Sums.{sum_by-cons}

@@ -1,5 +1,5 @@
 -- The candidates in plain words: what a receiver lacks by what it holds.
--- Serves `candidates_are_lacked`.
+-- Serves `candidates_are_lacked` and `version_tables`.
 use Rattle.std.proofs.Common.{◌≡◌, ◌≢◌, ◌↔◌, ◌≤◌, Bool, not, ◌&&◌, eqb, Some, None, sym, ap, ◌∙◌, arith, refl}
 use Rattle.std.specs.Prelude.{Contains}
 use Rattle.std.proofs.lemmas.Bool.{eq-eqb, ne_eqb, and_parts, and_from, both_ways, not-true}

@@ -1,19 +1,18 @@
 -- How far the nodes have begun their round, by node.
 -- Serves `begin_round` and `Soundness`.
-use Rattle.std.proofs.Common.{◌≡◌, ◌≢◌, ℕ, ◌+◌, ◌-◌, ◌<◌, ◌≤◌, List, length, get_or, set, inl, inr, refl, sym, ap, ◌∙◌, subst, arith}
+use Rattle.std.proofs.Common.{◌≡◌, ◌≢◌, ℕ, ◌+◌, ◌-◌, ◌<◌, ◌≤◌, List, length, map, get_or, set, inl, inr, refl, sym, ap, ◌∙◌, subst, arith}
 use Rattle.std.proofs.lemmas.Bool.{cases_eq}
-use Rattle.std.proofs.lemmas.List.{get_or-set_same, get_or-set_other, get_or_default, length-set}
+use Rattle.std.proofs.lemmas.List.{get_or-map, length-map, length-set, map-set}
 use Rattle.std.proofs.lemmas.List.FromFn.{length-map-range_with_len}
-use Rattle.node_table.specs.Table.{Table, with_own_writes}
-use Rattle.node_table.specs.NodeTableView.{NodeTableView}
+use Rattle.node_table.specs.Table.{Table, empty_table, with_own_writes}
 use Rattle.round_plan.specs.Writes.{count_before, own_writes}
 use Rattle.scenario.specs.Settings.{Settings}
-use Rattle.owner_lists.specs.OwnerListView.{OwnerListView, no_writes, list_of_owner}
-use Rattle.cluster.specs.Tables.{tables_in, table_of_node}
+use Rattle.owner_lists.specs.OwnerListView.{OwnerListView, list_of_owner}
+use Rattle.cluster.specs.Tables.{table_of_node}
 use Rattle.simulation.specs.Rounds.{restarted_table, restarted, written_table, begun}
-use Rattle.simulation.specs.inner.Steps.{begun_table}
+use Rattle.simulation.specs.inner.Steps.{begun_table, OthersStay}
 use Rattle.simulation.specs.Standing.{IsOwner, StandAfterRound}
-use Rattle.cluster.proofs.Tables.{length-tables_in, table_read, tables_in-set, table_of_node-set_same, table_of_node-set_other, table_of_node-made, same_tables}
+use Rattle.cluster.proofs.Tables.{table_of_node-set_same, table_of_node-set_other, table_of_node-made, same_tables}
 
 -- the nodes below n have begun the round
 pub record HaveBegun (s : Settings) (round : ℕ) (old new : List Table) (lists : List OwnerListView) (n : ℕ) : Type 0 where
@@ -32,38 +31,35 @@ begun_none s round tables lists standing = record {
 
 -- one more node has
 module _ (s : Settings) (round : ℕ) (old new : List Table) (lists : List OwnerListView) (n : ℕ) (so_far : HaveBegun s round old new lists n) (below : n < s.nodes) where
-  pub begun_more : (t : Table) (ws : OwnerListView) → t ≡ begun_table s round n (table_of_node new n) → IsOwner s round n t ws → HaveBegun s round old (set new n t) (set lists n ws) (n + 1)
-  begun_more t ws is own = record {
+  pub begun_more : (t : Table) (lists' : List OwnerListView) → t ≡ begun_table s round n (table_of_node new n) → IsOwner s round n t (list_of_owner lists' n) → OthersStay n lists lists' → HaveBegun s round old (set new n t) lists' (n + 1)
+  begun_more t lists' is own stay = record {
     table_count = length-set new n t ∙ so_far.table_count;
-    list_count = length-set lists n ws ∙ so_far.list_count;
+    list_count = stay.count ∙ so_far.list_count;
     done = λ p lt in_range. elim (cases_eq p n) [
       | inr other ↦ moved p (λ u w. (u ≡ begun_table s round p (table_of_node old p)) × IsOwner s round p u w) other (so_far.done p (omega arith) in_range)
       | inl this ↦
-          subst (λ q. (table_of_node (set new n t) q ≡ begun_table s round q (table_of_node old q)) × IsOwner s round q (table_of_node (set new n t) q) (list_of_owner (set lists n ws) q)) (sym this)
-          (subst (λ u. (u ≡ begun_table s round n (table_of_node old n)) × IsOwner s round n u (list_of_owner (set lists n ws) n)) (sym (table_of_node-set_same new n t (omega (arith, so_far.table_count))))
-          (is ∙ ap (begun_table s round n) (so_far.rest n (omega arith) below).0, subst (IsOwner s round n t) (sym (get_or-set_same lists n ws no_writes (omega (arith, so_far.list_count)))) own))
+          subst (λ q. (table_of_node (set new n t) q ≡ begun_table s round q (table_of_node old q)) × IsOwner s round q (table_of_node (set new n t) q) (list_of_owner lists' q)) (sym this)
+          (subst (λ u. (u ≡ begun_table s round n (table_of_node old n)) × IsOwner s round n u (list_of_owner lists' n)) (sym (table_of_node-set_same new n t (omega (arith, so_far.table_count))))
+          (is ∙ ap (begun_table s round n) (so_far.rest n (omega arith) below).0, own))
     ];
     rest = λ p le in_range. moved p (λ u w. (u ≡ table_of_node old p) × IsOwner s (round - 1) p u w) (λ e. absurd (omega arith)) (so_far.rest p (omega arith) in_range);
   }
     where
-      moved : (p : ℕ) (P : Table → OwnerListView → Type 0) → p ≢ n → P (table_of_node new p) (list_of_owner lists p) → P (table_of_node (set new n t) p) (list_of_owner (set lists n ws) p)
-      moved p P other x = subst (λ w. P (table_of_node (set new n t) p) w) (sym (get_or-set_other lists n p ws no_writes other)) (subst (λ u. P u (list_of_owner lists p)) (sym (table_of_node-set_other new n p t other)) x)
+      moved : (p : ℕ) (P : Table → OwnerListView → Type 0) → p ≢ n → P (table_of_node new p) (list_of_owner lists p) → P (table_of_node (set new n t) p) (list_of_owner lists' p)
+      moved p P other x = subst (λ w. P (table_of_node (set new n t) p) w) (sym (stay.others p other)) (subst (λ u. P u (list_of_owner lists p)) (sym (table_of_node-set_other new n p t other)) x)
 
--- with the table and the list as the code reads and writes them
-module _ (s : Settings) (round : ℕ) (old : List Table) (new : List NodeTableView) (lists : List OwnerListView) (n : ℕ) (so_far : HaveBegun s round old (tables_in new) lists n) (below : n < s.nodes) (d : NodeTableView) (e : OwnerListView) where
-  table_is : (get_or new n d).table ≡ table_of_node (tables_in new) n
-  table_is = table_read new n d (omega (arith, so_far.table_count, length-tables_in new))
+-- with the table as the code reads and writes it
+module _ {T : Type 0} (table : T → Table) (s : Settings) (round : ℕ) (old : List Table) (new : List T) (lists : List OwnerListView) (n : ℕ) (so_far : HaveBegun s round old (map table new) lists n) (below : n < s.nodes) (d : T) where
+  table_is : table (get_or new n d) ≡ table_of_node (map table new) n
+  table_is = sym (get_or-map table new n d (empty_table 0 0 0) (omega (arith, so_far.table_count, length-map new table)))
 
-  list_is : get_or lists n e ≡ list_of_owner lists n
-  list_is = get_or_default lists n e no_writes (omega (arith, so_far.list_count))
+  pub owner_next : IsOwner s (round - 1) n (table (get_or new n d)) (list_of_owner lists n)
+  owner_next = subst (λ t. IsOwner s (round - 1) n t (list_of_owner lists n)) (sym table_is) (so_far.rest n (omega arith) below).1
 
-  pub owner_next : IsOwner s (round - 1) n (get_or new n d).table (get_or lists n e)
-  owner_next = subst (λ t. IsOwner s (round - 1) n t (get_or lists n e)) (sym table_is) (subst (IsOwner s (round - 1) n (table_of_node (tables_in new) n)) (sym list_is) (so_far.rest n (omega arith) below).1)
-
-  pub begun_next : (k : NodeTableView) (ws : OwnerListView) → k.table ≡ begun_table s round n (get_or new n d).table → IsOwner s round n k.table ws → HaveBegun s round old (tables_in (set new n k)) (set lists n ws) (n + 1)
-  begun_next k ws table own =
-      subst (λ ts. HaveBegun s round old ts (set lists n ws) (n + 1)) (sym (tables_in-set new n k))
-      (begun_more s round old (tables_in new) lists n so_far below k.table ws (table ∙ ap (begun_table s round n) table_is) own)
+  pub begun_next : (k : T) (lists' : List OwnerListView) → table k ≡ begun_table s round n (table (get_or new n d)) → IsOwner s round n (table k) (list_of_owner lists' n) → OthersStay n lists lists' → HaveBegun s round old (map table (set new n k)) lists' (n + 1)
+  begun_next k lists' is own stay =
+      subst (λ ts. HaveBegun s round old ts lists' (n + 1)) (sym (map-set table new n k))
+      (begun_more s round old (map table new) lists n so_far below (table k) lists' (is ∙ ap (begun_table s round n) table_is) own stay)
 
 -- the table of a node that has begun
 pub begun_at : (s : Settings) (round : ℕ) (ts : List Table) (n : ℕ) → n < s.nodes → table_of_node (begun s round ts) n ≡ begun_table s round n (table_of_node ts n)
@@ -72,9 +68,12 @@ begun_at s round ts n lt =
     ∙ ap (λ t. with_own_writes t (own_writes s n round (count_before s n round))) (table_of_node-made (restarted_table s round ts) s.nodes n lt)
 
 -- all have
-pub begun_all : (s : Settings) (round : ℕ) (old new : List Table) (lists : List OwnerListView) → HaveBegun s round old new lists s.nodes → (new ≡ begun s round old) × StandAfterRound s round new lists
-begun_all s round old new lists so_far = (tables, record { table_count = so_far.table_count; list_count = so_far.list_count; owners = λ n lt. (so_far.done n lt lt).1 })
+pub begun_all : (s : Settings) (round : ℕ) (old new : List Table) (lists : List OwnerListView) (n : ℕ) → HaveBegun s round old new lists n → n ≡ s.nodes → (new ≡ begun s round old) × StandAfterRound s round new lists
+begun_all s round old new lists n reached end = (tables, record { table_count = so_far.table_count; list_count = so_far.list_count; owners = λ n lt. (so_far.done n lt lt).1 })
   where
+    so_far : HaveBegun s round old new lists s.nodes
+    so_far = subst (HaveBegun s round old new lists) end reached
+
     tables : new ≡ begun s round old
     tables = same_tables new (begun s round old) (so_far.table_count ∙ sym (length-map-range_with_len (written_table s round (restarted s round old)) 0 s.nodes))
         (λ n lt. let below : n < s.nodes = omega (arith, so_far.table_count) in (so_far.done n below below).0 ∙ sym (begun_at s round old n below))

@@ -1,38 +1,45 @@
 -- A round, from the tables with which it begins to those that its exchanges leave.
 -- Serves `Cluster::play`.
-use Rattle.std.proofs.Common.{◌≡◌, ℕ, All, List, [], length, sym, ap, ◌∙◌, subst, arith}
+use Rattle.std.proofs.Common.{◌≡◌, ℕ, ◌-◌, ◌≤◌, All, List, [], length, map, sym, ap, ◌∙◌, subst, arith}
+use Rattle.std.proofs.lemmas.List.{length-map}
 use Rattle.bench_types.specs.Exchange.{IsPlanned}
 use Rattle.bench_types.specs.declared.exchanges.Record.{Record}
 use Rattle.bench_types.specs.declared.exchanges.Rules.{Rules}
 use Rattle.bench_types.specs.declared.rows.Figures.{Figures}
 use Rattle.node_table.specs.Table.{Table}
-use Rattle.node_table.specs.NodeTableView.{NodeTableView}
 use Rattle.cluster.specs.Clusters.{KeepOwnParts}
 use Rattle.cluster.specs.Folds.{Folded, fold_of}
-use Rattle.cluster.specs.Tables.{tables_in, AreTablesInOrder, AreProper, IsCluster}
+use Rattle.cluster.specs.Tables.{AreTablesInOrder, AreProper, HoldsOfEach, IsCluster}
 use Rattle.cluster.proofs.FoldLaws.{fold_counts_tables, fold_counts_records, fold_keeps_own, fold_proper}
-use Rattle.cluster.proofs.Tables.{length-tables_in, cluster_of}
+use Rattle.cluster.proofs.Tables.{cluster_of}
 use Rattle.round_plan.specs.Plan.{RoundListView, IsRoundPlan, round_list_of}
-use Rattle.scenario.specs.Settings.{Settings}
+use Rattle.scenario.specs.Settings.{Settings, IsLawfulScenario}
 use Rattle.staleness.specs.Figures.{figures_of}
 use Rattle.owner_lists.specs.OwnerListView.{OwnerListView, lists_in}
 use Rattle.simulation.specs.Outcomes.{played_with}
 use Rattle.simulation.specs.inner.Steps.{IsPlayedFrom}
 use Rattle.simulation.specs.RoundView.{RoundView}
-use Rattle.simulation.specs.Rounds.{begun, rules_of, round_of}
+use Rattle.simulation.specs.Rounds.{begun, rules_of, round_of, tables_after}
 use Rattle.simulation.specs.Standing.{StandAfterRound}
-use Rattle.simulation.proofs.Standing.{standing_kept}
+use Rattle.round_tables.specs.Histories.{StandsAmong}
+use Rattle.simulation.specs.Soundness.{AreSound}
+use Rattle.simulation.proofs.Soundness.{begun_sound, sound_run}
+use Rattle.simulation.proofs.Standing.{standing_kept, each_among}
+use Rattle.simulation.proofs.Stepping.{left_after}
 
 stand_in_order : (s : Settings) (round : ℕ) (ts : List Table) (lists : List OwnerListView) → StandAfterRound s round ts lists → AreTablesInOrder s.nodes s.keys ts
 stand_in_order s round ts lists is = record { size = is.table_count; tables = λ n lt. (is.owners n lt).table }
 
--- what the figures ask of tables and lists
-module _ (s : Settings) (round : ℕ) (tables : List NodeTableView) (lists : List OwnerListView) (is : StandAfterRound s round (tables_in tables) lists) where
+-- what the exchanges and the figures ask of tables and lists
+module _ {T : Type 0} (table : T → Table) (s : Settings) (round : ℕ) (tables : List T) (lists : List OwnerListView) (is : StandAfterRound s round (map table tables) lists) where
   as_many : s.nodes ≡ length tables
-  as_many = sym is.table_count ∙ length-tables_in tables
+  as_many = sym is.table_count ∙ length-map tables table
 
-  pub standing_cluster : IsCluster (length tables) (tables_in tables)
-  standing_cluster = subst (λ n. IsCluster n (tables_in tables)) as_many (cluster_of s.nodes s.keys (tables_in tables) (stand_in_order s round (tables_in tables) lists is))
+  pub nodes_cluster : IsCluster s.nodes (map table tables)
+  nodes_cluster = cluster_of s.nodes s.keys (map table tables) (stand_in_order s round (map table tables) lists is)
+
+  pub standing_cluster : IsCluster (length tables) (map table tables)
+  standing_cluster = subst (λ n. IsCluster n (map table tables)) as_many nodes_cluster
 
   pub one_list_each : length lists ≡ length tables
   one_list_each = is.list_count ∙ as_many
@@ -63,9 +70,35 @@ module _ (s : Settings) (round : ℕ) (list : RoundListView) (plan : IsRoundPlan
     pub round_is : round_of s round before ≡ record { tables = new; records = records }
     round_is = (λ i. fold_of (sym rules_are i) (sym begun_is i) (sym list_is i).exchanges) ∙ exchanged
 
+-- what the exchanges find and leave, where those before the round are the tables of the definition
+pub each_begun : (s : Settings) (round : ℕ) (before old : List Table) (lists : List OwnerListView) → IsLawfulScenario s → 1 ≤ round → before ≡ tables_after s (round - 1) → old ≡ begun s round before → StandAfterRound s round old lists → HoldsOfEach (StandsAmong lists) old
+each_begun s round before old lists lawful first after begun_is standing =
+    each_among s round old lists standing
+    (subst (AreSound s round) (sym (begun_is ∙ ap (begun s round) after)) (begun_sound s lawful.nodes.0 lawful.nodes.1 lawful.keys.0 lawful.keys.1 round first))
+
+pub record IsLeft {T : Type 0} (table : T → Table) (s : Settings) (round : ℕ) (tables : List T) (lists : List OwnerListView) : Type 0 where
+  pub standing : StandAfterRound s round (map table tables) lists
+  pub after : map table tables ≡ tables_after s round
+  pub each : HoldsOfEach (StandsAmong lists) (map table tables)
+
+pub is_left : {T : Type 0} (table : T → Table) (s : Settings) (round : ℕ) (list : RoundListView) (rules : Rules) (before old : List Table) (new : List T) (records : List Record) (lists : List OwnerListView) → IsLawfulScenario s → 1 ≤ round
+    → IsRoundPlan list → list ≡ round_list_of s round → rules ≡ rules_of s → before ≡ tables_after s (round - 1) → old ≡ begun s round before → StandAfterRound s round old lists
+    → fold_of rules old list.exchanges ≡ record { tables = map table new; records = records } → IsLeft table s round new lists
+is_left table s round list rules before old new records lists lawful first plan list_is rules_are after begun_is standing exchanged = record {
+  standing = stands;
+  after = left;
+  each = each_among s round (map table new) lists stands (subst (AreSound s round) (sym left) ((sound_run s lawful.nodes.0 lawful.nodes.1 lawful.keys.0 lawful.keys.1).after round));
+}
+  where
+    stands : StandAfterRound s round (map table new) lists
+    stands = standing_exchanged s round list plan list_is rules old (map table new) records exchanged lists standing
+
+    left : map table new ≡ tables_after s round
+    left = left_after s round before (map table new) records first after (round_is s round list plan list_is rules old (map table new) records exchanged before begun_is rules_are)
+
 -- all that a round came to
-pub played_is : (s : Settings) (round : ℕ) (old new : List NodeTableView) (lists : List OwnerListView) (list : RoundListView) (records : List Record) (lag : Figures) (played : RoundView)
-    → list ≡ round_list_of s round → round_of s round (tables_in old) ≡ record { tables = tables_in new; records = records } → lag ≡ figures_of round (tables_in new) (lists_in lists)
+pub played_is : (s : Settings) (round : ℕ) (old new : List Table) (lists : List OwnerListView) (list : RoundListView) (records : List Record) (lag : Figures) (played : RoundView)
+    → list ≡ round_list_of s round → round_of s round old ≡ record { tables = new; records = records } → lag ≡ figures_of round new (lists_in lists)
     → played ≡ played_with round list records lag → IsPlayedFrom s round old new lists played
 played_is s round old new lists list records lag played list_is round_was lag_is is =
     is ∙ (λ i. played_with round (list_is i) (sym round_was i).records (lag_is i))

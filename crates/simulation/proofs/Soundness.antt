@@ -270,3 +270,7 @@ module _ (s : Settings) (some : 2 ≤ s.nodes) (most : s.nodes ≤ 4096) (some_k
       subst (λ m. NoMarkFalls (table_of_node (tables_after s m) n) (table_of_node (tables_after s (round + 1)) n)) before
       (subst (λ us. NoMarkFalls (table_of_node ts n) (table_of_node us n)) (ends_at (round + 1) first)
       (marks_then (table_of_node ts n) (table_of_node (tables_within s (round + 1) 0) n) (table_of_node (tables_within s (round + 1) (length (round_list_of s (round + 1)).exchanges)) n) begun after))
+
+  -- and so as each round begins
+  pub begun_sound : (round : ℕ) → 1 ≤ round → AreSound s round (begun s round (tables_after s (round - 1)))
+  begun_sound round first = sound_run.within round 0 first

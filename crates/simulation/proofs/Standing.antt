@@ -1,8 +1,11 @@
 -- What holds of all nodes at the beginning, and still holds after exchanges, restarts and writes.
 -- Serves the functions of `clusters` and `sims`, `Playing` and `Soundness`.
-use Rattle.std.proofs.Common.{◌≡◌, ℕ, ◌+◌, ◌-◌, ◌<◌, ◌≤◌, true, false, if◌then◌else◌, All, List, [], ◌∷◌, ◌++◌, length, map, refl, sym, ap, ◌∙◌, subst, arith, length-append}
+use Rattle.std.proofs.Common.{◌≡◌, ℕ, ◌+◌, ◌-◌, ◌<◌, ◌≤◌, true, false, if◌then◌else◌, All, List, [], ◌∷◌, ◌++◌, length, map, inl, inr, refl, sym, ap, ◌∙◌, subst, arith, length-append}
 use Rattle.std.specs.List.{range_with_len}
-use Rattle.std.proofs.lemmas.List.{append_assoc, append-nil, length-map}
+use Rattle.std.specs.Prelude.{Contains}
+use Rattle.std.proofs.lemmas.Bool.{cases_lt}
+use Rattle.std.proofs.lemmas.List.{append_assoc, append-nil, get_or_past, length-map}
+use Rattle.std.proofs.lemmas.List.Elements.{All-nil}
 use Rattle.std.proofs.lemmas.List.FromFn.{length-map-range_with_len}
 use Rattle.bench_types.specs.declared.entries.Entry.{Entry}
 use Rattle.bench_types.specs.declared.entries.Mark.{Mark}
@@ -18,15 +21,17 @@ use Rattle.round_plan.specs.Writes.{born_in, count_before, own_writes, writes_be
 use Rattle.round_plan.proofs.Generations.{generation_upto-same, generation_upto-next}
 use Rattle.round_plan.proofs.Growth.{length-writes_before, writes_before-grown, writes_upto-grown, written_upto-grown}
 use Rattle.scenario.specs.Settings.{Settings}
-use Rattle.owner_lists.specs.OwnerListView.{OwnerListView, entries_of, no_writes, begun_generation, list_of_owner, lists_in}
-use Rattle.owner_lists.proofs.Owners.{length-lists_in, list_read}
-use Rattle.owner_lists.specs.Writes.{write_of_entry, AreBornBy}
+use Rattle.owner_lists.specs.OwnerListView.{OwnerListView, entries_of, no_writes, begun_generation, list_of_owner}
+use Rattle.owner_lists.specs.Writes.{write_of_entry}
 use Rattle.staleness.proofs.OwnParts.{own_part-empty}
 use Rattle.exchange.specs.inner.Owns.{KeepsOwn}
+use Rattle.round_tables.specs.Histories.{own_list, writes_in, BirthsRise, AreWrittenBy, StandsBeside, StandsAmong}
 use Rattle.simulation.specs.Rounds.{opening_tables}
+use Rattle.simulation.specs.Soundness.{AreSound}
+use Rattle.simulation.proofs.Written.{born_upto, births_rise}
 use Rattle.simulation.specs.Standing.{IsOwnerOf, IsOwner, StandAfterRound}
 use Rattle.simulation.specs.inner.Steps.{HasWritten, HasRestarted}
-use Rattle.cluster.specs.Tables.{table_of_node, AreProper}
+use Rattle.cluster.specs.Tables.{table_of_node, AreProper, HoldsOfEach}
 use Rattle.cluster.specs.Clusters.{KeepOwnParts}
 use Rattle.cluster.proofs.BeginLaws.{generation-written}
 use Rattle.cluster.proofs.Tables.{table_of_node-made, still_table_of}
@@ -141,6 +146,13 @@ module _ (s : Settings) (round n : ℕ) (first : 1 ≤ round) (t : Table) (v : O
   pub restarted_same : forgets_now s n round ≡ false → HasRestarted s round n t v
   restarted_same stays = of_round t stays is
 
+-- the writes of the round, after its restarts
+pub made_now : (s : Settings) (round n : ℕ) (t : Table) (v : OwnerListView) (writes : List OwnWrite) → HasRestarted s round n t v → map (born_in round (generation_upto s n round)) writes ≡ own_writes s n round (length v.current) → map (born_in round t.generation) writes ≡ own_writes s n round (count_before s n round)
+made_now s round n t v writes is made =
+    ap (λ g. map (born_in round g) writes) is.generation
+    ∙ made
+    ∙ ap (own_writes s n round) (ap length is.writes ∙ length-writes_before s n round)
+
 -- and after its writes it is the round's
 pub owner_written : (s : Settings) (round n : ℕ) (t u : Table) (v v' : OwnerListView) (writes : List OwnWrite) → 1 ≤ round → length writes ≤ 8 → HasRestarted s round n t v → HasWritten round writes t u v v' → map (born_in round (generation_upto s n round)) writes ≡ own_writes s n round (length v.current) → IsOwner s round n u v' × (u ≡ with_own_writes t (own_writes s n round (count_before s n round)))
 owner_written s round n t u v v' writes first small is written made = (
@@ -174,14 +186,46 @@ owner_written s round n t u v v' writes first small is written made = (
     current : v'.current ≡ v.current ++ entries
     current = ap (λ (w : OwnerListView). w.current) written.list
 
-    counted : length v.current ≡ count_before s n round
-    counted = ap length is.writes ∙ length-writes_before s n round
-
     now : entries ≡ own_writes s n round (count_before s n round)
-    now = ap (λ g. map (born_in round g) writes) is.generation ∙ made ∙ ap (own_writes s n round) counted
+    now = made_now s round n t v writes is made
 
--- no list has a write that was born after the round
-pub all_born : (s : Settings) (round : ℕ) (ts : List Table) (lists : List OwnerListView) → StandAfterRound s round ts lists → All (AreBornBy round) (lists_in lists)
-all_born s round ts lists is k d lt =
-    let below : k < length lists = omega (arith, lt, length-lists_in lists) in
-    subst (AreBornBy round) (sym (list_read lists k no_writes d below)) (is.owners k (omega (arith, below, is.list_count))).born
+-- what stands after the round's writes, as the tables see it
+no_list : (s : Settings) (round : ℕ) (ts : List Table) (lists : List OwnerListView) → StandAfterRound s round ts lists → (n : ℕ) → s.nodes ≤ n → [] ≡ writes_in lists n
+no_list s round ts lists is n past = ap entries_of (sym (get_or_past lists n no_writes (omega (arith, past, is.list_count))))
+
+written_at : (s : Settings) (round : ℕ) (ts : List Table) (lists : List OwnerListView) → StandAfterRound s round ts lists → (P : List Entry → Type 0) → ((n : ℕ) → P (written_upto s n round)) → P [] → (n : ℕ) → P (writes_in lists n)
+written_at s round ts lists is P each none n = elim (cases_lt n s.nodes) [
+  | inl below ↦ subst P (sym (is.owners n below).all) (each n)
+  | inr past ↦ subst P (no_list s round ts lists is n past) none
+]
+
+pub written_by : (s : Settings) (round : ℕ) (ts : List Table) (lists : List OwnerListView) → StandAfterRound s round ts lists → AreWrittenBy round lists
+written_by s round ts lists is = record {
+  born = written_at s round ts lists is (All (λ e. e.born ≤ round)) (λ n. born_upto s n round) (All-nil (λ (e : Entry). e.born ≤ round));
+  in_order = written_at s round ts lists is BirthsRise (λ n. births_rise s n round) (λ i j d le lt. absurd (omega arith));
+}
+
+-- a table beside its own list
+pub beside_own : (s : Settings) (n generation : ℕ) (writes all : List Entry) (round : ℕ) (t : Table) (lists : List OwnerListView) → IsOwnerOf s n generation writes all round t (list_of_owner lists n) → StandsBeside t (own_list t lists)
+beside_own s n generation writes all round t lists is = subst (λ m. StandsBeside t (list_of_owner lists m)) (sym is.table.node) (record {
+  generation = is.generation ∙ sym is.list_generation;
+  greatest = is.greatest;
+  own_part = is.own_part;
+})
+
+-- each table among the lists, where each entry that it holds is a write of its owner
+pub each_among : (s : Settings) (round : ℕ) (ts : List Table) (lists : List OwnerListView) → StandAfterRound s round ts lists → AreSound s round ts → HoldsOfEach (StandsAmong lists) ts
+each_among s round ts lists is sound n lt = record {
+  nodes = own.table.nodes ∙ sym is.list_count;
+  proper = own.proper;
+  own = beside_own s n (generation_upto s n round) (writes_upto s n round) (written_upto s n round) round (table_of_node ts n) lists own;
+  holds = λ owner key e held.
+      let in_nodes : owner < s.nodes = omega (arith, (own.proper.in_place owner key e held).owner_below, own.table.nodes) in
+      subst (λ es. Contains es e × (e.key ≡ key)) (sym (is.owners owner in_nodes).all) (sound.copies.holds n below owner key e held);
+}
+  where
+    below : n < s.nodes
+    below = omega (arith, lt, is.table_count)
+
+    own : IsOwner s round n (table_of_node ts n) (list_of_owner lists n)
+    own = is.owners n below

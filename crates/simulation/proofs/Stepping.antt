@@ -1,6 +1,6 @@
 -- A step that carries out the next round.
 -- Serves `Sim::step`.
-use Rattle.std.proofs.Common.{◌≡◌, ℕ, ◌<◌, List, [], length, map, get_or, sym, ◌∙◌, arith, suc, ◌+◌, ◌-◌, false, Option, Some, refl, ap, subst}
+use Rattle.std.proofs.Common.{◌≡◌, ℕ, ◌<◌, ◌≤◌, List, [], length, map, get_or, sym, ◌∙◌, arith, suc, ◌+◌, ◌-◌, false, Option, Some, refl, ap, subst}
 use Rattle.std.proofs.lemmas.List.{ext_get_or}
 use Rattle.std.proofs.lemmas.List.FromFn.{get_or-map-range_with_len, length-map-range_with_len}
 use Rattle.node_table.specs.Table.{Table}
@@ -13,12 +13,14 @@ use Rattle.simulation.specs.Rounds.{tables_after, round_of, records_in}
 use Rattle.simulation.specs.Lists.{list_after, lists_after}
 use Rattle.simulation.specs.Outcomes.{figures_in, played_with}
 use Rattle.simulation.specs.Standing.{StandAfterRound}
-use Rattle.std.specs.Prelude.{is_none}
+use Rattle.std.specs.Prelude.{is_none, IfSome}
 use Rattle.simulation.specs.declared.sims.Cluster.{Cluster}
 use Rattle.simulation.specs.RoundView.{RoundView}
-use Rattle.cluster.specs.Tables.{tables_in}
+use Rattle.cluster.specs.Folds.{Folded}
+use Rattle.bench_types.specs.declared.entries.Entry.{Entry}
+use Rattle.bench_types.specs.declared.exchanges.Record.{Record}
 use Rattle.simulation.specs.Soundness.{AreSound, OnlyRestartsLowerMarks}
-use Rattle.simulation.specs.inner.Insides.{IsSimulation, HasPlayed, simulation_of, tables_held}
+use Rattle.simulation.specs.inner.Insides.{IsInside, HasPlayed, simulation_of, tables_held, lists_held}
 use Rattle.simulation.specs.Simulation.{PlaysNext}
 use Rattle.round_plan.specs.Plan.{round_list_of}
 use Rattle.simulation.proofs.Soundness.{sound_run, round_rises}
@@ -49,39 +51,62 @@ tables_after-more s done =
     let next : done + 1 ≡ suc done = omega arith in
     ap (tables_after s) next ∙ unfolded s done ∙ ap (λ n. (round_of s n (tables_after s done)).tables) (sym next)
 
-module _ (s : Settings) (cluster : Option Cluster) (old new : Cluster) (done : ℕ) (round : RoundView) (so_far : IsSimulation (simulation_of s cluster done)) (is : cluster ≡ Some old) (not_done : done < s.rounds) (standing : StandAfterRound s (done + 1) (tables_in new.tables.items) new.lists.items) (tables : tables_in new.tables.items ≡ (round_of s (done + 1) (tables_in old.tables.items)).tables) where
+-- the tables that a round leaves
+pub left_after : (s : Settings) (round : ℕ) (before new : List Table) (records : List Record) → 1 ≤ round → before ≡ tables_after s (round - 1) → round_of s round before ≡ record { tables = new; records = records } → new ≡ tables_after s round
+left_after s round before new records first before_is round_was =
+    let next : round - 1 + 1 ≡ round = omega (arith, first) in
+    sym (ap (λ (f : Folded). f.tables) round_was)
+    ∙ (λ i. (round_of s (sym next i) (before_is i)).tables)
+    ∙ sym (tables_after-more s (round - 1))
+    ∙ ap (tables_after s) next
+
+module _ {T H S : Type 0} (table : T → Table) (lists : H → List OwnerListView) (Ended : H → ℕ → Type 0) (May : ℕ → ℕ → Entry → Type 0) (s : Settings) (cluster : Option (Cluster T H S)) (old new : Cluster T H S) (done : ℕ) (so_far : IsInside table lists Ended May s cluster done) (is : cluster ≡ Some old) (not_done : done < s.rounds) where
+  previous : done ≡ done + 1 - 1
+  previous = omega arith
+
   unbroken : is_none cluster ≡ false
   unbroken = ap is_none is
 
-  before : tables_in old.tables.items ≡ tables_after s done
-  before = ap (λ c. tables_in (tables_held c)) (sym is) ∙ so_far.tables unbroken
+  -- what a round asks of the one that it begins with
+  pub standing_before : StandAfterRound s (done + 1 - 1) (map table old.tables.items) (lists old.histories)
+  standing_before =
+      subst (λ r. StandAfterRound s r (map table old.tables.items) (lists old.histories)) previous
+      (subst (λ c. StandAfterRound s done (map table (tables_held c)) (lists_held lists c)) is (so_far.simulation.standing unbroken))
 
-  after : tables_in new.tables.items ≡ tables_after s (done + 1)
-  after = tables ∙ ap (λ ts. (round_of s (done + 1) ts).tables) before ∙ sym (tables_after-more s done)
+  before : map table old.tables.items ≡ tables_after s done
+  before = ap (λ c. map table (tables_held c)) (sym is) ∙ so_far.simulation.tables unbroken
 
-  pub step_simulation : IsSimulation (simulation_of s (Some new) (done + 1))
-  step_simulation = record { within = omega (arith, not_done); standing = λ _. standing; tables = λ _. after }
+  pub tables_before : map table old.tables.items ≡ tables_after s (done + 1 - 1)
+  tables_before = before ∙ ap (tables_after s) previous
 
-  pub step_played : IsLawfulScenario s → HasPlayed s (done + 1) old new round → PlaysNext (simulation_of s cluster done) (simulation_of s (Some new) (done + 1)) round
-  step_played lawful played = record {
-    unbroken = unbroken;
-    unfinished = not_done;
-    still = refl;
-    settings = refl;
-    done = refl;
-    tables = after;
-    standing = standing;
-    sound = subst (AreSound s (done + 1)) (sym after) ((sound_run s lawful.nodes.0 lawful.nodes.1 lawful.keys.0 lawful.keys.1).after (done + 1));
-    kept = subst (λ ts. OnlyRestartsLowerMarks s (done + 1) ts (tables_in new.tables.items)) (sym before_held)
-        (subst (OnlyRestartsLowerMarks s (done + 1) (tables_after s done)) (sym after) (round_rises s lawful.nodes.0 lawful.nodes.1 lawful.keys.0 lawful.keys.1 done));
-    played = played ∙ (λ i. played_with (done + 1) (round_list_of s (done + 1)) (records i) (figures_are s (done + 1) (tables_in new.tables.items) new.lists.items standing after i));
-  }
-    where
-      before_held : tables_in (tables_held cluster) ≡ tables_after s done
-      before_held = so_far.tables unbroken
+  pub ended_before : Ended old.histories (done + 1 - 1)
+  ended_before = subst (Ended old.histories) previous (subst (λ c. IfSome c (λ d. Ended d.histories done)) is so_far.ended)
 
-      previous : done ≡ done + 1 - 1
-      previous = omega arith
+  module _ (standing : StandAfterRound s (done + 1) (map table new.tables.items) (lists new.histories)) (after : map table new.tables.items ≡ tables_after s (done + 1)) where
+    pub step_inside : Ended new.histories (done + 1) → IsInside table lists Ended May s (Some new) (done + 1)
+    step_inside ended = record {
+      simulation = record { within = omega (arith, not_done); standing = λ _. standing; tables = λ _. after };
+      ended = ended;
+      may_write = so_far.may_write;
+    }
 
-      records : (round_of s (done + 1) (tables_in old.tables.items)).records ≡ records_in s (done + 1)
-      records = ap (λ ts. (round_of s (done + 1) ts).records) (before ∙ ap (tables_after s) previous)
+    pub step_played : (round : RoundView) → IsLawfulScenario s → HasPlayed table lists s (done + 1) old new round → PlaysNext table (simulation_of lists s cluster done) (simulation_of lists s (Some new) (done + 1)) round
+    step_played round lawful played = record {
+      unbroken = unbroken;
+      unfinished = not_done;
+      still = refl;
+      settings = refl;
+      done = refl;
+      tables = after;
+      standing = standing;
+      sound = subst (AreSound s (done + 1)) (sym after) ((sound_run s lawful.nodes.0 lawful.nodes.1 lawful.keys.0 lawful.keys.1).after (done + 1));
+      kept = subst (λ ts. OnlyRestartsLowerMarks s (done + 1) ts (map table new.tables.items)) (sym before_held)
+          (subst (OnlyRestartsLowerMarks s (done + 1) (tables_after s done)) (sym after) (round_rises s lawful.nodes.0 lawful.nodes.1 lawful.keys.0 lawful.keys.1 done));
+      played = played ∙ (λ i. played_with (done + 1) (round_list_of s (done + 1)) (records i) (figures_are s (done + 1) (map table new.tables.items) (lists new.histories) standing after i));
+    }
+      where
+        before_held : map table (tables_held cluster) ≡ tables_after s done
+        before_held = so_far.simulation.tables unbroken
+
+        records : (round_of s (done + 1) (map table old.tables.items)).records ≡ records_in s (done + 1)
+        records = ap (λ ts. (round_of s (done + 1) ts).records) tables_before

@@ -1,6 +1,6 @@
 -- How far a node's writes of a round have been made.
 -- Serves `write_own`.
-use Rattle.std.proofs.Common.{◌≡◌, ℕ, ◌+◌, ◌<◌, ◌≤◌, List, [], ◌∷◌, ◌++◌, length, sym, ap, ◌∙◌, subst, arith, length-append}
+use Rattle.std.proofs.Common.{◌≡◌, ℕ, ◌+◌, ◌^◌, ◌<◌, ◌≤◌, List, [], ◌∷◌, ◌++◌, length, sym, ap, ◌∙◌, subst, arith, length-append}
 use Rattle.std.proofs.lemmas.List.Sums.{fold-append}
 use Rattle.std.proofs.lemmas.List.Elements.{All-push}
 use Rattle.std.proofs.lemmas.List.{append_assoc, length-map}
@@ -10,11 +10,13 @@ use Rattle.node_table.specs.Table.{Table, greatest_version, with_own_write, with
 use Rattle.node_table.proofs.ProperLaws.{proper-with_own_write}
 use Rattle.cluster.proofs.BeginLaws.{counted_write}
 use Rattle.owner_lists.specs.declared.lists.Write.{Write}
-use Rattle.owner_lists.specs.OwnerListView.{OwnerListView, written, next_entry, with_write}
+use Rattle.owner_lists.specs.OwnerListView.{OwnerListView, written, next_entry, with_write, list_of_owner}
 use Rattle.owner_lists.specs.Writes.{write_of_entry, AreBornBy, next_write}
 use Rattle.owner_lists.proofs.Owners.{written_more}
 use Rattle.staleness.specs.OwnParts.{OwnPartIsLastWrites}
 use Rattle.staleness.proofs.OwnParts.{own_part-written}
+use Rattle.round_tables.specs.Histories.{own_list, writes_in, StandsBeside, MayWrite, AddsWrite, ListBecomes}
+use Rattle.simulation.specs.inner.Steps.{OthersStay}
 
 -- these entries are written
 pub record IsWriting (round : ℕ) (t0 t : Table) (v0 v : OwnerListView) (es : List Entry) : Type 0 where
@@ -27,6 +29,11 @@ pub record IsWriting (round : ℕ) (t0 t : Table) (v0 v : OwnerListView) (es : L
   pub greatest : greatest_version t t.node ≡ length v.current
   pub own_part : OwnPartIsLastWrites t (written v)
   pub born : AreBornBy round (written v)
+
+-- the next one is as the list numbers it
+next_is : (round : ℕ) (t0 t : Table) (v0 v : OwnerListView) (es : List Entry) (e : Entry) → IsWriting round t0 t v0 v es → v0.generation ≡ t0.generation → IsNextAfter t0.generation (length v.current) e → next_entry v e.key e.value e.born ≡ e
+next_is round t0 t v0 v es e so_far same next =
+    λ j. record { key = e.key; generation = (ap (λ (u : OwnerListView). u.generation) so_far.list ∙ same ∙ sym next.0) j; version = sym next.1 j; value = e.value; born = e.born }
 
 -- one more is written
 pub writing_more : (round : ℕ) (t0 t t' : Table) (v0 v v' : OwnerListView) (es : List Entry) (e : Entry) → IsWriting round t0 t v0 v es → v0.generation ≡ t0.generation → IsNextAfter t0.generation (length v.current) e → e.born ≤ round → e.key < t.keys → t' ≡ with_own_write t e.key e.value e.born → v' ≡ with_write v e.key e.value e.born → IsWriting round t0 t' v0 v' (es ++ e ∷ [])
@@ -47,10 +54,60 @@ writing_more round t0 t t' v0 v v' es e so_far same next now key t'_is v'_is = r
 }
   where
     as_entry : next_entry v e.key e.value e.born ≡ e
-    as_entry = λ j. record { key = e.key; generation = (ap (λ (u : OwnerListView). u.generation) so_far.list ∙ same ∙ sym next.0) j; version = sym next.1 j; value = e.value; born = e.born }
+    as_entry = next_is round t0 t v0 v es e so_far same next
 
     grown : length v'.current ≡ length v.current + 1
     grown = ap (λ (u : OwnerListView). length u.current) v'_is ∙ length-append v.current (next_entry v e.key e.value e.born ∷ []) ∙ omega arith
 
     shown : written v' ≡ written v ++ next_write (written v) e.key e.born ∷ []
     shown = ap written v'_is ∙ written_more v e.key e.value e.born
+
+-- these entries are written to a node's table and its list, and no other list has changed
+pub record IsWritingIn (round : ℕ) (t0 t : Table) (lists0 lists : List OwnerListView) (es : List Entry) : Type 0 where
+  pub own : IsWriting round t0 t (own_list t0 lists0) (own_list t0 lists) es
+  pub node : t.node ≡ t0.node
+  pub others : OthersStay t0.node lists0 lists
+
+module _ (round : ℕ) (t0 t : Table) (lists0 lists : List OwnerListView) (es : List Entry) (e : Entry) (so_far : IsWritingIn round t0 t lists0 lists es) (beside : StandsBeside t0 (own_list t0 lists0)) (next : IsNextAfter t0.generation (length (own_list t0 lists).current) e) where
+  abbrev v0 : OwnerListView
+  v0 = own_list t0 lists0
+
+  abbrev v : OwnerListView
+  v = own_list t0 lists
+
+  same_list : own_list t lists ≡ v
+  same_list = ap (list_of_owner lists) so_far.node
+
+  counted : length (writes_in lists0 t0.node) + length es + 1 ≡ length (writes_in lists t0.node) + 1
+  counted =
+      omega (arith, length-append v0.earlier v0.current, length-append v.earlier v.current, ap (λ (u : OwnerListView). length u.earlier) so_far.own.list, so_far.own.count)
+
+  -- the next one may be written
+  pub may_write_next : (May : ℕ → ℕ → Entry → Type 0) → May t0.node (length (writes_in lists0 t0.node) + length es + 1) e → t0.node < length lists0 → e.key < t0.keys → length v0.current + length es + 1 < 2 ^ 32 → MayWrite May t lists e.key e.value e.born
+  may_write_next May may owner key few = record {
+    owner = omega (arith, owner, so_far.node, so_far.others.count);
+    key_below = subst (λ k. e.key < k) (sym so_far.own.keys) key;
+    few = omega (arith, few, so_far.own.count, ap (λ (u : OwnerListView). length u.current) same_list);
+    beside = subst (StandsBeside t) (sym same_list) (record {
+      generation = so_far.own.generation ∙ beside.generation ∙ sym (ap (λ (u : OwnerListView). u.generation) so_far.own.list);
+      greatest = so_far.own.greatest;
+      own_part = so_far.own.own_part;
+    });
+    may = subst (λ m. May m (length (writes_in lists m) + 1) (next_entry (list_of_owner lists m) e.key e.value e.born)) (sym so_far.node)
+        (subst (May t0.node (length (writes_in lists t0.node) + 1)) (sym (next_is round t0 t v0 v es e so_far.own (sym beside.generation) next))
+        (subst (λ k. May t0.node k e) counted may));
+  }
+
+  -- and once it is
+  pub writing_next : (t' : Table) (lists' : List OwnerListView) → e.born ≤ round → e.key < t0.keys → t' ≡ with_own_write t e.key e.value e.born → AddsWrite t e.key e.value e.born lists lists' → IsWritingIn round t0 t' lists0 lists' (es ++ e ∷ [])
+  writing_next t' lists' now key t'_is added = record {
+    own = writing_more round t0 t t' v0 v (own_list t0 lists') es e so_far.own (sym beside.generation) next now (subst (λ k. e.key < k) (sym so_far.own.keys) key) t'_is becomes.changed;
+    node = ap (λ (u : Table). u.node) t'_is ∙ so_far.node;
+    others = record {
+      count = becomes.count ∙ so_far.others.count;
+      others = λ other apart. becomes.others other apart ∙ so_far.others.others other apart;
+    };
+  }
+    where
+      becomes : ListBecomes t0.node (with_write v e.key e.value e.born) lists lists'
+      becomes = subst (λ m. ListBecomes m (with_write (list_of_owner lists m) e.key e.value e.born) lists lists') so_far.node added

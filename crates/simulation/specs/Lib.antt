@@ -21,3 +21,4 @@ pub use Rattle.owner_lists.specs.OwnerListView
 pub use Rattle.scenario.specs.Settings
 pub use Rattle.node_table.specs.Table
 pub use Rattle.node_table.specs.NodeTableView
+pub use Rattle.round_tables.specs.Histories

@@ -1,136 +1,158 @@
-//! All nodes' tables and the lists of what their owners wrote, and how a round changes them.
+//! All nodes' tables and the histories of their owners, and how a round changes them.
 
-ghost use Rattle.std.specs.Prelude.{◌≡◌, ℕ, ◌+◌, ◌-◌, ◌^◌, ◌<◌, ◌≤◌, [], All, length, map, IfOk, OnOk, IsOkUnless};
+ghost use Rattle.std.specs.Prelude.{◌≡◌, ℕ, ◌+◌, ◌-◌, ◌^◌, ◌<◌, ◌≤◌, All, length, map, IfOk, OnOk, IsOkUnless};
 ghost use Rattle.bench_types.specs.declared.faults.Fault.TheVariants.{OutOfMemory};
 ghost use Rattle.bench_types.specs.Entry.{AreNextAfter};
-ghost use Rattle.node_table.specs.Table.{greatest_version, IsProper};
-ghost use Rattle.owner_lists.specs.OwnerListView.{written, no_writes, list_of_owner};
-ghost use Rattle.staleness.specs.OwnParts.{OwnPartIsLastWrites};
+ghost use Rattle.node_table.specs.Table.{IsProper};
+ghost use Rattle.owner_lists.specs.OwnerListView.{written, list_of_owner};
 ghost use Rattle.owner_lists.specs.Writes.{AreBornBy};
 ghost use Rattle.round_plan.specs.Writes.{born_in};
-ghost use Rattle.cluster.specs.Tables.{tables_in, AreProper};
+ghost use Rattle.cluster.specs.Tables.{AreProper};
+ghost use Rattle.round_tables.specs.Histories.{own_list, writes_in, StandsBeside};
 ghost use Rattle.simulation.specs.Rounds.{opening_tables, after_restart, begun};
-ghost use Rattle.simulation.specs.inner.Steps.{begun_table};
+ghost use Rattle.simulation.specs.Simulation.{MayWriteAll};
 ghost use Rattle.simulation.specs.Standing.{IsOwner, StandAfterRound};
-ghost use Rattle.simulation.specs.inner.Steps.{HasWritten, HasRestarted};
+ghost use Rattle.simulation.specs.inner.Steps.{begun_table, MayWriteEach, OthersStay, HasWritten, HasRestarted};
 
 use bench_types::Fault;
 use bench_types::limits::MOST_ROUNDS;
-use node_table::NodeTable;
 use round_plan::{OwnWrite, forgets_now, restarts_now, writes_of};
+use round_tables::RoundTable;
 use scenario::Scenario;
-use staleness::OwnerList;
 use std::alloc::Global;
 
 /// The empty tables of all nodes, in order.
-pub(crate) fn empty_tables(alloc: Global, scenario: &Scenario) -> Result<Vec<NodeTable>, Fault>
-    ensures tables { IfOk result (λ v. tables_in v.items ≡ opening_tables scenario.now) }
-    ensures proper { IfOk result (λ v. AreProper (tables_in v.items)) }
+pub(crate) fn empty_tables<T: RoundTable>(
+    alloc: Global,
+    scenario: &Scenario,
+) -> Result<Vec<T>, Fault>
+    ensures tables { IfOk result (λ v. map T.table v.items ≡ opening_tables scenario.now) }
+    ensures proper { IfOk result (λ v. AreProper (map T.table v.items)) }
     ensures only { IsOkUnless result OutOfMemory }
 {
     let nodes = scenario.nodes();
     let keys = scenario.keys();
     let mut tables = Vec::with_capacity(alloc, nodes as usize)?;
     for node in 0..nodes {
-        tables.push(NodeTable::new(alloc, node, nodes, keys)?)?;
+        tables.push(T::empty(alloc, node, nodes, keys)?)?;
     }
     Ok(tables)
 }
 
-/// A list for each owner, with nothing written.
-pub(crate) fn empty_lists(alloc: Global, scenario: &Scenario) -> Result<Vec<OwnerList>, Fault>
-    ensures count { IfOk result (λ v. length v.items ≡ scenario.now.nodes) }
-    ensures lists { IfOk result (λ v. (n : ℕ) → list_of_owner v.items n ≡ no_writes) }
-    ensures only { IsOkUnless result OutOfMemory }
-{
-    let mut lists = Vec::with_capacity(alloc, scenario.nodes() as usize)?;
-    for _ in 0..scenario.nodes() {
-        lists.push(OwnerList::new(alloc))?;
-    }
-    Ok(lists)
-}
-
 /// What a round begins with: its restarts and its writes, by node.
-pub(crate) fn begin_round(
+pub(crate) fn begin_round<T: RoundTable>(
     scenario: &Scenario,
-    tables: &mut [NodeTable],
-    lists: &mut [OwnerList],
+    tables: &mut [T],
+    histories: &mut T::Histories,
     round: u32,
 ) -> Result<(), Fault>
     requires first { 1 ≤ round }
     requires last { round ≤ MOST_ROUNDS }
-    requires standing { StandAfterRound scenario.now (round - 1) (tables_in tables.old) lists.old }
-    ensures standing { OnOk result (StandAfterRound scenario.now round (tables_in tables.new) lists.new) }
-    ensures tables { OnOk result (tables_in tables.new ≡ begun scenario.now round (tables_in tables.old)) }
+    requires within { round ≤ scenario.now.rounds }
+    requires may_write { MayWriteAll T.may_write scenario.now }
+    requires ended { T.has_ended histories.old (round - 1) }
+    requires standing { StandAfterRound scenario.now (round - 1) (map T.table tables.old) (T.lists histories.old) }
+    ensures standing { OnOk result
+        (StandAfterRound scenario.now round (map T.table tables.new) (T.lists histories.new)) }
+    ensures tables { OnOk result (map T.table tables.new ≡ begun scenario.now round (map T.table tables.old)) }
+    ensures ended { OnOk result (T.has_ended histories.new round) }
     ensures only { IsOkUnless result OutOfMemory }
 {
     for node in 0..scenario.nodes() {
         let at = node as usize;
-        begin_node(scenario, node, &mut tables[at], &mut lists[at], round)?;
+        begin_node(scenario, node, &mut tables[at], histories, round)?;
     }
-    Ok(())
+    T::end_writes(histories, round)
 }
 
-// What a node begins a round with: its restarts, and then its writes. No other node's table matters to it.
-fn begin_node(
+// What a node begins a round with: its restarts, and then its writes. No other node's table or list matters
+// to it.
+fn begin_node<T: RoundTable>(
     scenario: &Scenario,
     node: u32,
-    table: &mut NodeTable,
-    list: &mut OwnerList,
+    table: &mut T,
+    histories: &mut T::Histories,
     round: u32,
 ) -> Result<(), Fault>
     requires first { 1 ≤ round }
     requires last { round ≤ MOST_ROUNDS }
+    requires within { round ≤ scenario.now.rounds }
     requires node { node < scenario.now.nodes }
-    requires owner { IsOwner scenario.now (round - 1) node table.old.table list.old }
-    ensures owner { OnOk result (IsOwner scenario.now round node table.new.table list.new) }
-    ensures table { OnOk result (table.new.table ≡ begun_table scenario.now round node table.old.table) }
+    requires may_write { MayWriteAll T.may_write scenario.now }
+    requires ended { T.has_ended histories.old (round - 1) }
+    requires lists { length (T.lists histories.old) ≡ scenario.now.nodes }
+    requires owner { IsOwner scenario.now (round - 1) node (T.table table.old)
+        (list_of_owner (T.lists histories.old) node) }
+    ensures owner { OnOk result
+        (IsOwner scenario.now round node (T.table table.new) (list_of_owner (T.lists histories.new) node)) }
+    ensures table { OnOk result (T.table table.new ≡ begun_table scenario.now round node (T.table table.old)) }
+    ensures others { OnOk result (OthersStay node (T.lists histories.old) (T.lists histories.new)) }
+    ensures ended { OnOk result (T.has_ended histories.new (round - 1)) }
     ensures only { IsOkUnless result OutOfMemory }
 {
-    restart(scenario, node, table, list, round);
-    let writes = writes_of(scenario, node, round, list.len());
-    write_own(table, list, writes.as_slice(), round)
+    restart(scenario, node, table, histories, round);
+    let writes = writes_of(scenario, node, round, T::count(histories, node));
+    write_own(table, histories, writes.as_slice(), round)
 }
 
 // The restarts of a node in a round: they empty its copies of all others, or where it forgets its whole table.
-fn restart(scenario: &Scenario, node: u32, table: &mut NodeTable, list: &mut OwnerList, round: u32)
+fn restart<T: RoundTable>(
+    scenario: &Scenario,
+    node: u32,
+    table: &mut T,
+    histories: &mut T::Histories,
+    round: u32,
+)
     requires first { 1 ≤ round }
     requires last { round ≤ MOST_ROUNDS }
     requires node { node < scenario.now.nodes }
-    requires owner { IsOwner scenario.now (round - 1) node table.old.table list.old }
-    ensures owner { HasRestarted scenario.now round node table.new.table list.new }
-    ensures table { table.new.table ≡ after_restart scenario.now round node table.old.table }
+    requires ended { T.has_ended histories.old (round - 1) }
+    requires lists { length (T.lists histories.old) ≡ scenario.now.nodes }
+    requires owner { IsOwner scenario.now (round - 1) node (T.table table.old)
+        (list_of_owner (T.lists histories.old) node) }
+    ensures owner { HasRestarted scenario.now round node (T.table table.new)
+        (list_of_owner (T.lists histories.new) node) }
+    ensures table { T.table table.new ≡ after_restart scenario.now round node (T.table table.old) }
+    ensures others { OthersStay node (T.lists histories.old) (T.lists histories.new) }
+    ensures ended { T.has_ended histories.new (round - 1) }
 {
     if forgets_now(scenario, node, round) {
-        table.forget_all();
-        list.begin_generation();
+        table.forget(histories);
     } else if restarts_now(scenario, node, round) {
-        table.forget_others();
+        table.restart();
     }
 }
 
 // The writes of one node in a round, in order.
-fn write_own(
-    table: &mut NodeTable,
-    list: &mut OwnerList,
+fn write_own<T: RoundTable>(
+    table: &mut T,
+    histories: &mut T::Histories,
     writes: &[OwnWrite],
     round: u32,
 ) -> Result<(), Fault>
-    requires proper { IsProper table.old.table }
-    requires keys { All (λ w. w.key < table.old.table.keys) writes.now }
-    requires next { AreNextAfter table.old.table.generation (length list.old.current)
-        (map (born_in round table.old.table.generation) writes.now) }
-    requires generation { list.old.generation ≡ table.old.table.generation }
-    requires fits { length list.old.current + length writes.now + 1 < 2 ^ 32 }
-    requires greatest { greatest_version table.old.table table.old.table.node ≡ length list.old.current }
-    requires own_part { OwnPartIsLastWrites table.old.table (written list.old) }
-    requires born { AreBornBy round (written list.old) }
-    ensures written { OnOk result (HasWritten round writes.now table.old.table table.new.table list.old list.new) }
+    requires first { 1 ≤ round }
+    requires last { round ≤ MOST_ROUNDS }
+    requires ended { T.has_ended histories.old (round - 1) }
+    requires owner { (T.table table.old).node < length (T.lists histories.old) }
+    requires proper { IsProper (T.table table.old) }
+    requires keys { All (λ w. w.key < (T.table table.old).keys) writes.now }
+    requires next { AreNextAfter (T.table table.old).generation
+        (length (own_list (T.table table.old) (T.lists histories.old)).current)
+        (map (born_in round (T.table table.old).generation) writes.now) }
+    requires may { MayWriteEach T.may_write (T.table table.old).node
+        (length (writes_in (T.lists histories.old) (T.table table.old).node))
+        (map (born_in round (T.table table.old).generation) writes.now) }
+    requires fits { length (own_list (T.table table.old) (T.lists histories.old)).current + length writes.now + 1 < 2 ^ 32 }
+    requires beside { StandsBeside (T.table table.old) (own_list (T.table table.old) (T.lists histories.old)) }
+    requires born { AreBornBy round (written (own_list (T.table table.old) (T.lists histories.old))) }
+    ensures written { OnOk result (HasWritten round writes.now (T.table table.old) (T.table table.new)
+        (own_list (T.table table.old) (T.lists histories.old)) (own_list (T.table table.old) (T.lists histories.new))) }
+    ensures others { OnOk result (OthersStay (T.table table.old).node (T.lists histories.old) (T.lists histories.new)) }
+    ensures ended { OnOk result (T.has_ended histories.new (round - 1)) }
     ensures only { IsOkUnless result OutOfMemory }
 {
     for write in writes {
-        table.write_own(write.key, write.value, round)?;
-        list.write(write.key, write.value, round)?;
+        table.write(histories, write.key, write.value, round)?;
     }
     Ok(())
 }

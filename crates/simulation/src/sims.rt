@@ -1,66 +1,82 @@
 //! A simulation, round by round.
 
-ghost use Rattle.std.specs.Prelude.{◌≡◌, ◌+◌, ◌-◌, ◌<◌, ◌≤◌, true, false, [], IfOk, IfErr, OnOk, IsOkUnless};
+ghost use Rattle.std.specs.Prelude.{◌≡◌, ℕ, ◌+◌, ◌-◌, ◌<◌, ◌≤◌, true, false, [], map, IfOk, IfErr, OnOk, IsOkUnless};
 ghost use Rattle.bench_types.specs.declared.faults.Fault.TheVariants.{OutOfMemory};
 ghost use Rattle.bench_types.specs.declared.limits.TheConstants.{MOST_WORKERS};
 ghost use Rattle.scenario.specs.Settings.{IsLawfulScenario};
-ghost use Rattle.cluster.specs.Tables.{tables_in};
 ghost use Rattle.pool.specs.Runs.{IsPoolFault};
-ghost use Rattle.simulation.specs.Rounds.{opening_tables, begun, round_of};
+ghost use Rattle.cluster.specs.Tables.{tables_in};
+ghost use Rattle.exchange.specs.Exchanging.{kept_table};
+ghost use Rattle.simulation.specs.Rounds.{opening_tables, begun, round_of, tables_after};
 ghost use Rattle.simulation.specs.Standing.{StandAfterRound};
-ghost use Rattle.simulation.specs.inner.Insides.{tables_of, lists_of, HasPlayed};
-ghost use Rattle.simulation.specs.Simulation.{AreTablesAfter, PlaysNext, MayStep, IsRefusedBy, IsStepFault};
+ghost use Rattle.simulation.specs.inner.Insides.{tables_of, HasPlayed};
+ghost use Rattle.simulation.specs.Simulation.{AreTablesAfter, MayWriteAll, PlaysNext, MayStep, IsRefusedBy, IsStepFault};
 
-use crate::clusters::{begin_round, empty_lists, empty_tables};
+use crate::clusters::{begin_round, empty_tables};
 use crate::rounds::Round;
 use bench_types::limits::{MOST_ROUNDS, MOST_WORKERS};
 use bench_types::{Fault, Rules};
 use node_table::NodeTable;
-use pool::{Gate, run_list};
+use pool::{Gate, run_list_with};
 use round_plan::round_list;
+use round_tables::RoundTable;
 use scenario::Scenario;
-use staleness::{OwnerList, figures};
 use std::alloc::Global;
 use std::marker::Model;
 use std::sync::Wait;
 use std::thread::Threads;
 
-/// A simulation of a scenario. A fault within a round breaks it: its tables are then given up.
+/// A simulation of a scenario, with tables of one representation or another. A fault within a round breaks
+/// it: its tables are then given up.
 #[derive(Drop)]
-pub struct Sim {
+pub struct Sim<T: RoundTable = NodeTable> {
     alloc: Global,
     scenario: Scenario,
-    cluster: Option<Cluster>,
+    cluster: Option<Cluster<T>>,
     rounds_done: u32,
 }
 
-impl Model for Sim {
+impl<T: RoundTable> Model for Sim<T> {
     ghost use Rattle.simulation.specs.Simulation.{SimView};
-    ghost use Rattle.simulation.specs.inner.Insides.{IsSimulation, simulation_of, simulation_code};
+    ghost use Rattle.simulation.specs.inner.Insides.{IsInside, simulation_of, simulation_code};
 
-    ghost Value = { SimView };
+    ghost Value = { SimView T };
 
-    ghost coded = { simulation_code };
+    ghost coded = { simulation_code T.code };
 
-    ghost view = { λ s. simulation_of s.scenario s.cluster s.rounds_done };
+    ghost view = { λ s. simulation_of T.lists s.scenario s.cluster s.rounds_done };
 
-    ghost invariant = { λ s. IsSimulation (simulation_of s.scenario s.cluster s.rounds_done) };
+    ghost invariant = { λ s. IsInside T.table T.lists T.has_ended T.may_write s.scenario s.cluster s.rounds_done };
 }
 
 // What all nodes hold, and what each has written.
 #[derive(Drop)]
-struct Cluster {
-    tables: Vec<NodeTable>,
-    lists: Vec<OwnerList>,
+struct Cluster<T: RoundTable> {
+    tables: Vec<T>,
+    histories: T::Histories,
 }
 
-impl Sim {
+impl Sim<NodeTable> {
     /// The simulation before its first round, where all tables are empty. It takes memory for the
     /// nodes, and hands the scenario back where that is refused.
     pub fn new(alloc: Global, scenario: Scenario) -> Result<Sim, (Fault, Scenario)>
         ensures opens { IfOk result
             (λ sim. (sim.settings ≡ scenario) × (sim.rounds_done ≡ 0) × (sim.broken ≡ false)) }
         ensures empty { IfOk result (λ sim. tables_in sim.tables ≡ opening_tables scenario) }
+        ensures hands_back { IfErr result (λ e. (e.0 ≡ OutOfMemory) × (e.1 ≡ scenario)) }
+    {
+        Sim::of(alloc, scenario)
+    }
+}
+
+impl<T: RoundTable> Sim<T> {
+    /// The simulation before its first round, as `new` makes it, with tables of any representation. They may
+    /// ask something of what is written in the run.
+    pub fn of(alloc: Global, scenario: Scenario) -> Result<Sim<T>, (Fault, Scenario)>
+        requires { MayWriteAll T.may_write scenario }
+        ensures opens { IfOk result
+            (λ sim. (sim.settings ≡ scenario) × (sim.rounds_done ≡ 0) × (sim.broken ≡ false)) }
+        ensures empty { IfOk result (λ sim. map T.table sim.tables ≡ opening_tables scenario) }
         ensures hands_back { IfErr result (λ e. (e.0 ≡ OutOfMemory) × (e.1 ≡ scenario)) }
     {
         match Cluster::new(alloc, &scenario) {
@@ -91,7 +107,7 @@ impl Sim {
     ) -> Result<Round, Fault>
         requires few { 1 ≤ workers }
         requires many { workers ≤ MOST_WORKERS }
-        ensures played { IfOk result (PlaysNext self.old self.new) }
+        ensures played { IfOk result (PlaysNext T.table self.old self.new) }
         ensures fails { IfErr result (IsStepFault workers self.old self.new) }
     {
         self.check_step()?;
@@ -121,9 +137,9 @@ impl Sim {
     }
 
     /// The nodes' tables, in order; none where the simulation is broken.
-    pub fn tables(&self) -> &[NodeTable]
+    pub fn tables(&self) -> &[T]
         ensures value { result.now ≡ self.now.tables }
-        ensures after { AreTablesAfter self.now result.now }
+        ensures after { AreTablesAfter T.table self.now result.now }
         ensures none { self.now.broken ≡ true → result.now ≡ [] }
     {
         match &self.cluster {
@@ -176,15 +192,17 @@ impl Sim {
     }
 }
 
-impl Cluster {
-    fn new(alloc: Global, scenario: &Scenario) -> Result<Cluster, Fault>
-        ensures tables { IfOk result (λ c. tables_of c ≡ opening_tables scenario.now) }
-        ensures standing { IfOk result (λ c. StandAfterRound scenario.now 0 (tables_of c) (lists_of c)) }
+impl<T: RoundTable> Cluster<T> {
+    fn new(alloc: Global, scenario: &Scenario) -> Result<Cluster<T>, Fault>
+        ensures tables { IfOk result (λ c. tables_of T.table c ≡ opening_tables scenario.now) }
+        ensures standing { IfOk result
+            (λ c. StandAfterRound scenario.now 0 (tables_of T.table c) (T.lists c.histories)) }
+        ensures ended { IfOk result (λ c. T.has_ended c.histories 0) }
         ensures only { IsOkUnless result OutOfMemory }
     {
         Ok(Cluster {
             tables: empty_tables(alloc, scenario)?,
-            lists: empty_lists(alloc, scenario)?,
+            histories: T::histories(alloc, scenario.nodes())?,
         })
     }
 
@@ -192,12 +210,19 @@ impl Cluster {
     fn begin(&mut self, scenario: &Scenario, round: u32) -> Result<(), Fault>
         requires first { 1 ≤ round }
         requires last { round ≤ MOST_ROUNDS }
-        requires standing { StandAfterRound scenario.now (round - 1) (tables_of self.old) (lists_of self.old) }
-        ensures standing { OnOk result (StandAfterRound scenario.now round (tables_of self.new) (lists_of self.new)) }
-        ensures tables { OnOk result (tables_of self.new ≡ begun scenario.now round (tables_of self.old)) }
+        requires within { round ≤ scenario.now.rounds }
+        requires may_write { MayWriteAll T.may_write scenario.now }
+        requires ended { T.has_ended self.old.histories (round - 1) }
+        requires standing { StandAfterRound scenario.now (round - 1) (tables_of T.table self.old)
+            (T.lists self.old.histories) }
+        ensures standing { OnOk result
+            (StandAfterRound scenario.now round (tables_of T.table self.new) (T.lists self.new.histories)) }
+        ensures tables { OnOk result
+            (tables_of T.table self.new ≡ begun scenario.now round (tables_of T.table self.old)) }
+        ensures ended { OnOk result (T.has_ended self.new.histories round) }
         ensures only { IsOkUnless result OutOfMemory }
     {
-        begin_round(scenario, &mut self.tables, &mut self.lists, round)
+        begin_round(scenario, &mut self.tables, &mut self.histories, round)
     }
 
     // A round. Where it fails, the tables are given up.
@@ -209,15 +234,21 @@ impl Cluster {
         round: u32,
         workers: u32,
         gate: &G,
-    ) -> Result<(Cluster, Round), Fault>
+    ) -> Result<(Cluster<T>, Round), Fault>
         requires few { 1 ≤ workers }
         requires many { workers ≤ MOST_WORKERS }
+        requires lawful { IsLawfulScenario scenario.now }
         requires first { 1 ≤ round }
-        requires last { round ≤ MOST_ROUNDS }
-        requires standing { StandAfterRound scenario.now (round - 1) (tables_of self) (lists_of self) }
-        ensures tables { IfOk result (λ p. tables_of p.0 ≡ (round_of scenario.now round (tables_of self)).tables) }
-        ensures standing { IfOk result (λ p. StandAfterRound scenario.now round (tables_of p.0) (lists_of p.0)) }
-        ensures played { IfOk result (λ p. HasPlayed scenario.now round self p.0 p.1) }
+        requires within { round ≤ scenario.now.rounds }
+        requires may_write { MayWriteAll T.may_write scenario.now }
+        requires ended { T.has_ended self.histories (round - 1) }
+        requires standing { StandAfterRound scenario.now (round - 1) (tables_of T.table self) (T.lists self.histories) }
+        requires after { tables_of T.table self ≡ tables_after scenario.now (round - 1) }
+        ensures tables { IfOk result (λ p. tables_of T.table p.0 ≡ tables_after scenario.now round) }
+        ensures standing { IfOk result
+            (λ p. StandAfterRound scenario.now round (tables_of T.table p.0) (T.lists p.0.histories)) }
+        ensures ended { IfOk result (λ p. T.has_ended p.0.histories round) }
+        ensures played { IfOk result (λ p. HasPlayed T.table T.lists scenario.now round self p.0 p.1) }
         ensures fault { IfErr result (IsPoolFault workers) }
     {
         self.begin(scenario, round)?;
@@ -226,10 +257,13 @@ impl Cluster {
             mode: scenario.mode(),
             budget: scenario.budget(),
         };
-        let Cluster { tables, lists } = self;
-        let (tables, records) = run_list(rt, alloc, &list, tables, workers, gate, &rules)?;
-        let lag = figures(rt, alloc, &tables, &lists, round)?;
+        let Cluster { tables, histories } = self;
+        let shared = T::shared(&histories, round);
+        let (tables, records) = run_list_with(
+            rt, alloc, shared, &list, tables, workers, gate, &rules,
+        )?;
+        let lag = T::figures(rt, alloc, &tables, &histories, round)?;
         let played = Round::of(round, list, records, lag);
-        Ok((Cluster { tables, lists }, played))
+        Ok((Cluster { tables, histories }, played))
     }
 }

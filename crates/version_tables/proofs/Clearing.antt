@@ -7,7 +7,8 @@ use Rattle.std.proofs.lemmas.List.{get_or-set_same, get_or-set_other, length-set
 use Rattle.bench_types.specs.declared.entries.Entry.{Entry}
 use Rattle.planes.specs.Sums.{sum_below}
 use Rattle.planes.specs.Planes.{cell, total_of, ArePlanesChanged, ArePlanesChangedUpto}
-use Rattle.version_tables.specs.inner.Taken.{drop_start, start_of, number_kept}
+use Rattle.version_tables.specs.inner.Taken.{drop_start, number_kept}
+use Rattle.version_tables.specs.inner.Offers.{start_of}
 
 -- nothing is dropped up to 0
 pub kept-all : (x : ℕ) → number_kept 0 x ≡ x

@@ -1,6 +1,6 @@
 -- Marks layer by layer: one more number of each owner at a time.
 -- Serves nothing yet.
-use Rattle.std.proofs.Common.{◌≡◌, ◌≢◌, ℕ, zero, suc, ◌+◌, ◌<◌, ◌≤◌, Bool, true, false, cond, eqb, ltb, leb, inl, inr, refl, sym, ap, ◌∙◌, subst, arith}
+use Rattle.std.proofs.Common.{◌≡◌, ℕ, zero, suc, ◌+◌, ◌<◌, ◌≤◌, Bool, true, false, eqb, ltb, leb, inl, inr, refl, ap, ◌∙◌, subst, arith}
 use Rattle.std.proofs.lemmas.Bool.{cases_lt, cases_eq, lt-ltb, le-ltb, le-leb, lt-leb}
 use Rattle.planes.specs.Sums.{sum_below}
 use Rattle.version_tables.specs.inner.Offers.{rank_above}
@@ -54,6 +54,41 @@ module _ (cells : Cells) (keys owner low : ℕ) where
   below-low : (number key : ℕ) → cells owner key ≤ low → below number key ≡ 0
   below-low number key le = ap (λ b. where_true b (where_true (ltb (cells owner key) number) 1)) (le-ltb low (cells owner key) le)
 
+  -- up to an owner's next number there is one more
+  module _ (mark least : ℕ) (low_le : low ≤ mark) (differ : NumbersDiffer cells keys owner) (next : IsLeastAbove cells keys owner mark least) where
+    abbrev here : ℕ → ℕ
+    here k = where_true (eqb k next.key) 1
+
+    one_more : (k : ℕ) → k < keys → between least k ≡ between mark k + here k
+    one_more k lt = elim (cases_eq k next.key) [
+      | inl same ↦
+          let v : cells owner k ≡ least = ap (cells owner) same ∙ next.is in
+          omega (arith, between-in least k (omega (arith, v, low_le, next.above)) (omega (arith, v)), between-out mark k (omega (arith, v, next.above)), ap (λ b. where_true b 1) (Rattle.std.proofs.lemmas.Bool.eq-eqb k next.key same))
+      | inr other ↦
+          let none : here k ≡ 0 = ap (λ b. where_true b 1) (Rattle.std.proofs.lemmas.Bool.ne_eqb k next.key other) in
+          elim (cases_lt low (cells owner k)) [
+            | inr not_above ↦ omega (arith, none, between-low least k (omega (arith, not_above)), between-low mark k (omega (arith, not_above)))
+            | inl high ↦ elim (cases_lt mark (cells owner k)) [
+              | inr not_out ↦ omega (arith, none, between-in least k high (omega (arith, not_out, next.above)), between-in mark k high (omega (arith, not_out)))
+              | inl out ↦ elim (cases_lt least (cells owner k)) [
+                | inl beyond ↦ omega (arith, none, between-out least k beyond, between-out mark k out)
+                | inr not_beyond ↦ absurd (other (differ k next.key lt next.below (omega (arith, high)) (omega (arith, not_beyond, next.no_less k lt out, next.is))))
+              ]
+            ]
+          ]
+    ]
+
+    pub counted-next : count_between cells keys owner low least ≡ count_between cells keys owner low mark + 1
+    counted-next =
+        sum_below-same keys (between least) (λ k. between mark k + here k) one_more
+        ∙ sum_below-plus keys (between mark) here
+        ∙ (λ i. sum_below keys (between mark) + single i)
+      where
+        single : sum_below keys here ≡ 1
+        single =
+            sum_below-one keys next.key here next.below (λ k other. ap (λ b. where_true b 1) (Rattle.std.proofs.lemmas.Bool.ne_eqb k next.key other))
+            ∙ ap (λ b. where_true b 1) (Rattle.std.proofs.lemmas.Bool.eq-eqb next.key next.key refl)
+
   module _ (layers mark : ℕ) (is : IsLayerMark cells keys owner low layers mark) where
     -- a number up to the mark is of one of the layers
     pub layer-upto : (key : ℕ) → key < keys → low < cells owner key → cells owner key ≤ mark → rank_above cells keys owner low (cells owner key) < layers
@@ -105,38 +140,8 @@ module _ (cells : Cells) (keys owner low : ℕ) where
       full = λ key lt over. omega (arith, counted);
     }
       where
-        here : ℕ → ℕ
-        here k = where_true (eqb k next.key) 1
-
         at_key : mark < cells owner next.key
         at_key = omega (arith, next.is, next.above)
 
-        one_more : (k : ℕ) → k < keys → between least k ≡ between mark k + here k
-        one_more k lt = elim (cases_eq k next.key) [
-          | inl same ↦
-              let v : cells owner k ≡ least = ap (cells owner) same ∙ next.is in
-              omega (arith, between-in least k (omega (arith, v, is.above, next.above)) (omega (arith, v)), between-out mark k (omega (arith, v, next.above)), ap (λ b. where_true b 1) (Rattle.std.proofs.lemmas.Bool.eq-eqb k next.key same))
-          | inr other ↦
-              let none : here k ≡ 0 = ap (λ b. where_true b 1) (Rattle.std.proofs.lemmas.Bool.ne_eqb k next.key other) in
-              elim (cases_lt low (cells owner k)) [
-                | inr not_above ↦ omega (arith, none, between-low least k (omega (arith, not_above)), between-low mark k (omega (arith, not_above)))
-                | inl high ↦ elim (cases_lt mark (cells owner k)) [
-                  | inr not_out ↦ omega (arith, none, between-in least k high (omega (arith, not_out, next.above)), between-in mark k high (omega (arith, not_out)))
-                  | inl out ↦ elim (cases_lt least (cells owner k)) [
-                    | inl beyond ↦ omega (arith, none, between-out least k beyond, between-out mark k out)
-                    | inr not_beyond ↦ absurd (other (differ k next.key lt next.below (omega (arith, high)) (omega (arith, not_beyond, next.no_less k lt out, next.is))))
-                  ]
-                ]
-              ]
-        ]
-
         counted : count_between cells keys owner low least ≡ layers + 1
-        counted =
-            sum_below-same keys (between least) (λ k. between mark k + here k) one_more
-            ∙ sum_below-plus keys (between mark) here
-            ∙ (λ i. is.full next.key next.below at_key i + single i)
-          where
-            single : sum_below keys here ≡ 1
-            single =
-                sum_below-one keys next.key here next.below (λ k other. ap (λ b. where_true b 1) (Rattle.std.proofs.lemmas.Bool.ne_eqb k next.key other))
-                ∙ ap (λ b. where_true b 1) (Rattle.std.proofs.lemmas.Bool.eq-eqb next.key next.key refl)
+        counted = omega (arith, counted-next mark least is.above differ next, is.full next.key next.below at_key)

@@ -45,7 +45,7 @@ module _ (rules : Rules) (rotation : ℕ) (from to : Table) (from_proper : IsPro
   pub came-held : (owner : ℕ) (e : Entry) → Comes owner e → entry_at from owner e.key ≡ Some e
   came-held owner e comes = sent-held rules rotation from to from_proper (record { owner = owner; entry = e }) comes
 
-  came-lacked : (owner : ℕ) (e : Entry) → Comes owner e → (generation_held to owner ≤ e.generation) × IsBefore (mark_at to owner e.key) (mark_of e)
+  pub came-lacked : (owner : ℕ) (e : Entry) → Comes owner e → (generation_held to owner ≤ e.generation) × IsBefore (mark_at to owner e.key) (mark_of e)
   came-lacked owner e comes =
       let i : Item = record { owner = owner; entry = e } in
       let lacked = ((candidates-lacked rules.mode from to i from_proper to_proper).0 (sent-candidate rules.mode from to rotation rules.budget i comes)).1 in

@@ -1,3 +1,5 @@
 pub mod SentSets
 pub mod Views
+pub mod Writes
+pub mod ListChanges
 pub mod inner

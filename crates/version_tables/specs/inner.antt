@@ -8,6 +8,15 @@ pub mod Missed
 pub mod Pieces
 pub mod Weights
 pub mod Rounds
+pub mod Told
 pub mod Histories
 pub mod Codes
 pub mod Deltas
+pub mod Offered
+pub mod Plans
+pub mod RoundLevels
+pub mod Sharing
+pub mod Marked
+pub mod Stops
+pub mod Turns
+pub mod FitsKept

@@ -1,15 +1,24 @@
 //! What one table sends another, as marks.
 
-ghost use Rattle.std.specs.Prelude.{◌≡◌, ◌<◌, map, IfOk, IsOkUnless};
+ghost use Rattle.std.specs.Prelude.{◌≡◌, ◌<◌, length, map, slice_index, IfOk, IsOkUnless};
+ghost use Rattle.bench_types.specs.declared.exchanges.DigestKind.TheVariants.{Precise};
 ghost use Rattle.bench_types.specs.declared.faults.Fault.TheVariants.{OutOfMemory};
 ghost use Rattle.bench_types.specs.Budget.{IsLawfulBudget};
-ghost use Rattle.version_tables.specs.Views.{table_in};
+ghost use Rattle.bench_types.specs.Mode.{digest_kind};
+ghost use Rattle.planes.specs.Planes.{cell, number_ahead, HasEach, HasEachPlace};
+ghost use Rattle.version_tables.specs.Views.{table_in, IsKept};
 ghost use Rattle.version_tables.specs.inner.Deltas.{AreMarksOf};
 ghost use Rattle.version_tables.specs.inner.Histories.{FitsHistories};
+ghost use Rattle.version_tables.specs.inner.Marked.{high_list, low_list, AreOffered};
+ghost use Rattle.version_tables.specs.inner.Offers.{told_mark};
+ghost use Rattle.version_tables.specs.inner.Weights.{writes_in};
 
 use crate::histories::Histories;
+use crate::marked::{Marked, planned};
 use crate::tables::{VersionTable, Written};
-use bench_types::{Fault, Rules};
+use crate::told_marks::told;
+use crate::weights::Offer;
+use bench_types::{DigestKind, Fault, Mode, Rules};
 use planes::Number;
 use std::alloc::Global;
 
@@ -41,5 +50,163 @@ pub(crate) fn delta<N: Number, H: Written>(
         (map N.number d.low.items) (map N.number d.high.items) d.sent d.cut) }
     ensures only { IsOkUnless result OutOfMemory }
 {
-    Err(Fault::OutOfMemory)
+    let kind = rules.mode.digest_kind();
+    let low = told_to(alloc, sender, receiver, histories, kind)?;
+    let ahead = ahead_of(alloc, sender, receiver, kind, &low)?;
+    let cells = either(sender, receiver, kind, &low, &ahead);
+    let marked = marks_sent(
+        alloc, sender, receiver, histories, rules, rotation, &low, cells,
+    )?;
+    let marks = marks_of(alloc, rules.mode, low, sender.greatest(), marked)?;
+    Ok(marks)
+}
+
+// What of the numbers offered is sent.
+fn marks_sent<N: Number, H: Written>(
+    alloc: Global,
+    sender: &VersionTable<N, H>,
+    receiver: &VersionTable<N, H>,
+    histories: &Histories<N, H>,
+    rules: &Rules,
+    rotation: u32,
+    low: &[N],
+    cells: &[N],
+) -> Result<Marked<N>, Fault>
+    requires nodes { sender.now.nodes ≡ receiver.now.nodes }
+    requires keys { sender.now.keys ≡ receiver.now.keys }
+    requires rotation { rotation < sender.now.nodes }
+    requires sender { FitsHistories histories.now (table_in H.lists sender.now) }
+    requires receiver { FitsHistories histories.now (table_in H.lists receiver.now) }
+    requires kept { IsKept H.lists receiver.now }
+    requires low { HasEach (length histories.now.lists)
+        (λ r n. n ≡ told_mark (digest_kind rules.now.mode) N.most receiver.now.node (writes_in histories.now.lists)
+        (slice_index receiver.now.greatest) r) (map N.number low.now) }
+    requires cells { AreOffered (digest_kind rules.now.mode) sender.now receiver.now (map N.number low.now)
+        (map N.number cells.now) }
+    ensures marks { IfOk result (λ m. AreMarksOf rules.now rotation H.lists sender.now receiver.now
+        (low_list rules.now.mode (map N.number low.now) (map N.number m.mark.items))
+        (high_list rules.now.mode (map N.number m.mark.items) sender.now.greatest) m.sent m.cut) }
+    ensures only { IsOkUnless result OutOfMemory }
+{
+    let offer = Offer {
+        cells,
+        nodes: sender.nodes() as usize,
+        keys: sender.keys() as usize,
+        low,
+        high: sender.greatest(),
+        lists: histories.lists(),
+        budget: rules.budget,
+    };
+    let ends = histories.ends();
+    let last = histories.rounds();
+    let marked = planned(alloc, &offer, rules.mode, rotation as usize, ends, last)?;
+    Ok(marked)
+}
+
+// What a receiver tells.
+fn told_to<N: Number, H: Written>(
+    alloc: Global,
+    sender: &VersionTable<N, H>,
+    receiver: &VersionTable<N, H>,
+    histories: &Histories<N, H>,
+    kind: DigestKind,
+) -> Result<Vec<N>, Fault>
+    requires nodes { sender.now.nodes ≡ receiver.now.nodes }
+    requires receiver { FitsHistories histories.now (table_in H.lists receiver.now) }
+    ensures told { IfOk result (λ v. HasEach (length histories.now.lists)
+        (λ r n. n
+        ≡ told_mark kind N.most receiver.now.node (writes_in histories.now.lists) (slice_index receiver.now.greatest) r)
+        (map N.number v.items)) }
+    ensures kept { IfOk result (λ _. IsKept H.lists receiver.now) }
+    ensures only { IsOkUnless result OutOfMemory }
+{
+    let node = receiver.node() as usize;
+    told(
+        alloc,
+        kind,
+        node,
+        receiver.greatest(),
+        histories.lists(),
+        histories.bases(),
+    )
+}
+
+// For a precise digest what of the sender's is ahead of the receiver's.
+fn ahead_of<N: Number, H: Written>(
+    alloc: Global,
+    sender: &VersionTable<N, H>,
+    receiver: &VersionTable<N, H>,
+    kind: DigestKind,
+    low: &[N],
+) -> Result<Vec<N>, Fault>
+    requires nodes { sender.now.nodes ≡ receiver.now.nodes }
+    requires keys { sender.now.keys ≡ receiver.now.keys }
+    requires low { length low.now ≡ sender.now.nodes }
+    ensures ahead { kind ≡ Precise → IfOk result (λ v. HasEachPlace sender.now.nodes sender.now.keys
+        (λ r k n. n ≡ number_ahead (cell sender.now.cells sender.now.nodes r k)
+        (cell receiver.now.cells sender.now.nodes r k) (slice_index (map N.number low.now) r)) (map N.number v.items)) }
+    ensures only { IsOkUnless result OutOfMemory }
+{
+    match kind {
+        DigestKind::Scuttle => Ok(Vec::new(alloc)),
+        DigestKind::Precise => {
+            let nodes = sender.nodes() as usize;
+            let keys = sender.keys() as usize;
+            planes::ahead(alloc, sender.cells(), receiver.cells(), nodes, keys, low)
+        }
+    }
+}
+
+// All numbers for a scuttle digest, and for a precise one those ahead.
+fn either<'a, N: Number, H: Written>(
+    sender: &'a VersionTable<N, H>,
+    receiver: &VersionTable<N, H>,
+    kind: DigestKind,
+    low: &[N],
+    ahead: &'a [N],
+) -> &'a [N]
+    requires nodes { sender.now.nodes ≡ receiver.now.nodes }
+    requires ahead { kind ≡ Precise → HasEachPlace sender.now.nodes sender.now.keys
+        (λ r k n. n ≡ number_ahead (cell sender.now.cells sender.now.nodes r k)
+        (cell receiver.now.cells sender.now.nodes r k) (slice_index (map N.number low.now) r))
+        (map N.number ahead.now) }
+    ensures { AreOffered kind sender.now receiver.now (map N.number low.now) (map N.number result.now) }
+{
+    match kind {
+        DigestKind::Scuttle => sender.cells(),
+        DigestKind::Precise => ahead,
+    }
+}
+
+// The two marks of each owner.
+fn marks_of<N: Number>(
+    alloc: Global,
+    mode: Mode,
+    low: Vec<N>,
+    high: &[N],
+    marked: Marked<N>,
+) -> Result<DeltaMarks<N>, Fault>
+    ensures low { IfOk result (λ d. map N.number d.low.items
+        ≡ low_list mode (map N.number low.items) (map N.number marked.mark.items)) }
+    ensures high { IfOk result (λ d. map N.number d.high.items
+        ≡ high_list mode (map N.number marked.mark.items) (map N.number high.now)) }
+    ensures sent { IfOk result (λ d. d.sent ≡ marked.sent) }
+    ensures cut { IfOk result (λ d. d.cut ≡ marked.cut) }
+    ensures only { IsOkUnless result OutOfMemory }
+{
+    let Marked { mark, sent, cut } = marked;
+    match mode {
+        Mode::ScuttleBreadth | Mode::ScuttleDepth | Mode::PreciseOldest => Ok(DeltaMarks {
+            low,
+            high: mark,
+            sent,
+            cut,
+        }),
+        Mode::PreciseNewest => Ok(DeltaMarks {
+            low: mark,
+            high: Vec::from_slice(alloc, high)?,
+            sent,
+            cut,
+        }),
+    }
 }

@@ -1,6 +1,9 @@
 //! What all owners have written, beside tables that keep numbers of writes alone.
 
-ghost use Rattle.std.specs.Prelude.{◌≡◌};
+ghost use Rattle.std.specs.Prelude.{◌≡◌, ℕ, length, map, IfOk, IsOkUnless};
+ghost use Rattle.bench_types.specs.declared.faults.Fault.TheVariants.{OutOfMemory};
+ghost use Rattle.owner_lists.specs.OwnerListView.{list_of_owner, no_writes};
+ghost use Rattle.planes.specs.Planes.{HasEach};
 
 use crate::tables::Written;
 use bench_types::Fault;
@@ -39,12 +42,82 @@ impl<N: Number, H: Written> Model for Histories<N, H> {
 }
 
 impl<N: Number, H: Written> Histories<N, H> {
-    ghost use Rattle.std.specs.Prelude.{ℕ, map, length};
-    ghost use Rattle.owner_lists.specs.OwnerListView.{list_of_owner, AreWrites};
+    ghost use Rattle.std.specs.Prelude.{ℕ, ◌+◌, ◌^◌, ◌<◌, ◌≤◌, map, length, IfOk, OnOk, OnErr, IsOkUnless};
+    ghost use Rattle.bench_types.specs.declared.faults.Fault.TheVariants.{OutOfMemory};
+    ghost use Rattle.bench_types.specs.declared.limits.TheConstants.{MOST_NODES};
+    ghost use Rattle.owner_lists.specs.OwnerListView.{list_of_owner, no_writes, next_entry, with_write, begun_generation, AreWrites};
     ghost use Rattle.planes.specs.Planes.{HasEach};
-    ghost use Rattle.version_tables.specs.inner.Histories.{IsWrittenSoFar};
+    ghost use Rattle.version_tables.specs.ListChanges.{ListChanges};
+    ghost use Rattle.version_tables.specs.inner.Histories.{IsWrittenSoFar, IsWriteUnder};
     ghost use Rattle.version_tables.specs.inner.Rounds.{AreEnds};
     ghost use Rattle.version_tables.specs.inner.Weights.{writes_in};
+
+    /// Where so many owners have written nothing, before the first round.
+    pub fn new(alloc: Global, nodes: u32) -> Result<Self, Fault>
+        requires { nodes ≤ MOST_NODES }
+        ensures count { IfOk result (λ h. length h.lists ≡ nodes) }
+        ensures empty { IfOk result (λ h. (owner : ℕ) → list_of_owner h.lists owner ≡ no_writes) }
+        ensures rounds { IfOk result (λ h. h.rounds ≡ 0) }
+        ensures only { IsOkUnless result OutOfMemory }
+    {
+        let nodes = nodes as usize;
+        Ok(Histories {
+            lists: no_lists(alloc, nodes)?,
+            counts: zeros(alloc, nodes)?,
+            bases: zeros(alloc, nodes)?,
+            ends: zeros(alloc, nodes)?,
+            rounds: 0,
+            written: PhantomData,
+        })
+    }
+
+    /// An owner writes one of its keys in the round that comes next, and the number of the write is answered. An
+    /// error is lack of memory, and then nothing was added.
+    pub fn write(&mut self, owner: u32, key: u32, value: u32, born: u32) -> Result<N, Fault>
+        requires owner { owner < length self.old.lists }
+        requires few { length (list_of_owner self.old.lists owner).current + 1 < 2 ^ 32 }
+        requires born { born ≡ self.old.rounds + 1 }
+        requires under { IsWriteUnder H.lists N.most owner (length (writes_in self.old.lists owner) + 1)
+            (next_entry (list_of_owner self.old.lists owner) key value born) }
+        ensures number { IfOk result (λ n. N.number n ≡ length (writes_in self.old.lists owner) + 1) }
+        ensures lists { OnOk result (ListChanges owner
+            (with_write (list_of_owner self.old.lists owner) key value born) self.old.lists self.new.lists) }
+        ensures err { OnErr result (self.new ≡ self.old) }
+        ensures rounds { self.new.rounds ≡ self.old.rounds }
+        ensures only { IsOkUnless result OutOfMemory }
+    {
+        let owner = owner as usize;
+        self.lists[owner].write(key, value, born)?;
+        let number = self.counts[owner].plus(true);
+        self.counts[owner] = number;
+        Ok(number)
+    }
+
+    /// An owner forgets, and begins its next generation with nothing.
+    pub fn begin_generation(&mut self, owner: u32)
+        requires owner { owner < length self.old.lists }
+        requires few { (list_of_owner self.old.lists owner).generation + 1 < 2 ^ 32 }
+        ensures lists { ListChanges owner (begun_generation (list_of_owner self.old.lists owner))
+            self.old.lists self.new.lists }
+        ensures rounds { self.new.rounds ≡ self.old.rounds }
+    {
+        let owner = owner as usize;
+        self.lists[owner].begin_generation();
+        self.bases[owner] = self.counts[owner];
+    }
+
+    /// The writes of the next round are made. An error is lack of memory, and then the round has not ended.
+    pub fn end_round(&mut self) -> Result<(), Fault>
+        requires { self.old.rounds + 1 < 2 ^ 32 }
+        ensures lists { self.new.lists ≡ self.old.lists }
+        ensures ok { OnOk result (self.new.rounds ≡ self.old.rounds + 1) }
+        ensures err { OnErr result (self.new ≡ self.old) }
+        ensures only { IsOkUnless result OutOfMemory }
+    {
+        self.ends.extend_from_slice(&self.counts)?;
+        self.rounds += 1;
+        Ok(())
+    }
 
     /// The owners' lists.
     pub fn lists(&self) -> &[OwnerList]
@@ -84,4 +157,29 @@ impl<N: Number, H: Written> Histories<N, H> {
     {
         &self.ends
     }
+}
+
+// The lists of so many owners that have written nothing.
+fn no_lists(alloc: Global, nodes: usize) -> Result<Vec<OwnerList>, Fault>
+    ensures count { IfOk result (λ v. length v.items ≡ nodes) }
+    ensures empty { IfOk result (λ v. (owner : ℕ) → list_of_owner v.items owner ≡ no_writes) }
+    ensures only { IsOkUnless result OutOfMemory }
+{
+    let mut lists = Vec::with_capacity(alloc, nodes)?;
+    for _ in 0..nodes {
+        lists.push(OwnerList::new(alloc))?;
+    }
+    Ok(lists)
+}
+
+// A 0 for each of them.
+fn zeros<N: Number>(alloc: Global, nodes: usize) -> Result<Vec<N>, Fault>
+    ensures numbers { IfOk result (λ v. HasEach nodes (λ r n. n ≡ 0) (map N.number v.items)) }
+    ensures only { IsOkUnless result OutOfMemory }
+{
+    let mut numbers = Vec::with_capacity(alloc, nodes)?;
+    for done in 0..nodes {
+        numbers.push(N::zero())?;
+    }
+    Ok(numbers)
 }

@@ -2,12 +2,24 @@
 //! number, the owners' lists tell.
 #![tactic(auto)]
 
+mod breadths;
 mod deltas;
+mod depths;
+mod digests;
+mod exchanges;
+mod exchanging;
 mod histories;
 mod lags;
 mod laws;
+mod marked;
+mod rounds;
+mod sharing;
+mod stops;
+mod owners;
 mod tables;
 mod taking;
+mod told_marks;
+mod weights;
 
 pub use histories::Histories;
 pub use lags::figures;

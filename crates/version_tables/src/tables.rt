@@ -6,7 +6,7 @@ use planes::Number;
 use std::marker::{Model, PhantomData};
 
 /// What all owners write in a run.
-pub trait Written: Send + Sync {
+pub trait Written {
     ghost use Rattle.std.specs.Prelude.{ℕ, List};
     ghost use Rattle.bench_types.specs.declared.entries.Entry.{Entry};
 

@@ -4,11 +4,13 @@ ghost use Rattle.std.specs.Prelude.{◌≡◌, ◌==◌, ℕ, ◌<◌, ◌≤◌
 ghost use Rattle.bench_types.specs.declared.entries.Entry.{Entry};
 ghost use Rattle.owner_lists.specs.OwnerListView.{OwnerListView, entries_of};
 ghost use Rattle.owner_lists.specs.Numbers.{write_numbered};
-ghost use Rattle.planes.specs.Planes.{cell, ArePlanesChanged, IsGrid};
-ghost use Rattle.version_tables.specs.inner.Offers.{IsNumberedHistory};
-ghost use Rattle.version_tables.specs.inner.Taken.{drop_start, number_kept, start_of};
+ghost use Rattle.planes.specs.Planes.{cell, ArePlanesChanged, HasEach, IsGrid};
+ghost use Rattle.version_tables.specs.inner.Offers.{start_of, IsNumberedHistory};
+ghost use Rattle.version_tables.specs.inner.Histories.{bases_in};
+ghost use Rattle.version_tables.specs.inner.Taken.{drop_start, number_kept, HasTaken, HasTakenUnless, IsTaken, StaysOne};
 ghost use Rattle.version_tables.specs.inner.Weights.{writes_in};
 
+use crate::tables::{VersionTable, Written};
 use owner_lists::OwnerList;
 use planes::Number;
 
@@ -119,5 +121,105 @@ fn drop_older<N: Number>(
 {
     if planes::total_upto(before, nodes, 1, bases) > 0 {
         drop_each(cells, nodes, keys, before, greatest, bases, lists);
+    }
+}
+
+// Takes what marks let through of a sender's numbers, raises the greatest ones, and drops of each owner what is of older
+// generations than its newest. The greatest numbers before it are given.
+fn take_numbers<N: Number>(
+    cells: &mut [N],
+    greatest: &mut [N],
+    nodes: usize,
+    keys: usize,
+    sent: &[N],
+    low: &[N],
+    high: &[N],
+    before: &[N],
+    bases: &[N],
+    lists: &[OwnerList],
+)
+    requires grid { IsGrid nodes keys (length cells.old) }
+    requires greatest { length greatest.old ≡ nodes }
+    requires sent { length sent.now ≡ length cells.old }
+    requires low { length low.now ≡ nodes }
+    requires high { length high.now ≡ nodes }
+    requires before { map N.number before.now ≡ map N.number greatest.old }
+    requires bases { HasEach nodes (λ r n. n ≡ bases_in lists.now r) (map N.number bases.now) }
+    requires lists { length lists.now ≡ nodes }
+    requires numbered { (owner : ℕ) → IsNumberedHistory (writes_in lists.now owner) }
+    ensures { IsTaken (writes_in lists.now) (bases_in lists.now) nodes keys (map N.number cells.old)
+        (map N.number greatest.old) (map N.number sent.now) (map N.number low.now) (map N.number high.now)
+        (map N.number cells.new) (map N.number greatest.new) }
+{
+    planes::take(cells, sent, nodes, keys, low, high);
+    planes::raise(greatest, cells, nodes, keys);
+    drop_older(cells, nodes, keys, before, greatest, bases, lists);
+}
+
+// Takes what marks let through of a sender's numbers, and drops of each owner what is of older generations than its
+// newest. The greatest numbers before it are given.
+fn take<N: Number, H: Written>(
+    table: &mut VersionTable<N, H>,
+    sent: &[N],
+    low: &[N],
+    high: &[N],
+    before: &[N],
+    bases: &[N],
+    lists: &[OwnerList],
+)
+    requires sent { length sent.now ≡ length table.old.cells }
+    requires low { length low.now ≡ table.old.nodes }
+    requires high { length high.now ≡ table.old.nodes }
+    requires before { map N.number before.now ≡ table.old.greatest }
+    requires bases { HasEach table.old.nodes (λ r n. n ≡ bases_in lists.now r) (map N.number bases.now) }
+    requires lists { length lists.now ≡ table.old.nodes }
+    requires numbered { (owner : ℕ) → IsNumberedHistory (writes_in lists.now owner) }
+    requires stays { StaysOne H.lists (writes_in lists.now) (bases_in lists.now) table.old (map N.number sent.now)
+        (map N.number low.now) (map N.number high.now) }
+    ensures { HasTaken (writes_in lists.now) (bases_in lists.now) table.old (map N.number sent.now) (map N.number low.now)
+        (map N.number high.now) table.new }
+{
+    let nodes = table.nodes as usize;
+    let keys = table.keys as usize;
+    take_numbers(
+        &mut table.cells,
+        &mut table.greatest,
+        nodes,
+        keys,
+        sent,
+        low,
+        high,
+        before,
+        bases,
+        lists,
+    );
+}
+
+/// Takes what marks let through of a sender's numbers, and drops of each owner what is of older generations than its
+/// newest, unless there is nothing to take. The greatest numbers before it are given.
+pub(crate) fn take_unless<N: Number, H: Written>(
+    nothing: bool,
+    table: &mut VersionTable<N, H>,
+    sent: &[N],
+    low: &[N],
+    high: &[N],
+    before: &[N],
+    bases: &[N],
+    lists: &[OwnerList],
+)
+    requires sent { length sent.now ≡ length table.old.cells }
+    requires low { length low.now ≡ table.old.nodes }
+    requires high { length high.now ≡ table.old.nodes }
+    requires before { map N.number before.now ≡ table.old.greatest }
+    requires bases { HasEach table.old.nodes (λ r n. n ≡ bases_in lists.now r) (map N.number bases.now) }
+    requires lists { length lists.now ≡ table.old.nodes }
+    requires numbered { (owner : ℕ) → IsNumberedHistory (writes_in lists.now owner) }
+    requires stays { StaysOne H.lists (writes_in lists.now) (bases_in lists.now) table.old (map N.number sent.now)
+        (map N.number low.now) (map N.number high.now) }
+    ensures { HasTakenUnless nothing (writes_in lists.now) (bases_in lists.now) table.old (map N.number sent.now)
+        (map N.number low.now) (map N.number high.now) table.new }
+{
+    if !nothing {
+        take(table, sent, low, high, before, bases, lists);
     }
 }

@@ -1,11 +1,10 @@
 -- The parts of a step. Source: this project.
-use Rattle.std.specs.Prelude.{◌≡◌, ℕ, List, ◌-◌, map, ◌++◌, length}
-use Rattle.node_table.specs.NodeTableView.{NodeTableView}
-use Rattle.cluster.specs.Tables.{tables_in}
+use Rattle.std.specs.Prelude.{◌≡◌, ◌≢◌, ℕ, List, ◌+◌, ◌-◌, ◌<◌, map, ◌++◌, length, slice_index_or}
+use Rattle.bench_types.specs.declared.entries.Entry.{Entry}
 use Rattle.round_plan.specs.Plan.{round_list_of}
 use Rattle.scenario.specs.Settings.{Settings}
 use Rattle.staleness.specs.Figures.{figures_of}
-use Rattle.owner_lists.specs.OwnerListView.{OwnerListView, written, lists_in}
+use Rattle.owner_lists.specs.OwnerListView.{OwnerListView, written, list_of_owner, lists_in}
 use Rattle.simulation.specs.RoundView.{RoundView}
 use Rattle.simulation.specs.Rounds.{round_of, after_restart}
 use Rattle.simulation.specs.Outcomes.{played_with}
@@ -18,15 +17,26 @@ use Rattle.owner_lists.specs.Writes.{AreBornBy}
 use Rattle.simulation.specs.Standing.{IsOwnerOf}
 
 -- and from the tables before it, and the tables and lists after it
-abbrev pub played_from : Settings → ℕ → List NodeTableView → List NodeTableView → List OwnerListView → RoundView
-played_from s round old new lists = played_with round (round_list_of s round) (round_of s round (tables_in old)).records (figures_of round (tables_in new) (lists_in lists))
+abbrev pub played_from : Settings → ℕ → List Table → List Table → List OwnerListView → RoundView
+played_from s round old new lists =
+    played_with round (round_list_of s round) (round_of s round old).records (figures_of round new (lists_in lists))
 
-abbrev pub IsPlayedFrom : Settings → ℕ → List NodeTableView → List NodeTableView → List OwnerListView → RoundView → Type 0
+abbrev pub IsPlayedFrom : Settings → ℕ → List Table → List Table → List OwnerListView → RoundView → Type 0
 IsPlayedFrom s round old new lists played = played ≡ played_from s round old new lists
 
 -- what a round begins with: for one node, and for all
 abbrev pub begun_table : Settings → ℕ → ℕ → Table → Table
 begun_table s round n t = with_own_writes (after_restart s round n t) (own_writes s n round (count_before s n round))
+
+-- each of these writes, before the first of which the owner made so many, meets what tables ask
+abbrev pub MayWriteEach : (ℕ → ℕ → Entry → Type 0) → ℕ → ℕ → List Entry → Type 0
+MayWriteEach May owner before writes =
+    (i : ℕ) (d : Entry) → i < length writes → May owner (before + i + 1) (slice_index_or writes i d)
+
+-- all lists but this owner's stay
+pub record OthersStay (owner : ℕ) (old new : List OwnerListView) : Type 0 where
+  pub count : length new ≡ length old
+  pub others : (other : ℕ) → other ≢ owner → list_of_owner new other ≡ list_of_owner old other
 
 -- these writes of a round were made, and added to the list
 pub record HasWritten (round : ℕ) (writes : List OwnWrite) (old new : Table) (v v' : OwnerListView) : Type 0 where

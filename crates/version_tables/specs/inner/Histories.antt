@@ -6,7 +6,7 @@ use Rattle.bench_types.specs.Mark.{mark_of}
 use Rattle.node_table.specs.Table.{Table, entry_at, IsProper}
 use Rattle.owner_lists.specs.OwnerListView.{OwnerListView, AreWrites, list_of_owner}
 use Rattle.owner_lists.specs.Numbers.{write_numbered}
-use Rattle.planes.specs.Planes.{HasEach}
+use Rattle.planes.specs.Planes.{HasEach, cell}
 use Rattle.version_tables.specs.Views.{HistoriesView}
 use Rattle.version_tables.specs.inner.Offers.{IsHistory, IsNumberedHistory}
 use Rattle.version_tables.specs.inner.Rounds.{AreEnds}
@@ -20,6 +20,10 @@ IsBeginning some all = (number : ℕ) → number ≤ length some → write_numbe
 pub record AreMadeBy (round : ℕ) (writes : List Entry) : Type 0 where
   pub first : (number : ℕ) (e : Entry) → write_numbered writes number ≡ Some e → 1 ≤ e.born
   pub last : (number : ℕ) (e : Entry) → write_numbered writes number ≡ Some e → e.born ≤ round
+
+-- how many writes each owner made before its generation
+abbrev pub bases_in : List OwnerListView → ℕ → ℕ
+bases_in lists owner = length (list_of_owner lists owner).earlier
 
 -- what an owner wrote so far, of all that it writes, whose numbers are below a bound
 pub record IsWrittenSoFar (all : List Entry) (most rounds : ℕ) (so_far : List Entry) : Type 0 where
@@ -37,6 +41,7 @@ pub record AreHistories (written : ℕ → List Entry) (most : ℕ) (lists : Lis
   pub are : (owner : ℕ) → AreWrites (list_of_owner lists owner)
   pub so_far : (owner : ℕ) → IsWrittenSoFar (written owner) most rounds (writes_in lists owner)
   pub ended : AreEnds (writes_in lists) (length lists) rounds ends
+  pub reached : (owner round : ℕ) → owner < length lists → round ≤ rounds → cell ends (length lists) owner round ≤ length (writes_in lists owner)
 
 -- what a table owes to the histories: its entries were written, and no later than in the last round
 pub record FitsHistories (h : HistoriesView) (t : Table) : Type 0 where

@@ -16,13 +16,16 @@ use Rattle.owner_lists.specs.Numbers.{write_numbered}
 
 -- the marks of an owner's writes rise, and births never fall
 pub record IsHistory (writes : List Entry) : Type 0 where
-  pub rise : (i j : ℕ) (d : Entry) → i < j → j < length writes → IsBefore (mark_of (slice_index_or writes i d)) (mark_of (slice_index_or writes j d))
-  pub born : (i j : ℕ) (d : Entry) → i ≤ j → j < length writes → (slice_index_or writes i d).born ≤ (slice_index_or writes j d).born
+  pub rise : (i j : ℕ) (d : Entry) → i < j → j < length writes
+      → IsBefore (mark_of (slice_index_or writes i d)) (mark_of (slice_index_or writes j d))
+  pub born : (i j : ℕ) (d : Entry) → i ≤ j → j < length writes
+      → (slice_index_or writes i d).born ≤ (slice_index_or writes j d).born
 
 -- each generation's writes have the versions from 1 on, one after another: up to a write there are as many of its
 -- generation as its version, and all before those are of older ones
 pub record IsNumberedHistory (writes : List Entry) : Type 0 where
-  pub counted : (number : ℕ) (e : Entry) → write_numbered writes number ≡ Some e → (1 ≤ e.version) × (e.version ≤ number)
+  pub counted : (number : ℕ) (e : Entry) → write_numbered writes number ≡ Some e
+      → (1 ≤ e.version) × (e.version ≤ number)
   pub older : (m n : ℕ) (d e : Entry) → write_numbered writes m ≡ Some d → write_numbered writes n ≡ Some e
       → m + e.version ≤ n → d.generation < e.generation
   pub alike : (m n : ℕ) (d e : Entry) → write_numbered writes m ≡ Some d → write_numbered writes n ≡ Some e
@@ -30,7 +33,8 @@ pub record IsNumberedHistory (writes : List Entry) : Type 0 where
 
 -- a table holds the writes of these numbers
 abbrev pub HasCells : (ℕ → List Entry) → Cells → Table → Type 0
-HasCells lists cells t = (owner key : ℕ) → owner < t.nodes → key < t.keys → entry_at t owner key ≡ write_numbered (lists owner) (cells owner key)
+HasCells lists cells t =
+    (owner key : ℕ) → owner < t.nodes → key < t.keys → entry_at t owner key ≡ write_numbered (lists owner) (cells owner key)
 
 -- the receiver doesn't know the item, and it isn't its own
 abbrev pub is_lacked : Mode → Table → Item → Bool
@@ -47,12 +51,14 @@ pub record Offers (mode : Mode) (from to : Table) (lists : ℕ → List Entry) (
 -- the sum of what g gives of the places of numbers above the marks
 abbrev pub offered_sum : Table → Cells → (ℕ → ℕ) → (ℕ → ℕ → ℕ) → ℕ
 offered_sum from cells low g =
-    sum_below from.nodes (λ owner. sum_below from.keys (λ key. if nat_lt (low owner) (cells owner key) then g owner key else 0))
+    sum_below from.nodes (λ owner. sum_below from.keys
+    (λ key. if nat_lt (low owner) (cells owner key) then g owner key else 0))
 
 -- how many of an owner's numbers above a mark are below a number
 abbrev pub rank_above : Cells → ℕ → ℕ → ℕ → ℕ → ℕ
 rank_above cells keys owner mark number =
-    sum_below keys (λ key. if nat_lt mark (cells owner key) then (if nat_lt (cells owner key) number then 1 else 0) else 0)
+    sum_below keys (λ key. if nat_lt mark (cells owner key)
+    then (if nat_lt (cells owner key) number then 1 else 0) else 0)
 
 -- how many writes there are before the generation of a write, 0 for none
 abbrev pub start_before : ℕ → Option Entry → ℕ
@@ -62,13 +68,14 @@ start_before number (Some e) = number - e.version
 abbrev pub start_of : List Entry → ℕ → ℕ
 start_of writes number = start_before number (write_numbered writes number)
 
--- what of an owner isn't offered to a receiver that has a number as the greatest of it; the most for the receiver itself
+-- what of an owner isn't offered to a receiver that has this as its greatest number; the most for the receiver itself
 abbrev pub told_by : DigestKind → List Entry → ℕ → ℕ
 told_by Scuttle writes greatest = greatest
 told_by Precise writes greatest = start_of writes greatest
 
 abbrev pub told_mark : DigestKind → ℕ → ℕ → (ℕ → List Entry) → (ℕ → ℕ) → ℕ → ℕ
-told_mark kind most node lists greatest owner = if owner == node then most else told_by kind (lists owner) (greatest owner)
+told_mark kind most node lists greatest owner =
+    if owner == node then most else told_by kind (lists owner) (greatest owner)
 
 -- the numbers offered: in a precise digest's modes those ahead of the receiver's, and 0 in place of the others
 abbrev pub offered_by : DigestKind → Cells → Cells → (ℕ → ℕ) → Cells

@@ -8,5 +8,7 @@ use Rattle.version_tables.specs.inner.Shares.{IsRoundMark}
 pub record AreEnds (lists : ℕ → List Entry) (nodes rounds : ℕ) (ends : List ℕ) : Type 0 where
   pub size : length ends ≡ (rounds + 1) * nodes
   pub none : (owner : ℕ) → owner < nodes → cell ends nodes owner 0 ≡ 0
-  pub rise : (owner round : ℕ) → owner < nodes → round < rounds → cell ends nodes owner round ≤ cell ends nodes owner (round + 1)
-  pub parts : (owner round : ℕ) → owner < nodes → round ≤ rounds → IsRoundMark (lists owner) 0 round (cell ends nodes owner round)
+  pub rise : (owner round : ℕ) → owner < nodes → round < rounds
+      → cell ends nodes owner round ≤ cell ends nodes owner (round + 1)
+  pub parts : (owner round : ℕ) → owner < nodes → round ≤ rounds
+      → IsRoundMark (lists owner) 0 round (cell ends nodes owner round)

@@ -1,11 +1,12 @@
 -- The cells of a table that has taken a delta. Source: this project.
-use Rattle.std.specs.Prelude.{◌≡◌, ℕ, ◌-◌, ◌<◌, ◌≤◌, ◌↔◌, ◌⊎◌, ◌&&◌, Bool, true, false, max, nat_lt, nat_le, List, length, slice_index, Contains, Option, None, Some, if◌then◌else◌}
+use Rattle.std.specs.Prelude.{◌≡◌, ℕ, ◌<◌, ◌≤◌, ◌↔◌, ◌⊎◌, ◌&&◌, Bool, true, false, max, nat_lt, nat_le, List, length, slice_index, Contains, Some, if◌then◌else◌}
 use Rattle.bench_types.specs.declared.entries.Entry.{Entry}
 use Rattle.bench_types.specs.declared.entries.Item.{Item}
 use Rattle.node_table.specs.Table.{Table, entry_at, generation_held}
-use Rattle.owner_lists.specs.Numbers.{write_numbered}
 use Rattle.planes.specs.Planes.{Cells, cell, number_taken, IsRaised}
 use Rattle.version_tables.specs.Views.{VersionTableView}
+use Rattle.version_tables.specs.inner.Laid.{IsVersionTable}
+use Rattle.version_tables.specs.inner.Offers.{start_of}
 
 -- a sent number is taken that is above the receiver's and one mark, and up to another
 abbrev pub is_taken : ℕ → ℕ → ℕ → ℕ → Bool
@@ -36,14 +37,6 @@ pub record AreTakenCells (from to : Table) (sent : ℕ → ℕ → Bool) (sender
   pub others : (owner key : ℕ) → owner < to.nodes → key < to.keys → sent owner key ≡ false
       → (SendsNoNewer from to sent owner × (taken owner key ≡ receiver owner key)) ⊎ (SendsNewer from to sent owner × (taken owner key ≡ 0))
 
--- how many writes an owner had made before the generation of a number's write
-abbrev pub start_from : ℕ → Option Entry → ℕ
-start_from number None = 0
-start_from number (Some e) = number - e.version
-
-abbrev pub start_of : List Entry → ℕ → ℕ
-start_of writes number = start_from number (write_numbered writes number)
-
 -- up to where an owner's numbers are dropped, where its greatest one was raised: to where the newest generation starts, if
 -- the old one is of an earlier generation than the owner's, which has so many writes before it
 abbrev pub drop_start : List Entry → ℕ → ℕ → ℕ → ℕ
@@ -54,18 +47,34 @@ drop_start writes old base new =
 abbrev pub number_kept : ℕ → ℕ → ℕ
 number_kept start number = if nat_le number start then 0 else number
 
--- a receiver's numbers with those of a sender that marks let through
-abbrev pub numbers_taken : VersionTableView → List ℕ → List ℕ → List ℕ → Cells
-numbers_taken to sent low high owner key =
-    number_taken (cell to.cells to.nodes owner key) (cell sent to.nodes owner key) (slice_index low owner) (slice_index high owner)
+-- numbers with those of a sender that marks let through
+abbrev pub numbers_taken : ℕ → List ℕ → List ℕ → List ℕ → List ℕ → Cells
+numbers_taken nodes cells sent low high owner key =
+    number_taken (cell cells nodes owner key) (cell sent nodes owner key) (slice_index low owner) (slice_index high owner)
 
 -- a receiver's numbers and greatest ones once it took them, and dropped what is of older generations
-pub record IsTaken (lists : ℕ → List Entry) (bases : ℕ → ℕ) (to : VersionTableView) (sent low high cells greatest : List ℕ) : Type 0 where
-  pub cell_count : length cells ≡ length to.cells
-  pub greatest_count : length greatest ≡ to.nodes
-  pub raised : (owner : ℕ) → owner < to.nodes
-      → IsRaised (numbers_taken to sent low high) to.keys owner (slice_index to.greatest owner) (slice_index greatest owner)
-  pub kept : (owner key : ℕ) → owner < to.nodes → key < to.keys
-      → cell cells to.nodes owner key
-      ≡ number_kept (drop_start (lists owner) (slice_index to.greatest owner) (bases owner) (slice_index greatest owner))
-      (numbers_taken to sent low high owner key)
+pub record IsTaken (lists : ℕ → List Entry) (bases : ℕ → ℕ) (nodes keys : ℕ) (cells greatest sent low high new_cells new_greatest : List ℕ) : Type 0 where
+  pub cell_count : length new_cells ≡ length cells
+  pub greatest_count : length new_greatest ≡ nodes
+  pub raised : (owner : ℕ) → owner < nodes
+      → IsRaised (numbers_taken nodes cells sent low high) keys owner (slice_index greatest owner) (slice_index new_greatest owner)
+  pub kept : (owner key : ℕ) → owner < nodes → key < keys
+      → cell new_cells nodes owner key
+      ≡ number_kept (drop_start (lists owner) (slice_index greatest owner) (bases owner) (slice_index new_greatest owner))
+      (numbers_taken nodes cells sent low high owner key)
+
+-- the table stays one whatever numbers it has then
+abbrev pub StaysOne : (ℕ → List Entry) → (ℕ → List Entry) → (ℕ → ℕ) → VersionTableView → List ℕ → List ℕ → List ℕ → Type 0
+StaysOne written lists bases to sent low high =
+    (cells greatest : List ℕ) → IsTaken lists bases to.nodes to.keys to.cells to.greatest sent low high cells greatest
+    → IsVersionTable written to.node to.nodes to.keys to.generation cells greatest
+
+-- a table has taken a delta: its numbers alone have changed
+pub record HasTaken (lists : ℕ → List Entry) (bases : ℕ → ℕ) (to : VersionTableView) (sent low high : List ℕ) (new : VersionTableView) : Type 0 where
+  pub taken : IsTaken lists bases to.nodes to.keys to.cells to.greatest sent low high new.cells new.greatest
+  pub rest : new ≡ record to { cells = new.cells; greatest = new.greatest }
+
+-- or nothing, where the message that has the delta was lost
+abbrev pub HasTakenUnless : Bool → (ℕ → List Entry) → (ℕ → ℕ) → VersionTableView → List ℕ → List ℕ → List ℕ → VersionTableView → Type 0
+HasTakenUnless true lists bases to sent low high new = new ≡ to
+HasTakenUnless false lists bases to sent low high new = HasTaken lists bases to sent low high new

@@ -1,5 +1,5 @@
 -- What numbers of writes weigh: each counts for 1, or for what the write takes of a budget. Source: this project.
-use Rattle.std.specs.Prelude.{◌≡◌, ℕ, ◌<◌, ◌≤◌, nat_lt, nat_le, List, [], map, slice_index_or, Option, Some, None, if◌then◌else◌}
+use Rattle.std.specs.Prelude.{ℕ, nat_lt, nat_le, List, [], map, slice_index_or, Option, Some, None, if◌then◌else◌}
 use Rattle.bench_types.specs.declared.entries.Entry.{Entry}
 use Rattle.bench_types.specs.declared.exchanges.Budget.{Budget}
 use Rattle.bench_types.specs.Budget.{share_of}
@@ -32,7 +32,8 @@ one_each owner number = 1
 -- what an owner's numbers above one mark and up to another weigh
 abbrev pub weight_of : (ℕ → ℕ) → Cells → ℕ → ℕ → ℕ → ℕ → ℕ
 weight_of weight cells keys owner low high =
-    sum_below keys (λ key. if nat_lt low (cells owner key) then (if nat_le (cells owner key) high then weight (cells owner key) else 0) else 0)
+    sum_below keys (λ key. if nat_lt low (cells owner key)
+    then (if nat_le (cells owner key) high then weight (cells owner key) else 0) else 0)
 
 -- and those of all owners, which have a mark of each kind each
 abbrev pub weight_between : (ℕ → ℕ → ℕ) → Cells → ℕ → ℕ → (ℕ → ℕ) → (ℕ → ℕ) → ℕ
@@ -41,4 +42,5 @@ weight_between weights cells nodes keys low high =
 
 -- how many these are
 abbrev pub count_all_between : Cells → ℕ → ℕ → (ℕ → ℕ) → (ℕ → ℕ) → ℕ
-count_all_between cells nodes keys low high = sum_below nodes (λ owner. count_between cells keys owner (low owner) (high owner))
+count_all_between cells nodes keys low high =
+    sum_below nodes (λ owner. count_between cells keys owner (low owner) (high owner))

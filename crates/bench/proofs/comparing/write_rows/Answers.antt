@@ -12,9 +12,9 @@ pub returns-in_err-write_compare_row-clause-fault :
     goal.returns-in_err-write_compare_row-clause-fault
 returns-in_err-write_compare_row-clause-fault g c =
     at_fault c.from_residual-in_err-write_compare_row.result c.in_err-write_compare_row.field-0.0 _ c.from_residual-in_err-write_compare_row.ensures.1
-    (stops_in_line _ _ _ _ _ _ _ _ c.loop.invariant c.in_ok-round.ensures.played _ c.format-format.ensures.value _ c.requires.mode _ c.row.ensures _ c.args.workers _ (omega (arith, c.loop-test.true, c.requires.rounds))
+    (stops_in_line g.T.MemoryTable.table _ _ _ _ _ _ _ _ c.loop.invariant c.in_ok-round.ensures.played _ c.format-format.ensures.value _ c.requires.mode _ c.row.ensures _ c.args.workers _ (omega (arith, c.loop-test.true, c.requires.rounds))
     c.in_err-write_compare_row.ensures.fault)
 
 pub loop-preserved : goal.loop-preserved
 loop-preserved g c =
-    rounds_more _ _ _ _ _ _ _ _ c.loop.invariant c.in_ok-round.ensures.played _ c.format-format.ensures.value _ c.requires.mode _ c.row.ensures _ c.in_ok-write_compare_row.ensures.written
+    rounds_more g.T.MemoryTable.table _ _ _ _ _ _ _ _ c.loop.invariant c.in_ok-round.ensures.played _ c.format-format.ensures.value _ c.requires.mode _ c.row.ensures _ c.in_ok-write_compare_row.ensures.written

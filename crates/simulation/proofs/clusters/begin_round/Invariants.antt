@@ -1,6 +1,8 @@
-use Rattle.cluster.specs.Tables.{tables_in}
+use Rattle.std.proofs.Common.{◌-◌, map}
 use Rattle.simulation.proofs.Begun.{HaveBegun}
 use Rattle.simulation.proofs.clusters.begin_round.Given as goal
 
 abbrev pub invariant-loop-node : goal.invariant-loop-node
-invariant-loop-node l = HaveBegun l.scenario l.round (tables_in l.initial.tables) (tables_in l.tables) l.lists l.node
+invariant-loop-node g l =
+    HaveBegun l.scenario l.round (map g.T.MemoryTable.table l.initial.tables) (map g.T.MemoryTable.table l.tables) (g.T.RoundTable.lists l.histories) l.node
+    × g.T.RoundTable.has_ended l.histories (l.round - 1)

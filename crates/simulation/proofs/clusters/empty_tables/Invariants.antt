@@ -1,8 +1,7 @@
 use Rattle.std.proofs.Common.{◌≡◌, map}
 use Rattle.std.specs.List.{range_with_len}
 use Rattle.node_table.specs.Table.{empty_table}
-use Rattle.cluster.specs.Tables.{tables_in}
 use Rattle.simulation.proofs.clusters.empty_tables.Given as goal
 
 abbrev pub invariant-loop-node : goal.invariant-loop-node
-invariant-loop-node l = tables_in l.tables.items ≡ map (λ n. empty_table n l.nodes l.keys) (range_with_len 0 l.node)
+invariant-loop-node g l = map g.T.MemoryTable.table l.tables.items ≡ map (λ n. empty_table n l.nodes l.keys) (range_with_len 0 l.node)

@@ -1,28 +1,37 @@
-use Rattle.std.proofs.Common.{◌-◌, sym, ◌∙◌, subst, arith}
+use Rattle.std.proofs.Common.{◌≡◌, ◌-◌, ap, sym, ◌∙◌, subst, arith}
+use Rattle.node_table.specs.Table.{without_all}
+use Rattle.owner_lists.specs.OwnerListView.{begun_generation, list_of_owner}
 use Rattle.round_plan.proofs.Generations.{generation_upto_le}
 use Rattle.simulation.specs.inner.Steps.{HasRestarted}
-use Rattle.simulation.proofs.Standing.{restarted_forgot, restarted_kept, restarted_same}
+use Rattle.simulation.proofs.Standing.{restarted_forgot, restarted_kept}
 use Rattle.simulation.proofs.clusters.restart.Goals as goal
 
-pub forget_all-requires : goal.forget_all-requires
-forget_all-requires c = omega (arith, c.requires.owner.generation, generation_upto_le c.args.scenario.now c.args.node (c.args.round - 1), c.requires.last)
-
-pub begin_generation-requires : goal.begin_generation-requires
-begin_generation-requires c = omega (arith, c.requires.owner.list_generation, generation_upto_le c.args.scenario.now c.args.node (c.args.round - 1), c.requires.last)
+pub forget-requires : goal.forget-requires
+forget-requires g c =
+    let is = c.requires.owner in
+    let lists = g.T.RoundTable.lists c.args.histories.now in
+    record {
+      may = record {
+        owner = omega (arith, is.table.node, c.requires.node, c.requires.lists);
+        generation = is.generation ∙ sym is.list_generation ∙ ap (λ m. (list_of_owner lists m).generation) (sym is.table.node);
+        few = omega (arith, is.generation, generation_upto_le c.args.scenario.now c.args.node (c.args.round - 1), c.requires.last);
+      };
+    }
 
 pub returns-then-forgets_now-clause-owner : goal.returns-then-forgets_now-clause-owner
-returns-then-forgets_now-clause-owner c =
+returns-then-forgets_now-clause-owner g c =
     let s = c.args.scenario.now in
-    subst (λ t. HasRestarted s c.args.round c.args.node t c.begin_generation.new.self) (sym c.forget_all.ensures.table)
-    (subst (HasRestarted s c.args.round c.args.node _) (sym c.begin_generation.ensures)
-    (restarted_forgot s c.args.round c.args.node c.requires.first c.args.table.now.table c.args.list.now c.requires.owner (sym c.forgets_now.ensures ∙ c.if-forgets_now.true)))
+    let old = g.T.RoundTable.lists c.args.histories.now in
+    let new = g.T.RoundTable.lists c.forget.new.histories in
+    let list : list_of_owner new c.args.node ≡ begun_generation (list_of_owner old c.args.node) =
+    subst (λ m. list_of_owner new m ≡ begun_generation (list_of_owner old m)) c.requires.owner.table.node c.forget.ensures.lists.changed in
+    subst (λ t. HasRestarted s c.args.round c.args.node t (list_of_owner new c.args.node)) (sym c.forget.ensures.table)
+    (subst (HasRestarted s c.args.round c.args.node (without_all (g.T.MemoryTable.table c.args.table.now))) (sym list)
+    (restarted_forgot s c.args.round c.args.node c.requires.first (g.T.MemoryTable.table c.args.table.now) (list_of_owner old c.args.node) c.requires.owner (sym c.forgets_now.ensures ∙ c.if-forgets_now.true)))
 
 pub returns-then-restarts_now-clause-owner : goal.returns-then-restarts_now-clause-owner
-returns-then-restarts_now-clause-owner c =
+returns-then-restarts_now-clause-owner g c =
     let s = c.args.scenario.now in
-    subst (λ t. HasRestarted s c.args.round c.args.node t c.args.list.now) (sym c.forget_others.ensures.table)
-    (restarted_kept s c.args.round c.args.node c.requires.first c.args.table.now.table c.args.list.now c.requires.owner (sym c.forgets_now.ensures ∙ c.if-forgets_now.false))
-
-pub returns-else-restarts_now-clause-owner : goal.returns-else-restarts_now-clause-owner
-returns-else-restarts_now-clause-owner c =
-    restarted_same c.args.scenario.now c.args.round c.args.node c.requires.first c.args.table.now.table c.args.list.now c.requires.owner (sym c.forgets_now.ensures ∙ c.if-forgets_now.false)
+    let list = list_of_owner (g.T.RoundTable.lists c.args.histories.now) c.args.node in
+    subst (λ t. HasRestarted s c.args.round c.args.node t list) (sym c.restart.ensures)
+    (restarted_kept s c.args.round c.args.node c.requires.first (g.T.MemoryTable.table c.args.table.now) list c.requires.owner (sym c.forgets_now.ensures ∙ c.if-forgets_now.false))

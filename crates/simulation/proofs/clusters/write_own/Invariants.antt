@@ -1,7 +1,10 @@
-use Rattle.std.proofs.Common.{map, take}
+use Rattle.std.proofs.Common.{◌-◌, map, take}
 use Rattle.round_plan.specs.Writes.{born_in}
-use Rattle.simulation.proofs.Writing.{IsWriting}
+use Rattle.simulation.proofs.Writing.{IsWritingIn}
 use Rattle.simulation.proofs.clusters.write_own.Given as goal
 
 abbrev pub invariant-loop-write : goal.invariant-loop-write
-invariant-loop-write l = IsWriting l.round l.initial.table.table l.table.table l.initial.list l.list (map (born_in l.round l.initial.table.table.generation) (take l.write-index l.writes))
+invariant-loop-write g l =
+    let t0 = g.T.MemoryTable.table l.initial.table in
+    IsWritingIn l.round t0 (g.T.MemoryTable.table l.table) (g.T.RoundTable.lists l.initial.histories) (g.T.RoundTable.lists l.histories) (map (born_in l.round t0.generation) (take l.write-index l.writes))
+    × g.T.RoundTable.has_ended l.histories (l.round - 1)

@@ -5,7 +5,7 @@ use Rattle.version_tables.specs.inner.Offers.{IsNumberedHistory}
 use Rattle.version_tables.specs.inner.Taken.{drop_start, number_kept}
 use Rattle.version_tables.specs.inner.Weights.{writes_in}
 use Rattle.version_tables.proofs.Clearing.{columns-next, columns-all, columns-none, column_kept}
-use Rattle.version_tables.proofs.Fitting.{list-writes}
+use Rattle.version_tables.proofs.Starts.{writes_in-here}
 use Rattle.version_tables.proofs.taking.drop_each.Given as given
 use Rattle.version_tables.proofs.taking.drop_each.Goals as goal
 
@@ -15,14 +15,14 @@ starts : (g : given.Over) (c : goal.After-cells-1 g) → c.drop_from-start.resul
 starts g c =
     c.drop_from-start.ensures
     ∙ (λ i. drop_start
-      (list-writes c.args.lists.now c.loop-owner.owner c.index-lists-owner.result (omega (arith, c.requires.lists, c.loop-owner-test.true)) c.index-lists-owner.is i)
-      (number-at g.N.Number.number c.args.before.now c.loop-owner.owner c.index-before-owner.result (omega (arith, c.requires.before, c.loop-owner-test.true)) c.index-before-owner.is i)
-      (number-at g.N.Number.number c.args.bases.now c.loop-owner.owner c.index-bases-owner.result (omega (arith, c.requires.bases, c.loop-owner-test.true)) c.index-bases-owner.is i)
-      (number-at g.N.Number.number c.args.greatest.now c.loop-owner.owner c.index-greatest-owner.result (omega (arith, c.requires.greatest, c.loop-owner-test.true)) c.index-greatest-owner.is i))
+    (sym (writes_in-here c.args.lists.now c.loop-owner.owner c.index-lists-owner.result (omega (arith, c.requires.lists, c.loop-owner-test.true)) c.index-lists-owner.is) i)
+    (number-at g.N.Number.number c.args.before.now c.loop-owner.owner c.index-before-owner.result (omega (arith, c.requires.before, c.loop-owner-test.true)) c.index-before-owner.is i)
+    (number-at g.N.Number.number c.args.bases.now c.loop-owner.owner c.index-bases-owner.result (omega (arith, c.requires.bases, c.loop-owner-test.true)) c.index-bases-owner.is i)
+    (number-at g.N.Number.number c.args.greatest.now c.loop-owner.owner c.index-greatest-owner.result (omega (arith, c.requires.greatest, c.loop-owner-test.true)) c.index-greatest-owner.is i))
 
 pub drop_from-start-requires-after_bounds : goal.drop_from-start-requires-after_bounds
 drop_from-start-requires-after_bounds g c =
-    λ κs out. subst IsNumberedHistory (sym (list-writes c.args.lists.now c.loop-owner.owner c.index-lists-owner.result (omega (arith, c.requires.lists, c.loop-owner-test.true)) c.index-lists-owner.is)) (c.requires.numbered c.loop-owner.owner)
+    λ κs out. subst IsNumberedHistory (writes_in-here c.args.lists.now c.loop-owner.owner c.index-lists-owner.result (omega (arith, c.requires.lists, c.loop-owner-test.true)) c.index-lists-owner.is) (c.requires.numbered c.loop-owner.owner)
 
 pub loop-owner-preserved : goal.loop-owner-preserved
 loop-owner-preserved g c =

@@ -16,4 +16,3 @@ returns-else-total_upto-gt0 g c =
     none r lt =
         subst (λ i. (nat_lt 0 (slice_index (map g.N.Number.number c.args.before.now) i) && nat_le (slice_index (map g.N.Number.number c.args.before.now) i) (slice_index (map g.N.Number.number c.args.bases.now) r)) ≡ false) {x = 0 * c.args.nodes + r} {y = r} (omega arith)
         (total-none c.args.nodes (λ r k. nat_lt 0 (cell (map g.N.Number.number c.args.before.now) c.args.nodes r k) && nat_le (cell (map g.N.Number.number c.args.before.now) c.args.nodes r k) (slice_index (map g.N.Number.number c.args.bases.now) r)) (omega (arith, c.total_upto.ensures, c.if-total_upto-gt0.false)) r lt)
-

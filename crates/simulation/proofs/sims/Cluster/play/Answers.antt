@@ -1,46 +1,50 @@
-use Rattle.std.proofs.Common.{◌∙◌, sym, subst}
-use Rattle.cluster.specs.Tables.{tables_in}
+use Rattle.std.proofs.Common.{subst, sym, arith}
 use Rattle.round_plan.specs.Plan.{IsRoundPlan}
-use Rattle.owner_lists.specs.OwnerListView.{lists_in}
-use Rattle.staleness.specs.Figures.{figures_of}
-use Rattle.simulation.specs.inner.Insides.{tables_of, lists_of}
-use Rattle.simulation.specs.Standing.{StandAfterRound}
-use Rattle.simulation.proofs.Playing.{standing_cluster, one_list_each, one_record_each, standing_exchanged, round_is, played_is}
-use Rattle.simulation.proofs.Standing.{all_born}
+use Rattle.simulation.proofs.Playing.{IsLeft, is_left, each_begun, standing_cluster, one_list_each, one_record_each}
+use Rattle.simulation.proofs.Standing.{written_by}
 use Rattle.simulation.proofs.sims.Cluster.play.Given as given
 use Rattle.simulation.proofs.sims.Cluster.play.Goals as goal
 
--- the tables and the lists that the figures read
-standing_read : (g : given.Over) (c : goal.After-deref-2 g) → StandAfterRound c.args.scenario.now c.args.round (tables_in c.deref.result.now) c.deref-2.result.now
-standing_read g c =
-    let s = c.args.scenario.now in
-    let plan = subst IsRoundPlan c.list.view_is c.list.invariant in
-    let standing = standing_exchanged s c.args.round c.in_ok-list.list plan c.in_ok-list.ensures.plan _ (tables_of c.begin.new.self) (tables_in c.in_ok-tables.tables.items) c.in_ok-tables.records.items c.in_ok-tables.ensures.exchanged (lists_of c.begin.new.self) c.in_ok-begin.ensures.standing in
-    subst (λ ts. StandAfterRound s c.args.round (tables_in ts) c.deref-2.result.now) (sym c.deref.ensures.value)
-    (subst (StandAfterRound s c.args.round (tables_in c.in_ok-tables.tables.items)) (sym c.deref-2.ensures.value) standing)
+pub begin-requires-clause-last : goal.begin-requires-clause-last
+begin-requires-clause-last g c = omega (arith, c.requires.within, c.requires.lawful.rounds.1)
+
+pub shared-shared-requires-clause-written : goal.shared-shared-requires-clause-written
+shared-shared-requires-clause-written g c = written_by c.args.scenario.now c.args.round _ _ c.in_ok-begin.ensures.standing
+
+-- each table stands among the lists as the exchanges begin
+pub run_list_with-requires-clause-fits : goal.run_list_with-requires-clause-fits
+run_list_with-requires-clause-fits g c _ _ n lt =
+    c.shared-shared.ensures _ (each_begun c.args.scenario.now c.args.round _ _ _ c.requires.lawful c.requires.first c.requires.after c.in_ok-begin.ensures.tables c.in_ok-begin.ensures.standing n lt)
+
+-- the tables as the figures read them, and the lists
+read : (g : given.Over) (c : goal.After-histories-2-1 g) → IsLeft g.T.MemoryTable.table c.args.scenario.now c.args.round c.deref.result.now (g.T.RoundTable.lists c.begin.new.self.histories)
+read g c =
+    subst (λ ts. IsLeft g.T.MemoryTable.table c.args.scenario.now c.args.round ts (g.T.RoundTable.lists c.begin.new.self.histories)) (sym c.deref.ensures.value)
+    (is_left g.T.MemoryTable.table c.args.scenario.now c.args.round c.in_ok-list.list _ _ _ c.in_ok-tables.tables.items c.in_ok-tables.records.items _ c.requires.lawful c.requires.first (subst IsRoundPlan c.list.view_is c.list.invariant) c.in_ok-list.ensures.plan (λ i. record { mode = c.mode.ensures i; budget = c.budget.ensures.value i }) c.requires.after c.in_ok-begin.ensures.tables c.in_ok-begin.ensures.standing c.in_ok-tables.ensures.exchanged)
 
 pub figures-requires-clause-cluster : goal.figures-requires-clause-cluster
-figures-requires-clause-cluster g c lifetimes outlives = standing_cluster c.args.scenario.now c.args.round c.deref.result.now c.deref-2.result.now (standing_read g c)
+figures-requires-clause-cluster g c = standing_cluster g.T.MemoryTable.table c.args.scenario.now c.args.round c.deref.result.now _ (read g c).standing
 
 pub figures-requires-clause-one_list_each : goal.figures-requires-clause-one_list_each
-figures-requires-clause-one_list_each g c lifetimes outlives = one_list_each c.args.scenario.now c.args.round c.deref.result.now c.deref-2.result.now (standing_read g c)
+figures-requires-clause-one_list_each g c = one_list_each g.T.MemoryTable.table c.args.scenario.now c.args.round c.deref.result.now _ (read g c).standing
 
-pub figures-requires-clause-born : goal.figures-requires-clause-born
-figures-requires-clause-born g c lifetimes outlives = all_born c.args.scenario.now c.args.round (tables_in c.deref.result.now) c.deref-2.result.now (standing_read g c)
+pub figures-requires-clause-written : goal.figures-requires-clause-written
+figures-requires-clause-written g c = written_by c.args.scenario.now c.args.round _ _ c.in_ok-begin.ensures.standing
+
+pub figures-requires-clause-standing : goal.figures-requires-clause-standing
+figures-requires-clause-standing g c = (read g c).each
 
 pub of-played-requires : goal.of-played-requires
 of-played-requires g c =
-    one_record_each c.args.scenario.now c.args.round c.in_ok-list.list (subst IsRoundPlan c.list.view_is c.list.invariant) c.in_ok-list.ensures.plan _ (tables_of c.begin.new.self) (tables_in c.in_ok-tables.tables.items) c.in_ok-tables.records.items c.in_ok-tables.ensures.exchanged
+    one_record_each c.args.scenario.now c.args.round c.in_ok-list.list (subst IsRoundPlan c.list.view_is c.list.invariant) c.in_ok-list.ensures.plan _ _ _ c.in_ok-tables.records.items c.in_ok-tables.ensures.exchanged
+
+-- what the round leaves
+left : (g : given.Over) (c : goal.After-of-played g) → IsLeft g.T.MemoryTable.table c.args.scenario.now c.args.round c.in_ok-tables.tables.items (g.T.RoundTable.lists c.begin.new.self.histories)
+left g c =
+    is_left g.T.MemoryTable.table c.args.scenario.now c.args.round c.in_ok-list.list _ _ _ c.in_ok-tables.tables.items c.in_ok-tables.records.items _ c.requires.lawful c.requires.first (subst IsRoundPlan c.list.view_is c.list.invariant) c.in_ok-list.ensures.plan (λ i. record { mode = c.mode.ensures i; budget = c.budget.ensures.value i }) c.requires.after c.in_ok-begin.ensures.tables c.in_ok-begin.ensures.standing c.in_ok-tables.ensures.exchanged
+
+pub returns-clause-tables : goal.returns-clause-tables
+returns-clause-tables g c = (left g c).after
 
 pub returns-clause-standing : goal.returns-clause-standing
-returns-clause-standing g c =
-    standing_exchanged c.args.scenario.now c.args.round c.in_ok-list.list (subst IsRoundPlan c.list.view_is c.list.invariant) c.in_ok-list.ensures.plan _ (tables_of c.begin.new.self) (tables_in c.in_ok-tables.tables.items) c.in_ok-tables.records.items c.in_ok-tables.ensures.exchanged (lists_of c.begin.new.self) c.in_ok-begin.ensures.standing
-
-pub returns-clause-played : goal.returns-clause-played
-returns-clause-played g c =
-    let s = c.args.scenario.now in
-    let own = c.args.self in
-    let round_was = round_is s c.args.round c.in_ok-list.list (subst IsRoundPlan c.list.view_is c.list.invariant) c.in_ok-list.ensures.plan _ (tables_of c.begin.new.self) (tables_in c.in_ok-tables.tables.items) c.in_ok-tables.records.items c.in_ok-tables.ensures.exchanged (tables_of own) c.in_ok-begin.ensures.tables (λ i. record { mode = c.mode.ensures i; budget = c.budget.ensures.value i }) in
-    played_is s c.args.round own.tables.items c.in_ok-tables.tables.items (lists_of c.begin.new.self) c.in_ok-list.list c.in_ok-tables.records.items c.in_ok-lag.lag c.of-played.result c.in_ok-list.ensures.plan round_was
-    (c.in_ok-lag.ensures.figures ∙ (λ i. figures_of c.args.round (tables_in (c.deref.ensures.value i)) (lists_in (c.deref-2.ensures.value i))))
-    c.of-played.ensures
+returns-clause-standing g c = (left g c).standing

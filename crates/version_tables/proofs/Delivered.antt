@@ -1,0 +1,344 @@
+-- From an offer's marks to the marks of a delta between two tables.
+-- Serves nothing yet.
+use Rattle.std.proofs.Common.{◌≡◌, ℕ, ◌*◌, ◌<◌, ◌≤◌, max, true, cond, List, length, get_or, map, inl, inr, refl, sym, ap, ◌∙◌, subst, arith}
+use Rattle.std.specs.Prelude.{nat_lt, nat_le, ◌&&◌}
+use Rattle.std.proofs.lemmas.Bool.{cases_lt, cases_eq, lt-ltb, le-ltb, le-leb, eq-eqb, ne_eqb}
+use Rattle.std.proofs.lemmas.List.{length-map}
+use Rattle.bench_types.specs.declared.entries.Entry.{Entry}
+use Rattle.bench_types.specs.declared.exchanges.Budget.{Budget}
+use Rattle.bench_types.specs.declared.exchanges.Mode.{Mode}
+use Rattle.bench_types.specs.declared.exchanges.Mode.TheVariants.{ScuttleBreadth, ScuttleDepth, PreciseOldest, PreciseNewest}
+use Rattle.bench_types.specs.declared.exchanges.DigestKind.{DigestKind}
+use Rattle.bench_types.specs.declared.exchanges.DigestKind.TheVariants.{Scuttle, Precise}
+use Rattle.bench_types.specs.Mode.{digest_kind}
+use Rattle.bench_types.specs.Budget.{amount_of}
+use Rattle.node_table.specs.Table.{Table}
+use Rattle.reconcile.specs.Candidates.{candidates}
+use Rattle.reconcile.specs.Deltas.{delta_between}
+use Rattle.reconcile.specs.Order.{rotated}
+use Rattle.owner_lists.specs.Numbers.{write_numbered}
+use Rattle.owner_lists.specs.OwnerListView.{OwnerListView, AreWrites, list_of_owner}
+use Rattle.planes.specs.Planes.{Cells, cell, number_ahead, HasEach, HasEachPlace, HasNoneAbove}
+use Rattle.version_tables.specs.declared.weights.Offer.{Offer}
+use Rattle.version_tables.specs.SentSets.{HasSet}
+use Rattle.version_tables.specs.Views.{VersionTableView, HistoriesView, table_in, IsKept}
+use Rattle.version_tables.specs.inner.Deltas.{is_taken_at, AreMarksOf}
+use Rattle.version_tables.specs.inner.Histories.{IsWrittenSoFar, FitsHistories}
+use Rattle.version_tables.specs.inner.Laid.{AreNumbers}
+use Rattle.version_tables.specs.inner.Marked.{HasShape, LetAll, ShareLevel, KeepsLow, AreMarked, AreOffered, low_list, high_list}
+use Rattle.version_tables.specs.inner.Offered.{cells_in, marks, weights_in, count_in, IsOffer}
+use Rattle.version_tables.specs.inner.Offers.{IsHistory, Offers, offered_by, told_by, told_mark}
+use Rattle.version_tables.specs.inner.Plans.{weight_on, count_on}
+use Rattle.version_tables.specs.inner.Shares.{lets_through, NumbersDiffer}
+use Rattle.version_tables.specs.inner.Taken.{is_taken}
+use Rattle.version_tables.specs.inner.Told.{AreKnown}
+use Rattle.version_tables.specs.inner.Weights.{number_shares, weight_between, one_each, writes_in}
+use Rattle.version_tables.proofs.Levels.{candidate-below, candidate-key, candidate-number}
+use Rattle.version_tables.proofs.Fitting.{fits-upto, fits-below, fits-cells}
+use Rattle.version_tables.proofs.Lifts.{weight_by, lets, count-sent, count-cut, are-sent, shared-sent, whole-sent}
+use Rattle.version_tables.proofs.Numbers.{numbered-some}
+use Rattle.version_tables.proofs.Told.{told-offers, offered-is, offered-upto}
+
+-- the marks of a delta, by its mode
+module _ (s p low mark high : ℕ) where
+  -- what a receiver takes, where all that it holds is up to the low mark
+  taken-plain : p ≤ low → is_taken p s low mark ≡ (nat_lt low s && nat_le s mark)
+  taken-plain le = ap (λ m. nat_lt m s && nat_le s mark) (omega (arith, le))
+
+  -- and where what isn't ahead of it was left out
+  taken-oldest : is_taken p s low mark ≡ (nat_lt low (number_ahead s p low) && nat_le (number_ahead s p low) mark)
+  taken-oldest = elim (cases_lt (max p low) s) [
+    | inl above ↦
+        ap (λ b. b && nat_le s mark) (lt-ltb (max p low) s above)
+        ∙ (λ i. (sym (lt-ltb low s (omega (arith, above))) i) && nat_le s mark)
+        ∙ (λ i. nat_lt low (cond (sym (lt-ltb (max p low) s above) i) s 0) && nat_le (cond (sym (lt-ltb (max p low) s above) i) s 0) mark)
+    | inr not_above ↦
+        ap (λ b. b && nat_le s mark) (le-ltb (max p low) s (omega (arith, not_above)))
+        ∙ (λ i. (sym (le-ltb low 0 (omega arith)) i) && nat_le 0 mark)
+        ∙ (λ i. nat_lt low (cond (sym (le-ltb (max p low) s (omega (arith, not_above))) i) s 0) && nat_le (cond (sym (le-ltb (max p low) s (omega (arith, not_above))) i) s 0) mark)
+  ]
+
+  taken-newest : low ≤ mark → s ≤ high → is_taken p s mark high ≡ (nat_lt low (number_ahead s p low) && nat_lt mark (number_ahead s p low))
+  taken-newest le upto = elim (cases_lt (max p low) s) [
+    | inl above ↦
+        ap (λ b. nat_lt (max p mark) s && b) (le-leb s high upto)
+        ∙ over above
+        ∙ (λ i. (sym (lt-ltb low s (omega (arith, above))) i) && nat_lt mark s)
+        ∙ (λ i. nat_lt low (cond (sym (lt-ltb (max p low) s above) i) s 0) && nat_lt mark (cond (sym (lt-ltb (max p low) s above) i) s 0))
+    | inr not_above ↦
+        ap (λ b. b && nat_le s high) (le-ltb (max p mark) s (omega (arith, not_above, le)))
+        ∙ (λ i. (sym (le-ltb low 0 (omega arith)) i) && nat_lt mark 0)
+        ∙ (λ i. nat_lt low (cond (sym (le-ltb (max p low) s (omega (arith, not_above))) i) s 0) && nat_lt mark (cond (sym (le-ltb (max p low) s (omega (arith, not_above))) i) s 0))
+  ]
+    where
+      over : max p low < s → (nat_lt (max p mark) s && true) ≡ (true && nat_lt mark s)
+      over above = elim (cases_lt mark s) [
+        | inl past ↦ (λ i. (lt-ltb (max p mark) s (omega (arith, past, above)) i) && true) ∙ (λ i. true && sym (lt-ltb mark s past) i)
+        | inr not_past ↦ (λ i. (le-ltb (max p mark) s (omega (arith, not_past)) i) && true) ∙ (λ i. true && sym (le-ltb mark s (omega (arith, not_past))) i)
+      ]
+
+-- a list of marks for each kind of end
+pub taken-by : (mode : Mode) (sender receiver : Cells) (low mark high : List ℕ) (owner key : ℕ)
+    → (digest_kind mode ≡ Scuttle → receiver owner key ≤ get_or low owner 0)
+    → (mode ≡ PreciseNewest → get_or low owner 0 ≤ get_or mark owner 0)
+    → sender owner key ≤ get_or high owner 0
+    → is_taken (receiver owner key) (sender owner key) (get_or (low_list mode low mark) owner 0) (get_or (high_list mode mark high) owner 0)
+    ≡ (nat_lt (get_or low owner 0) (offered_by (digest_kind mode) sender receiver (λ r. get_or low r 0) owner key)
+    && lets_through mode (get_or mark owner 0) (offered_by (digest_kind mode) sender receiver (λ r. get_or low r 0) owner key))
+taken-by ScuttleBreadth sender receiver low mark high owner key told above upto = taken-plain (sender owner key) (receiver owner key) (get_or low owner 0) (get_or mark owner 0) (get_or high owner 0) (told refl)
+taken-by ScuttleDepth sender receiver low mark high owner key told above upto = taken-plain (sender owner key) (receiver owner key) (get_or low owner 0) (get_or mark owner 0) (get_or high owner 0) (told refl)
+taken-by PreciseOldest sender receiver low mark high owner key told above upto = taken-oldest (sender owner key) (receiver owner key) (get_or low owner 0) (get_or mark owner 0) (get_or high owner 0)
+taken-by PreciseNewest sender receiver low mark high owner key told above upto =
+    taken-newest (sender owner key) (receiver owner key) (get_or low owner 0) (get_or mark owner 0) (get_or high owner 0) (above refl) upto
+
+-- weights on marks, by the parts of an offer
+on-weights : {N : Type 0} (mode : Mode) (number : N → ℕ) (offer : Offer N) (mark : ℕ → ℕ)
+    → weight_on mode number offer mark ≡ weight_by mode (weights_in offer) (cells_in number offer) offer.nodes offer.keys (marks number offer.low.now) (marks number offer.high.now) mark
+on-weights ScuttleBreadth number offer mark = refl
+on-weights ScuttleDepth number offer mark = refl
+on-weights PreciseOldest number offer mark = refl
+on-weights PreciseNewest number offer mark = refl
+
+on-counts : {N : Type 0} (mode : Mode) (number : N → ℕ) (offer : Offer N) (mark : ℕ → ℕ)
+    → count_on mode number offer mark ≡ weight_by mode one_each (cells_in number offer) offer.nodes offer.keys (marks number offer.low.now) (marks number offer.high.now) mark
+on-counts ScuttleBreadth number offer mark = refl
+on-counts ScuttleDepth number offer mark = refl
+on-counts PreciseOldest number offer mark = refl
+on-counts PreciseNewest number offer mark = refl
+
+low-size : (mode : Mode) (low mark : List ℕ) (n : ℕ) → length low ≡ n → length mark ≡ n → length (low_list mode low mark) ≡ n
+low-size ScuttleBreadth low mark n one other = one
+low-size ScuttleDepth low mark n one other = one
+low-size PreciseOldest low mark n one other = one
+low-size PreciseNewest low mark n one other = other
+
+high-size : (mode : Mode) (mark high : List ℕ) (n : ℕ) → length mark ≡ n → length high ≡ n → length (high_list mode mark high) ≡ n
+high-size ScuttleBreadth mark high n one other = one
+high-size ScuttleDepth mark high n one other = one
+high-size PreciseOldest mark high n one other = one
+high-size PreciseNewest mark high n one other = other
+
+module _ {N : Type 0} (number : N → ℕ) (most : ℕ) (written : ℕ → List Entry) (from to : VersionTableView) (kept_from : IsKept written from) (kept_to : IsKept written to)
+    (h : HistoriesView) (so_far : (owner : ℕ) → IsWrittenSoFar (written owner) most h.rounds (writes_in h.lists owner))
+    (fits_from : FitsHistories h (table_in written from)) (fits_to : FitsHistories h (table_in written to)) (nodes : from.nodes ≡ to.nodes) (keys : from.keys ≡ to.keys) (mode : Mode)
+    (offer : Offer N) (offer_nodes : offer.nodes ≡ from.nodes) (offer_keys : offer.keys ≡ from.keys) (offer_lists : offer.lists.now ≡ h.lists) (offer_high : map number offer.high.now ≡ from.greatest)
+    (low_is : HasEach (length h.lists) (λ r n. n ≡ told_mark (digest_kind mode) most to.node (writes_in h.lists) (λ r. get_or to.greatest r 0) r) (map number offer.low.now))
+    (size : length offer.cells.now ≡ from.keys * from.nodes)
+    (cells_are : (owner key : ℕ) → owner < from.nodes → key < from.keys
+    → cells_in number offer owner key ≡ offered_by (digest_kind mode) (cell from.cells from.nodes) (cell to.cells to.nodes) (marks number offer.low.now) owner key) where
+  abbrev kind : DigestKind
+  kind = digest_kind mode
+
+  abbrev lists : ℕ → List Entry
+  lists = writes_in h.lists
+
+  abbrev sender : Cells
+  sender = cell from.cells from.nodes
+
+  abbrev receiver : Cells
+  receiver = cell to.cells to.nodes
+
+  abbrev F : Table
+  F = table_in written from
+
+  abbrev T : Table
+  T = table_in written to
+
+  abbrev low : ℕ → ℕ
+  low = marks number offer.low.now
+
+  abbrev high : ℕ → ℕ
+  high = marks number offer.high.now
+
+  abbrev cells : Cells
+  cells = cells_in number offer
+
+  sender-upto : (owner key : ℕ) → owner < from.nodes → key < from.keys → sender owner key ≤ length (lists owner)
+  sender-upto owner key in_nodes in_keys = fits-upto written from kept_from most h so_far fits_from owner key in_nodes in_keys
+
+  sender-below : (owner key : ℕ) → owner < from.nodes → key < from.keys → sender owner key < most
+  sender-below owner key in_nodes in_keys = fits-below written from kept_from most h so_far fits_from owner key in_nodes in_keys
+
+  sender-high : (owner key : ℕ) → owner < from.nodes → key < from.keys → sender owner key ≤ high owner
+  sender-high owner key in_nodes in_keys = omega (arith, (kept_from.most owner in_nodes).upto key in_keys, ap (λ xs. get_or xs owner 0) offer_high)
+
+  cells-upto : (owner key : ℕ) → owner < from.nodes → key < from.keys → cells owner key ≤ sender owner key
+  cells-upto owner key in_nodes in_keys = omega (arith, cells_are owner key in_nodes in_keys, offered-upto kind sender receiver low owner key)
+
+  numbers-of : (v : VersionTableView) → IsKept written v → FitsHistories h (table_in written v) → AreNumbers lists v.nodes v.keys (cell v.cells v.nodes)
+  numbers-of v kept fits = record {
+    written = fits-upto written v kept most h so_far fits;
+    keyed = λ owner key e in_nodes in_keys is. (fits.proper.in_place owner key e (fits-cells written v kept most h so_far fits owner key in_nodes in_keys ∙ is)).keyed;
+  }
+
+  low-told : (owner : ℕ) → owner < from.nodes → low owner ≡ told_mark kind most to.node lists (λ r. get_or to.greatest r 0) owner
+  low-told owner in_nodes = low_is.each owner (omega (arith, in_nodes, fits_from.nodes))
+
+  offers : Offers mode F T lists cells low
+  offers =
+      told-offers F T fits_from.proper fits_to.proper nodes keys lists (λ owner. (so_far owner).history) (λ owner. (so_far owner).numbered) sender receiver
+      (fits-cells written from kept_from most h so_far fits_from) (fits-cells written to kept_to most h so_far fits_to) (numbers-of from kept_from fits_from) (numbers-of to kept_to fits_to)
+      (λ r. get_or to.greatest r 0) kept_to.most most (λ owner key in_nodes in_keys. omega (arith, sender-below owner key in_nodes in_keys)) mode low low-told cells cells_are
+
+  covered : (owner : ℕ) → owner < from.nodes → HasNoneAbove cells from.keys owner (high owner)
+  covered owner in_nodes key in_keys = omega (arith, cells-upto owner key in_nodes in_keys, sender-high owner key in_nodes in_keys)
+
+  differ : (owner : ℕ) → owner < from.nodes → NumbersDiffer cells from.keys owner
+  differ owner in_nodes k l in_k in_l some same =
+      let at_k : cells owner k ≡ sender owner k = cells_are owner k in_nodes in_k ∙ offered-is kind sender receiver low owner k (omega (arith, some, cells_are owner k in_nodes in_k)) in
+      let at_l : cells owner l ≡ sender owner l = cells_are owner l in_nodes in_l ∙ offered-is kind sender receiver low owner l (omega (arith, some, same, cells_are owner l in_nodes in_l)) in
+      let there = numbered-some (lists owner) (sender owner k) (omega (arith, some, at_k)) (sender-upto owner k in_nodes in_k) in
+      let numbers = numbers-of from kept_from fits_from in
+      sym (numbers.keyed owner k there.0 in_nodes in_k there.1)
+      ∙ numbers.keyed owner l there.0 in_nodes in_l (ap (write_numbered (lists owner)) (sym at_l ∙ sym same ∙ at_k) ∙ there.1)
+
+  -- the numbers are an offer
+  pub offer-is : IsOffer number most offer
+  offer-is = record {
+    grid = record {
+      whole = size ∙ (λ i. sym offer_keys i * sym offer_nodes i);
+      few_nodes = omega (arith, offer_nodes, fits_from.proper.nodes_limit);
+      few_keys = omega (arith, offer_keys, fits_from.proper.keys_limit);
+    };
+    low = omega (arith, length-map offer.low.now number, low_is.size, fits_from.nodes, offer_nodes);
+    high = omega (arith, length-map offer.high.now number, ap length offer_high, kept_from.greatest_count, offer_nodes);
+    lists = omega (arith, ap length offer_lists, fits_from.nodes, offer_nodes);
+    written = λ owner key in_nodes in_keys.
+        omega (arith, cells-upto owner key (omega (arith, in_nodes, offer_nodes)) (omega (arith, in_keys, offer_keys)), sender-upto owner key (omega (arith, in_nodes, offer_nodes)) (omega (arith, in_keys, offer_keys)), ap (λ ls. length (writes_in ls owner)) offer_lists);
+    below = λ owner key in_nodes in_keys.
+        omega (arith, cells-upto owner key (omega (arith, in_nodes, offer_nodes)) (omega (arith, in_keys, offer_keys)), sender-below owner key (omega (arith, in_nodes, offer_nodes)) (omega (arith, in_keys, offer_keys)));
+    differ = λ owner in_nodes k l in_k in_l. differ owner (omega (arith, in_nodes, offer_nodes)) k l (omega (arith, in_k, offer_keys)) (omega (arith, in_l, offer_keys));
+    covered = λ owner in_nodes key in_keys. covered owner (omega (arith, in_nodes, offer_nodes)) key (omega (arith, in_keys, offer_keys));
+  }
+
+  -- what marks let through of the offer is the delta
+  module _ (budget : Budget) (offer_budget : offer.budget ≡ budget) (rotation : ℕ) (in_nodes : rotation < from.nodes) (mark : List ℕ) (sent cut : ℕ)
+      (marked : AreMarked mode rotation number offer (λ r. get_or mark r 0) sent cut) where
+    abbrev m : ℕ → ℕ
+    m r = get_or mark r 0
+
+    abbrev weights : ℕ → ℕ → ℕ
+    weights = number_shares budget lists
+
+    on-marks : weight_on mode number offer m ≡ weight_by mode weights cells from.nodes from.keys low high m
+    on-marks = on-weights mode number offer m ∙ (λ i. weight_by mode (number_shares (offer_budget i) (writes_in (offer_lists i))) cells (offer_nodes i) (offer_keys i) low high m)
+
+    amounts : amount_of offer.budget ≡ amount_of budget
+    amounts = ap amount_of offer_budget
+
+    keeps : KeepsLow mode from.nodes low m
+    keeps = subst (λ n. KeepsLow mode n low m) offer_nodes marked.above
+
+    below : (r : ℕ) → r < from.nodes → r < offer.nodes
+    below r lt = omega (arith, lt, offer_nodes)
+
+    histories : (owner : ℕ) → IsHistory (lists owner)
+    histories owner = (so_far owner).history
+
+    shape-of : (near far : ℕ → ℕ) → HasShape mode (writes_in offer.lists.now) cells offer.nodes offer.keys low near far → HasShape mode lists cells from.nodes from.keys low near far
+    shape-of near far shape = subst (λ l. HasShape mode (writes_in l) cells from.nodes from.keys low near far) offer_lists
+        (subst (λ k. HasShape mode (writes_in offer.lists.now) cells from.nodes k low near far) offer_keys
+        (subst (λ n. HasShape mode (writes_in offer.lists.now) cells n offer.keys low near far) offer_nodes shape))
+
+    has-whole : LetAll mode number offer m → HasSet (candidates mode F T) (lets F T fits_from.proper lists histories cells low high covered mode offers m) (delta_between mode rotation budget F T)
+    has-whole all =
+        whole-sent F T fits_from.proper lists histories cells low high covered mode offers rotation in_nodes budget m keeps
+        (λ c in_c. all.all c.owner c.entry.key (below c.owner (candidate-below mode F T fits_from.proper c in_c)) (omega (arith, candidate-key mode F T fits_from.proper c in_c, offer_keys))
+        (candidate-number mode F T fits_from.proper lists histories cells low offers c in_c).0)
+        (omega (arith, all.within, on-marks, amounts))
+
+    has-share : ShareLevel mode rotation number offer m sent → HasSet (candidates mode F T) (lets F T fits_from.proper lists histories cells low high covered mode offers m) (delta_between mode rotation budget F T)
+    has-share level =
+        let s = level.shared in
+        let takes : number_shares offer.budget (writes_in offer.lists.now) s.owner (cells s.owner s.key) ≡ weights s.owner (cells s.owner s.key) =
+        λ i. number_shares (offer_budget i) (writes_in (offer_lists i)) s.owner (cells s.owner s.key) in
+        shared-sent F T fits_from.proper lists histories cells low high covered mode offers rotation in_nodes budget level.near level.far m (shape-of level.near level.far level.shape) keeps
+        (λ r past. level.past_near r (omega (arith, past, offer_nodes))) (λ r past. level.past_far r (omega (arith, past, offer_nodes)))
+        s.owner s.key (omega (arith, s.owner_below, offer_nodes)) (omega (arith, s.key_below, offer_keys)) s.offered s.outside s.inside
+        (λ r lt turn. s.passed r (below r lt) (subst (λ n. rotated n rotation r < rotated n rotation s.owner) (sym offer_nodes) turn))
+        (λ r lt turn. s.waiting r (below r lt) (subst (λ n. rotated n rotation s.owner < rotated n rotation r) (sym offer_nodes) turn))
+        (λ k lt above. s.own k (omega (arith, lt, offer_keys)) above)
+        (omega (arith, s.within, on-marks, amounts))
+        (omega (arith, s.beyond, on-marks, amounts, takes))
+
+    has : HasSet (candidates mode F T) (lets F T fits_from.proper lists histories cells low high covered mode offers m) (delta_between mode rotation budget F T)
+    has = elim marked.how [ inl all ↦ has-whole all | inr level ↦ has-share level ]
+
+    -- all that the receiver holds is up to the low marks of a scuttle digest
+    told-upto : (owner key : ℕ) → owner < from.nodes → key < from.keys → kind ≡ Scuttle → receiver owner key ≤ low owner
+    told-upto owner key in_nodes' in_keys is_scuttle =
+        let in_to : owner < to.nodes = omega (arith, in_nodes', nodes) in
+        let to_key : key < to.keys = omega (arith, in_keys, keys) in
+        elim (cases_eq owner to.node) [
+          | inl own ↦ omega (arith, low-told owner in_nodes', ap (λ b. cond b most (told_by kind (lists owner) (get_or to.greatest owner 0))) (eq-eqb owner to.node own), fits-below written to kept_to most h so_far fits_to owner key in_to to_key)
+          | inr other ↦
+              omega (
+                arith,
+                low-told owner in_nodes',
+                ap (λ b. cond b most (told_by kind (lists owner) (get_or to.greatest owner 0))) (ne_eqb owner to.node other),
+                ap (λ k. told_by k (lists owner) (get_or to.greatest owner 0)) is_scuttle,
+                (kept_to.most owner in_to).upto key to_key,
+              )
+        ]
+
+    keeps-low : (owner : ℕ) → owner < from.nodes → mode ≡ PreciseNewest → low owner ≤ m owner
+    keeps-low owner lt is_newest = (subst (λ k. KeepsLow k from.nodes low m) is_newest keeps) owner lt
+
+    taken-is : (owner key : ℕ) → owner < from.nodes → key < from.keys
+        → is_taken_at from to (low_list mode (map number offer.low.now) mark) (high_list mode mark (map number offer.high.now)) owner key ≡ (nat_lt (low owner) (cells owner key) && lets_through mode (m owner) (cells owner key))
+    taken-is owner key in_nodes' in_keys =
+        taken-by mode sender receiver (map number offer.low.now) mark (map number offer.high.now) owner key (told-upto owner key in_nodes' in_keys) (keeps-low owner in_nodes') (sender-high owner key in_nodes' in_keys)
+        ∙ (λ i. nat_lt (low owner) (sym (cells_are owner key in_nodes' in_keys) i) && lets_through mode (m owner) (sym (cells_are owner key in_nodes' in_keys) i))
+
+    pub delta-marks : length mark ≡ from.nodes
+        → AreMarksOf (record { mode = mode; budget = budget }) rotation written from to (low_list mode (map number offer.low.now) mark) (high_list mode mark (map number offer.high.now)) sent cut
+    delta-marks mark_size = record {
+      low_count = low-size mode (map number offer.low.now) mark from.nodes (low_is.size ∙ sym fits_from.nodes) mark_size;
+      high_count = high-size mode mark (map number offer.high.now) from.nodes mark_size (ap length offer_high ∙ kept_from.greatest_count);
+      marks = are-sent F T fits_from.proper lists histories cells low high covered mode offers rotation in_nodes budget m keeps has
+          (is_taken_at from to (low_list mode (map number offer.low.now) mark) (high_list mode mark (map number offer.high.now))) taken-is;
+      count = sent-is;
+      left = omega (arith, sent-is, marked.left, all-of, count-cut F T fits_from.proper lists histories cells low high covered mode offers rotation in_nodes budget m keeps has);
+    }
+      where
+        all-of : count_in number offer low high ≡ weight_between one_each cells from.nodes from.keys low high
+        all-of i = weight_between one_each cells (offer_nodes i) (offer_keys i) low high
+
+        sent-is : sent ≡ length (delta_between mode rotation budget F T).items
+        sent-is =
+            marked.count ∙ on-counts mode number offer m ∙ (λ i. weight_by mode one_each cells (offer_nodes i) (offer_keys i) low high m)
+            ∙ sym (count-sent F T fits_from.proper lists histories cells low high covered mode offers rotation in_nodes budget m keeps has)
+
+-- a receiver's greatest numbers are known
+pub known : (most : ℕ) (written : ℕ → List Entry) (v : VersionTableView) (kept : IsKept written v) (h : HistoriesView) (so_far : (owner : ℕ) → IsWrittenSoFar (written owner) most h.rounds (writes_in h.lists owner)) (fits : FitsHistories h (table_in written v))
+    (lists : List OwnerListView) → lists ≡ h.lists → (greatest : List ℕ) → greatest ≡ v.greatest → (bases : List ℕ) → HasEach (length h.lists) (λ r n. n ≡ length (list_of_owner h.lists r).earlier) bases
+    → ((owner : ℕ) → AreWrites (list_of_owner h.lists owner)) → AreKnown most lists greatest bases
+known most written v kept h so_far fits lists same greatest same_greatest bases based writes =
+    subst (λ l. AreKnown most l greatest bases) (sym same) (subst (λ g. AreKnown most h.lists g bases) (sym same_greatest) (record {
+      count = kept.greatest_count ∙ fits.nodes;
+      few_nodes = omega (arith, fits.nodes, fits.proper.nodes_limit);
+      few = λ owner. (so_far owner).few;
+      within = λ owner lt.
+          let in_nodes : owner < v.nodes = omega (arith, lt, fits.nodes) in
+          elim ((kept.most owner in_nodes).held) [
+            | inl none ↦ omega (arith, none)
+            | inr (key, in_keys, is) ↦ omega (arith, is, fits-upto written v kept most h so_far fits owner key in_nodes in_keys)
+          ];
+      based = based;
+      writes = writes;
+      numbered = λ owner. (so_far owner).numbered;
+    }))
+
+-- all numbers of a sender, or those ahead of the receiver's
+pub all-offered : (from to : VersionTableView) (low cells : List ℕ) → cells ≡ from.cells → length from.cells ≡ from.keys * from.nodes → AreOffered Scuttle from to low cells
+all-offered from to low cells same size = record {
+  size = ap length same ∙ size;
+  each = λ owner key in_nodes in_keys. ap (λ xs. cell xs from.nodes owner key) same;
+}
+
+pub ahead-offered : (from to : VersionTableView) (low cells : List ℕ) → from.nodes ≡ to.nodes
+    → HasEachPlace from.nodes from.keys (λ r k n. n ≡ number_ahead (cell from.cells from.nodes r k) (cell to.cells from.nodes r k) (get_or low r 0)) cells → AreOffered Precise from to low cells
+ahead-offered from to low cells nodes each = record {
+  size = each.size;
+  each = λ owner key in_nodes in_keys. each.each owner key in_nodes in_keys ∙ ap (λ n. number_ahead (cell from.cells from.nodes owner key) (cell to.cells n owner key) (get_or low owner 0)) nodes;
+}

@@ -1,0 +1,459 @@
+-- What the calls of the histories make of all that is kept of the owners' writes.
+-- Serves nothing yet.
+use Rattle.std.proofs.Common.{◌≡◌, ◌≢◌, ℕ, zero, suc, ◌+◌, ◌-◌, ◌*◌, ◌<◌, ◌≤◌, List, [], ◌∷◌, ◌++◌, length, get_or, set, map, Some, ◌⊎◌, inl, inr, refl, sym, ap, ◌∙◌, subst, arith, length-append}
+use Rattle.std.proofs.Math.Nat.{mul-le-mul_right}
+use Rattle.std.proofs.lemmas.Bool.{cases_lt, cases_eq}
+use Rattle.std.proofs.lemmas.List.{get_or-set_same, get_or-set_other, get_or_append_left, get_or_push, length-set, get_or-map, get_or-append-add, get_or-append_right, get_or_default, length-map, map-append, map-set, append_assoc, append-nil}
+use Rattle.std.proofs.lemmas.Option.{same_Some}
+use Rattle.bench_types.specs.declared.entries.Entry.{Entry}
+use Rattle.bench_types.specs.declared.limits.TheConstants.{MOST_NODES}
+use Rattle.owner_lists.specs.Numbers.{write_from, write_numbered}
+use Rattle.owner_lists.specs.OwnerListView.{OwnerListView, entries_of, list_of_owner, no_writes, next_entry, with_write, begun_generation, MarksRise, AreWrites}
+use Rattle.owner_lists.proofs.Keeping.{writes_more, writes_begun}
+use Rattle.planes.specs.Planes.{HasEach, cell}
+use Rattle.version_tables.specs.ListChanges.{ListChanges}
+use Rattle.version_tables.specs.inner.Histories.{AreHistories, AreMadeBy, IsBeginning, IsWrittenSoFar, IsWriteUnder}
+use Rattle.version_tables.specs.inner.Offers.{IsHistory, IsNumberedHistory}
+use Rattle.version_tables.specs.inner.Rounds.{AreEnds}
+use Rattle.version_tables.specs.inner.Shares.{IsRoundMark}
+use Rattle.version_tables.specs.inner.Weights.{writes_in}
+use Rattle.version_tables.proofs.Numbers.{write_from-some, numbered-within}
+use Rattle.version_tables.proofs.Offers.{write_from-at}
+use Rattle.version_tables.proofs.Starts.{writes_in-is}
+
+-- a write behind others has the number after theirs, and they keep their own
+from-before : (w : List Entry) (e : Entry) (place : ℕ) → place < length w → write_from (w ++ e ∷ []) place ≡ write_from w place
+from-before [] e place lt = absurd (omega (arith, lt))
+from-before (x ∷ xs) e zero lt = refl
+from-before (x ∷ xs) e (suc place) lt = from-before xs e place (omega (arith, lt))
+
+from-last : (w : List Entry) (e : Entry) → write_from (w ++ e ∷ []) (length w) ≡ Some e
+from-last [] e = refl
+from-last (x ∷ xs) e = from-last xs e
+
+numbered-before : (w : List Entry) (e : Entry) (number : ℕ) → number ≤ length w → write_numbered (w ++ e ∷ []) number ≡ write_numbered w number
+numbered-before w e zero le = refl
+numbered-before w e (suc place) le = from-before w e place (omega (arith, le))
+
+numbered-last : (w : List Entry) (e : Entry) → write_numbered (w ++ e ∷ []) (length w + 1) ≡ Some e
+numbered-last w e = ap (write_numbered (w ++ e ∷ [])) {x = length w + 1} {y = suc (length w)} (omega arith) ∙ from-last w e
+
+numbered-more : (w : List Entry) (e : Entry) (number : ℕ) (d : Entry) → write_numbered (w ++ e ∷ []) number ≡ Some d
+    → ((number ≤ length w) × (write_numbered w number ≡ Some d)) ⊎ ((number ≡ length w + 1) × (d ≡ e))
+numbered-more w e number d is =
+    let within = numbered-within (w ++ e ∷ []) number d is in
+    elim (cases_lt (length w) number) [
+      | inl behind ↦
+          let last : number ≡ length w + 1 = omega (arith, behind, within.1, length-append w (e ∷ [])) in
+          inr (last, same_Some d e (sym is ∙ ap (write_numbered (w ++ e ∷ [])) last ∙ numbered-last w e))
+      | inr not_behind ↦
+          let before : number ≤ length w = omega (arith, not_behind) in
+          inl (before, sym (numbered-before w e number before) ∙ is)
+    ]
+
+-- one more write, in the round that comes next
+module _ (all : List Entry) (most rounds : ℕ) (v : OwnerListView) (key value : ℕ) (are : AreWrites v) (so_far : IsWrittenSoFar all most rounds (entries_of v)) where
+  abbrev w : List Entry
+  w = entries_of v
+
+  abbrev e : Entry
+  e = next_entry v key value (rounds + 1)
+
+  abbrev more : List Entry
+  more = entries_of v ++ e ∷ []
+
+  earlier-at : (number : ℕ) (d : Entry) → write_numbered w number ≡ Some d → number ≤ length v.earlier → d.generation < v.generation
+  earlier-at zero d is le = absurd (omega (arith, (numbered-within w 0 d is).0))
+  earlier-at (suc place) d is le =
+      let lt : place < length v.earlier = omega (arith, le) in
+      omega (arith, are.earlier place d lt, ap (λ (x : Entry). x.generation) (sym (get_or_append_left v.earlier v.current d place lt) ∙ (write_from-at w place d d is).1))
+
+  current-at : (number : ℕ) (d : Entry) → write_numbered w number ≡ Some d → length v.earlier < number → d.generation ≡ v.generation
+  current-at zero d is lt = absurd (omega (arith, lt))
+  current-at (suc place) d is lt =
+      let at = write_from-at w place d d is in
+      let within : place - length v.earlier < length v.current = omega (arith, lt, at.0, length-append v.earlier v.current) in
+      ap (λ (x : Entry). x.generation) (sym at.1 ∙ get_or-append_right v.earlier v.current (length v.earlier) place d refl (omega (arith, lt)))
+      ∙ (are.current (place - length v.earlier) d within).0
+
+  born-upto : (i : ℕ) (d : Entry) → i < length w → (get_or w i d).born ≤ rounds + 1
+  born-upto i d lt =
+      let there = write_from-some w i lt in
+      omega (arith, so_far.made.last (suc i) there.0 there.1, ap (λ (x : Entry). x.born) (write_from-at w i there.0 d there.1).1)
+
+  history-more : IsHistory more
+  history-more = record {
+    rise = subst MarksRise (sym (append_assoc v.earlier v.current (e ∷ []))) (writes_more v are key value (rounds + 1)).rising;
+    born = λ i j d le lt. elim (cases_lt j (length w)) [
+      | inl before ↦
+          let first = ap (λ (x : Entry). x.born) (get_or_append_left w (e ∷ []) d i (omega (arith, le, before))) in
+          let second = ap (λ (x : Entry). x.born) (get_or_append_left w (e ∷ []) d j before) in
+          omega (arith, first, second, so_far.history.born i j d le before)
+      | inr not_before ↦
+          let last : length w ≡ j = omega (arith, not_before, lt, length-append w (e ∷ [])) in
+          let second : (get_or more j d).born ≡ rounds + 1 = ap (λ (x : Entry). x.born) (get_or_push w e d j last) in
+          elim (cases_lt i (length w)) [
+            | inl old ↦ omega (arith, ap (λ (x : Entry). x.born) (get_or_append_left w (e ∷ []) d i old), born-upto i d old, second)
+            | inr new ↦ omega (arith, ap (λ k. (get_or more k d).born) {x = i} {y = j} (omega (arith, le, new, last)))
+          ]
+    ];
+  }
+
+  numbered_history-more : IsNumberedHistory more
+  numbered_history-more = record {
+    counted = λ number d is. elim (numbered-more w e number d is) [
+      | inl old ↦ so_far.numbered.counted number d old.1
+      | inr new ↦
+          let version : d.version ≡ length v.current + 1 = ap (λ (x : Entry). x.version) new.1 in
+          (omega (arith, version), omega (arith, version, new.0, length-append v.earlier v.current))
+    ];
+    older = λ m n c d is_c is_d le. elim (numbered-more w e n d is_d) [
+      | inl old ↦ so_far.numbered.older m n c d (sym (numbered-before w e m (omega (arith, old.0, le))) ∙ is_c) old.1 le
+      | inr new ↦
+          let version : d.version ≡ length v.current + 1 = ap (λ (x : Entry). x.version) new.1 in
+          let generation : d.generation ≡ v.generation = ap (λ (x : Entry). x.generation) new.1 in
+          let upto : m ≤ length v.earlier = omega (arith, version, new.0, le, length-append v.earlier v.current) in
+          omega (arith, generation, earlier-at m c (sym (numbered-before w e m (omega (arith, upto, length-append v.earlier v.current))) ∙ is_c) upto)
+    ];
+    alike = λ m n c d is_c is_d le lt. elim (numbered-more w e n d is_d) [
+      | inl old ↦ so_far.numbered.alike m n c d (sym (numbered-before w e m (omega (arith, old.0, le))) ∙ is_c) old.1 le lt
+      | inr new ↦
+          let version : d.version ≡ length v.current + 1 = ap (λ (x : Entry). x.version) new.1 in
+          let generation : d.generation ≡ v.generation = ap (λ (x : Entry). x.generation) new.1 in
+          elim (numbered-more w e m c is_c) [
+            | inl old ↦ current-at m c old.1 (omega (arith, version, new.0, lt, length-append v.earlier v.current)) ∙ sym generation
+            | inr also ↦ ap (λ (x : Entry). x.generation) (also.1 ∙ sym new.1)
+          ]
+    ];
+  }
+
+  made-more : AreMadeBy (rounds + 1) more
+  made-more = record {
+    first = λ number d is. elim (numbered-more w e number d is) [
+      | inl old ↦ so_far.made.first number d old.1
+      | inr new ↦ omega (arith, ap (λ (x : Entry). x.born) new.1)
+    ];
+    last = λ number d is. elim (numbered-more w e number d is) [
+      | inl old ↦ so_far.made.last number d old.1
+      | inr new ↦ omega (arith, ap (λ (x : Entry). x.born) new.1)
+    ];
+  }
+
+  pub so_far-more : write_numbered all (length w + 1) ≡ Some e → length w + 1 < most → IsWrittenSoFar all most rounds more
+  so_far-more is below = record {
+    begins = λ number le. elim (cases_lt (length w) number) [
+      | inl behind ↦
+          let last : number ≡ length w + 1 = omega (arith, behind, le, length-append w (e ∷ [])) in
+          ap (write_numbered more) last ∙ numbered-last w e ∙ sym is ∙ ap (write_numbered all) (sym last)
+      | inr not_behind ↦
+          let before : number ≤ length w = omega (arith, not_behind) in
+          numbered-before w e number before ∙ so_far.begins number before
+    ];
+    few = omega (arith, below, length-append w (e ∷ []));
+    history = history-more;
+    numbered = numbered_history-more;
+    made = made-more;
+  }
+
+  -- where the rounds before end, it doesn't change
+  pub mark-more : (round mark : ℕ) → round ≤ rounds → mark ≤ length w → IsRoundMark w 0 round mark → IsRoundMark more 0 round mark
+  mark-more round mark upto within is = record {
+    upto = λ number d some is_d le. elim (numbered-more w e number d is_d) [
+      | inl old ↦ is.upto number d some old.1 le
+      | inr new ↦ absurd (omega (arith, new.0, le, within))
+    ];
+    above = λ number d some is_d lt. elim (numbered-more w e number d is_d) [
+      | inl old ↦ is.above number d some old.1 lt
+      | inr new ↦ omega (arith, upto, ap (λ (x : Entry). x.born) new.1)
+    ];
+  }
+
+-- a call that changes one owner's list
+module _ (lists new : List OwnerListView) (owner : ℕ) (list : OwnerListView) (changes : ListChanges owner list lists new) where
+  writes-changed : writes_in new owner ≡ entries_of list
+  writes-changed = writes_in-is new owner ∙ ap entries_of changes.changed
+
+  writes-others : (r : ℕ) → r ≢ owner → writes_in new r ≡ writes_in lists r
+  writes-others r other = writes_in-is new r ∙ ap entries_of (changes.others r other) ∙ sym (writes_in-is lists r)
+
+  -- what holds of the writes before, and of the owner's after the call, holds of all after it
+  each-writes : (P : ℕ → List Entry → Type 0) → ((r : ℕ) → r ≢ owner → P r (writes_in lists r)) → P owner (entries_of list) → (r : ℕ) → P r (writes_in new r)
+  each-writes P before here r = elim (cases_eq r owner) [
+    | inl same ↦ subst (P r) (sym (ap (writes_in new) same ∙ writes-changed)) (subst (λ k. P k (entries_of list)) (sym same) here)
+    | inr other ↦ subst (P r) (sym (writes-others r other)) (before r other)
+  ]
+
+  each-list : (P : ℕ → OwnerListView → Type 0) → ((r : ℕ) → r ≢ owner → P r (list_of_owner lists r)) → P owner list → (r : ℕ) → P r (list_of_owner new r)
+  each-list P before here r = elim (cases_eq r owner) [
+    | inl same ↦ subst (P r) (sym (ap (list_of_owner new) same ∙ changes.changed)) (subst (λ k. P k list) (sym same) here)
+    | inr other ↦ subst (P r) (sym (changes.others r other)) (before r other)
+  ]
+
+-- one number of each owner, where the owner's is set
+set-each : (nodes owner : ℕ) (P : ℕ → ℕ → Type 0) (xs : List ℕ) (x : ℕ) → length xs ≡ nodes → P owner x → ((r : ℕ) → r < nodes → r ≢ owner → P r (get_or xs r 0)) → HasEach nodes P (set xs owner x)
+set-each nodes owner P xs x size here others = record {
+  size = length-set xs owner x ∙ size;
+  each = λ r lt. elim (cases_eq r owner) [
+    | inl same ↦ subst (λ k. P k (get_or (set xs owner x) k 0)) (sym same)
+        (subst (P owner) (sym (get_or-set_same xs owner x 0 (omega (arith, lt, same, size)))) here)
+    | inr other ↦ subst (P r) (sym (get_or-set_other xs owner r x 0 other)) (others r lt other)
+  ];
+}
+
+module _ (written : ℕ → List Entry) (most : ℕ) (lists new : List OwnerListView) (counts bases ends : List ℕ) (rounds : ℕ) (kept : AreHistories written most lists counts bases ends rounds) (owner : ℕ) where
+  abbrev list : OwnerListView
+  list = list_of_owner lists owner
+
+  so_far-own : IsWrittenSoFar (written owner) most rounds (entries_of list)
+  so_far-own = subst (IsWrittenSoFar (written owner) most rounds) (writes_in-is lists owner) (kept.so_far owner)
+
+  module _ (key value : ℕ) (changes : ListChanges owner (with_write list key value (rounds + 1)) lists new)
+      (under : IsWriteUnder written most owner (length (writes_in lists owner) + 1) (next_entry list key value (rounds + 1))) where
+    abbrev added : Entry
+    added = next_entry list key value (rounds + 1)
+
+    -- the owner's writes after it
+    behind : entries_of (with_write list key value (rounds + 1)) ≡ entries_of list ++ added ∷ []
+    behind = sym (append_assoc list.earlier list.current (added ∷ []))
+
+    longer : length (entries_of (with_write list key value (rounds + 1))) ≡ length (writes_in lists owner) + 1
+    longer = omega (arith, ap (λ (es : List Entry). length es) behind, length-append (entries_of list) (added ∷ []), ap (λ (es : List Entry). length es) (writes_in-is lists owner))
+
+    grown : IsWrittenSoFar (written owner) most rounds (entries_of (with_write list key value (rounds + 1)))
+    grown = subst (IsWrittenSoFar (written owner) most rounds) (sym behind)
+        (so_far-more (written owner) most rounds list key value (kept.are owner) so_far-own
+        (subst (λ n. write_numbered (written owner) (n + 1) ≡ Some added) (ap (λ (es : List Entry). length es) (writes_in-is lists owner)) under.is)
+        (omega (arith, under.below, ap (λ (es : List Entry). length es) (writes_in-is lists owner))))
+
+    pub histories-written : (counts' : List ℕ) → counts' ≡ set counts owner (length (writes_in lists owner) + 1) → AreHistories written most new counts' bases ends rounds
+    histories-written counts' is = subst (λ cs. AreHistories written most new cs bases ends rounds) (sym is) (record {
+      few_nodes = omega (arith, kept.few_nodes, changes.count);
+      counted = subst (λ n. HasEach n (λ r n. n ≡ length (writes_in new r)) (set counts owner (length (writes_in lists owner) + 1))) (sym changes.count)
+          (set-each (length lists) owner (λ r n. n ≡ length (writes_in new r)) counts (length (writes_in lists owner) + 1) kept.counted.size
+          (sym (ap (λ (es : List Entry). length es) (writes-changed lists new owner _ changes) ∙ longer))
+          (λ r lt other. kept.counted.each r lt ∙ sym (ap (λ (es : List Entry). length es) (writes-others lists new owner _ changes r other))));
+      based = subst (λ n. HasEach n (λ r n. n ≡ length (list_of_owner new r).earlier) bases) (sym changes.count) (record {
+        size = kept.based.size;
+        each = λ r lt. each-list lists new owner _ changes (λ r (v : OwnerListView). r < length lists → get_or bases r 0 ≡ length v.earlier)
+            (λ r _. kept.based.each r) (kept.based.each owner) r lt;
+      });
+      are = each-list lists new owner _ changes (λ r v. AreWrites v) (λ r _. kept.are r) (writes_more list (kept.are owner) key value (rounds + 1));
+      so_far = each-writes lists new owner _ changes (λ r w. IsWrittenSoFar (written r) most rounds w) (λ r _. kept.so_far r) grown;
+      ended = subst (λ n. AreEnds (writes_in new) n rounds ends) (sym changes.count) (record {
+        size = kept.ended.size;
+        none = kept.ended.none;
+        rise = kept.ended.rise;
+        parts = λ r round lt upto. each-writes lists new owner _ changes
+            (λ r w. r < length lists → IsRoundMark w 0 round (cell ends (length lists) r round))
+            (λ r _ lt. kept.ended.parts r round lt upto)
+            (λ lt. subst (λ w. IsRoundMark w 0 round (cell ends (length lists) owner round)) (sym behind)
+            (mark-more (written owner) most rounds list key value (kept.are owner) so_far-own round (cell ends (length lists) owner round) upto
+            (omega (arith, kept.reached owner round lt upto, ap (λ (es : List Entry). length es) (writes_in-is lists owner)))
+            (subst (λ w. IsRoundMark w 0 round (cell ends (length lists) owner round)) (writes_in-is lists owner) (kept.ended.parts owner round lt upto))))
+            r lt;
+      });
+      reached = λ r round lt upto. subst (λ n. cell ends n r round ≤ length (writes_in new r)) (sym changes.count)
+          (each-writes lists new owner _ changes (λ r w. r < length lists → cell ends (length lists) r round ≤ length w)
+          (λ r _ lt. kept.reached r round lt upto)
+          (λ lt. omega (arith, kept.reached owner round lt upto, longer))
+          r (omega (arith, lt, changes.count)));
+    })
+
+  module _ (changes : ListChanges owner (begun_generation list) lists new) where
+    same_writes : writes_in new owner ≡ writes_in lists owner
+    same_writes = writes-changed lists new owner _ changes ∙ append-nil (entries_of list) ∙ sym (writes_in-is lists owner)
+
+    same_each : (r : ℕ) → writes_in new r ≡ writes_in lists r
+    same_each r = elim (cases_eq r owner) [
+      | inl same ↦ ap (writes_in new) same ∙ same_writes ∙ ap (writes_in lists) (sym same)
+      | inr other ↦ writes-others lists new owner _ changes r other
+    ]
+
+    pub histories-begun : (bases' : List ℕ) → bases' ≡ set bases owner (length (writes_in lists owner)) → AreHistories written most new counts bases' ends rounds
+    histories-begun bases' is = subst (λ bs. AreHistories written most new counts bs ends rounds) (sym is) (record {
+      few_nodes = omega (arith, kept.few_nodes, changes.count);
+      counted = subst (λ n. HasEach n (λ r n. n ≡ length (writes_in new r)) counts) (sym changes.count) (record {
+        size = kept.counted.size;
+        each = λ r lt. kept.counted.each r lt ∙ sym (ap (λ (es : List Entry). length es) (same_each r));
+      });
+      based = subst (λ n. HasEach n (λ r n. n ≡ length (list_of_owner new r).earlier) (set bases owner (length (writes_in lists owner)))) (sym changes.count)
+          (set-each (length lists) owner (λ r n. n ≡ length (list_of_owner new r).earlier) bases (length (writes_in lists owner)) kept.based.size
+          (ap (λ (es : List Entry). length es) (writes_in-is lists owner) ∙ sym (ap (λ (v : OwnerListView). length v.earlier) changes.changed))
+          (λ r lt other. kept.based.each r lt ∙ sym (ap (λ (v : OwnerListView). length v.earlier) (changes.others r other))));
+      are = each-list lists new owner _ changes (λ r v. AreWrites v) (λ r _. kept.are r) (writes_begun list (kept.are owner));
+      so_far = λ r. subst (IsWrittenSoFar (written r) most rounds) (sym (same_each r)) (kept.so_far r);
+      ended = subst (λ n. AreEnds (writes_in new) n rounds ends) (sym changes.count) (record {
+        size = kept.ended.size;
+        none = kept.ended.none;
+        rise = kept.ended.rise;
+        parts = λ r round lt upto. subst (λ w. IsRoundMark w 0 round (cell ends (length lists) r round)) (sym (same_each r)) (kept.ended.parts r round lt upto);
+      });
+      reached = λ r round lt upto. subst (λ n. cell ends n r round ≤ length (writes_in new r)) (sym changes.count)
+          (subst (λ w. cell ends (length lists) r round ≤ length w) (sym (same_each r)) (kept.reached r round (omega (arith, lt, changes.count)) upto));
+    })
+
+-- a place in rows of so many
+place-below : (nodes rounds round owner : ℕ) → round ≤ rounds → owner < nodes → round * nodes + owner < (rounds + 1) * nodes
+place-below nodes rounds round owner le lt = omega (arith, mul-le-mul_right {m = round + 1} {n = rounds + 1} nodes (omega (arith, le)))
+
+-- one more round's end
+module _ (written : ℕ → List Entry) (most : ℕ) (lists : List OwnerListView) (counts bases ends : List ℕ) (rounds : ℕ) (kept : AreHistories written most lists counts bases ends rounds) where
+  abbrev nodes : ℕ
+  nodes = length lists
+
+  row-before : (owner round : ℕ) → owner < nodes → round ≤ rounds → cell (ends ++ counts) nodes owner round ≡ cell ends nodes owner round
+  row-before owner round lt upto = get_or_append_left ends counts 0 (round * nodes + owner) (omega (arith, place-below nodes rounds round owner upto lt, kept.ended.size))
+
+  row-last : (owner round : ℕ) → owner < nodes → round ≡ rounds + 1 → cell (ends ++ counts) nodes owner round ≡ length (writes_in lists owner)
+  row-last owner round lt last =
+      ap (λ i. get_or (ends ++ counts) i 0) {x = round * nodes + owner} {y = length ends + owner} (omega (arith, ap (λ (n : ℕ). n * nodes) last, kept.ended.size))
+      ∙ get_or-append-add ends counts owner 0
+      ∙ kept.counted.each owner lt
+
+  mark-last : (owner round : ℕ) → round ≡ rounds + 1 → IsRoundMark (writes_in lists owner) 0 round (length (writes_in lists owner))
+  mark-last owner round last = record {
+    upto = λ number d some is le. omega (arith, (kept.so_far owner).made.last number d is, last);
+    above = λ number d some is lt. absurd (omega (arith, lt, (numbered-within (writes_in lists owner) number d is).1));
+  }
+
+  made-longer : (owner : ℕ) → IsWrittenSoFar (written owner) most (rounds + 1) (writes_in lists owner)
+  made-longer owner =
+      let so_far = kept.so_far owner in
+      record {
+        begins = so_far.begins;
+        few = so_far.few;
+        history = so_far.history;
+        numbered = so_far.numbered;
+        made = record {
+          first = so_far.made.first;
+          last = λ number d is. omega (arith, so_far.made.last number d is);
+        };
+      }
+
+  ended-more : AreEnds (writes_in lists) nodes (rounds + 1) (ends ++ counts)
+  ended-more = record {
+    size = grind (arith, length-append ends counts, kept.ended.size, kept.counted.size);
+    none = λ owner lt. row-before owner 0 lt (omega arith) ∙ kept.ended.none owner lt;
+    rise = λ owner round lt before. elim (cases_lt round rounds) [
+      | inl old ↦ omega (arith, row-before owner round lt (omega (arith, old)), row-before owner (round + 1) lt (omega (arith, old)), kept.ended.rise owner round lt old)
+      | inr not_old ↦ omega (arith, row-before owner round lt (omega (arith, before)), row-last owner (round + 1) lt (omega (arith, before, not_old)), kept.reached owner round lt (omega (arith, before)))
+    ];
+    parts = λ owner round lt upto. elim (cases_lt rounds round) [
+      | inl new ↦
+          let last : round ≡ rounds + 1 = omega (arith, new, upto) in
+          subst (IsRoundMark (writes_in lists owner) 0 round) (sym (row-last owner round lt last)) (mark-last owner round last)
+      | inr not_new ↦
+          let before : round ≤ rounds = omega (arith, not_new) in
+          subst (IsRoundMark (writes_in lists owner) 0 round) (sym (row-before owner round lt before)) (kept.ended.parts owner round lt before)
+    ];
+  }
+
+  pub histories-ended : (ends' : List ℕ) → ends' ≡ ends ++ counts → AreHistories written most lists counts bases ends' (rounds + 1)
+  histories-ended ends' is = subst (λ es. AreHistories written most lists counts bases es (rounds + 1)) (sym is) (record {
+    few_nodes = kept.few_nodes;
+    counted = kept.counted;
+    based = kept.based;
+    are = kept.are;
+    so_far = made-longer;
+    ended = ended-more;
+    reached = λ owner round lt upto. elim (cases_lt rounds round) [
+      | inl new ↦ omega (arith, row-last owner round lt (omega (arith, new, upto)))
+      | inr not_new ↦
+          let before : round ≤ rounds = omega (arith, not_new) in
+          omega (arith, row-before owner round lt before, kept.reached owner round lt before)
+    ];
+  })
+
+-- no number is that of a write where nothing was written
+none-written : (number : ℕ) (e : Entry) → write_numbered [] number ≡ Some e → ⊥
+none-written number e is = let within = numbered-within [] number e is in omega (arith, within.0, within.1)
+
+so_far-none : (all : List Entry) (most : ℕ) → 0 < most → IsWrittenSoFar all most 0 []
+so_far-none all most some = record {
+  begins = begins;
+  few = some;
+  history = record { rise = λ i j d lt in_range. absurd (omega (arith, in_range)); born = λ i j d le in_range. absurd (omega (arith, in_range)) };
+  numbered = record {
+    counted = λ number e is. absurd (none-written number e is);
+    older = λ m n d e is_d is_e le. absurd (none-written m d is_d);
+    alike = λ m n d e is_d is_e le lt. absurd (none-written m d is_d);
+  };
+  made = record {
+    first = λ number e is. absurd (none-written number e is);
+    last = λ number e is. absurd (none-written number e is);
+  };
+}
+  where
+    begins : IsBeginning [] all
+    begins zero le = refl
+    begins (suc place) le = absurd (omega (arith, le))
+
+-- before the first round
+module _ (written : ℕ → List Entry) (most nodes : ℕ) (lists : List OwnerListView) (some : 0 < most) (few : nodes ≤ MOST_NODES) (count : length lists ≡ nodes) (empty : (owner : ℕ) → list_of_owner lists owner ≡ no_writes) where
+  writes-none : (owner : ℕ) → writes_in lists owner ≡ []
+  writes-none owner = writes_in-is lists owner ∙ ap entries_of (empty owner)
+
+  no_writes-are : AreWrites no_writes
+  no_writes-are = record {
+    current = λ i d lt. absurd (omega (arith, lt));
+    earlier = λ i d lt. absurd (omega (arith, lt));
+    rising = λ i j d lt in_range. absurd (omega (arith, in_range));
+  }
+
+  pub histories-empty : (counts bases ends : List ℕ) → HasEach nodes (λ r n. n ≡ 0) counts → HasEach nodes (λ r n. n ≡ 0) bases → HasEach nodes (λ r n. n ≡ 0) ends → AreHistories written most lists counts bases ends 0
+  histories-empty counts bases ends no_counts no_bases no_ends = record {
+    few_nodes = omega (arith, few, count);
+    counted = record {
+      size = no_counts.size ∙ sym count;
+      each = λ r lt. no_counts.each r (omega (arith, lt, count)) ∙ sym (ap (λ (es : List Entry). length es) (writes-none r));
+    };
+    based = record {
+      size = no_bases.size ∙ sym count;
+      each = λ r lt. no_bases.each r (omega (arith, lt, count)) ∙ sym (ap (λ (v : OwnerListView). length v.earlier) (empty r));
+    };
+    are = λ r. subst AreWrites (sym (empty r)) no_writes-are;
+    so_far = λ r. subst (IsWrittenSoFar (written r) most 0) (sym (writes-none r)) (so_far-none (written r) most some);
+    ended = record {
+      size = omega (arith, no_ends.size, count);
+      none = λ r lt. row r 0 lt (omega arith);
+      rise = λ r round lt before. absurd (omega (arith, before));
+      parts = λ r round lt upto. subst (λ w. IsRoundMark w 0 round (cell ends (length lists) r round)) (sym (writes-none r)) (record {
+        upto = λ number e some is le. absurd (none-written number e is);
+        above = λ number e some is lt. absurd (none-written number e is);
+      });
+    };
+    reached = λ r round lt upto. omega (arith, row r round lt upto);
+  }
+    where
+      row : (r round : ℕ) → r < length lists → round ≤ 0 → cell ends (length lists) r round ≡ 0
+      row r round lt upto =
+          ap (λ i. get_or ends i 0) {x = round * length lists + r} {y = r} (omega (arith, ap (λ (n : ℕ). n * length lists) {x = round} {y = 0} (omega (arith, upto))))
+          ∙ no_ends.each r (omega (arith, lt, count))
+
+-- to set an owner's list changes it alone
+list-set : (lists : List OwnerListView) (owner : ℕ) (list : OwnerListView) → owner < length lists → ListChanges owner list lists (set lists owner list)
+list-set lists owner list lt = record {
+  count = length-set lists owner list;
+  changed = get_or-set_same lists owner list no_writes lt;
+  others = λ r other. get_or-set_other lists owner r list no_writes other;
+}
+
+-- what is read at an owner's place is its list
+pub list-changes : (lists : List OwnerListView) (owner : ℕ) (held list : OwnerListView) (f : OwnerListView → OwnerListView) → owner < length lists → held ≡ get_or lists owner held → list ≡ f held
+    → ListChanges owner (f (list_of_owner lists owner)) lists (set lists owner list)
+list-changes lists owner held list f lt here is =
+    subst (λ v. ListChanges owner v lists (set lists owner list)) (is ∙ ap f (here ∙ get_or_default lists owner held no_writes lt)) (list-set lists owner list lt)
+
+-- and what is read of one number each is the owner's
+pub number-here : {A : Type 0} (number : A → ℕ) (xs : List A) (nodes owner : ℕ) (x : A) (P : ℕ → ℕ → Type 0) → HasEach nodes P (map number xs) → owner < nodes → x ≡ get_or xs owner x → P owner (number x)
+number-here number xs nodes owner x P each lt here =
+    let within : owner < length xs = omega (arith, lt, each.size, length-map xs number) in
+    subst (P owner) (get_or-map number xs owner x 0 within ∙ sym (ap number here)) (each.each owner lt)
+
+-- one number is set
+pub numbers-set : {A : Type 0} (number : A → ℕ) (xs : List A) (owner : ℕ) (x : A) (n : ℕ) → number x ≡ n → map number (set xs owner x) ≡ set (map number xs) owner n
+numbers-set number xs owner x n is = map-set number xs owner x ∙ ap (set (map number xs) owner) is
+
+-- numbers behind others
+pub numbers-appended : {A : Type 0} (number : A → ℕ) (old held more new : List A) → new ≡ old ++ held → held ≡ more → map number new ≡ map number old ++ map number more
+numbers-appended number old held more new is same = ap (map number) (is ∙ ap (λ xs. old ++ xs) same) ∙ map-append number old more

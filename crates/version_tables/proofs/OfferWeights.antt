@@ -1,0 +1,37 @@
+-- What an offer's numbers take of its budget.
+-- Serves nothing yet.
+use Rattle.std.proofs.Common.{◌≡◌, ℕ, ◌*◌, ◌≤◌, Option, Some, None, arith}
+use Rattle.std.proofs.Math.Nat.{mul-le-mul_right}
+use Rattle.bench_types.specs.declared.entries.Entry.{Entry}
+use Rattle.bench_types.specs.declared.exchanges.Budget.{Budget}
+use Rattle.bench_types.specs.declared.exchanges.Budget.TheVariants.{Entries, Bytes}
+use Rattle.bench_types.specs.declared.limits.TheConstants.{MOST_NODES, MOST_KEYS, MOST_ENTRY_SIZE}
+use Rattle.owner_lists.specs.Numbers.{write_numbered}
+use Rattle.version_tables.specs.declared.weights.Offer.{Offer}
+use Rattle.version_tables.specs.inner.Offered.{cells_in, weights_in, weight_in, count_in, IsOffer}
+use Rattle.version_tables.specs.inner.Weights.{share_or_none, writes_in, one_each}
+use Rattle.version_tables.proofs.WeightLaws.{weight_between-same, weight_between-most, number_share-one, count_all_between-most}
+
+-- no write takes more than the largest share
+pub share-most : (budget : Budget) (o : Option Entry) → share_or_none budget o ≤ MOST_ENTRY_SIZE
+share-most budget None = omega arith
+share-most (Entries n) (Some e) = omega arith
+share-most (Bytes n) (Some e) = omega arith
+
+module _ {N : Type 0} (number : N → ℕ) (most : ℕ) (offer : Offer N) (is : IsOffer number most offer) (low high : ℕ → ℕ) where
+  pub offer-most : weight_in number offer low high ≤ count_in number offer low high * MOST_ENTRY_SIZE
+  offer-most =
+      weight_between-most (weights_in offer) MOST_ENTRY_SIZE (cells_in number offer) offer.nodes offer.keys low high
+      (λ owner n. share-most offer.budget (write_numbered (writes_in offer.lists.now owner) n))
+
+  pub offer-few : count_in number offer low high ≤ MOST_NODES * MOST_KEYS
+  offer-few =
+      let few : offer.nodes * offer.keys ≤ MOST_NODES * offer.keys = mul-le-mul_right {m = offer.nodes} {n = MOST_NODES} offer.keys is.grid.few_nodes in
+      omega (arith, count_all_between-most (cells_in number offer) offer.nodes offer.keys low high, few, is.grid.few_keys)
+
+  -- where entries are counted, they take as much as they are
+  pub offer-entries : (n : ℕ) → offer.budget ≡ Entries n → weight_in number offer low high ≡ count_in number offer low high
+  offer-entries n counted =
+      weight_between-same (weights_in offer) one_each (cells_in number offer) offer.nodes offer.keys low high
+      (λ owner key in_nodes in_keys above upto.
+      number_share-one offer.budget n (writes_in offer.lists.now owner) (cells_in number offer owner key) counted (omega (arith, above)) (is.written owner key in_nodes in_keys))

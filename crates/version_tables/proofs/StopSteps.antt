@@ -1,0 +1,180 @@
+-- An owner's numbers gone over one after another.
+-- Serves nothing yet.
+use Rattle.std.proofs.Common.{◌≡◌, ◌≢◌, ℕ, zero, suc, ◌+◌, ◌<◌, ◌≤◌, ◌⊎◌, min, max, inl, inr, refl, ap, ◌∙◌, subst, arith}
+use Rattle.std.proofs.lemmas.Bool.{cases_lt}
+use Rattle.planes.specs.Planes.{Cells}
+use Rattle.planes.specs.Sums.{sum_below}
+use Rattle.version_tables.specs.inner.Shares.{NumbersDiffer}
+use Rattle.version_tables.specs.inner.Stops.{HasBetween, IsNextUp, IsNextDown}
+use Rattle.version_tables.specs.inner.Weights.{weight_of}
+use Rattle.version_tables.proofs.WeightLaws.{part, part-in, part-low, part-high, part-cases, weight_of-split}
+
+-- a single number of an owner lies between two marks
+pub weight_of-one : (weight : ℕ → ℕ) (cells : Cells) (keys owner low high key number : ℕ) → key < keys → cells owner key ≡ number → low < number → number ≤ high
+    → ((k : ℕ) → k < keys → low < cells owner k → cells owner k ≤ high → k ≡ key) → weight_of weight cells keys owner low high ≡ weight number
+weight_of-one weight cells keys owner low high key number in_keys is above upto one =
+    one_term keys key (λ k. part weight low high (cells owner k)) in_keys (λ k lt other. at k lt other)
+    ∙ part-in weight low high (cells owner key) (omega (arith, is, above)) (omega (arith, is, upto))
+    ∙ ap weight is
+  where
+    at : (k : ℕ) → k < keys → k ≢ key → part weight low high (cells owner k) ≡ 0
+    at k lt other = elim (cases_lt low (cells owner k)) [
+      | inr under ↦ part-low weight low high (cells owner k) (omega (arith, under))
+      | inl over ↦ elim (cases_lt high (cells owner k)) [
+        | inl past ↦ part-high weight low high (cells owner k) past
+        | inr within ↦ absurd (other (one k lt over (omega (arith, within))))
+      ]
+    ]
+
+    nothing : (n : ℕ) (f : ℕ → ℕ) → ((i : ℕ) → i < n → f i ≡ 0) → sum_below n f ≡ 0
+    nothing zero f none = refl
+    nothing (suc n) f none = omega (arith, nothing n f (λ i lt. none i (omega (arith, lt))), none n (omega arith))
+
+    one_term : (n r : ℕ) (f : ℕ → ℕ) → r < n → ((i : ℕ) → i < n → i ≢ r → f i ≡ 0) → sum_below n f ≡ f r
+    one_term zero r f lt others = absurd (omega (arith, lt))
+    one_term (suc n) r f lt others = elim (cases_lt r n) [
+      | inl below ↦ omega (arith, one_term n r f below (λ i lt' ne. others i (omega (arith, lt')) ne), others n (omega arith) (λ e. omega (arith, e, below)))
+      | inr not_below ↦
+          let here : f n ≡ f r = ap f {x = n} {y = r} (omega (arith, lt, not_below)) in
+          omega (arith, here, nothing n f (λ i lt'. others i (omega (arith, lt')) (λ e. omega (arith, e, lt', not_below))))
+    ]
+
+-- where something weighs, there is a number
+pub has-between : (weight : ℕ → ℕ) (cells : Cells) (keys owner low high : ℕ) → 0 < weight_of weight cells keys owner low high → HasBetween cells keys owner low high
+has-between weight cells zero owner low high some = absurd (omega (arith, some))
+has-between weight cells (suc keys) owner low high some = elim (part-cases weight low high (cells owner keys)) [
+  | inl here ↦ record { key = keys; in_keys = omega arith; above = here.0; upto = here.1 }
+  | inr none ↦
+      let rest = has-between weight cells keys owner low high (omega (arith, some, none)) in
+      record { key = rest.key; in_keys = omega (arith, rest.in_keys); above = rest.above; upto = rest.upto }
+]
+
+module _ (weight : ℕ → ℕ) (cells : Cells) (keys owner : ℕ) (differ : NumbersDiffer cells keys owner) where
+  -- up to the next number there is that one more
+  pub up-next : (low mark high next : ℕ) → low ≤ mark → IsNextUp cells keys owner mark high next → weight_of weight cells keys owner low next ≡ weight_of weight cells keys owner low mark + weight next
+  up-next low mark high next le is =
+      weight_of-split weight cells keys owner low mark next le (omega (arith, is.above))
+      ∙ ap (λ n. weight_of weight cells keys owner low mark + n)
+      (weight_of-one weight cells keys owner mark next is.key next is.in_keys is.is is.above (omega arith)
+      (λ k lt above upto. differ k is.key lt is.in_keys (omega (arith, above)) (omega (arith, is.is, upto, is.no_less k lt above))))
+
+  pub up-rest : (mark high next : ℕ) → IsNextUp cells keys owner mark high next → weight_of weight cells keys owner mark high ≡ weight next + weight_of weight cells keys owner next high
+  up-rest mark high next is =
+      weight_of-split weight cells keys owner mark next high (omega (arith, is.above)) is.upto
+      ∙ ap (λ n. n + weight_of weight cells keys owner next high)
+      (weight_of-one weight cells keys owner mark next is.key next is.in_keys is.is is.above (omega arith)
+      (λ k lt above upto. differ k is.key lt is.in_keys (omega (arith, above)) (omega (arith, is.is, upto, is.no_less k lt above))))
+
+  -- and the same downwards
+  down-one : (low mark next below : ℕ) → IsNextDown cells keys owner low mark next → below + 1 ≡ next → weight_of weight cells keys owner below mark ≡ weight next
+  down-one low mark next below is under =
+      weight_of-one weight cells keys owner below mark is.key next is.in_keys is.is (omega (arith, under)) is.upto
+      (λ k lt above upto. differ k is.key lt is.in_keys (omega (arith, above)) (omega (arith, is.is, under, above, is.no_more k lt upto)))
+
+  pub down-next : (low mark high next below : ℕ) → mark ≤ high → IsNextDown cells keys owner low mark next → below + 1 ≡ next
+      → weight_of weight cells keys owner below high ≡ weight_of weight cells keys owner mark high + weight next
+  down-next low mark high next below le is under =
+      omega (
+        arith,
+        weight_of-split weight cells keys owner below mark high (omega (arith, under, is.upto)) le,
+        down-one low mark next below is under,
+      )
+
+  pub down-rest : (low mark next below : ℕ) → IsNextDown cells keys owner low mark next → below + 1 ≡ next
+      → weight_of weight cells keys owner low mark ≡ weight next + weight_of weight cells keys owner low below
+  down-rest low mark next below is under =
+      omega (
+        arith,
+        weight_of-split weight cells keys owner low below mark (omega (arith, under, is.above)) (omega (arith, under, is.upto)),
+        down-one low mark next below is under,
+      )
+
+-- the least of the numbers gone over
+pub record IsLeastSoFar (cells : Cells) (keys owner low high next : ℕ) : Type 0 where
+  pub upto : next ≤ high
+  pub no_less : (k : ℕ) → k < keys → low < cells owner k → next ≤ cells owner k
+  pub held : (next ≡ high) ⊎ ((k : ℕ) × (k < keys) × (cells owner k ≡ next) × (low < next))
+
+pub least-first : (cells : Cells) (owner low high : ℕ) → IsLeastSoFar cells 0 owner low high high
+least-first cells owner low high = record { upto = omega arith; no_less = λ k lt _. absurd (omega (arith, lt)); held = inl refl }
+
+pub least-here : (cells : Cells) (key owner low high next least : ℕ) → IsLeastSoFar cells key owner low high next → low < cells owner key → least ≡ min next (cells owner key) → IsLeastSoFar cells (key + 1) owner low high least
+least-here cells key owner low high next least so_far above is = record {
+  upto = omega (arith, so_far.upto, is);
+  no_less = λ k lt over. elim (cases_lt k key) [
+    | inl before ↦ omega (arith, is, so_far.no_less k before over)
+    | inr here ↦ subst (λ j. least ≤ cells owner j) {x = key} {y = k} (omega (arith, lt, here)) (omega (arith, is))
+  ];
+  held = elim (cases_lt (cells owner key) next) [
+    | inl lower ↦ inr (key, omega arith, omega (arith, is, lower), omega (arith, is, lower, above))
+    | inr no_lower ↦ elim so_far.held [
+      | inl all ↦ inl (omega (arith, is, no_lower, all))
+      | inr some ↦ inr (some.0, omega (arith, some.1), omega (arith, is, no_lower, some.2), omega (arith, is, no_lower, some.3))
+    ]
+  ];
+}
+
+pub least-past : (cells : Cells) (key owner low high next least : ℕ) → IsLeastSoFar cells key owner low high next → cells owner key ≤ low → least ≡ next → IsLeastSoFar cells (key + 1) owner low high least
+least-past cells key owner low high next least so_far not_above same = record {
+  upto = omega (arith, so_far.upto, same);
+  no_less = λ k lt over. elim (cases_lt k key) [
+    | inl before ↦ omega (arith, same, so_far.no_less k before over)
+    | inr here ↦ absurd (omega (arith, not_above, over, ap (cells owner) {x = key} {y = k} (omega (arith, lt, here))))
+  ];
+  held = elim so_far.held [
+    | inl all ↦ inl (omega (arith, same, all))
+    | inr some ↦ inr (some.0, omega (arith, some.1), omega (arith, same, some.2), omega (arith, same, some.3))
+  ];
+}
+
+pub least-found : (cells : Cells) (keys owner low high next : ℕ) → IsLeastSoFar cells keys owner low high next → HasBetween cells keys owner low high → IsNextUp cells keys owner low high next
+least-found cells keys owner low high next so_far has = elim so_far.held [
+  | inr some ↦ record { key = some.0; in_keys = some.1; is = some.2; above = some.3; upto = so_far.upto; no_less = so_far.no_less }
+  | inl all ↦
+      let same : cells owner has.key ≡ next = omega (arith, all, has.upto, so_far.no_less has.key has.in_keys has.above) in
+      record { key = has.key; in_keys = has.in_keys; is = same; above = omega (arith, same, has.above); upto = so_far.upto; no_less = so_far.no_less }
+]
+
+-- and the greatest
+pub record IsGreatestSoFar (cells : Cells) (keys owner low high next : ℕ) : Type 0 where
+  pub from : low ≤ next
+  pub no_more : (k : ℕ) → k < keys → cells owner k ≤ high → cells owner k ≤ next
+  pub held : (next ≡ low) ⊎ ((k : ℕ) × (k < keys) × (cells owner k ≡ next) × (next ≤ high))
+
+pub greatest-first : (cells : Cells) (owner low high : ℕ) → IsGreatestSoFar cells 0 owner low high low
+greatest-first cells owner low high = record { from = omega arith; no_more = λ k lt _. absurd (omega (arith, lt)); held = inl refl }
+
+pub greatest-here : (cells : Cells) (key owner low high next greatest : ℕ) → IsGreatestSoFar cells key owner low high next → cells owner key ≤ high → greatest ≡ max next (cells owner key) → IsGreatestSoFar cells (key + 1) owner low high greatest
+greatest-here cells key owner low high next greatest so_far upto is = record {
+  from = omega (arith, so_far.from, is);
+  no_more = λ k lt within. elim (cases_lt k key) [
+    | inl before ↦ omega (arith, is, so_far.no_more k before within)
+    | inr here ↦ subst (λ j. cells owner j ≤ greatest) {x = key} {y = k} (omega (arith, lt, here)) (omega (arith, is))
+  ];
+  held = elim (cases_lt next (cells owner key)) [
+    | inl higher ↦ inr (key, omega arith, omega (arith, is, higher), omega (arith, is, higher, upto))
+    | inr no_higher ↦ elim so_far.held [
+      | inl all ↦ inl (omega (arith, is, no_higher, all))
+      | inr some ↦ inr (some.0, omega (arith, some.1), omega (arith, is, no_higher, some.2), omega (arith, is, no_higher, some.3))
+    ]
+  ];
+}
+
+pub greatest-past : (cells : Cells) (key owner low high next greatest : ℕ) → IsGreatestSoFar cells key owner low high next → high < cells owner key → greatest ≡ next → IsGreatestSoFar cells (key + 1) owner low high greatest
+greatest-past cells key owner low high next greatest so_far over same = record {
+  from = omega (arith, so_far.from, same);
+  no_more = λ k lt within. elim (cases_lt k key) [
+    | inl before ↦ omega (arith, same, so_far.no_more k before within)
+    | inr here ↦ absurd (omega (arith, over, within, ap (cells owner) {x = key} {y = k} (omega (arith, lt, here))))
+  ];
+  held = elim so_far.held [
+    | inl all ↦ inl (omega (arith, same, all))
+    | inr some ↦ inr (some.0, omega (arith, some.1), omega (arith, same, some.2), omega (arith, same, some.3))
+  ];
+}
+
+pub greatest-found : (cells : Cells) (keys owner low high next : ℕ) → IsGreatestSoFar cells keys owner low high next → HasBetween cells keys owner low high → IsNextDown cells keys owner low high next
+greatest-found cells keys owner low high next so_far has = elim so_far.held [
+  | inr some ↦ record { key = some.0; in_keys = some.1; is = some.2; above = omega (arith, has.above, so_far.no_more has.key has.in_keys has.upto); upto = some.3; no_more = so_far.no_more }
+  | inl all ↦ absurd (omega (arith, all, has.above, so_far.no_more has.key has.in_keys has.upto))
+]

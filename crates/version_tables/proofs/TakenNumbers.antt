@@ -1,0 +1,56 @@
+-- A table that took a delta by marks is the one that took its items.
+-- Serves nothing yet.
+use Rattle.std.proofs.Common.{◌≡◌, ◌≢◌, ℕ, zero, suc, ◌+◌, ◌-◌, ◌<◌, ◌≤◌, ◌&&◌, Bool, true, false, cond, max, nat_lt, nat_le, List, length, get_or, Option, Some, None, ◌⊎◌, inl, inr, refl, sym, ap, ◌∙◌, subst, arith}
+use Rattle.std.specs.Prelude.{slice_index}
+use Rattle.std.proofs.lemmas.Bool.{cases_lt, cases_eq, lt-ltb, le-ltb, le-leb, lt-leb, ltb-true, leb-true, and_parts}
+use Rattle.std.proofs.lemmas.Option.{same_Some}
+use Rattle.planes.specs.Planes.{number_taken}
+use Rattle.bench_types.specs.declared.entries.Entry.{Entry}
+use Rattle.version_tables.specs.Views.{VersionTableView}
+use Rattle.version_tables.specs.inner.Laid.{IsVersionTable}
+use Rattle.version_tables.specs.inner.Taken.{is_taken, number_kept, IsTaken, HasTaken, StaysOne}
+
+-- a number that is taken is the one that is sent
+pub taken-number : (x s low high : ℕ) → is_taken x s low high ≡ true → number_taken x s low high ≡ s
+taken-number x s low high yes' =
+    let parts = and_parts (nat_lt (max x low) s) (nat_le s high) yes' in
+    let above : max x low < s = ltb-true (max x low) s parts.0 in
+    ap (max x) ((λ i. cond ((lt-ltb low s (omega (arith, above))) i && parts.1 i) s 0)) ∙ omega (arith, above)
+
+-- and where none is the receiver's stays
+pub stays-number : (x s low high : ℕ) → is_taken x s low high ≡ false → number_taken x s low high ≡ x
+stays-number x s low high no' = elim (nat_lt low s && nat_le s high) as (λ b. (nat_lt low s && nat_le s high) ≡ b → max x (cond b s 0) ≡ x) [
+  | false ↦ λ _. omega arith
+  | true ↦ λ yes'.
+      let parts = and_parts (nat_lt low s) (nat_le s high) yes' in
+      let above : low < s = ltb-true low s parts.0 in
+      elim (cases_lt x s) [
+        | inr not_below ↦ omega (arith, not_below)
+        | inl below ↦ absurd (both no' ((λ i. lt-ltb (max x low) s (omega (arith, above, below)) i && parts.1 i)))
+      ]
+] refl
+  where
+    both : {b : Bool} → b ≡ false → b ≡ true → ⊥
+    both f t = cc
+
+pub kept-above : (start x : ℕ) → start < x → number_kept start x ≡ x
+kept-above start x lt = ap (λ b. cond b 0 x) (lt-leb x start lt)
+
+pub kept-none : (start x : ℕ) → x ≤ start → number_kept start x ≡ 0
+kept-none start x le = ap (λ b. cond b 0 x) (le-leb x start le)
+
+pub kept-zero : (start : ℕ) → number_kept start 0 ≡ 0
+kept-zero start = kept-none start 0 (omega arith)
+
+-- what is known of a table's numbers is known of its fields
+module _ (lists : ℕ → List Entry) (bases : ℕ → ℕ) (sent low high : List ℕ) (old v : VersionTableView) (is : old ≡ v) (cells greatest : List ℕ)
+    (taken : IsTaken lists bases old.nodes old.keys old.cells old.greatest sent low high cells greatest) where
+  pub take-stays : (written : ℕ → List Entry) → StaysOne written lists bases v sent low high → IsVersionTable written old.node old.nodes old.keys old.generation cells greatest
+  take-stays written stays = subst (λ w. StaysOne written lists bases w sent low high) (sym is) stays cells greatest taken
+
+  pub has-taken : HasTaken lists bases v sent low high (record old { cells = cells; greatest = greatest })
+  has-taken = subst (λ w. HasTaken lists bases w sent low high (record old { cells = cells; greatest = greatest })) is (record { taken = taken; rest = refl })
+
+-- what holds of three lists holds of the same ones
+pub along_three : (P : List ℕ → List ℕ → List ℕ → Type 0) (a b c d x y : List ℕ) → a ≡ b → c ≡ d → x ≡ y → P a c x → P b d y
+along_three P a b c d x y one two three holds = subst (λ s. P s d y) one (subst (λ s. P a s y) two (subst (λ s. P a c s) three holds))

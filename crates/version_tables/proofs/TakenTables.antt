@@ -1,0 +1,280 @@
+-- A table that took a delta by marks is the one that took its items.
+-- Serves nothing yet.
+use Rattle.std.proofs.Common.{◌≡◌, ◌≢◌, ℕ, zero, suc, ◌+◌, ◌-◌, ◌<◌, ◌≤◌, ◌&&◌, Bool, true, false, cond, max, nat_lt, nat_le, List, ◌++◌, length, get_or, All, Option, Some, None, ◌⊎◌, inl, inr, refl, sym, ap, ◌∙◌, subst, arith}
+use Rattle.std.specs.Prelude.{slice_index}
+use Rattle.std.proofs.lemmas.Bool.{cases_lt, cases_eq, lt-ltb, le-ltb, le-leb, lt-leb, ltb-true, leb-true, and_parts, both_ways}
+use Rattle.std.proofs.lemmas.List.Elements.{All-contains}
+use Rattle.std.proofs.lemmas.List.{get_or_append_left, get_or-append_right, length-append}
+use Rattle.std.proofs.lemmas.Option.{same_Some}
+use Rattle.bench_types.specs.declared.entries.Entry.{Entry}
+use Rattle.bench_types.specs.declared.entries.Mark.{Mark}
+use Rattle.bench_types.specs.declared.exchanges.Rules.{Rules}
+use Rattle.bench_types.specs.Mark.{mark_of}
+use Rattle.node_table.specs.Table.{Table, entry_at, generation_held, IsProper}
+use Rattle.node_table.proofs.Greatest.{greatest_mark-none}
+use Rattle.owner_lists.specs.Numbers.{write_from, write_numbered}
+use Rattle.owner_lists.specs.OwnerListView.{OwnerListView, entries_of, AreWrites}
+use Rattle.planes.specs.Planes.{Cells, IsRaised}
+use Rattle.version_tables.specs.inner.Laid.{IsGreatest}
+use Rattle.version_tables.specs.inner.Offers.{HasCells, IsHistory, IsNumberedHistory, start_before, start_of}
+use Rattle.version_tables.specs.inner.Taken.{SendsNoNewer, SendsNewer, drop_start, number_kept}
+use Rattle.version_tables.proofs.Numbers.{numbered-some, numbered-none, numbered-within, numbers-up_to}
+use Rattle.version_tables.proofs.Offers.{write_from-at}
+use Rattle.version_tables.proofs.TakenNumbers.{kept-above, kept-none, kept-zero}
+
+-- writes behind those of earlier generations are of the owner's own generation, and none is of a newer one
+module _ (v : OwnerListView) (are : AreWrites v) where
+  earlier_from : (xs ys : List Entry) (place : ℕ) (e : Entry) → write_from (xs ++ ys) place ≡ Some e → ((place < length xs) × (get_or xs place e ≡ e)) ⊎ ((length xs ≤ place) × (get_or ys (place - length xs) e ≡ e) × (place - length xs < length ys))
+  earlier_from xs ys place e is =
+      let at = write_from-at (xs ++ ys) place e e is in
+      elim (cases_lt place (length xs)) [
+        | inl before ↦ inl (before, sym (get_or_append_left xs ys e place before) ∙ at.1)
+        | inr not_before ↦
+            let behind : length xs ≤ place = omega (arith, not_before) in
+            inr (behind, sym (get_or-append_right xs ys (length xs) place e refl behind) ∙ at.1, omega (arith, at.0, length-append xs ys, behind))
+      ]
+
+  pub generation-of : (number : ℕ) (e : Entry) → write_numbered (entries_of v) number ≡ Some e → ((number ≤ length v.earlier) × (e.generation < v.generation)) ⊎ (e.generation ≡ v.generation)
+  generation-of zero e is = absurd (none is)
+    where
+      none : None ≡ Some e → ⊥
+      none h = cc
+  generation-of (suc place) e is = elim (earlier_from v.earlier v.current place e is) [
+    | inl before ↦ inl (omega (arith, before.0), All-contains (λ (x : Entry). x.generation < v.generation) v.earlier e are.earlier (place, before.0, before.1))
+    | inr behind ↦ inr (ap (λ (x : Entry). x.generation) (sym behind.1) ∙ (are.current (place - length v.earlier) e behind.2).0)
+  ]
+
+  pub generation-upto : (number : ℕ) (e : Entry) → write_numbered (entries_of v) number ≡ Some e → e.generation ≤ v.generation
+  generation-upto number e is = elim (generation-of number e is) [ inl before ↦ omega (arith, before.1) | inr own ↦ omega (arith, own) ]
+
+-- of a copy, numbers of writes up to where a generation starts are of older ones, and the others aren't
+module _ (writes : List Entry) (history : IsHistory writes) (numbered : IsNumberedHistory writes) where
+  pub start-older : (x n : ℕ) (d e : Entry) → write_numbered writes x ≡ Some d → write_numbered writes n ≡ Some e → x ≤ start_of writes n → d.generation < e.generation
+  start-older x n d e is_d is_e le =
+      let counted = numbered.counted n e is_e in
+      numbered.older x n d e is_d is_e (omega (arith, le, ap (start_before n) is_e, counted.1))
+
+  pub start-not_older : (x n : ℕ) (d e : Entry) → write_numbered writes x ≡ Some d → write_numbered writes n ≡ Some e → x ≤ n → d.generation < e.generation → x ≤ start_of writes n
+  start-not_older x n d e is_d is_e le older = elim (cases_lt n (x + e.version)) [
+    | inl within ↦ absurd (omega (arith, older, numbered.alike x n d e is_d is_e le within))
+    | inr beyond ↦ omega (arith, beyond, ap (start_before n) is_e)
+  ]
+
+  -- and it starts below its numbers
+  pub start-below : (n : ℕ) → 0 < n → start_of writes n < n
+  start-below n some = elim (write_numbered writes n) as (λ o. write_numbered writes n ≡ o → start_of writes n < n) [
+    | None ↦ λ none. omega (arith, some, ap (start_before n) none)
+    | Some e ↦ λ is. omega (arith, numbered.counted n e is, ap (start_before n) is)
+  ] refl
+
+  -- a write of a newer generation has a greater number
+  pub newer-above : (m n : ℕ) (d e : Entry) → write_numbered writes m ≡ Some d → write_numbered writes n ≡ Some e → d.generation < e.generation → m < n
+  newer-above m n d e is_d is_e newer = elim (cases_lt m n) [
+    | inl below ↦ below
+    | inr not_below ↦ absurd (omega (arith, newer, (numbers-up_to writes history n m e d is_e is_d (omega (arith, not_below))).generation))
+  ]
+
+-- up to where numbers are dropped
+pub drop-cases : (writes : List Entry) (old base new : ℕ) → (drop_start writes old base new ≡ 0) ⊎ ((0 < old) × (old ≤ base) × (old < new) × (drop_start writes old base new ≡ start_of writes new))
+drop-cases writes old base new = elim ((nat_lt 0 old && nat_le old base) && nat_lt old new) as
+    (λ b. ((nat_lt 0 old && nat_le old base) && nat_lt old new) ≡ b → (cond b (start_of writes new) 0 ≡ 0) ⊎ ((0 < old) × (old ≤ base) × (old < new) × (cond b (start_of writes new) 0 ≡ start_of writes new))) [
+      | false ↦ λ _. inl refl
+      | true ↦ λ yes'.
+          let parts = and_parts (nat_lt 0 old && nat_le old base) (nat_lt old new) yes' in
+          let first = and_parts (nat_lt 0 old) (nat_le old base) parts.0 in
+          inr (ltb-true 0 old first.0, leb-true old base first.1, ltb-true old new parts.1, refl)
+    ] refl
+
+pub drop-here : (writes : List Entry) (old base new : ℕ) → 0 < old → old ≤ base → old < new → drop_start writes old base new ≡ start_of writes new
+drop-here writes old base new some upto lt = (λ i. cond (((lt-ltb 0 old some) i && (le-leb old base upto) i) && (lt-ltb old new lt) i) (start_of writes new) 0)
+
+-- of one owner: the numbers that stand, and the greatest of them
+module _ (from to : Table) (from_proper : IsProper from) (to_proper : IsProper to) (keys : from.keys ≡ to.keys) (owner : ℕ)
+    (writes : List Entry) (history : IsHistory writes) (numbered : IsNumberedHistory writes) (base : ℕ)
+    (newest : (m n : ℕ) (d e : Entry) → write_numbered writes m ≡ Some d → write_numbered writes n ≡ Some e → base < n → d.generation ≤ e.generation)
+    (sent : ℕ → ℕ → Bool) (sender receiver y : ℕ → ℕ)
+    (has_sender : (key : ℕ) → key < to.keys → entry_at from owner key ≡ write_numbered writes (sender key))
+    (has_receiver : (key : ℕ) → key < to.keys → entry_at to owner key ≡ write_numbered writes (receiver key))
+    (sender_upto : (key : ℕ) → key < to.keys → sender key ≤ length writes) (receiver_upto : (key : ℕ) → key < to.keys → receiver key ≤ length writes)
+    (above : (key : ℕ) → key < to.keys → sent owner key ≡ true → receiver key < sender key)
+    (y_sent : (key : ℕ) → key < to.keys → sent owner key ≡ true → y key ≡ sender key) (y_stays : (key : ℕ) → key < to.keys → sent owner key ≡ false → y key ≡ receiver key)
+    (old new : ℕ) (old_upto : (key : ℕ) → key < to.keys → receiver key ≤ old) (old_from : (old ≡ 0) ⊎ ((key : ℕ) × (key < to.keys) × (receiver key ≡ old)))
+    (rises : old ≤ new) (new_upto : (key : ℕ) → key < to.keys → y key ≤ new) (new_from : (new ≡ old) ⊎ ((key : ℕ) × (key < to.keys) × (y key ≡ new))) where
+  abbrev start : ℕ
+  start = drop_start writes old base new
+
+  abbrev taken : ℕ → ℕ
+  taken key = number_kept start (y key)
+
+  held_to : (key : ℕ) → key < to.keys → 0 < receiver key → (e : Entry) × (write_numbered writes (receiver key) ≡ Some e) × (e.generation ≡ generation_held to owner)
+  held_to key lt some =
+      let there = numbered-some writes (receiver key) some (receiver_upto key lt) in
+      (there.0, there.1, to_proper.copies owner key there.0 (has_receiver key lt ∙ there.1))
+
+  held_from : (key : ℕ) → key < to.keys → 0 < sender key → (e : Entry) × (write_numbered writes (sender key) ≡ Some e) × (e.generation ≡ generation_held from owner) × (entry_at from owner key ≡ Some e)
+  held_from key lt some =
+      let there = numbered-some writes (sender key) some (sender_upto key lt) in
+      (there.0, there.1, from_proper.copies owner key there.0 (has_sender key lt ∙ there.1), has_sender key lt ∙ there.1)
+
+  -- where the greatest number was raised it is a sent one
+  raised_sent : old < new → (key : ℕ) × (key < to.keys) × (sent owner key ≡ true) × (sender key ≡ new)
+  raised_sent lt = elim new_from [
+    | inl same ↦ absurd (omega (arith, lt, same))
+    | inr (key, in_keys, is) ↦ elim (sent owner key) as (λ b. sent owner key ≡ b → (key : ℕ) × (key < to.keys) × (sent owner key ≡ true) × (sender key ≡ new)) [
+      | true ↦ λ yes'. (key, in_keys, yes', sym (y_sent key in_keys yes') ∙ is)
+      | false ↦ λ no'. absurd (omega (arith, lt, is, y_stays key in_keys no', old_upto key in_keys))
+    ] refl
+  ]
+
+  of_new : old < new → (key : ℕ) × (e : Entry) × (write_numbered writes new ≡ Some e) × (e.generation ≡ generation_held from owner) × (sent owner key ≡ true) × (entry_at from owner key ≡ Some e)
+  of_new lt =
+      let at = raised_sent lt in
+      let there = held_from at.0 at.1 (omega (arith, at.3, lt)) in
+      (at.0, there.0, ap (write_numbered writes) (sym at.3) ∙ there.1, there.2, at.2, there.3)
+
+  -- what is sent comes
+  pub came_number : (key : ℕ) → key < to.keys → sent owner key ≡ true → taken key ≡ sender key
+  came_number key lt yes' =
+      ap (number_kept start) (y_sent key lt yes')
+      ∙ kept-above start (sender key) (elim (drop-cases writes old base new) [
+        | inl none ↦ omega (arith, none, above key lt yes')
+        | inr (some, upto, raised, is) ↦ elim (cases_lt start (sender key)) [
+          | inl below ↦ below
+          | inr not_below ↦
+              let at = of_new raised in
+              let here = held_from key lt (omega (arith, above key lt yes')) in
+              absurd (omega (arith, start-older writes history numbered (sender key) new here.0 at.1 here.1 at.2 (omega (arith, not_below, is)), here.2, at.3))
+        ]
+      ])
+
+  -- something newer is sent, or nothing is
+  newer_below : (bound : ℕ) → ((key : ℕ) (e : Entry) → key < bound → entry_at from owner key ≡ Some e → sent owner key ≡ true → e.generation ≤ generation_held to owner) ⊎ SendsNewer from to sent owner
+  newer_below zero = inl (λ key e lt held yes'. absurd (omega (arith, lt)))
+  newer_below (suc bound) = elim (newer_below bound) [
+    | inr newer ↦ inr newer
+    | inl before ↦ elim (entry_at from owner bound) as (λ o. entry_at from owner bound ≡ o → ((key : ℕ) (e : Entry) → key < suc bound → entry_at from owner key ≡ Some e → sent owner key ≡ true → e.generation ≤ generation_held to owner) ⊎ SendsNewer from to sent owner) [
+      | None ↦ λ none. inl (λ key e lt held yes'. elim (cases_lt key bound) [
+        | inl earlier ↦ before key e earlier held yes'
+        | inr not_earlier ↦ absurd (nothing e (sym none ∙ ap (entry_at from owner) {x = bound} {y = key} (omega (arith, lt, not_earlier)) ∙ held))
+      ])
+      | Some d ↦ λ here. elim (cases_lt (generation_held to owner) d.generation) [
+        | inr not_newer ↦ inl (λ key e lt held yes'. elim (cases_lt key bound) [
+          | inl earlier ↦ before key e earlier held yes'
+          | inr not_earlier ↦
+              let same : Some d ≡ Some e = sym here ∙ ap (entry_at from owner) {x = bound} {y = key} (omega (arith, lt, not_earlier)) ∙ held in
+              omega (arith, not_newer, ap (λ (x : Entry). x.generation) (same_Some d e same))
+        ])
+        | inl is_newer ↦ elim (sent owner bound) as (λ b. sent owner bound ≡ b → ((key : ℕ) (e : Entry) → key < suc bound → entry_at from owner key ≡ Some e → sent owner key ≡ true → e.generation ≤ generation_held to owner) ⊎ SendsNewer from to sent owner) [
+          | true ↦ λ yes'. inr (record { key = bound; entry = d; held = here; is_sent = yes'; newer = is_newer })
+          | false ↦ λ no'. inl (λ key e lt held yes'. elim (cases_lt key bound) [
+            | inl earlier ↦ before key e earlier held yes'
+            | inr not_earlier ↦ absurd (both_ways (sent owner bound) no' (ap (sent owner) {x = bound} {y = key} (omega (arith, lt, not_earlier)) ∙ yes'))
+          ])
+        ] refl
+      ]
+    ] refl
+  ]
+    where
+      nothing : (e : Entry) → None ≡ Some e → ⊥
+      nothing e h = cc
+
+  newer_or_not : SendsNoNewer from to sent owner ⊎ SendsNewer from to sent owner
+  newer_or_not = elim (newer_below from.keys) [
+    | inl none ↦ inl (λ key e held yes'. none key e (from_proper.in_place owner key e held).key_below held yes')
+    | inr newer ↦ inr newer
+  ]
+
+  -- where nothing newer comes, other numbers stay
+  stays_number : SendsNoNewer from to sent owner → (key : ℕ) → key < to.keys → sent owner key ≡ false → taken key ≡ receiver key
+  stays_number no_newer key lt no' =
+      ap (number_kept start) (y_stays key lt no')
+      ∙ elim (cases_lt 0 (receiver key)) [
+        | inr none ↦ ap (number_kept start) {x = receiver key} {y = 0} (omega (arith, none)) ∙ kept-zero start ∙ omega (arith, none)
+        | inl some ↦ kept-above start (receiver key) (elim (drop-cases writes old base new) [
+          | inl none ↦ omega (arith, none, some)
+          | inr (some_old, upto, raised, is) ↦ elim (cases_lt start (receiver key)) [
+            | inl below ↦ below
+            | inr not_below ↦
+                let at = of_new raised in
+                let here = held_to key lt some in
+                absurd (omega (arith, start-older writes history numbered (receiver key) new here.0 at.1 here.1 at.2 (omega (arith, not_below, is)), here.2, no_newer at.0 at.1 at.5 at.4))
+          ]
+        ])
+      ]
+
+  -- and where something does, they are dropped
+  drops_number : SendsNewer from to sent owner → (key : ℕ) → key < to.keys → sent owner key ≡ false → taken key ≡ 0
+  drops_number newer key lt no' =
+      ap (number_kept start) (y_stays key lt no')
+      ∙ elim (cases_lt 0 (receiver key)) [
+        | inr none ↦ ap (number_kept start) {x = receiver key} {y = 0} (omega (arith, none)) ∙ kept-zero start
+        | inl some ↦ kept-none start (receiver key) (upto_start some)
+      ]
+    where
+      in_keys : newer.key < to.keys
+      in_keys = omega (arith, (from_proper.in_place owner newer.key newer.entry newer.held).key_below, keys)
+
+      number_is : write_numbered writes (sender newer.key) ≡ Some newer.entry
+      number_is = sym (has_sender newer.key in_keys) ∙ newer.held
+
+      upto_start : 0 < receiver key → receiver key ≤ start
+      upto_start some = elim old_from [
+        | inl none ↦ absurd (omega (arith, none, some, old_upto key lt))
+        | inr (m, m_lt, m_is) ↦
+            let last = held_to m m_lt (omega (arith, m_is, some, old_upto key lt)) in
+            let old_is : write_numbered writes old ≡ Some last.0 = ap (write_numbered writes) (sym m_is) ∙ last.1 in
+            let beyond : old < sender newer.key = newer-above writes history numbered old (sender newer.key) last.0 newer.entry old_is number_is (omega (arith, last.2, newer.newer)) in
+            let raised : old < new = omega (arith, beyond, y_sent newer.key in_keys newer.is_sent, new_upto newer.key in_keys) in
+            let upto : old ≤ base = elim (cases_lt base old) [
+              | inl over ↦ absurd (omega (arith, newest (sender newer.key) old newer.entry last.0 number_is old_is over, last.2, newer.newer))
+              | inr not_over ↦ omega (arith, not_over)
+            ] in
+            let at = of_new raised in
+            let here = held_to key lt some in
+            omega (
+              arith,
+              drop-here writes old base new (omega (arith, some, old_upto key lt)) upto raised,
+              start-not_older writes history numbered (receiver key) new here.0 at.1 here.1 at.2 (omega (arith, old_upto key lt, raised))
+                  (omega (arith, here.2, newer.newer, at.3, from_proper.copies owner newer.key newer.entry newer.held)),
+            )
+      ]
+
+  pub other_number : (key : ℕ) → key < to.keys → sent owner key ≡ false → (SendsNoNewer from to sent owner × (taken key ≡ receiver key)) ⊎ (SendsNewer from to sent owner × (taken key ≡ 0))
+  other_number key lt no' = elim newer_or_not [
+    | inl none ↦ inl (none, stays_number none key lt no')
+    | inr newer ↦ inr (newer, drops_number newer key lt no')
+  ]
+
+  -- the greatest number stands
+  taken_upto : (n : ℕ) → number_kept start n ≤ n
+  taken_upto n = elim (cases_lt start n) [
+    | inl above ↦ omega (arith, kept-above start n above)
+    | inr not_above ↦ omega (arith, kept-none start n (omega (arith, not_above)))
+  ]
+
+  start_below : 0 < new → start < new
+  start_below some = elim (drop-cases writes old base new) [
+    | inl none ↦ omega (arith, none, some)
+    | inr (_, _, _, is) ↦ omega (arith, is, start-below writes history numbered new some)
+  ]
+
+  pub greatest_upto : (key : ℕ) → key < to.keys → taken key ≤ new
+  greatest_upto key lt = omega (arith, taken_upto (y key), new_upto key lt)
+
+  pub greatest_from : (new ≡ 0) ⊎ ((key : ℕ) × (key < to.keys) × (taken key ≡ new))
+  greatest_from = elim (cases_lt 0 new) [
+    | inr none ↦ inl (omega (arith, none))
+    | inl some ↦ elim new_from [
+      | inr (key, lt, is) ↦ inr (key, lt, ap (number_kept start) is ∙ kept-above start new (start_below some))
+      | inl same ↦ elim old_from [
+        | inl none ↦ absurd (omega (arith, none, same, some))
+        | inr (key, lt, is) ↦
+            let no_less : receiver key ≤ y key = elim (sent owner key) as (λ b. sent owner key ≡ b → receiver key ≤ y key) [
+              | true ↦ λ yes'. omega (arith, y_sent key lt yes', above key lt yes')
+              | false ↦ λ no'. omega (arith, y_stays key lt no')
+            ] refl in
+            let here : y key ≡ new = omega (arith, no_less, is, same, new_upto key lt) in
+            inr (key, lt, ap (number_kept start) here ∙ kept-above start new (start_below some))
+      ]
+    ]
+  ]

@@ -1,0 +1,83 @@
+use Rattle.std.proofs.Common.{◌≡◌, ℕ, ◌+◌, ◌≤◌, ◌<◌, length, sym, ap, ◌∙◌, subst, arith}
+use Rattle.std.proofs.lemmas.List.{length-map}
+use Rattle.bench_types.specs.Budget.{amount_of}
+use Rattle.version_tables.specs.inner.Offered.{cells_in, marks, count_in, weight_in}
+use Rattle.version_tables.specs.inner.Plans.{AreLayersSoFar, IsNextMark, raised}
+use Rattle.version_tables.proofs.LayerSteps.{layers-first, layers-count, layers-upto, layers-more, layers-next, layers-far, smaller_by}
+use Rattle.version_tables.proofs.OfferWeights.{offer-few}
+use Rattle.version_tables.proofs.breadths.breadth.Goals as goal
+
+pub loop-alloc-init : goal.loop-alloc-init
+loop-alloc-init g c =
+    let number = g.N.Number.number in
+    let offer = c.args.offer.now in
+    let next = c.in_ok-first.ensures.marks in
+    let start : c.deref.result.now ≡ offer.low.now = c.deref.ensures.value ∙ c.in_ok-near.ensures.items in
+    record {
+      near = ap length c.in_ok-near.ensures.items ∙ c.requires.offer.low;
+      far = sym (length-map c.in_ok-first.first.marks.items number) ∙ next.size;
+      so_far =
+          subst (λ xs. AreLayersSoFar number offer (marks number xs) (marks number c.in_ok-first.first.marks.items) 0 c.in_ok-first.first.more) (sym c.in_ok-near.ensures.items)
+          (layers-first number g.N.Number.most offer c.requires.offer (marks number c.in_ok-first.first.marks.items) c.in_ok-first.first.more
+          (subst (λ xs. (r : ℕ) → r < offer.nodes → IsNextMark (cells_in number offer) offer.keys r (marks number xs r) (marks number c.in_ok-first.first.marks.items r)) start next.each)
+          (subst (λ xs. c.in_ok-first.first.more ≡ raised offer.nodes (marks number xs) (marks number c.in_ok-first.first.marks.items)) start c.in_ok-first.ensures.more));
+    }
+
+pub overflow_add-whole : goal.overflow_add-whole
+overflow_add-whole g c =
+    let number = g.N.Number.number in
+    omega (
+      arith,
+      layers-count number g.N.Number.most c.args.offer.now c.requires.offer (marks number c.loop-alloc.near.items) (marks number c.loop-alloc.far.items) c.loop-alloc.whole c.loop-alloc.more c.loop-alloc.invariant.so_far,
+      offer-few number g.N.Number.most c.args.offer.now c.requires.offer (marks number c.args.offer.now.low.now) (marks number c.loop-alloc.far.items),
+    )
+
+pub fits-requires-clause-count : goal.fits-requires-clause-count
+fits-requires-clause-count g c κs within =
+    let number = g.N.Number.number in
+    subst (λ xs. c.loop-alloc.whole + c.loop-alloc.more ≡ count_in number c.args.offer.now (marks number c.args.offer.now.low.now) (marks number xs)) (sym c.deref-in-loop-alloc.ensures.value)
+    (layers-count number g.N.Number.most c.args.offer.now c.requires.offer (marks number c.loop-alloc.near.items) (marks number c.loop-alloc.far.items) c.loop-alloc.whole c.loop-alloc.more c.loop-alloc.invariant.so_far)
+
+pub overflow_add-whole-in-loop-alloc : goal.overflow_add-whole-in-loop-alloc
+overflow_add-whole-in-loop-alloc g c =
+    let number = g.N.Number.number in
+    omega (
+      arith,
+      layers-count number g.N.Number.most c.args.offer.now c.requires.offer (marks number c.loop-alloc.near.items) (marks number c.loop-alloc.far.items) c.loop-alloc.whole c.loop-alloc.more c.loop-alloc.invariant.so_far,
+      offer-few number g.N.Number.most c.args.offer.now c.requires.offer (marks number c.args.offer.now.low.now) (marks number c.loop-alloc.far.items),
+    )
+
+pub loop-alloc-smaller : goal.loop-alloc-smaller
+loop-alloc-smaller g c =
+    let number = g.N.Number.number in
+    let fits = subst (λ xs. weight_in number c.args.offer.now (marks number c.args.offer.now.low.now) (marks number xs) ≤ amount_of c.args.offer.now.budget) c.deref-in-loop-alloc.ensures.value
+    (c.fits.ensures.0 c.loop-alloc-test.true)
+    in
+    smaller_by _ c.loop-alloc.whole c.loop-alloc.more
+    (layers-more number g.N.Number.most c.args.offer.now c.requires.offer (marks number c.loop-alloc.near.items) (marks number c.loop-alloc.far.items) c.loop-alloc.whole c.loop-alloc.more c.loop-alloc.invariant.so_far fits c.requires.cut)
+    (layers-upto number g.N.Number.most c.args.offer.now c.requires.offer (marks number c.loop-alloc.near.items) (marks number c.loop-alloc.far.items) c.loop-alloc.whole c.loop-alloc.more c.loop-alloc.invariant.so_far)
+
+pub loop-alloc-preserved : goal.loop-alloc-preserved
+loop-alloc-preserved g c =
+    let number = g.N.Number.number in
+    let offer = c.args.offer.now in
+    let next = c.in_ok-next.ensures.marks in
+    let fits = subst (λ xs. weight_in number offer (marks number offer.low.now) (marks number xs) ≤ amount_of offer.budget) c.deref-in-loop-alloc.ensures.value
+    (c.fits.ensures.0 c.loop-alloc-test.true)
+    in
+    record {
+      near = c.loop-alloc.invariant.far;
+      far = sym (length-map c.in_ok-next.next.marks.items number) ∙ next.size;
+      so_far =
+          layers-next number g.N.Number.most offer c.requires.offer (marks number c.loop-alloc.near.items) (marks number c.loop-alloc.far.items) c.loop-alloc.whole c.loop-alloc.more c.loop-alloc.invariant.so_far
+          (marks number c.in_ok-next.next.marks.items) c.in_ok-next.next.more fits
+          (subst (λ xs. (r : ℕ) → r < offer.nodes → IsNextMark (cells_in number offer) offer.keys r (marks number xs r) (marks number c.in_ok-next.next.marks.items r)) c.deref-in-loop-alloc-2.ensures.value next.each)
+          (subst (λ xs. c.in_ok-next.next.more ≡ raised offer.nodes (marks number xs) (marks number c.in_ok-next.next.marks.items)) c.deref-in-loop-alloc-2.ensures.value c.in_ok-next.ensures.more);
+    }
+
+pub returns-clause-layers : goal.returns-clause-layers
+returns-clause-layers g c = record {
+  layers = c.loop-alloc.invariant.so_far.layers;
+  near = c.loop-alloc.invariant.so_far.layered;
+  far = layers-far g.N.Number.number g.N.Number.most c.args.offer.now c.requires.offer (marks g.N.Number.number c.loop-alloc.near.items) (marks g.N.Number.number c.loop-alloc.far.items) c.loop-alloc.whole c.loop-alloc.more c.loop-alloc.invariant.so_far;
+}

@@ -1,0 +1,111 @@
+use Rattle.std.proofs.Common.{◌≡◌, ℕ, ◌+◌, ◌-◌, ◌≤◌, ◌<◌, length, get_or, map, inl, inr, sym, ap, ◌∙◌, subst, arith}
+use Rattle.std.proofs.lemmas.Bool.{cases_lt, both_ways}
+use Rattle.std.proofs.lemmas.List.{length-map}
+use Rattle.bench_types.specs.Budget.{amount_of}
+use Rattle.bench_types.specs.declared.limits.TheConstants.{MOST_KEYS}
+use Rattle.version_tables.specs.inner.Offered.{marks, count_in, weight_in}
+use Rattle.version_tables.specs.inner.Plans.{AreRunsSoFar, AreNextRuns}
+use Rattle.version_tables.proofs.OfferWeights.{offer-few}
+use Rattle.version_tables.proofs.RunSteps.{runs-start, runs-next, runs-some, runs-of_level, runs-farther, counts-few}
+use Rattle.version_tables.proofs.depths.depth.Goals as goal
+
+pub greatest_of-size-requires : goal.greatest_of-size-requires
+greatest_of-size-requires g c = (
+  c.type_bounds.send-N,
+  (
+    c.type_bounds.sync-N,
+    subst (λ xs. (r : ℕ) → r < length xs → get_or (map g.N.Number.number xs) r 0 ≤ MOST_KEYS) (sym c.deref.ensures.value)
+        (counts-few g.N.Number.number g.N.Number.most c.args.offer.now c.requires.offer c.in_ok-counts.counts.items c.in_ok-counts.ensures.counts),
+  ),
+)
+
+pub loop-alloc-init : goal.loop-alloc-init
+loop-alloc-init g c =
+    let number = g.N.Number.number in
+    let offer = c.args.offer.now in
+    let known = c.in_ok-counts.ensures.counts in
+    let runs = subst (λ xs. AreNextRuns number offer (marks number xs) c.greatest_of-size.result c.in_ok-first.first) (c.deref-3.ensures.value ∙ c.in_ok-near.ensures.items) c.in_ok-first.ensures.runs in
+    record {
+      near = ap length c.in_ok-near.ensures.items ∙ c.requires.offer.low;
+      far = runs.count;
+      few = c.greatest_of-size.ensures.few;
+      so_far =
+          subst (λ xs. AreRunsSoFar number offer (marks number xs) (marks number c.in_ok-first.first.marks.items) c.greatest_of-size.result 0 c.in_ok-first.first.more) (sym c.in_ok-near.ensures.items)
+          (runs-start number g.N.Number.most offer c.requires.offer c.greatest_of-size.result c.in_ok-first.first
+          (λ owner lt. omega (
+            arith,
+            known.each owner lt,
+            subst (λ xs. (r : ℕ) → r < length xs → get_or (map number xs) r 0 ≤ c.greatest_of-size.result) c.deref.ensures.value c.greatest_of-size.ensures.greatest owner (omega (arith, lt, known.size, length-map c.in_ok-counts.counts.items number)),
+          ))
+          runs);
+    }
+
+pub overflow_sub-size : goal.overflow_sub-size
+overflow_sub-size g c =
+    let number = g.N.Number.number in
+    omega (arith, runs-some number g.N.Number.most c.args.offer.now c.requires.offer (marks number c.loop-alloc.near.items) (marks number c.loop-alloc.far.items) c.loop-alloc.size c.loop-alloc.whole c.loop-alloc.more c.loop-alloc.invariant.so_far c.requires.cut)
+
+pub overflow_add-whole : goal.overflow_add-whole
+overflow_add-whole g c =
+    let number = g.N.Number.number in
+    omega (arith, c.loop-alloc.invariant.so_far.more, offer-few number g.N.Number.most c.args.offer.now c.requires.offer (marks number c.args.offer.now.low.now) (marks number c.loop-alloc.far.items))
+
+pub fits-requires-clause-count : goal.fits-requires-clause-count
+fits-requires-clause-count g c κs within =
+    let number = g.N.Number.number in
+    subst (λ xs. c.loop-alloc.whole + c.loop-alloc.more ≡ count_in number c.args.offer.now (marks number c.args.offer.now.low.now) (marks number xs)) (sym c.deref-in-loop-alloc.ensures.value) c.loop-alloc.invariant.so_far.more
+
+pub overflow_add-whole-in-loop-alloc : goal.overflow_add-whole-in-loop-alloc
+overflow_add-whole-in-loop-alloc g c =
+    let number = g.N.Number.number in
+    omega (arith, c.loop-alloc.invariant.so_far.more, offer-few number g.N.Number.most c.args.offer.now c.requires.offer (marks number c.args.offer.now.low.now) (marks number c.loop-alloc.far.items))
+
+pub loop-alloc-smaller : goal.loop-alloc-smaller
+loop-alloc-smaller g c =
+    let number = g.N.Number.number in
+    omega (arith, runs-some number g.N.Number.most c.args.offer.now c.requires.offer (marks number c.loop-alloc.near.items) (marks number c.loop-alloc.far.items) c.loop-alloc.size c.loop-alloc.whole c.loop-alloc.more c.loop-alloc.invariant.so_far c.requires.cut)
+
+pub loop-alloc-preserved : goal.loop-alloc-preserved
+loop-alloc-preserved g c =
+    let number = g.N.Number.number in
+    let offer = c.args.offer.now in
+    let some = runs-some number g.N.Number.most offer c.requires.offer (marks number c.loop-alloc.near.items) (marks number c.loop-alloc.far.items) c.loop-alloc.size c.loop-alloc.whole c.loop-alloc.more c.loop-alloc.invariant.so_far c.requires.cut in
+    let fits = subst (λ xs. weight_in number offer (marks number offer.low.now) (marks number xs) ≤ amount_of offer.budget) c.deref-in-loop-alloc.ensures.value
+    (c.fits.ensures.0 c.loop-alloc-test.true)
+    in
+    let runs = subst (λ xs. AreNextRuns number offer (marks number xs) (c.loop-alloc.size - 1) c.in_ok-next.next) c.deref-in-loop-alloc-3.ensures.value c.in_ok-next.ensures.runs in
+    record {
+      near = c.loop-alloc.invariant.far;
+      far = runs.count;
+      few = omega (arith, c.loop-alloc.invariant.few);
+      so_far =
+          runs-next number g.N.Number.most offer c.requires.offer (marks number c.loop-alloc.near.items) (marks number c.loop-alloc.far.items) c.loop-alloc.size c.loop-alloc.whole c.loop-alloc.more c.in_ok-next.next
+          c.loop-alloc.invariant.so_far some fits runs;
+    }
+
+pub returns-clause-level : goal.returns-clause-level
+returns-clause-level g c =
+    let number = g.N.Number.number in
+    let offer = c.args.offer.now in
+    let so_far = c.loop-alloc.invariant.so_far in
+    let some = runs-some number g.N.Number.most offer c.requires.offer (marks number c.loop-alloc.near.items) (marks number c.loop-alloc.far.items) c.loop-alloc.size c.loop-alloc.whole c.loop-alloc.more so_far c.requires.cut in
+    record {
+      near = c.loop-alloc.invariant.near;
+      far = c.loop-alloc.invariant.far;
+      farther = runs-farther number g.N.Number.most offer c.requires.offer (marks number c.loop-alloc.near.items) (marks number c.loop-alloc.far.items) c.loop-alloc.size c.loop-alloc.whole c.loop-alloc.more so_far some;
+      whole = so_far.whole;
+      within = so_far.within;
+      beyond = elim (cases_lt (amount_of offer.budget) (weight_in number offer (marks number offer.low.now) (marks number c.loop-alloc.far.items))) [
+        | inl over ↦ over
+        | inr within ↦ absurd (both_ways c.fits.result c.loop-alloc-test.false
+            (c.fits.ensures.1 (subst (λ xs. weight_in number offer (marks number offer.low.now) (marks number xs) ≤ amount_of offer.budget) (sym c.deref-in-loop-alloc.ensures.value) (omega (arith, within)))))
+      ];
+    }
+
+pub returns-clause-runs : goal.returns-clause-runs
+returns-clause-runs g c =
+    let number = g.N.Number.number in
+    let offer = c.args.offer.now in
+    let so_far = c.loop-alloc.invariant.so_far in
+    runs-of_level number g.N.Number.most offer c.requires.offer (record { near = c.loop-alloc.near; far = c.loop-alloc.far; whole = c.loop-alloc.whole }) c.loop-alloc.size c.loop-alloc.whole c.loop-alloc.more so_far
+    (runs-some number g.N.Number.most offer c.requires.offer (marks number c.loop-alloc.near.items) (marks number c.loop-alloc.far.items) c.loop-alloc.size c.loop-alloc.whole c.loop-alloc.more so_far c.requires.cut)

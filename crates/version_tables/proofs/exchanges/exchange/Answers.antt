@@ -1,0 +1,6 @@
+use Rattle.version_tables.proofs.ExchangedViews.{lost_first}
+use Rattle.version_tables.proofs.exchanges.exchange.Goals as goal
+
+pub returns-then-plan-clause-ok : goal.returns-then-plan-clause-ok
+returns-then-plan-clause-ok g c =
+    lost_first g.H.Written.lists c.args.rules.now c.args.plan.now c.args.initiator.now c.args.responder.now c.sent_before_an_answer.result c.digest_size-digest1.result c.digest_size-digest1.ensures.size c.if-plan.true c.sent_before_an_answer.ensures

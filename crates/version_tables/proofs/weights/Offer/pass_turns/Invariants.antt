@@ -1,0 +1,10 @@
+use Rattle.std.proofs.Common.{◌≡◌, length}
+use Rattle.version_tables.specs.inner.Offered.{marks}
+use Rattle.version_tables.specs.inner.Turns.{AreTurnsPassed}
+use Rattle.version_tables.proofs.weights.Offer.pass_turns.Given as goal
+
+abbrev pub invariant-loop-turn : goal.invariant-loop-turn
+invariant-loop-turn g l = record {
+  size : length l.mark ≡ l.self.nodes;
+  so_far : AreTurnsPassed l.mode g.N.Number.number l.self l.rotation (marks g.N.Number.number l.level.near.items) (marks g.N.Number.number l.level.far.items) (marks g.N.Number.number l.mark) l.turn l.left l.sent;
+}

@@ -1,0 +1,113 @@
+-- Levels of what is offered, as marks: near marks let through whole levels, and far marks one level more, which doesn't
+-- fit. Source: this project.
+use Rattle.std.specs.Prelude.{◌≡◌, ◌⊎◌, ℕ, ◌+◌, ◌*◌, ◌<◌, ◌≤◌, nat_eq, nat_lt, length, if◌then◌else◌}
+use Rattle.bench_types.specs.declared.exchanges.Mode.{Mode}
+use Rattle.bench_types.specs.declared.exchanges.Mode.TheVariants.{ScuttleBreadth, ScuttleDepth, PreciseOldest, PreciseNewest}
+use Rattle.bench_types.specs.Budget.{amount_of}
+use Rattle.planes.specs.Planes.{Cells, HasNoneAbove, IsLeastAbove}
+use Rattle.planes.specs.Sums.{sum_below}
+use Rattle.version_tables.specs.declared.weights.Offer.{Offer}
+use Rattle.version_tables.specs.declared.weights.Level.{Level}
+use Rattle.version_tables.specs.declared.weights.Step.{Step}
+use Rattle.version_tables.specs.inner.Offered.{cells_in, owner_count_in, marks, weight_in, count_in}
+use Rattle.version_tables.specs.inner.Shares.{IsLayerMark, IsRunMark}
+
+-- a mark goes on to the owner's next number, or stays where there is none
+abbrev pub IsNextMark : Cells → ℕ → ℕ → ℕ → ℕ → Type 0
+IsNextMark cells keys owner mark next =
+    (HasNoneAbove cells keys owner mark × (next ≡ mark)) ⊎ IsLeastAbove cells keys owner mark next
+
+-- how many of the owners' marks are raised
+abbrev pub raised : ℕ → (ℕ → ℕ) → (ℕ → ℕ) → ℕ
+raised nodes mark next = sum_below nodes (λ owner. if nat_lt (mark owner) (next owner) then 1 else 0)
+
+-- what marks let through: what is up to them, or in the last mode above them
+abbrev pub weight_on : {N : Type 0} → Mode → (N → ℕ) → Offer N → (ℕ → ℕ) → ℕ
+weight_on ScuttleBreadth number offer mark = weight_in number offer (marks number offer.low.now) mark
+weight_on ScuttleDepth number offer mark = weight_in number offer (marks number offer.low.now) mark
+weight_on PreciseOldest number offer mark = weight_in number offer (marks number offer.low.now) mark
+weight_on PreciseNewest number offer mark = weight_in number offer mark (marks number offer.high.now)
+
+abbrev pub count_on : {N : Type 0} → Mode → (N → ℕ) → Offer N → (ℕ → ℕ) → ℕ
+count_on ScuttleBreadth number offer mark = count_in number offer (marks number offer.low.now) mark
+count_on ScuttleDepth number offer mark = count_in number offer (marks number offer.low.now) mark
+count_on PreciseOldest number offer mark = count_in number offer (marks number offer.low.now) mark
+count_on PreciseNewest number offer mark = count_in number offer mark (marks number offer.high.now)
+
+-- far marks let through all that near marks do
+abbrev pub AreFarther : Mode → ℕ → ℕ → ℕ → Type 0
+AreFarther ScuttleBreadth low near far = (low ≤ near) × (near ≤ far)
+AreFarther ScuttleDepth low near far = (low ≤ near) × (near ≤ far)
+AreFarther PreciseOldest low near far = (low ≤ near) × (near ≤ far)
+AreFarther PreciseNewest low near far = (low ≤ far) × (far ≤ near)
+
+-- near marks, which let through so many, and far marks, which are the first that let through more than fits
+pub record IsLevel {N : Type 0} (mode : Mode) (number : N → ℕ) (offer : Offer N) (level : Level N) : Type 0 where
+  pub near : length level.near.items ≡ offer.nodes
+  pub far : length level.far.items ≡ offer.nodes
+  pub farther : (owner : ℕ) → owner < offer.nodes
+      → AreFarther mode (marks number offer.low.now owner) (marks number level.near.items owner)
+      (marks number level.far.items owner)
+  pub whole : level.whole ≡ count_on mode number offer (marks number level.near.items)
+  pub within : weight_on mode number offer (marks number level.near.items) ≤ amount_of offer.budget
+  pub beyond : amount_of offer.budget < weight_on mode number offer (marks number level.far.items)
+
+-- near marks let through so many layers, and far marks one more
+pub record AreLayers {N : Type 0} (number : N → ℕ) (offer : Offer N) (level : Level N) : Type 0 where
+  pub layers : ℕ
+  pub near : (owner : ℕ) → owner < offer.nodes
+      → IsLayerMark (cells_in number offer) offer.keys owner (marks number offer.low.now owner) layers
+      (marks number level.near.items owner)
+  pub far : (owner : ℕ) → owner < offer.nodes
+      → IsLayerMark (cells_in number offer) offer.keys owner (marks number offer.low.now owner) (layers + 1)
+      (marks number level.far.items owner)
+
+-- near marks let through the runs that are longer than one length, and far marks those of that length too
+pub record AreRuns {N : Type 0} (number : N → ℕ) (offer : Offer N) (level : Level N) : Type 0 where
+  pub size : ℕ
+  pub near : (owner : ℕ) → owner < offer.nodes
+      → IsRunMark (cells_in number offer) offer.keys owner (marks number offer.low.now owner) (size + 1)
+      (marks number level.near.items owner)
+  pub far : (owner : ℕ) → owner < offer.nodes
+      → IsRunMark (cells_in number offer) offer.keys owner (marks number offer.low.now owner) size
+      (marks number level.far.items owner)
+
+-- layers as far as they were gone over: the first fit, and the next is known
+pub record AreLayersSoFar {N : Type 0} (number : N → ℕ) (offer : Offer N) (near far : ℕ → ℕ)
+    (count added : ℕ) : Type 0 where
+  pub layers : ℕ
+  pub layered : (owner : ℕ) → owner < offer.nodes
+      → IsLayerMark (cells_in number offer) offer.keys owner (marks number offer.low.now owner) layers (near owner)
+  pub next : (owner : ℕ) → owner < offer.nodes
+      → IsNextMark (cells_in number offer) offer.keys owner (near owner) (far owner)
+  pub more : added ≡ raised offer.nodes near far
+  pub whole : count ≡ count_in number offer (marks number offer.low.now) near
+  pub within : weight_in number offer (marks number offer.low.now) near ≤ amount_of offer.budget
+
+-- a mark that goes all the way for owners that have so many numbers, and for others not at all
+pub record IsMarkFrom (count low high size mark : ℕ) : Type 0 where
+  pub all : size ≤ count → mark ≡ high
+  pub none : count < size → mark ≡ low
+
+-- all numbers of the owners that have so many are added
+pub record AreNextRuns {N : Type 0} (number : N → ℕ) (offer : Offer N) (near : ℕ → ℕ) (size : ℕ)
+    (step : Step N) : Type 0 where
+  pub count : length step.marks.items ≡ offer.nodes
+  pub marked : (owner : ℕ) → owner < offer.nodes
+      → marks number step.marks.items owner ≡ (if nat_eq (owner_count_in number offer owner) size
+      then marks number offer.high.now owner else near owner)
+  pub more : step.more ≡ sum_below offer.nodes
+      (λ owner. if nat_eq (owner_count_in number offer owner) size then 1 else 0) * size
+
+-- runs as far as they were gone over: the longer ones fit, and those of this size are next
+pub record AreRunsSoFar {N : Type 0} (number : N → ℕ) (offer : Offer N) (near far : ℕ → ℕ)
+    (size count added : ℕ) : Type 0 where
+  pub longer : (owner : ℕ) → owner < offer.nodes
+      → IsMarkFrom (owner_count_in number offer owner) (marks number offer.low.now owner)
+      (marks number offer.high.now owner) (size + 1) (near owner)
+  pub next : (owner : ℕ) → owner < offer.nodes
+      → IsMarkFrom (owner_count_in number offer owner) (marks number offer.low.now owner)
+      (marks number offer.high.now owner) size (far owner)
+  pub whole : count ≡ count_in number offer (marks number offer.low.now) near
+  pub more : count + added ≡ count_in number offer (marks number offer.low.now) far
+  pub within : weight_in number offer (marks number offer.low.now) near ≤ amount_of offer.budget

@@ -1,0 +1,46 @@
+-- Levels of rounds, as marks. Source: this project.
+use Rattle.std.specs.Prelude.{◌≡◌, ℕ, ◌+◌, ◌-◌, ◌<◌, ◌≤◌, Bool, true, false, max, List, if◌then◌else◌}
+use Rattle.bench_types.specs.declared.exchanges.Mode.{Mode}
+use Rattle.bench_types.specs.declared.exchanges.Mode.TheVariants.{PreciseOldest, PreciseNewest}
+use Rattle.bench_types.specs.Budget.{amount_of}
+use Rattle.planes.specs.Planes.{cell}
+use Rattle.version_tables.specs.declared.weights.Offer.{Offer}
+use Rattle.version_tables.specs.declared.weights.Level.{Level}
+use Rattle.version_tables.specs.inner.Offered.{marks}
+use Rattle.version_tables.specs.inner.Plans.{weight_on, count_on}
+use Rattle.version_tables.specs.inner.Shares.{IsRoundMark}
+use Rattle.version_tables.specs.inner.Weights.{writes_in}
+
+abbrev pub round_mode : Bool → Mode
+round_mode true = PreciseNewest
+round_mode false = PreciseOldest
+
+-- the round that so many rounds from the oldest on end with, or before which so many from the newest on begin
+abbrev pub round_at : Bool → ℕ → ℕ → ℕ
+round_at newest rounds count = if newest then rounds - count else count
+
+-- an owner's mark at a round's end, but none below its low mark
+abbrev pub end_mark : List ℕ → ℕ → (ℕ → ℕ) → ℕ → ℕ → ℕ
+end_mark ends nodes low round owner = max (low owner) (cell ends nodes owner round)
+
+abbrev pub round_mark : Bool → ℕ → List ℕ → ℕ → (ℕ → ℕ) → ℕ → ℕ → ℕ
+round_mark newest rounds ends nodes low count owner = end_mark ends nodes low (round_at newest rounds count) owner
+
+-- a few rounds fit, which have so many numbers, and enough rounds don't
+pub record AreFewAndEnough {N : Type 0} (newest : Bool) (number : N → ℕ) (offer : Offer N) (mark : ℕ → ℕ → ℕ)
+    (rounds few enough whole : ℕ) : Type 0 where
+  pub below : few < enough
+  pub bound : enough ≤ rounds
+  pub counted : whole ≡ count_on (round_mode newest) number offer (mark few)
+  pub within : weight_on (round_mode newest) number offer (mark few) ≤ amount_of offer.budget
+  pub beyond : amount_of offer.budget < weight_on (round_mode newest) number offer (mark enough)
+
+-- near and far marks part each owner's writes by two rounds, one after the other
+pub record AreRounds {N : Type 0} (newest : Bool) (number : N → ℕ) (offer : Offer N) (level : Level N) : Type 0 where
+  pub round : ℕ
+  pub near : (owner : ℕ) → owner < offer.nodes
+      → IsRoundMark (writes_in offer.lists.now owner) (marks number offer.low.now owner)
+      (if newest then round + 1 else round) (marks number level.near.items owner)
+  pub far : (owner : ℕ) → owner < offer.nodes
+      → IsRoundMark (writes_in offer.lists.now owner) (marks number offer.low.now owner)
+      (if newest then round else round + 1) (marks number level.far.items owner)

@@ -1,0 +1,98 @@
+//! Runs: all that an owner offers, the longest run first, as long as they fit.
+
+ghost use Rattle.std.specs.Prelude.{◌≡◌, ℕ, ◌+◌, ◌-◌, ◌*◌, ◌<◌, ◌≤◌, IfOk, IsOkUnless, length, map, nat_eq, slice_index, if◌then◌else◌};
+ghost use Rattle.bench_types.specs.Budget.{amount_of};
+ghost use Rattle.bench_types.specs.declared.exchanges.Mode.TheVariants.{ScuttleDepth};
+ghost use Rattle.bench_types.specs.declared.faults.Fault.TheVariants.{OutOfMemory};
+ghost use Rattle.bench_types.specs.declared.limits.TheConstants.{MOST_NODES, MOST_KEYS};
+ghost use Rattle.planes.specs.inner.Elementwise.{AreChanged};
+ghost use Rattle.planes.specs.Planes.{HasEach};
+ghost use Rattle.planes.specs.Sums.{sum_below};
+ghost use Rattle.version_tables.specs.inner.Offered.{marks, owner_count_in, weight_in, IsOffer};
+ghost use Rattle.version_tables.specs.inner.Plans.{AreNextRuns, AreRuns, IsLevel};
+
+use crate::weights::{Level, Offer, Step, one_if, pick};
+use bench_types::Fault;
+use planes::{Number, counts_above};
+use std::alloc::Global;
+
+// The greatest of these numbers.
+fn greatest_of<N: Number>(numbers: &[N]) -> u32
+    requires few { (r : ℕ) → r < length numbers.now → slice_index (map N.number numbers.now) r ≤ MOST_KEYS }
+    ensures greatest { (r : ℕ) → r < length numbers.now → slice_index (map N.number numbers.now) r ≤ result }
+    ensures few { result ≤ MOST_KEYS }
+{
+    let mut greatest = 0;
+    for r in 0..numbers.len() {
+        greatest = numbers[r].widen().max(greatest);
+    }
+    greatest
+}
+
+// Raises the marks of the owners that have so many numbers, and counts these owners.
+fn raise_runs<N: Number>(marks: &mut [N], high: &[N], counts: &[N], size: u32) -> u32
+    requires high { length high.now ≡ length marks.old }
+    requires counts { length counts.now ≡ length marks.old }
+    requires room { length marks.old ≤ MOST_NODES }
+    ensures marks { AreChanged (λ r x y. y ≡ (if nat_eq (slice_index (map N.number counts.now) r) size
+        then slice_index (map N.number high.now) r else x)) (map N.number marks.old) (map N.number marks.new) }
+    ensures count { result ≡ sum_below (length marks.old)
+        (λ r. if nat_eq (slice_index (map N.number counts.now) r) size then 1 else 0) }
+{
+    let mut count = 0;
+    for r in 0..marks.len() {
+        let found = counts[r].widen() == size;
+        count += one_if(found);
+        marks[r] = pick(found, high[r], marks[r]);
+    }
+    count
+}
+
+// All numbers of the owners that have so many.
+fn next_runs<N: Number>(
+    alloc: Global,
+    offer: &Offer<N>,
+    counts: &[N],
+    near: &[N],
+    size: u32,
+) -> Result<Step<N>, Fault>
+    requires offer { IsOffer N.number N.most offer.now }
+    requires near { length near.now ≡ offer.now.nodes }
+    requires counts { HasEach offer.now.nodes (λ r n. n ≡ owner_count_in N.number offer.now r)
+        (map N.number counts.now) }
+    requires few { size ≤ MOST_KEYS }
+    ensures runs { IfOk result (λ s. AreNextRuns N.number offer.now (marks N.number near.now) size s) }
+    ensures only { IsOkUnless result OutOfMemory }
+{
+    let mut marks = Vec::from_slice(alloc, near)?;
+    let owners = raise_runs(&mut marks, offer.high, counts, size);
+    let more = owners * size;
+    Ok(Step { marks, more })
+}
+
+/// Runs as long as they fit, the longest first, and the first that don't.
+pub(crate) fn depth<N: Number>(alloc: Global, offer: &Offer<N>) -> Result<Level<N>, Fault>
+    requires offer { IsOffer N.number N.most offer.now }
+    requires cut { amount_of offer.now.budget
+        < weight_in N.number offer.now (marks N.number offer.now.low.now) (marks N.number offer.now.high.now) }
+    ensures level { IfOk result (λ l. IsLevel ScuttleDepth N.number offer.now l) }
+    ensures runs { IfOk result (λ l. AreRuns N.number offer.now l) }
+    ensures only { IsOkUnless result OutOfMemory }
+{
+    let counts = counts_above(alloc, offer.cells, offer.nodes, offer.keys, offer.low)?;
+    let mut size = greatest_of(&counts);
+    let mut near = Vec::from_slice(alloc, offer.low)?;
+    let mut whole = 0;
+    let first = next_runs(alloc, offer, &counts, &near, size)?;
+    let mut far = first.marks;
+    let mut more = first.more;
+    while offer.fits(whole + more, offer.low, &far) {
+        size -= 1;
+        let next = next_runs(alloc, offer, &counts, &far, size)?;
+        whole += more;
+        near = far;
+        far = next.marks;
+        more = next.more;
+    }
+    Ok(Level { near, far, whole })
+}

@@ -1,0 +1,231 @@
+//! The exchange of an initiator and a responder whose tables keep versions alone.
+
+ghost use Rattle.std.specs.Prelude.{◌≡◌, ◌==◌, ℕ, ◌<◌, length, map, IfOk, OnOk, OnErr, IsOkUnless, Bool, true, false};
+ghost use Rattle.bench_types.specs.declared.faults.Fault.TheVariants.{OutOfMemory};
+ghost use Rattle.bench_types.specs.declared.exchanges.Fate.TheVariants as fate;
+ghost use Rattle.bench_types.specs.Budget.{IsLawfulBudget};
+ghost use Rattle.bench_types.specs.Mode.{digest_kind};
+ghost use Rattle.exchange.specs.Exchanged.{exchanged, last_fate, sent_until};
+ghost use Rattle.exchange.specs.Exchanging.{MayBeExchanged, MakesOf};
+ghost use Rattle.planes.specs.Planes.{HasEach};
+ghost use Rattle.reconcile.specs.Deltas.{DeltaView};
+ghost use Rattle.reconcile.specs.Digests.{digest_size};
+ghost use Rattle.version_tables.specs.Views.{table_in, IsKept, VersionTableView};
+ghost use Rattle.version_tables.specs.inner.Deltas.{AreMarksOf};
+ghost use Rattle.version_tables.specs.inner.Histories.{bases_in, FitsHistories};
+ghost use Rattle.version_tables.specs.inner.Offers.{IsNumberedHistory};
+ghost use Rattle.version_tables.specs.inner.Taken.{HasTaken, HasTakenUnless, StaysOne};
+ghost use Rattle.version_tables.specs.inner.Weights.{writes_in};
+
+use crate::deltas::{DeltaMarks, delta};
+use crate::digests::digest_size;
+use crate::histories::Histories;
+use crate::tables::{VersionTable, Written};
+use crate::taking::take_unless;
+use bench_types::{Exchange, Fate, Fault, Record, Rules};
+use owner_lists::OwnerList;
+use planes::Number;
+use std::alloc::Global;
+
+/// Carries out one exchange. The first table is the initiator's. An error is lack of memory, all of which is taken
+/// before either table changes.
+pub(crate) fn exchange<N: Number, H: Written>(
+    alloc: Global,
+    histories: &Histories<N, H>,
+    initiator: &mut VersionTable<N, H>,
+    responder: &mut VersionTable<N, H>,
+    plan: &Exchange,
+    rules: &Rules,
+) -> Result<Record, Fault>
+    requires budget { IsLawfulBudget rules.now.budget }
+    requires tables { MayBeExchanged plan.now (table_in H.lists initiator.old) (table_in H.lists responder.old) }
+    requires initiator { FitsHistories histories.now (table_in H.lists initiator.old) }
+    requires responder { FitsHistories histories.now (table_in H.lists responder.old) }
+    ensures ok { IfOk result
+        (MakesOf (table_in H.lists) rules.now plan.now initiator.old responder.old initiator.new responder.new) }
+    ensures initiator_stays { OnErr result (initiator.new ≡ initiator.old) }
+    ensures responder_stays { OnErr result (responder.new ≡ responder.old) }
+    ensures only { IsOkUnless result OutOfMemory }
+{
+    let digest1 = digest_size(initiator, rules.mode);
+    if plan.lost1 {
+        return Ok(sent_before_an_answer(digest1));
+    }
+    exchange_deltas(alloc, histories, initiator, responder, digest1, plan, rules)
+}
+
+// The exchange from the second message on. The first one came.
+fn exchange_deltas<N: Number, H: Written>(
+    alloc: Global,
+    histories: &Histories<N, H>,
+    initiator: &mut VersionTable<N, H>,
+    responder: &mut VersionTable<N, H>,
+    digest1: u32,
+    plan: &Exchange,
+    rules: &Rules,
+) -> Result<Record, Fault>
+    requires came { plan.now.lost1 ≡ false }
+    requires kept { IsKept H.lists initiator.old }
+    requires digest1 { digest1 ≡ digest_size (digest_kind rules.now.mode) (table_in H.lists initiator.old) }
+    requires budget { IsLawfulBudget rules.now.budget }
+    requires tables { MayBeExchanged plan.now (table_in H.lists initiator.old) (table_in H.lists responder.old) }
+    requires initiator { FitsHistories histories.now (table_in H.lists initiator.old) }
+    requires responder { FitsHistories histories.now (table_in H.lists responder.old) }
+    ensures ok { IfOk result
+        (MakesOf (table_in H.lists) rules.now plan.now initiator.old responder.old initiator.new responder.new) }
+    ensures initiator_stays { OnErr result (initiator.new ≡ initiator.old) }
+    ensures responder_stays { OnErr result (responder.new ≡ responder.old) }
+    ensures only { IsOkUnless result OutOfMemory }
+{
+    let back = delta(alloc, responder, initiator, histories, rules, plan.rotation)?;
+    let digest2 = digest_size(responder, rules.mode);
+    if plan.lost2 {
+        return Ok(sent_back(digest1, digest2, &back));
+    }
+    let forth = delta(alloc, initiator, responder, histories, rules, plan.rotation)?;
+    let lists = histories.lists();
+    let bases = histories.bases();
+    take_both(
+        alloc,
+        initiator,
+        responder,
+        &back,
+        &forth,
+        bases,
+        lists,
+        is_nothing(back.sent),
+        plan.lost3 | is_nothing(forth.sent),
+    )?;
+    Ok(sent_both(digest1, digest2, &back, &forth, plan.lost3))
+}
+
+fn is_nothing(sent: u32) -> bool
+    ensures { result ≡ (sent == 0) }
+{
+    sent == 0
+}
+
+// Each side takes what came to it, unless that is nothing. The second delta may also be lost.
+fn take_both<N: Number, H: Written>(
+    alloc: Global,
+    initiator: &mut VersionTable<N, H>,
+    responder: &mut VersionTable<N, H>,
+    back: &DeltaMarks<N>,
+    forth: &DeltaMarks<N>,
+    bases: &[N],
+    lists: &[OwnerList],
+    nothing_back: bool,
+    nothing_forth: bool,
+) -> Result<(), Fault>
+    requires cells { length responder.old.cells ≡ length initiator.old.cells }
+    requires nodes { responder.old.nodes ≡ initiator.old.nodes }
+    requires back_low { length (map N.number back.now.low.items) ≡ initiator.old.nodes }
+    requires back_high { length (map N.number back.now.high.items) ≡ initiator.old.nodes }
+    requires forth_low { length (map N.number forth.now.low.items) ≡ initiator.old.nodes }
+    requires forth_high { length (map N.number forth.now.high.items) ≡ initiator.old.nodes }
+    requires bases { HasEach initiator.old.nodes (λ r n. n ≡ bases_in lists.now r) (map N.number bases.now) }
+    requires lists { length lists.now ≡ initiator.old.nodes }
+    requires numbered { (owner : ℕ) → IsNumberedHistory (writes_in lists.now owner) }
+    requires initiator { StaysOne H.lists (writes_in lists.now) (bases_in lists.now) initiator.old responder.old.cells
+        (map N.number back.now.low.items) (map N.number back.now.high.items) }
+    requires responder { (after : VersionTableView)
+        → HasTakenUnless nothing_back (writes_in lists.now) (bases_in lists.now) initiator.old responder.old.cells
+        (map N.number back.now.low.items) (map N.number back.now.high.items) after
+        → StaysOne H.lists (writes_in lists.now) (bases_in lists.now) responder.old after.cells
+        (map N.number forth.now.low.items) (map N.number forth.now.high.items) }
+    ensures initiator { OnOk result (HasTakenUnless nothing_back (writes_in lists.now) (bases_in lists.now) initiator.old
+        responder.old.cells (map N.number back.now.low.items) (map N.number back.now.high.items) initiator.new) }
+    ensures responder { OnOk result (HasTakenUnless nothing_forth (writes_in lists.now) (bases_in lists.now)
+        responder.old initiator.new.cells (map N.number forth.now.low.items) (map N.number forth.now.high.items)
+        responder.new) }
+    ensures initiator_stays { OnErr result (initiator.new ≡ initiator.old) }
+    ensures responder_stays { OnErr result (responder.new ≡ responder.old) }
+    ensures only { IsOkUnless result OutOfMemory }
+{
+    let initiator_before = copy_of(alloc, initiator.greatest())?;
+    let responder_before = copy_of(alloc, responder.greatest())?;
+    let came_back = responder.cells();
+    take_unless(
+        nothing_back,
+        initiator,
+        came_back,
+        &back.low,
+        &back.high,
+        &initiator_before,
+        bases,
+        lists,
+    );
+    let came_forth = initiator.cells();
+    take_unless(
+        nothing_forth,
+        responder,
+        came_forth,
+        &forth.low,
+        &forth.high,
+        &responder_before,
+        bases,
+        lists,
+    );
+    Ok(())
+}
+
+// The record where the first message was lost.
+fn sent_before_an_answer(digest1: u32) -> Record
+    ensures { (size2 : ℕ) (back forth : DeltaView) → result ≡ sent_until fate.Lost1 digest1 size2 back forth }
+{
+    Record {
+        digest1,
+        digest2: 0,
+        back: 0,
+        forth: 0,
+        back_cut: 0,
+        forth_cut: 0,
+        fate: Fate::Lost1,
+    }
+}
+
+// The record where the second message was lost.
+fn sent_back<N: Number>(digest1: u32, digest2: u32, back: &DeltaMarks<N>) -> Record
+    ensures { (b f : DeltaView) → back.now.sent ≡ length b.items → back.now.cut ≡ b.cut
+        → result ≡ sent_until fate.Lost2 digest1 digest2 b f }
+{
+    Record {
+        digest1,
+        digest2,
+        back: back.sent,
+        forth: 0,
+        back_cut: back.cut,
+        forth_cut: 0,
+        fate: Fate::Lost2,
+    }
+}
+
+// The record where all three messages were sent.
+fn sent_both<N: Number>(
+    digest1: u32,
+    digest2: u32,
+    back: &DeltaMarks<N>,
+    forth: &DeltaMarks<N>,
+    lost3: bool,
+) -> Record
+    ensures { (b f : DeltaView) → back.now.sent ≡ length b.items → back.now.cut ≡ b.cut → forth.now.sent ≡ length f.items
+        → forth.now.cut ≡ f.cut → result ≡ sent_until (last_fate lost3) digest1 digest2 b f }
+{
+    Record {
+        digest1,
+        digest2,
+        back: back.sent,
+        forth: forth.sent,
+        back_cut: back.cut,
+        forth_cut: forth.cut,
+        fate: if lost3 { Fate::Lost3 } else { Fate::Ok },
+    }
+}
+
+// The same numbers again.
+fn copy_of<N: Number>(alloc: Global, numbers: &[N]) -> Result<Vec<N>, Fault>
+    ensures numbers { IfOk result (λ v. map N.number v.items ≡ map N.number numbers.now) }
+    ensures only { IsOkUnless result OutOfMemory }
+{
+    Ok(Vec::from_slice(alloc, numbers)?)
+}

@@ -1,0 +1,107 @@
+//! What is sent of an offer, as one mark for each owner.
+
+ghost use Rattle.std.specs.Prelude.{◌≡◌, ℕ, ◌<◌, ◌≤◌, length, map, IfOk, IsOkUnless};
+ghost use Rattle.bench_types.specs.Budget.{amount_of};
+ghost use Rattle.bench_types.specs.declared.faults.Fault.TheVariants.{OutOfMemory};
+ghost use Rattle.version_tables.specs.inner.Histories.{AreMadeBy};
+ghost use Rattle.version_tables.specs.inner.Marked.{HasShapeIn, AreMarked, whole_marks};
+ghost use Rattle.version_tables.specs.inner.Offered.{marks, weight_in, count_in, IsOffer};
+ghost use Rattle.version_tables.specs.inner.Plans.{IsLevel};
+ghost use Rattle.version_tables.specs.inner.Rounds.{AreEnds};
+ghost use Rattle.version_tables.specs.inner.Weights.{writes_in};
+
+use crate::breadths::breadth;
+use crate::depths::depth;
+use crate::rounds::rounds;
+use crate::sharing::share;
+use crate::weights::{Level, Offer};
+use bench_types::{Fault, Mode};
+use planes::Number;
+use std::alloc::Global;
+
+/// Marks of what is sent: all numbers up to them, or in the mode that sends the newest first all above them.
+#[derive(Drop)]
+pub(crate) struct Marked<N: Number> {
+    pub(crate) mark: Vec<N>,
+    pub(crate) sent: u32,
+    pub(crate) cut: u32,
+}
+
+/// All where it fits, else whole levels and a share of the first one that doesn't fit with them.
+pub(crate) fn planned<N: Number>(
+    alloc: Global,
+    offer: &Offer<N>,
+    mode: Mode,
+    rotation: usize,
+    ends: &[N],
+    last: u32,
+) -> Result<Marked<N>, Fault>
+    requires offer { IsOffer N.number N.most offer.now }
+    requires rotation { rotation < offer.now.nodes }
+    requires ends { AreEnds (writes_in offer.now.lists.now) offer.now.nodes last (map N.number ends.now) }
+    requires made { (owner : ℕ) → AreMadeBy last (writes_in offer.now.lists.now owner) }
+    ensures size { IfOk result (λ m. length m.mark.items ≡ offer.now.nodes) }
+    ensures marked { IfOk result
+        (λ m. AreMarked mode rotation N.number offer.now (marks N.number m.mark.items) m.sent m.cut) }
+    ensures only { IsOkUnless result OutOfMemory }
+{
+    let found = planes::total_above(offer.cells, offer.nodes, offer.keys, offer.low);
+    if offer.fits(found, offer.low, offer.high) {
+        let mark = whole_mark(alloc, offer, mode)?;
+        return Ok(Marked {
+            mark,
+            sent: found,
+            cut: 0,
+        });
+    }
+    let level = level_of(alloc, offer, mode, ends, last, found)?;
+    let share = share(alloc, offer, &level, mode, rotation)?;
+    let cut = found - share.sent;
+    Ok(Marked {
+        mark: share.mark,
+        sent: share.sent,
+        cut,
+    })
+}
+
+// The marks that let all through.
+fn whole_mark<N: Number>(alloc: Global, offer: &Offer<N>, mode: Mode) -> Result<Vec<N>, Fault>
+    ensures marks { IfOk result (λ v. map N.number v.items ≡ whole_marks mode N.number offer.now) }
+    ensures only { IsOkUnless result OutOfMemory }
+{
+    match mode {
+        Mode::ScuttleBreadth | Mode::ScuttleDepth | Mode::PreciseOldest => {
+            Ok(Vec::from_slice(alloc, offer.high)?)
+        }
+        Mode::PreciseNewest => Ok(Vec::from_slice(alloc, offer.low)?),
+    }
+}
+
+// The first level of a mode that doesn't fit with those before it.
+fn level_of<N: Number>(
+    alloc: Global,
+    offer: &Offer<N>,
+    mode: Mode,
+    ends: &[N],
+    last: u32,
+    found: u32,
+) -> Result<Level<N>, Fault>
+    requires offer { IsOffer N.number N.most offer.now }
+    requires ends { AreEnds (writes_in offer.now.lists.now) offer.now.nodes last (map N.number ends.now) }
+    requires made { (owner : ℕ) → AreMadeBy last (writes_in offer.now.lists.now owner) }
+    requires found { found
+        ≡ count_in N.number offer.now (marks N.number offer.now.low.now) (marks N.number offer.now.high.now) }
+    requires beyond { amount_of offer.now.budget
+        < weight_in N.number offer.now (marks N.number offer.now.low.now) (marks N.number offer.now.high.now) }
+    ensures level { IfOk result (λ l. IsLevel mode N.number offer.now l) }
+    ensures shape { IfOk result
+        (λ l. HasShapeIn mode N.number offer.now (marks N.number l.near.items) (marks N.number l.far.items)) }
+    ensures only { IsOkUnless result OutOfMemory }
+{
+    match mode {
+        Mode::ScuttleBreadth => breadth(alloc, offer),
+        Mode::ScuttleDepth => depth(alloc, offer),
+        Mode::PreciseOldest => rounds(alloc, offer, ends, last, found, false),
+        Mode::PreciseNewest => rounds(alloc, offer, ends, last, found, true),
+    }
+}

@@ -1,0 +1,203 @@
+//! Rounds: all that was written in a round, the oldest or the newest first, as long as they fit.
+
+ghost use Rattle.std.specs.Prelude.{◌≡◌, ℕ, ◌+◌, ◌*◌, ◌<◌, ◌≤◌, ◌↔◌, length, map, max, slice_index, IfOk, IsOkUnless, IsTrue};
+ghost use Rattle.bench_types.specs.Budget.{amount_of};
+ghost use Rattle.bench_types.specs.declared.faults.Fault.TheVariants.{OutOfMemory};
+ghost use Rattle.bench_types.specs.declared.limits.TheConstants.{MOST_NODES};
+ghost use Rattle.planes.specs.Planes.{cell, HasEach};
+ghost use Rattle.planes.specs.inner.Elementwise.{AreChanged};
+ghost use Rattle.version_tables.specs.inner.Histories.{AreMadeBy};
+ghost use Rattle.version_tables.specs.inner.Offered.{marks, weight_in, count_in, IsOffer};
+ghost use Rattle.version_tables.specs.inner.Plans.{weight_on, count_on, IsLevel};
+ghost use Rattle.version_tables.specs.inner.RoundLevels.{round_mode, round_at, end_mark, round_mark, AreFewAndEnough, AreRounds};
+ghost use Rattle.version_tables.specs.inner.Rounds.{AreEnds};
+ghost use Rattle.version_tables.specs.inner.Weights.{writes_in};
+
+use crate::weights::{Level, Offer};
+use bench_types::Fault;
+use planes::Number;
+use std::alloc::Global;
+
+// So many rounds fit, and have so many numbers.
+#[derive(Clone, Copy)]
+struct Few {
+    rounds: u32,
+    whole: u32,
+}
+
+// What marks let through: how many numbers, and whether they fit.
+#[derive(Clone, Copy)]
+struct Found {
+    count: u32,
+    fits: bool,
+}
+
+/// The first round that doesn't fit with those before it, from the oldest on or from the newest on.
+pub(crate) fn rounds<N: Number>(
+    alloc: Global,
+    offer: &Offer<N>,
+    ends: &[N],
+    rounds: u32,
+    found: u32,
+    newest: bool,
+) -> Result<Level<N>, Fault>
+    requires offer { IsOffer N.number N.most offer.now }
+    requires ends { AreEnds (writes_in offer.now.lists.now) offer.now.nodes rounds (map N.number ends.now) }
+    requires made { (owner : ℕ) → AreMadeBy rounds (writes_in offer.now.lists.now owner) }
+    requires found { found
+        ≡ count_in N.number offer.now (marks N.number offer.now.low.now) (marks N.number offer.now.high.now) }
+    requires beyond { amount_of offer.now.budget
+        < weight_in N.number offer.now (marks N.number offer.now.low.now) (marks N.number offer.now.high.now) }
+    ensures level { IfOk result (IsLevel (round_mode newest) N.number offer.now) }
+    ensures rounds { IfOk result (AreRounds newest N.number offer.now) }
+    ensures only { IsOkUnless result OutOfMemory }
+{
+    let few = few_rounds(alloc, offer, ends, rounds, found, newest)?;
+    let near = mark_after(alloc, offer, ends, rounds, few.rounds, newest)?;
+    let far = mark_after(alloc, offer, ends, rounds, few.rounds + 1, newest)?;
+    Ok(Level {
+        near,
+        far,
+        whole: few.whole,
+    })
+}
+
+// Halves the rounds between few enough to fit and so many that they don't, with steps that double from the first on.
+fn few_rounds<N: Number>(
+    alloc: Global,
+    offer: &Offer<N>,
+    ends: &[N],
+    rounds: u32,
+    found: u32,
+    newest: bool,
+) -> Result<Few, Fault>
+    requires offer { IsOffer N.number N.most offer.now }
+    requires ends { AreEnds (writes_in offer.now.lists.now) offer.now.nodes rounds (map N.number ends.now) }
+    requires made { (owner : ℕ) → AreMadeBy rounds (writes_in offer.now.lists.now owner) }
+    requires found { found
+        ≡ count_in N.number offer.now (marks N.number offer.now.low.now) (marks N.number offer.now.high.now) }
+    requires beyond { amount_of offer.now.budget
+        < weight_in N.number offer.now (marks N.number offer.now.low.now) (marks N.number offer.now.high.now) }
+    ensures few { IfOk result (λ few. AreFewAndEnough newest N.number offer.now
+        (round_mark newest rounds (map N.number ends.now) offer.now.nodes (marks N.number offer.now.low.now))
+        rounds few.rounds (few.rounds + 1) few.whole) }
+    ensures only { IsOkUnless result OutOfMemory }
+{
+    let mut few = 0;
+    let mut enough = rounds;
+    let mut whole = 0;
+    let mut step = 1;
+    while few + 1 < enough {
+        let by = ((enough - few) / 2).min(step);
+        let mark = mark_after(alloc, offer, ends, rounds, few + by, newest)?;
+        let found_there = look(offer, &mark, found, newest);
+        if found_there.fits {
+            few += by;
+            whole = found_there.count;
+            step = by * 2;
+        } else {
+            enough = few + by;
+        }
+    }
+    Ok(Few { rounds: few, whole })
+}
+
+// What marks let through.
+fn look<N: Number>(offer: &Offer<N>, mark: &[N], found: u32, newest: bool) -> Found
+    requires offer { IsOffer N.number N.most offer.now }
+    requires mark { length mark.now ≡ offer.now.nodes }
+    requires above { (r : ℕ) → r < offer.now.nodes → marks N.number offer.now.low.now r ≤ marks N.number mark.now r }
+    requires found { found
+        ≡ count_in N.number offer.now (marks N.number offer.now.low.now) (marks N.number offer.now.high.now) }
+    ensures count { result.count ≡ count_on (round_mode newest) N.number offer.now (marks N.number mark.now) }
+    ensures fits { IsTrue result.fits
+        ↔ (weight_on (round_mode newest) N.number offer.now (marks N.number mark.now) ≤ amount_of offer.now.budget) }
+{
+    let above = planes::total_above(offer.cells, offer.nodes, offer.keys, mark);
+    if newest {
+        let fits = offer.fits(above, mark, offer.high);
+        Found { count: above, fits }
+    } else {
+        let count = found - above;
+        let fits = offer.fits(count, offer.low, mark);
+        Found { count, fits }
+    }
+}
+
+// The marks between so many rounds and the others.
+fn mark_after<N: Number>(
+    alloc: Global,
+    offer: &Offer<N>,
+    ends: &[N],
+    rounds: u32,
+    count: u32,
+    newest: bool,
+) -> Result<Vec<N>, Fault>
+    requires offer { IsOffer N.number N.most offer.now }
+    requires ends { length ends.now ≡ (rounds + 1) * offer.now.nodes }
+    requires count { count ≤ rounds }
+    ensures marks { IfOk result (λ v. HasEach offer.now.nodes
+        (λ r n. n
+        ≡ round_mark newest rounds (map N.number ends.now) offer.now.nodes (marks N.number offer.now.low.now) count r)
+        (map N.number v.items)) }
+    ensures only { IsOkUnless result OutOfMemory }
+{
+    let round = if newest { rounds - count } else { count };
+    mark_of(alloc, offer, ends, rounds, round)
+}
+
+// The marks at the end of a round.
+fn mark_of<N: Number>(
+    alloc: Global,
+    offer: &Offer<N>,
+    ends: &[N],
+    rounds: u32,
+    round: u32,
+) -> Result<Vec<N>, Fault>
+    requires offer { IsOffer N.number N.most offer.now }
+    requires ends { length ends.now ≡ (rounds + 1) * offer.now.nodes }
+    requires round { round ≤ rounds }
+    ensures marks { IfOk result (λ v. HasEach offer.now.nodes
+        (λ r n. n ≡ end_mark (map N.number ends.now) offer.now.nodes (marks N.number offer.now.low.now) round r)
+        (map N.number v.items)) }
+    ensures only { IsOkUnless result OutOfMemory }
+{
+    let mut mark = Vec::from_slice(alloc, offer.low)?;
+    raise_to_end(&mut mark, ends, rounds, round);
+    Ok(mark)
+}
+
+// Raises each mark to the end of a round.
+fn raise_to_end<N: Number>(marks: &mut [N], ends: &[N], rounds: u32, round: u32)
+    requires nodes { length marks.old ≤ MOST_NODES }
+    requires ends { length ends.now ≡ (rounds + 1) * length marks.old }
+    requires round { round ≤ rounds }
+    ensures { HasEach (length marks.old)
+        (λ r n. n ≡ end_mark (map N.number ends.now) (length marks.old) (slice_index (map N.number marks.old)) round r)
+        (map N.number marks.new) }
+{
+    let row = row_of(ends, marks.len(), rounds, round);
+    raise(marks, row);
+}
+
+// The ends of a round.
+fn row_of<N: Number>(ends: &[N], nodes: usize, rounds: u32, round: u32) -> &[N]
+    requires nodes { nodes ≤ MOST_NODES }
+    requires ends { length ends.now ≡ (rounds + 1) * nodes }
+    requires round { round ≤ rounds }
+    ensures { HasEach nodes (λ r n. n ≡ cell (map N.number ends.now) nodes r round) (map N.number result.now) }
+{
+    let start = round as usize * nodes;
+    &ends[start..start + nodes]
+}
+
+// Raises each number to that of another list.
+fn raise<N: Number>(numbers: &mut [N], bounds: &[N])
+    requires { length bounds.now ≡ length numbers.old }
+    ensures { AreChanged (λ r x y. y ≡ max x (slice_index (map N.number bounds.now) r))
+        (map N.number numbers.old) (map N.number numbers.new) }
+{
+    for r in 0..numbers.len() {
+        numbers[r] = numbers[r].max_with(bounds[r]);
+    }
+}

@@ -1,0 +1,219 @@
+//! A level that doesn't fit, shared out: the owners take turns from the rotation on, up to the first number that
+//! doesn't fit.
+
+ghost use Rattle.std.specs.Prelude.{◌≡◌, ℕ, ◌+◌, ◌-◌, ◌<◌, ◌≤◌, IfOk, IsOkUnless, length, map};
+ghost use Rattle.bench_types.specs.Budget.{amount_of};
+ghost use Rattle.bench_types.specs.declared.faults.Fault.TheVariants.{OutOfMemory};
+ghost use Rattle.reconcile.specs.Order.{rotated};
+ghost use Rattle.version_tables.specs.inner.Offered.{cells_in, marks, weights_in, IsOffer};
+ghost use Rattle.version_tables.specs.inner.Plans.{weight_on, IsLevel};
+ghost use Rattle.version_tables.specs.inner.Sharing.{AreShared};
+ghost use Rattle.version_tables.specs.inner.Turns.{part_between, AreTurnsPassed, ArePartCounts, IsStop};
+
+use crate::stops::Stop;
+use crate::weights::{Level, Offer, Share, number_at};
+use bench_types::{Budget, Fault, Mode};
+use planes::{Number, counts_between};
+use std::alloc::Global;
+
+// An owner whose part doesn't fit, what is left for it, and how many numbers were let through before.
+#[derive(Clone, Copy)]
+struct Passed {
+    owner: usize,
+    left: u32,
+    sent: u32,
+}
+
+// The owner whose turn it is.
+fn owner_of_turn(turn: usize, nodes: usize, rotation: usize) -> usize
+    requires turn { turn < nodes }
+    requires rotation { rotation < nodes }
+    ensures below { result < nodes }
+    ensures turn { rotated nodes rotation result ≡ turn }
+{
+    let rest = nodes - rotation;
+    if turn < rest {
+        rotation + turn
+    } else {
+        turn - rest
+    }
+}
+
+impl<'a, N: Number> Offer<'a, N> {
+    // What an owner's part of a level takes, which has so many numbers.
+    fn weight_of_part(&self, mode: Mode, owner: usize, near: N, far: N, count: u32) -> u32
+        requires offer { IsOffer N.number N.most self.now }
+        requires owner { owner < self.now.nodes }
+        requires count { count ≡ part_between mode (λ _. 1) (cells_in N.number self.now) self.now.keys owner
+            (N.number near) (N.number far) }
+        ensures { result ≡ part_between mode (weights_in self.now owner) (cells_in N.number self.now) self.now.keys
+            owner (N.number near) (N.number far) }
+    {
+        match self.budget {
+            Budget::Entries(_) => count,
+            Budget::Bytes(_) if count == 0 => 0,
+            Budget::Bytes(_) => match mode {
+                Mode::PreciseNewest => self.weight_of(owner, far, near),
+                Mode::ScuttleBreadth | Mode::ScuttleDepth | Mode::PreciseOldest => {
+                    self.weight_of(owner, near, far)
+                }
+            },
+        }
+    }
+
+    // Where an owner's part stops that doesn't fit.
+    fn stop(&self, mode: Mode, owner: usize, near: N, far: N, room: u32) -> Stop<N>
+        requires offer { IsOffer N.number N.most self.now }
+        requires owner { owner < self.now.nodes }
+        requires beyond { room < part_between mode (weights_in self.now owner) (cells_in N.number self.now)
+            self.now.keys owner (N.number near) (N.number far) }
+        ensures { IsStop mode (weights_in self.now owner) (cells_in N.number self.now) self.now.keys owner
+            (N.number near) (N.number far) room (N.number result.mark) result.sent }
+    {
+        match mode {
+            Mode::PreciseNewest => self.stop_down(owner, far, near, room),
+            Mode::ScuttleBreadth | Mode::ScuttleDepth | Mode::PreciseOldest => {
+                self.stop_up(owner, near, far, room)
+            }
+        }
+    }
+
+    // What is sent whole takes so much.
+    fn weight_of_whole(&self, mode: Mode, level: &Level<N>) -> u32
+        requires offer { IsOffer N.number N.most self.now }
+        requires level { IsLevel mode N.number self.now level.now }
+        ensures { result ≡ weight_on mode N.number self.now (marks N.number level.now.near.items) }
+    {
+        match mode {
+            Mode::PreciseNewest => self.weight(level.whole, &level.near, self.high),
+            Mode::ScuttleBreadth | Mode::ScuttleDepth | Mode::PreciseOldest => {
+                self.weight(level.whole, self.low, &level.near)
+            }
+        }
+    }
+
+    // How many numbers each owner's part has.
+    fn parts(&self, alloc: Global, mode: Mode, level: &Level<N>) -> Result<Vec<N>, Fault>
+        requires offer { IsOffer N.number N.most self.now }
+        requires level { IsLevel mode N.number self.now level.now }
+        ensures counts { IfOk result (λ v. ArePartCounts mode N.number self.now level.now (map N.number v.items)) }
+        ensures only { IsOkUnless result OutOfMemory }
+    {
+        match mode {
+            Mode::PreciseNewest => {
+                counts_between(
+                    alloc,
+                    self.cells,
+                    self.nodes,
+                    self.keys,
+                    &level.far,
+                    &level.near,
+                )
+            }
+            Mode::ScuttleBreadth | Mode::ScuttleDepth | Mode::PreciseOldest => {
+                counts_between(
+                    alloc,
+                    self.cells,
+                    self.nodes,
+                    self.keys,
+                    &level.near,
+                    &level.far,
+                )
+            }
+        }
+    }
+
+    // Gives the owners in turn the far mark as long as their parts fit. Answers whose part doesn't.
+    fn pass_turns(
+        &self,
+        mode: Mode,
+        rotation: usize,
+        level: &Level<N>,
+        counts: &[N],
+        mark: &mut [N],
+        room: u32,
+    ) -> Passed
+        requires offer { IsOffer N.number N.most self.now }
+        requires rotation { rotation < self.now.nodes }
+        requires level { IsLevel mode N.number self.now level.now }
+        requires counts { ArePartCounts mode N.number self.now level.now (map N.number counts.now) }
+        requires mark { mark.old ≡ level.now.near.items }
+        requires room { weight_on mode N.number self.now (marks N.number level.now.near.items) + room
+            ≡ amount_of self.now.budget }
+        ensures owner { result.owner < self.now.nodes }
+        ensures size { length mark.new ≡ self.now.nodes }
+        ensures passed { AreTurnsPassed mode N.number self.now rotation (marks N.number level.now.near.items)
+            (marks N.number level.now.far.items)
+            (marks N.number mark.new) (rotated self.now.nodes rotation result.owner) result.left result.sent }
+        ensures beyond { result.left < part_between mode (weights_in self.now result.owner) (cells_in N.number self.now)
+            self.now.keys result.owner
+            (marks N.number level.now.near.items result.owner) (marks N.number level.now.far.items result.owner) }
+    {
+        let mut left = room;
+        let mut sent = level.whole;
+        for turn in 0..self.nodes {
+            let owner = owner_of_turn(turn, self.nodes, rotation);
+            let near = number_at(&level.near, owner);
+            let far = number_at(&level.far, owner);
+            let count = number_at(counts, owner).widen();
+            let weight = self.weight_of_part(mode, owner, near, far, count);
+            if left < weight {
+                return Passed { owner, left, sent };
+            }
+            mark[owner] = far;
+            left -= weight;
+            sent += count;
+        }
+        unreachable!()
+    }
+
+    // Puts the marks that stop at the first number that doesn't fit. Answers how many numbers they let through.
+    fn share_into(
+        &self,
+        mode: Mode,
+        rotation: usize,
+        level: &Level<N>,
+        counts: &[N],
+        mark: &mut [N],
+    ) -> u32
+        requires offer { IsOffer N.number N.most self.now }
+        requires rotation { rotation < self.now.nodes }
+        requires level { IsLevel mode N.number self.now level.now }
+        requires counts { ArePartCounts mode N.number self.now level.now (map N.number counts.now) }
+        requires mark { mark.old ≡ level.now.near.items }
+        ensures size { length mark.new ≡ self.now.nodes }
+        ensures shared { AreShared mode rotation N.number self.now (marks N.number level.now.near.items)
+            (marks N.number level.now.far.items) (marks N.number mark.new) result }
+    {
+        let room = self.budget.amount() - self.weight_of_whole(mode, level);
+        let passed = self.pass_turns(mode, rotation, level, counts, mark, room);
+        let owner = passed.owner;
+        let near = number_at(&level.near, owner);
+        let far = number_at(&level.far, owner);
+        let stop = self.stop(mode, owner, near, far, passed.left);
+        mark[owner] = stop.mark;
+        passed.sent + stop.sent
+    }
+}
+
+/// What of the levels and of the one that doesn't fit is sent.
+pub(crate) fn share<N: Number>(
+    alloc: Global,
+    offer: &Offer<N>,
+    level: &Level<N>,
+    mode: Mode,
+    rotation: usize,
+) -> Result<Share<N>, Fault>
+    requires offer { IsOffer N.number N.most offer.now }
+    requires level { IsLevel mode N.number offer.now level.now }
+    requires rotation { rotation < offer.now.nodes }
+    ensures size { IfOk result (λ s. length s.mark.items ≡ offer.now.nodes) }
+    ensures shared { IfOk result (λ s. AreShared mode rotation N.number offer.now (marks N.number level.now.near.items)
+        (marks N.number level.now.far.items) (marks N.number s.mark.items) s.sent) }
+    ensures only { IsOkUnless result OutOfMemory }
+{
+    let counts = offer.parts(alloc, mode, level)?;
+    let mut mark = Vec::from_slice(alloc, &level.near)?;
+    let sent = offer.share_into(mode, rotation, level, &counts, &mut mark);
+    Ok(Share { mark, sent })
+}

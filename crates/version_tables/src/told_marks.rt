@@ -1,0 +1,133 @@
+//! What is offered to a receiver, by marks for each owner.
+
+ghost use Rattle.std.specs.Prelude.{◌≡◌, ℕ, ◌<◌, ◌≤◌, length, map, min, slice_index, IfOk, IsOkUnless};
+ghost use Rattle.bench_types.specs.declared.faults.Fault.TheVariants.{OutOfMemory};
+ghost use Rattle.bench_types.specs.declared.exchanges.DigestKind.TheVariants.{Precise};
+ghost use Rattle.owner_lists.specs.OwnerListView.{entries_of};
+ghost use Rattle.planes.specs.Planes.{HasEach};
+ghost use Rattle.planes.specs.inner.Elementwise.{AreChanged};
+ghost use Rattle.version_tables.specs.inner.Offers.{start_of, told_by, told_mark, IsNumberedHistory};
+ghost use Rattle.version_tables.specs.inner.Told.{AreKnown, IsEarlierStart};
+ghost use Rattle.version_tables.specs.inner.Weights.{writes_in};
+
+use bench_types::{DigestKind, Fault};
+use owner_lists::OwnerList;
+use planes::Number;
+use std::alloc::Global;
+
+/// The marks up to which a receiver needs nothing: by a scuttle digest the greatest number that it has of each
+/// owner, by a precise one how many writes there are before the generation of that. Of itself it needs nothing.
+pub(crate) fn told<N: Number>(
+    alloc: Global,
+    kind: DigestKind,
+    node: usize,
+    greatest: &[N],
+    lists: &[OwnerList],
+    bases: &[N],
+) -> Result<Vec<N>, Fault>
+    requires node { node < length lists.now }
+    requires known { AreKnown N.most lists.now (map N.number greatest.now) (map N.number bases.now) }
+    ensures told { IfOk result (λ v. HasEach (length lists.now)
+        (λ r n. n ≡ told_mark kind N.most node (writes_in lists.now) (slice_index (map N.number greatest.now)) r)
+        (map N.number v.items)) }
+    ensures only { IsOkUnless result OutOfMemory }
+{
+    let mut told = Vec::from_slice(alloc, greatest)?;
+    put_told(&mut told, kind, node, lists, bases);
+    Ok(told)
+}
+
+// Puts what is told in place of each greatest number.
+fn put_told<N: Number>(
+    numbers: &mut [N],
+    kind: DigestKind,
+    node: usize,
+    lists: &[OwnerList],
+    bases: &[N],
+)
+    requires node { node < length lists.now }
+    requires known { AreKnown N.most lists.now (map N.number numbers.old) (map N.number bases.now) }
+    ensures { AreChanged (λ r x y. y ≡ told_mark kind N.most node (writes_in lists.now) (λ _. x) r)
+        (map N.number numbers.old) (map N.number numbers.new) }
+{
+    put_marks(numbers, kind, lists, bases);
+    numbers[node] = N::greatest();
+}
+
+// The same, but for the receiver itself.
+fn put_marks<N: Number>(numbers: &mut [N], kind: DigestKind, lists: &[OwnerList], bases: &[N])
+    requires { AreKnown N.most lists.now (map N.number numbers.old) (map N.number bases.now) }
+    ensures { AreChanged (λ r x y. y ≡ told_by kind (writes_in lists.now r) x)
+        (map N.number numbers.old) (map N.number numbers.new) }
+{
+    match kind {
+        DigestKind::Scuttle => {}
+        DigestKind::Precise => put_starts(numbers, lists, bases),
+    }
+}
+
+// Puts in place of each number where the generation of that write starts.
+fn put_starts<N: Number>(numbers: &mut [N], lists: &[OwnerList], bases: &[N])
+    requires { AreKnown N.most lists.now (map N.number numbers.old) (map N.number bases.now) }
+    ensures { AreChanged (λ r x y. y ≡ start_of (writes_in lists.now r) x)
+        (map N.number numbers.old) (map N.number numbers.new) }
+{
+    put_earlier_starts(numbers, lists, bases);
+    lower(numbers, bases);
+}
+
+// Lowers each number to that of another list.
+fn lower<N: Number>(numbers: &mut [N], bounds: &[N])
+    requires { length bounds.now ≡ length numbers.old }
+    ensures { AreChanged (λ r x y. y ≡ min x (slice_index (map N.number bounds.now) r))
+        (map N.number numbers.old) (map N.number numbers.new) }
+{
+    for r in 0..numbers.len() {
+        numbers[r] = numbers[r].min_with(bounds[r]);
+    }
+}
+
+// Puts the starts of earlier generations. Most often there are none, which one fast loop tells.
+fn put_earlier_starts<N: Number>(numbers: &mut [N], lists: &[OwnerList], bases: &[N])
+    requires { AreKnown N.most lists.now (map N.number numbers.old) (map N.number bases.now) }
+    ensures { AreChanged (λ r x y. IsEarlierStart (writes_in lists.now r) (slice_index (map N.number bases.now) r) x y)
+        (map N.number numbers.old) (map N.number numbers.new) }
+{
+    if planes::total_upto(numbers, numbers.len(), 1, bases) > 0 {
+        put_each_start(numbers, lists, bases);
+    }
+}
+
+fn put_each_start<N: Number>(numbers: &mut [N], lists: &[OwnerList], bases: &[N])
+    requires { AreKnown N.most lists.now (map N.number numbers.old) (map N.number bases.now) }
+    ensures { AreChanged (λ r x y. IsEarlierStart (writes_in lists.now r) (slice_index (map N.number bases.now) r) x y)
+        (map N.number numbers.old) (map N.number numbers.new) }
+{
+    for r in 0..numbers.len() {
+        numbers[r] = earlier_start(&lists[r], numbers[r], bases[r]);
+    }
+}
+
+fn earlier_start<N: Number>(list: &OwnerList, number: N, base: N) -> N
+    requires numbered { IsNumberedHistory (entries_of list.now) }
+    requires fits { N.number number ≤ N.most }
+    ensures { IsEarlierStart (entries_of list.now) (N.number base) (N.number number) (N.number result) }
+{
+    if number.is_above(N::zero()) && number.is_upto(base) {
+        start_of(list, number)
+    } else {
+        number
+    }
+}
+
+// How many writes there are before the generation of a number's, 0 for none.
+fn start_of<N: Number>(list: &OwnerList, number: N) -> N
+    requires numbered { IsNumberedHistory (entries_of list.now) }
+    requires fits { N.number number ≤ N.most }
+    ensures { N.number result ≡ start_of (entries_of list.now) (N.number number) }
+{
+    match list.numbered(number.widen()) {
+        Some(entry) => N::narrow(number.widen() - entry.version),
+        None => N::zero(),
+    }
+}

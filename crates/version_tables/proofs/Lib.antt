@@ -41,3 +41,4 @@ pub mod TurnSteps
 pub mod ExchangedViews
 pub mod DigestSizes
 pub mod HistoryCalls
+pub mod Carried

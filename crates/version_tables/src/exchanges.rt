@@ -133,8 +133,8 @@ fn take_both<N: Number, H: Written>(
         (map N.number back.now.low.items) (map N.number back.now.high.items) after
         → StaysOne H.lists (writes_in lists.now) (bases_in lists.now) responder.old after.cells
         (map N.number forth.now.low.items) (map N.number forth.now.high.items) }
-    ensures initiator { OnOk result (HasTakenUnless nothing_back (writes_in lists.now) (bases_in lists.now) initiator.old
-        responder.old.cells (map N.number back.now.low.items) (map N.number back.now.high.items) initiator.new) }
+    ensures initiator { OnOk result (HasTakenUnless nothing_back (writes_in lists.now) (bases_in lists.now)
+        initiator.old responder.old.cells (map N.number back.now.low.items) (map N.number back.now.high.items) initiator.new) }
     ensures responder { OnOk result (HasTakenUnless nothing_forth (writes_in lists.now) (bases_in lists.now)
         responder.old initiator.new.cells (map N.number forth.now.low.items) (map N.number forth.now.high.items)
         responder.new) }
@@ -208,8 +208,8 @@ fn sent_both<N: Number>(
     forth: &DeltaMarks<N>,
     lost3: bool,
 ) -> Record
-    ensures { (b f : DeltaView) → back.now.sent ≡ length b.items → back.now.cut ≡ b.cut → forth.now.sent ≡ length f.items
-        → forth.now.cut ≡ f.cut → result ≡ sent_until (last_fate lost3) digest1 digest2 b f }
+    ensures { (b f : DeltaView) → back.now.sent ≡ length b.items → back.now.cut ≡ b.cut
+        → forth.now.sent ≡ length f.items → forth.now.cut ≡ f.cut → result ≡ sent_until (last_fate lost3) digest1 digest2 b f }
 {
     Record {
         digest1,

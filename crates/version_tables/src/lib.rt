@@ -3,6 +3,7 @@
 #![tactic(auto)]
 
 mod breadths;
+mod carrying;
 mod deltas;
 mod depths;
 mod digests;

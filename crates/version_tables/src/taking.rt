@@ -124,8 +124,8 @@ fn drop_older<N: Number>(
     }
 }
 
-// Takes what marks let through of a sender's numbers, raises the greatest ones, and drops of each owner what is of older
-// generations than its newest. The greatest numbers before it are given.
+// Takes what marks let through of a sender's numbers, raises the greatest ones, and drops of each owner what is of
+// older generations than its newest. The greatest numbers before it are given.
 fn take_numbers<N: Number>(
     cells: &mut [N],
     greatest: &mut [N],
@@ -176,8 +176,8 @@ fn take<N: Number, H: Written>(
     requires numbered { (owner : ℕ) → IsNumberedHistory (writes_in lists.now owner) }
     requires stays { StaysOne H.lists (writes_in lists.now) (bases_in lists.now) table.old (map N.number sent.now)
         (map N.number low.now) (map N.number high.now) }
-    ensures { HasTaken (writes_in lists.now) (bases_in lists.now) table.old (map N.number sent.now) (map N.number low.now)
-        (map N.number high.now) table.new }
+    ensures { HasTaken (writes_in lists.now) (bases_in lists.now) table.old (map N.number sent.now)
+        (map N.number low.now) (map N.number high.now) table.new }
 {
     let nodes = table.nodes as usize;
     let keys = table.keys as usize;

@@ -36,8 +36,8 @@ HasShape PreciseNewest lists cells nodes keys low near far =
 
 abbrev pub HasShapeIn : {N : Type 0} → Mode → (N → ℕ) → Offer N → (ℕ → ℕ) → (ℕ → ℕ) → Type 0
 HasShapeIn mode number offer near far =
-    HasShape mode (writes_in offer.lists.now) (cells_in number offer) offer.nodes offer.keys (marks number offer.low.now)
-    near far
+    HasShape mode (writes_in offer.lists.now) (cells_in number offer) offer.nodes offer.keys
+    (marks number offer.low.now) near far
 
 -- marks that let all through, which fits
 pub record LetAll {N : Type 0} (mode : Mode) (number : N → ℕ) (offer : Offer N) (mark : ℕ → ℕ) : Type 0 where

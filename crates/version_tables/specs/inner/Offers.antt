@@ -34,7 +34,8 @@ pub record IsNumberedHistory (writes : List Entry) : Type 0 where
 -- a table holds the writes of these numbers
 abbrev pub HasCells : (ℕ → List Entry) → Cells → Table → Type 0
 HasCells lists cells t =
-    (owner key : ℕ) → owner < t.nodes → key < t.keys → entry_at t owner key ≡ write_numbered (lists owner) (cells owner key)
+    (owner key : ℕ) → owner < t.nodes → key < t.keys
+    → entry_at t owner key ≡ write_numbered (lists owner) (cells owner key)
 
 -- the receiver doesn't know the item, and it isn't its own
 abbrev pub is_lacked : Mode → Table → Item → Bool

@@ -9,9 +9,10 @@ use Rattle.version_tables.specs.inner.Offered.{cells_in, marks, weights_in}
 use Rattle.version_tables.specs.inner.Plans.{weight_on, count_on}
 use Rattle.version_tables.specs.inner.Shares.{lets_through}
 
--- marks that share out a level up to a number that doesn't fit any more: the owners whose turn is before that of its owner
--- have the far mark, those whose turn is behind it the near one, and its owner's lets through what comes before it
-pub record AreShared {N : Type 0} (mode : Mode) (rotation : ℕ) (number : N → ℕ) (offer : Offer N) (near far mark : ℕ → ℕ) (sent : ℕ) : Type 0 where
+-- marks that share out a level up to a number that doesn't fit any more: the owners whose turn is before that of its
+-- owner have the far mark, those whose turn is behind it the near one, and its owner's lets through what comes before
+pub record AreShared {N : Type 0} (mode : Mode) (rotation : ℕ) (number : N → ℕ) (offer : Offer N)
+    (near far mark : ℕ → ℕ) (sent : ℕ) : Type 0 where
   pub owner : ℕ
   pub key : ℕ
   pub owner_below : owner < offer.nodes
@@ -19,11 +20,15 @@ pub record AreShared {N : Type 0} (mode : Mode) (rotation : ℕ) (number : N →
   pub offered : marks number offer.low.now owner < cells_in number offer owner key
   pub outside : lets_through mode (near owner) (cells_in number offer owner key) ≡ false
   pub inside : lets_through mode (far owner) (cells_in number offer owner key) ≡ true
-  pub passed : (r : ℕ) → r < offer.nodes → rotated offer.nodes rotation r < rotated offer.nodes rotation owner → mark r ≡ far r
-  pub waiting : (r : ℕ) → r < offer.nodes → rotated offer.nodes rotation owner < rotated offer.nodes rotation r → mark r ≡ near r
+  pub passed : (r : ℕ) → r < offer.nodes
+      → rotated offer.nodes rotation r < rotated offer.nodes rotation owner → mark r ≡ far r
+  pub waiting : (r : ℕ) → r < offer.nodes
+      → rotated offer.nodes rotation owner < rotated offer.nodes rotation r → mark r ≡ near r
   pub own : (k : ℕ) → k < offer.keys → marks number offer.low.now owner < cells_in number offer owner k
-      → lets_through mode (mark owner) (cells_in number offer owner k) ≡ comes_first mode (cells_in number offer owner k) (cells_in number offer owner key)
+      → lets_through mode (mark owner) (cells_in number offer owner k)
+      ≡ comes_first mode (cells_in number offer owner k) (cells_in number offer owner key)
   pub above : (r : ℕ) → r < offer.nodes → marks number offer.low.now r ≤ mark r
   pub count : sent ≡ count_on mode number offer mark
   pub within : weight_on mode number offer mark ≤ amount_of offer.budget
-  pub beyond : amount_of offer.budget < weight_on mode number offer mark + weights_in offer owner (cells_in number offer owner key)
+  pub beyond : amount_of offer.budget
+      < weight_on mode number offer mark + weights_in offer owner (cells_in number offer owner key)

@@ -1,0 +1,34 @@
+use Rattle.std.proofs.Common.{◌≡◌, ◌+◌, ℕ, List, length, Some, sym, ap, ◌∙◌, subst}
+use Rattle.bench_types.specs.declared.entries.Entry.{Entry}
+use Rattle.owner_lists.specs.Numbers.{write_numbered}
+use Rattle.owner_lists.specs.OwnerListView.{entries_of, next_entry, list_of_owner}
+use Rattle.version_tables.specs.Writes.{IsNextWrite}
+use Rattle.version_tables.specs.inner.Histories.{IsBeginning}
+use Rattle.version_tables.specs.inner.Weights.{writes_in}
+use Rattle.version_tables.proofs.NextWrites.{next-write}
+use Rattle.version_tables.proofs.Starts.{writes_in-is}
+use Rattle.version_tables.proofs.carrying.write.Goals as goal
+
+pub write_own-requires-clause-next : goal.write_own-requires-clause-next
+write_own-requires-clause-next g c lives within =
+    let table = c.args.table.now in
+    let lists = c.args.histories.now.lists in
+    let list = list_of_owner lists table.node in
+    let number = c.in_ok-number.ensures.number
+    ∙ ap (λ owner. length (writes_in lists owner) + 1) c.node-node.ensures.value
+    ∙ ap (λ (es : List Entry). length es + 1) (writes_in-is lists table.node) in
+    let begins = subst (λ (es : List Entry). IsBeginning es (g.H.Written.lists table.node)) (writes_in-is lists table.node) (c.lists-lists.ensures.so_far table.node).begins in
+    subst (IsNextWrite g.H.Written.lists table c.args.key) (sym number)
+    (next-write g.H.Written.lists table c.node-node.ensures.kept list (c.lists-lists.ensures.writes table.node) begins
+    c.requires.may.beside.generation c.requires.may.beside.greatest g.N.Number.most c.args.key c.args.value c.args.born c.requires.may.may)
+
+pub returns-clause-table : goal.returns-clause-table
+returns-clause-table g c =
+    let table = c.args.table.now in
+    let lists = c.args.histories.now.lists in
+    let list = list_of_owner lists table.node in
+    let number = c.in_ok-number.ensures.number
+    ∙ ap (λ owner. length (writes_in lists owner) + 1) c.node-node.ensures.value
+    ∙ ap (λ (es : List Entry). length es + 1) (writes_in-is lists table.node) in
+    c.write_own.ensures (next_entry list c.args.key c.args.value c.args.born)
+    (ap (write_numbered (g.H.Written.lists table.node)) number ∙ c.requires.may.may.is)

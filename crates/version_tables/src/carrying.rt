@@ -1,0 +1,203 @@
+//! Tables of versions as tables that a simulation carries through its rounds.
+
+ghost use Rattle.std.specs.Prelude.{◌≡◌, ◌+◌, ◌-◌, ◌<◌, ◌≤◌, length, OnOk, IsOkUnless};
+ghost use Rattle.bench_types.specs.declared.faults.Fault.TheVariants.{OutOfMemory};
+ghost use Rattle.bench_types.specs.declared.limits.TheConstants.{MOST_ROUNDS};
+ghost use Rattle.node_table.specs.Table.{Table, with_own_write};
+ghost use Rattle.owner_lists.specs.OwnerListView.{list_of_owner};
+ghost use Rattle.round_tables.specs.Histories.{AddsWrite, AreWrittenBy, MayWrite, StandsAmong};
+ghost use Rattle.version_tables.specs.Views.{table_in};
+ghost use Rattle.version_tables.specs.inner.Histories.{FitsHistories, IsWriteUnder};
+
+use crate::figures::figures;
+use crate::histories::Histories;
+use crate::tables::{VersionTable, Written};
+use bench_types::{Fault, Figures};
+use planes::Number;
+use round_tables::RoundTable;
+use std::alloc::Global;
+use std::marker::Brand;
+use std::thread::Threads;
+
+impl Written for Brand {
+    ghost use Rattle.std.specs.Prelude.{[]};
+
+    ghost lists = { λ _. [] };
+}
+
+// How many writes of its generation an owner has made.
+fn count_of<N: Number, H: Written>(histories: &Histories<N, H>, owner: u32) -> u32
+    requires { owner < length histories.now.lists }
+    ensures { result ≡ length (list_of_owner histories.now.lists owner).current }
+{
+    histories.lists()[owner as usize].len()
+}
+
+// A node's own write: its list tells what stands under the number that the table keeps.
+fn write<N: Number, H: Written>(
+    table: &mut VersionTable<N, H>,
+    histories: &mut Histories<N, H>,
+    key: u32,
+    value: u32,
+    born: u32,
+) -> Result<(), Fault>
+    requires next { born ≡ histories.old.rounds + 1 }
+    requires may { MayWrite (IsWriteUnder H.lists N.most) (table_in H.lists table.old) histories.old.lists key value born }
+    ensures table { OnOk result
+        (table_in H.lists table.new ≡ with_own_write (table_in H.lists table.old) key value born) }
+    ensures lists { OnOk result
+        (AddsWrite (table_in H.lists table.old) key value born histories.old.lists histories.new.lists) }
+    ensures rounds { histories.new.rounds ≡ histories.old.rounds }
+    ensures only { IsOkUnless result OutOfMemory }
+{
+    let node = table.node();
+    let _lists = histories.lists();
+    let number = histories.write(node, key, value, born)?;
+    table.write_own(key, number);
+    Ok(())
+}
+
+// What the exchanges of a round read: tables that stand in the round fit it.
+fn shared<N: Number, H: Written>(histories: &Histories<N, H>, round: u32) -> &Histories<N, H>
+    requires ended { histories.now.rounds ≡ round }
+    requires written { AreWrittenBy round histories.now.lists }
+    ensures same { result.now ≡ histories.now }
+    ensures fits { (t : Table) → StandsAmong histories.now.lists t → FitsHistories histories.now t }
+{
+    let _lists = histories.lists();
+    histories
+}
+
+impl<H: Written + Send + Sync> RoundTable for VersionTable<u16, H> {
+    ghost use Rattle.std.specs.Prelude.{◌≡◌};
+    ghost use Rattle.version_tables.specs.inner.Histories.{IsWriteUnder};
+
+    type Histories = Histories<u16, H>;
+
+    ghost lists = { λ h. h.lists };
+
+    ghost has_ended = { λ h round. h.rounds ≡ round };
+
+    ghost may_write = { IsWriteUnder H.lists 65535 };
+
+    fn histories(alloc: Global, nodes: u32) -> Result<Histories<u16, H>, Fault> {
+        Histories::new(alloc, nodes)
+    }
+
+    fn empty(
+        alloc: Global,
+        node: u32,
+        nodes: u32,
+        keys: u32,
+    ) -> Result<VersionTable<u16, H>, Fault> {
+        VersionTable::new(alloc, node, nodes, keys)
+    }
+
+    fn restart(&mut self) {
+        self.forget_others();
+    }
+
+    fn forget(&mut self, histories: &mut Histories<u16, H>) {
+        histories.begin_generation(self.node());
+        self.forget_all();
+    }
+
+    fn count(histories: &Histories<u16, H>, owner: u32) -> u32 {
+        count_of(histories, owner)
+    }
+
+    fn write(
+        &mut self,
+        histories: &mut Histories<u16, H>,
+        key: u32,
+        value: u32,
+        born: u32,
+    ) -> Result<(), Fault> {
+        write(self, histories, key, value, born)
+    }
+
+    fn end_writes(histories: &mut Histories<u16, H>, _round: u32) -> Result<(), Fault> {
+        histories.end_round()
+    }
+
+    fn shared(histories: &Histories<u16, H>, round: u32) -> &Histories<u16, H> {
+        shared(histories, round)
+    }
+
+    fn figures<R: Threads + Sync>(
+        rt: &R,
+        alloc: Global,
+        tables: &[VersionTable<u16, H>],
+        histories: &Histories<u16, H>,
+        round: u32,
+    ) -> Result<Figures, Fault> {
+        figures(rt, alloc, tables, histories, round)
+    }
+}
+
+impl<H: Written + Send + Sync> RoundTable for VersionTable<u32, H> {
+    ghost use Rattle.std.specs.Prelude.{◌≡◌};
+    ghost use Rattle.version_tables.specs.inner.Histories.{IsWriteUnder};
+
+    type Histories = Histories<u32, H>;
+
+    ghost lists = { λ h. h.lists };
+
+    ghost has_ended = { λ h round. h.rounds ≡ round };
+
+    ghost may_write = { IsWriteUnder H.lists 4294967295 };
+
+    fn histories(alloc: Global, nodes: u32) -> Result<Histories<u32, H>, Fault> {
+        Histories::new(alloc, nodes)
+    }
+
+    fn empty(
+        alloc: Global,
+        node: u32,
+        nodes: u32,
+        keys: u32,
+    ) -> Result<VersionTable<u32, H>, Fault> {
+        VersionTable::new(alloc, node, nodes, keys)
+    }
+
+    fn restart(&mut self) {
+        self.forget_others();
+    }
+
+    fn forget(&mut self, histories: &mut Histories<u32, H>) {
+        histories.begin_generation(self.node());
+        self.forget_all();
+    }
+
+    fn count(histories: &Histories<u32, H>, owner: u32) -> u32 {
+        count_of(histories, owner)
+    }
+
+    fn write(
+        &mut self,
+        histories: &mut Histories<u32, H>,
+        key: u32,
+        value: u32,
+        born: u32,
+    ) -> Result<(), Fault> {
+        write(self, histories, key, value, born)
+    }
+
+    fn end_writes(histories: &mut Histories<u32, H>, _round: u32) -> Result<(), Fault> {
+        histories.end_round()
+    }
+
+    fn shared(histories: &Histories<u32, H>, round: u32) -> &Histories<u32, H> {
+        shared(histories, round)
+    }
+
+    fn figures<R: Threads + Sync>(
+        rt: &R,
+        alloc: Global,
+        tables: &[VersionTable<u32, H>],
+        histories: &Histories<u32, H>,
+        round: u32,
+    ) -> Result<Figures, Fault> {
+        figures(rt, alloc, tables, histories, round)
+    }
+}

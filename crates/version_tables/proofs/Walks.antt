@@ -13,7 +13,7 @@ use Rattle.staleness.specs.Figures.{most_below, rounds_behind}
 use Rattle.version_tables.specs.inner.Missed.{base_of, number_staleness, IsMissed, IsLastNumber, NonePassUpto}
 use Rattle.version_tables.specs.inner.Pieces.{MayWalk, WalksFrom}
 use Rattle.version_tables.proofs.Offers.{write_from-at}
-use Rattle.version_tables.proofs.Fitting.{numbered-upto}
+use Rattle.version_tables.proofs.Numbers.{numbered-within}
 use Rattle.version_tables.proofs.Missed.{missed_cases}
 use Rattle.version_tables.proofs.Lagging.{born-by_number}
 
@@ -68,7 +68,7 @@ module _ (v : OwnerListView) (least : ℕ → ℕ) where
         | inl nothing ↦ omega (arith, ap rounds_behind nothing.1)
         | inr found ↦
             let missed = found.1.1.0.missed in
-            absurd (omega (arith, missed.over, none found.0 found.1.0 missed.written missed.current (omega (arith, past, (numbered-upto all found.0 found.1.0 missed.written).1)), ap least missed.keyed))
+            absurd (omega (arith, missed.over, none found.0 found.1.0 missed.written missed.current (omega (arith, past, (numbered-within all found.0 found.1.0 missed.written).1)), ap least missed.keyed))
       ]),
     )
 

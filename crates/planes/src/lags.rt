@@ -94,7 +94,8 @@ fn lower_planes_behind<N: Number>(
     requires last { length last.now ≡ length cells.now }
     requires least { HasEach nodes (λ r n. n ≡ N.most) (map N.number least.old) }
     ensures least { HasEach nodes
-        (λ r n. IsLeastBehind N.most (cell (map N.number cells.now) nodes) (cell (map N.number last.now) nodes) keys r n)
+        (λ r n. IsLeastBehind N.most (cell (map N.number cells.now) nodes) (cell (map N.number last.now) nodes)
+        keys r n)
         (map N.number least.new) }
 {
     for key in 0..keys {
@@ -115,7 +116,8 @@ pub fn least_behind<N: Number>(
     requires grid { IsGrid nodes keys (length cells.now) }
     requires last { length last.now ≡ length cells.now }
     ensures least { IfOk result (λ v. HasEach nodes
-        (λ r n. IsLeastBehind N.most (cell (map N.number cells.now) nodes) (cell (map N.number last.now) nodes) keys r n)
+        (λ r n. IsLeastBehind N.most (cell (map N.number cells.now) nodes) (cell (map N.number last.now) nodes)
+        keys r n)
         (map N.number v.items)) }
     ensures only { IsOkUnless result OutOfMemory }
 {

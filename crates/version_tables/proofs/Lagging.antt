@@ -1,10 +1,9 @@
 -- How long copies have been behind, by the numbers that they hold: the least number has been longest.
 -- Serves nothing yet.
-use Rattle.std.proofs.Common.{◌≡◌, ◌≢◌, ℕ, zero, suc, ◌+◌, ◌-◌, ◌<◌, ◌≤◌, min, max, Bool, true, false, cond, eqb, ltb, leb, ◌&&◌, List, [], ◌∷◌, ◌++◌, length, get_or, map, Option, Some, None, ◌⊎◌, if◌then◌else◌, option_map, inl, inr, refl, sym, ap, ◌∙◌, subst, arith, length-append}
+use Rattle.std.proofs.Common.{◌≡◌, ℕ, zero, suc, ◌+◌, ◌<◌, ◌≤◌, min, max, false, ltb, ◌&&◌, List, length, get_or, Some, None, if◌then◌else◌, option_map, inl, inr, refl, sym, ap, ◌∙◌, subst, arith}
 use Rattle.std.specs.Prelude.{IfSome, nat_lt, nat_le}
-use Rattle.std.proofs.lemmas.Bool.{cases_lt, cases_eq, lt-ltb, le-ltb, eq-eqb, ne_eqb, le-leb, lt-leb}
+use Rattle.std.proofs.lemmas.Bool.{cases_lt, lt-ltb, le-ltb, le-leb, lt-leb}
 use Rattle.std.proofs.lemmas.List.{get_or-map, length-map, get_or_append_left}
-use Rattle.std.proofs.lemmas.Option.{same_Some}
 use Rattle.bench_types.specs.declared.entries.Entry.{Entry}
 use Rattle.node_table.specs.Table.{Table, entry_at, IsProper}
 use Rattle.owner_lists.specs.declared.lists.Write.{Write}
@@ -15,7 +14,7 @@ use Rattle.owner_lists.proofs.Last.{fresh}
 use Rattle.owner_lists.proofs.Linking.{last_placed, missed_some}
 use Rattle.round_tables.specs.Histories.{BirthsRise, StandsBeside}
 use Rattle.staleness.specs.Figures.{is_left_over, stale_count, rounds_behind}
-use Rattle.version_tables.specs.inner.Missed.{base_of, number_staleness, IsMissed, IsFirstMissed, HasNoneMissed, IsLastNumber}
+use Rattle.version_tables.specs.inner.Missed.{base_of, number_staleness, IsMissed, HasNoneMissed, IsLastNumber}
 use Rattle.version_tables.proofs.Offers.{write_from-at}
 use Rattle.version_tables.proofs.Missed.{write_from-here, current-numbered, missed_cases}
 
@@ -76,8 +75,12 @@ module _ (round : ℕ) (v : OwnerListView) (are : AreWrites v) where
               | inl none ↦ absurd (none.0 later.0 e before)
               | inr sooner ↦
                   let first = sooner.1.1.0 in
-                  omega (arith, ap rounds_behind later.1.1.1, ap rounds_behind sooner.1.1.1,
-                    born-by_number all rise sooner.0 later.0 sooner.1.0 e first.missed.written missed.written (first.first later.0 e before))
+                  omega (
+                    arith,
+                    ap rounds_behind later.1.1.1,
+                    ap rounds_behind sooner.1.1.1,
+                    born-by_number all rise sooner.0 later.0 sooner.1.0 e first.missed.written missed.written (first.first later.0 e before),
+                  )
             ]
       ]
 

@@ -1,15 +1,15 @@
 -- The first write that a copy misses, by numbers.
 -- Serves nothing yet.
-use Rattle.std.proofs.Common.{◌≡◌, ◌≢◌, ℕ, zero, suc, ◌+◌, ◌-◌, ◌<◌, ◌≤◌, Bool, true, false, cond, eqb, ltb, ◌&&◌, List, [], ◌∷◌, ◌++◌, length, get_or, map, Option, Some, None, ◌⊎◌, option_map, inl, inr, refl, sym, ap, ◌∙◌, subst, arith, length-append}
+use Rattle.std.proofs.Common.{◌≡◌, ℕ, zero, suc, ◌+◌, ◌-◌, ◌<◌, ◌≤◌, Bool, true, false, cond, eqb, ltb, ◌&&◌, List, [], ◌∷◌, length, get_or, Some, None, ◌⊎◌, option_map, inl, inr, refl, sym, ap, ◌∙◌, subst, arith, length-append}
 use Rattle.std.specs.List.{find}
-use Rattle.std.proofs.lemmas.Bool.{cases_lt, cases_eq, cases_Bool, lt-ltb, le-ltb, ltb-true, eq-eqb, ne_eqb, eqb-true, and_parts, both_ways}
+use Rattle.std.proofs.lemmas.Bool.{cases_lt, cases_Bool, lt-ltb, le-ltb, ltb-true, eq-eqb, eqb-true, and_parts, both_ways}
 use Rattle.std.proofs.lemmas.List.{get_or-append_right, get_or-map, length-map, get_or_default}
 use Rattle.bench_types.specs.declared.entries.Entry.{Entry}
 use Rattle.bench_types.specs.declared.entries.Mark.{Mark}
 use Rattle.bench_types.specs.Mark.{absent, mark_of, mark_held, is_before, IsBefore, IsUpTo}
 use Rattle.bench_types.proofs.Marks.{before-yes, before-no, before-up_to, up_to-itself}
 use Rattle.owner_lists.specs.declared.lists.Write.{Write}
-use Rattle.owner_lists.specs.Writes.{write_of_entry, first_above}
+use Rattle.owner_lists.specs.Writes.{write_of_entry}
 use Rattle.owner_lists.specs.OwnerListView.{OwnerListView, entries_of, written, AreWrites}
 use Rattle.owner_lists.specs.Numbers.{write_from, write_numbered}
 use Rattle.version_tables.specs.inner.Missed.{base_of, number_staleness, IsMissed, IsFirstMissed, HasNoneMissed}
@@ -35,22 +35,40 @@ find_cases : (test : Write → Bool) (ws : List Write) → ((find test ws ≡ No
 unfolding NoneFound
 find_cases test [] = inl (refl, λ i d lt. absurd (omega (arith, lt)))
 find_cases test (w ∷ ws) = elim (cases_Bool (test w)) [
-  | inl passes ↦ inr (0, (w, (ap (λ b. cond b (Some w) (find test ws)) passes, record {
-    within = omega arith;
-    there = λ d. refl;
-    passes = passes;
-    first = λ j d lt. absurd (omega (arith, lt));
-  })))
+  | inl passes ↦ inr (
+    0,
+    (
+      w,
+      (
+        ap (λ b. cond b (Some w) (find test ws)) passes,
+        record {
+          within = omega arith;
+          there = λ d. refl;
+          passes = passes;
+          first = λ j d lt. absurd (omega (arith, lt));
+        },
+      ),
+    ),
+  )
   | inr fails ↦
       let rest : find test (w ∷ ws) ≡ find test ws = ap (λ b. cond b (Some w) (find test ws)) fails in
       elim (find_cases test ws) [
         | inl none ↦ inl (rest ∙ none.0, elim [ zero ↦ λ d lt. fails | suc i ↦ λ d lt. none.1 i d (omega (arith, lt)) ])
-        | inr found ↦ let at = found.1.1.1 in inr (suc found.0, (found.1.0, (rest ∙ found.1.1.0, record {
-          within = omega (arith, at.within);
-          there = λ d. at.there d;
-          passes = at.passes;
-          first = elim [ zero ↦ λ d lt. fails | suc j ↦ λ d lt. at.first j d (omega (arith, lt)) ];
-        })))
+        | inr found ↦ let at = found.1.1.1 in inr (
+          suc found.0,
+          (
+            found.1.0,
+            (
+              rest ∙ found.1.1.0,
+              record {
+                within = omega (arith, at.within);
+                there = λ d. at.there d;
+                passes = at.passes;
+                first = elim [ zero ↦ λ d lt. fails | suc j ↦ λ d lt. at.first j d (omega (arith, lt)) ];
+              },
+            ),
+          ),
+        )
       ]
 ]
 
@@ -106,10 +124,10 @@ module _ (v : OwnerListView) (are : AreWrites v) where
             before-yes (mark_of e) m (subst (IsBefore (mark_of e)) mark_is (are.rising i (base + j) d before (omega (arith, lt, length-append v.earlier v.current))))
             ∙ sym (lt-ltb (suc i) (suc (base + j)) (omega (arith, before)))
         | inr not_before ↦ before-no (mark_of e) m (subst (λ x. IsUpTo x (mark_of e)) mark_is (elim (cases_lt (base + j) i) [
-            | inl behind ↦ before-up_to (mark_of (get_or all (base + j) d)) (mark_of e) (are.rising (base + j) i d behind within)
-            | inr same ↦ subst (λ k. IsUpTo (mark_of (get_or all k d)) (mark_of e)) {x = i} {y = base + j} (omega (arith, same, not_before)) (up_to-itself (mark_of e))
-          ]))
-          ∙ sym (le-ltb (suc i) (suc (base + j)) (omega (arith, not_before)))
+          | inl behind ↦ before-up_to (mark_of (get_or all (base + j) d)) (mark_of e) (are.rising (base + j) i d behind within)
+          | inr same ↦ subst (λ k. IsUpTo (mark_of (get_or all k d)) (mark_of e)) {x = i} {y = base + j} (omega (arith, same, not_before)) (up_to-itself (mark_of e))
+        ]))
+            ∙ sym (le-ltb (suc i) (suc (base + j)) (omega (arith, not_before)))
       ]
 
   module _ (key c : ℕ) (le : c ≤ length all) where
@@ -144,10 +162,10 @@ module _ (v : OwnerListView) (are : AreWrites v) where
     missed_cases round = elim (find_cases test (written v)) [
       | inl none ↦ inl (
         (λ m d missed.
-        let at = current-numbered m d missed.written missed.current in
-        let w = write_of_entry d in
-        both_ways (test (get_or (written v) at.place w)) (none.1 at.place w (omega (arith, at.within, length-map v.current write_of_entry)))
-        (missed_passes at.place d w at.within (ap (λ (x : Entry). x.key) (at.there d) ∙ missed.keyed) (omega (arith, at.is, missed.over)))),
+            let at = current-numbered m d missed.written missed.current in
+            let w = write_of_entry d in
+            both_ways (test (get_or (written v) at.place w)) (none.1 at.place w (omega (arith, at.within, length-map v.current write_of_entry)))
+            (missed_passes at.place d w at.within (ap (λ (x : Entry). x.key) (at.there d) ∙ missed.keyed) (omega (arith, at.is, missed.over)))),
         ap (option_map (λ (w : Write). round - w.born + 1)) none.0,
       )
       | inr found ↦
@@ -158,14 +176,23 @@ module _ (v : OwnerListView) (are : AreWrites v) where
           let d : Entry = record { key = 0; generation = 0; version = 0; value = 0; born = 0 } in
           let e = get_or v.current j d in
           let same : w ≡ write_of_entry e = sym (is.there w) ∙ get_or-map write_of_entry v.current j d w within in
-          inr (suc (base + j), (e, (record {
-            missed = passes_missed j d w within (ap test (is.there w) ∙ is.passes);
-            first = λ m x missed.
-                let at = current-numbered m x missed.written missed.current in
-                elim (cases_lt at.place j) [
-                  | inl before ↦ absurd (both_ways (test (get_or (written v) at.place w)) (is.first at.place w before)
-                    (missed_passes at.place x w at.within (ap (λ (y : Entry). y.key) (at.there x) ∙ missed.keyed) (omega (arith, at.is, missed.over))))
-                  | inr not_before ↦ omega (arith, at.is, not_before)
-                ];
-          }, ap (option_map (λ (w : Write). round - w.born + 1)) found.1.1.0 ∙ ap (λ (x : Write). Some (round - x.born + 1)) same)))
+          inr (
+            suc (base + j),
+            (
+              e,
+              (
+                record {
+                  missed = passes_missed j d w within (ap test (is.there w) ∙ is.passes);
+                  first = λ m x missed.
+                      let at = current-numbered m x missed.written missed.current in
+                      elim (cases_lt at.place j) [
+                        | inl before ↦ absurd (both_ways (test (get_or (written v) at.place w)) (is.first at.place w before)
+                            (missed_passes at.place x w at.within (ap (λ (y : Entry). y.key) (at.there x) ∙ missed.keyed) (omega (arith, at.is, missed.over))))
+                        | inr not_before ↦ omega (arith, at.is, not_before)
+                      ];
+                },
+                ap (option_map (λ (w : Write). round - w.born + 1)) found.1.1.0 ∙ ap (λ (x : Write). Some (round - x.born + 1)) same,
+              ),
+            ),
+          )
     ]

@@ -1,6 +1,6 @@
 -- Pieces of tables as code counts them, table by table and part by part.
 -- Serves nothing yet.
-use Rattle.std.proofs.Common.{◌≡◌, ◌≢◌, ℕ, zero, suc, ◌+◌, ◌-◌, ◌*◌, ◌<◌, ◌≤◌, min, max, Bool, true, false, cond, ◌&&◌, List, [], ◌++◌, take, drop, length, get_or, map, refl, sym, ap, ◌∙◌, subst, arith}
+use Rattle.std.proofs.Common.{◌≡◌, ℕ, ◌+◌, ◌-◌, ◌*◌, ◌<◌, ◌≤◌, min, Bool, cond, ◌&&◌, List, ◌++◌, take, drop, length, get_or, map, sym, ap, ◌∙◌, subst, arith}
 use Rattle.std.specs.Prelude.{nat_lt, nat_le, Result, Ok, IfOk}
 use Rattle.std.specs.List.{AllZip, range_with_len}
 use Rattle.std.proofs.lemmas.List.FromFn.{length-range_with_len}
@@ -13,7 +13,7 @@ use Rattle.node_table.specs.Table.{Table}
 use Rattle.cluster.specs.Tables.{table_of_node}
 use Rattle.owner_lists.specs.OwnerListView.{OwnerListView, list_of_owner}
 use Rattle.planes.specs.Sums.{sum_below}
-use Rattle.planes.specs.Planes.{Cells, cell, total_of, HasEach, HasEachPlace, ArePlanesChanged, IsGrid}
+use Rattle.planes.specs.Planes.{cell, total_of, HasEachPlace, ArePlanesChanged, IsGrid}
 use Rattle.planes.proofs.Sums.{sum_below-same}
 use Rattle.planes.proofs.Counts.{count_le}
 use Rattle.staleness.proofs.Counting.{at_place}
@@ -23,7 +23,7 @@ use Rattle.version_tables.specs.Views.{VersionTableView, IsKept}
 use Rattle.version_tables.specs.inner.Missed.{base_of, IsNumberAt}
 use Rattle.version_tables.specs.inner.Pieces.{tables_in, keys_in, AreLaid, AreLastNumbers, IsPieceOf, IsPartOf}
 use Rattle.version_tables.proofs.Pieces.{piece-none, piece-more, piece-joined}
-use Rattle.version_tables.proofs.Standing.{count-tables_in, cells-count, numbers-at}
+use Rattle.version_tables.proofs.Standing.{count-tables_in, numbers-at}
 
 pub total_le : (nodes keys : ℕ) (test : ℕ → ℕ → Bool) → nodes ≤ MOST_NODES → keys ≤ MOST_KEYS → total_of nodes keys test ≤ MOST_NODES * MOST_KEYS
 total_le nodes keys test few_nodes few_keys =

@@ -1,21 +1,20 @@
 -- What is counted of tables of versions comes to the figures of the tables that they are.
 -- Serves nothing yet.
-use Rattle.std.proofs.Common.{◌≡◌, ◌≢◌, ℕ, zero, suc, ◌+◌, ◌-◌, ◌*◌, ◌<◌, ◌≤◌, min, max, Bool, true, false, cond, eqb, ltb, ◌&&◌, List, [], length, get_or, map, Option, Some, None, ◌⊎◌, if◌then◌else◌, option_map, inl, inr, refl, sym, ap, ◌∙◌, subst, arith}
-use Rattle.std.specs.Prelude.{nat_lt, nat_le, All}
-use Rattle.std.proofs.lemmas.Bool.{cases_lt, cases_eq, lt-ltb, le-ltb, eq-eqb, ne_eqb, le-leb, lt-leb}
+use Rattle.std.proofs.Common.{◌≡◌, ℕ, zero, suc, ◌+◌, ◌<◌, min, max, Bool, true, false, ◌&&◌, List, [], length, Some, None, if◌then◌else◌, inl, inr, refl, sym, ap, ◌∙◌, subst, arith}
+use Rattle.std.specs.Prelude.{nat_lt, nat_le}
+use Rattle.std.proofs.lemmas.Bool.{cases_lt, cases_eq, le-ltb, eq-eqb, ne_eqb, lt-leb}
 use Rattle.bench_types.specs.declared.entries.Entry.{Entry}
-use Rattle.bench_types.specs.declared.limits.TheConstants.{MOST_NODES, MOST_KEYS}
 use Rattle.bench_types.specs.Mark.{mark_held}
 use Rattle.node_table.specs.Table.{Table, entry_at, mark_at, IsProper}
 use Rattle.cluster.specs.Tables.{table_of_node}
-use Rattle.owner_lists.specs.OwnerListView.{OwnerListView, entries_of, written, list_of_owner, lists_in, no_writes, AreWrites}
+use Rattle.owner_lists.specs.OwnerListView.{OwnerListView, entries_of, list_of_owner, lists_in, no_writes, AreWrites}
 use Rattle.owner_lists.specs.Numbers.{write_numbered}
 use Rattle.owner_lists.proofs.Owners.{list_read}
 use Rattle.planes.specs.Sums.{sum_below}
-use Rattle.planes.specs.Planes.{Cells, cell, total_of, HasEachPlace, ArePlanesChanged}
+use Rattle.planes.specs.Planes.{cell, total_of, HasEachPlace, ArePlanesChanged}
 use Rattle.planes.proofs.Sums.{sum_below-same}
-use Rattle.round_tables.specs.Histories.{BirthsRise, StandsBeside, StandsAmong}
-use Rattle.staleness.specs.Figures.{most_below, writes_of_owner, generation_at, staleness_of, staleness_at, is_left_over, leftover_at, stale_count, rounds_behind, copy_figures, node_figures}
+use Rattle.round_tables.specs.Histories.{BirthsRise, StandsBeside}
+use Rattle.staleness.specs.Figures.{most_below, writes_of_owner, generation_at, staleness_of, staleness_at, is_left_over, leftover_at, stale_count, rounds_behind, node_figures}
 use Rattle.version_tables.specs.inner.Missed.{base_of, IsNumberAt, number_staleness, IsLastNumber}
 use Rattle.version_tables.specs.inner.Pieces.{keys_in, StandTogether, AreCountable, AreLastNumbers, IsLeastHeld, IsPiece}
 use Rattle.version_tables.proofs.Lagging.{last_fresh, stale_by_number, lag-least, left_over-by_number, own_is_last, key_held}

@@ -1,6 +1,6 @@
 -- Tables of versions beside the owners' lists so far: what their numbers are.
 -- Serves nothing yet.
-use Rattle.std.proofs.Common.{◌≡◌, ◌≢◌, ℕ, zero, suc, ◌+◌, ◌*◌, ◌<◌, ◌≤◌, List, [], length, get_or, map, Option, Some, None, inl, inr, refl, sym, ap, ◌∙◌, subst, arith}
+use Rattle.std.proofs.Common.{◌≡◌, ℕ, suc, ◌*◌, ◌<◌, ◌≤◌, List, length, get_or, Some, inl, inr, refl, sym, ap, ◌∙◌, subst, arith}
 use Rattle.std.specs.Prelude.{Contains}
 use Rattle.std.proofs.lemmas.Bool.{cases_lt}
 use Rattle.std.proofs.lemmas.List.{get_or-map, length-map}
@@ -10,11 +10,12 @@ use Rattle.node_table.specs.Table.{Table, entry_at, empty_table}
 use Rattle.cluster.specs.Tables.{table_of_node}
 use Rattle.owner_lists.specs.OwnerListView.{OwnerListView, entries_of, list_of_owner}
 use Rattle.owner_lists.specs.Numbers.{write_numbered}
-use Rattle.planes.specs.Planes.{Cells, cell, HasEachPlace, IsGrid}
+use Rattle.planes.specs.Planes.{cell, HasEachPlace, IsGrid}
 use Rattle.version_tables.specs.Views.{VersionTableView, table_in, IsKept}
 use Rattle.version_tables.specs.inner.Missed.{IsNumberAt}
 use Rattle.version_tables.specs.inner.Pieces.{tables_in, keys_in, StandTogether, AreLaid}
-use Rattle.version_tables.proofs.Fitting.{numbered-in, write_from-contains}
+use Rattle.version_tables.proofs.Fitting.{write_from-contains}
+use Rattle.version_tables.proofs.Numbers.{numbered-some}
 use Rattle.version_tables.proofs.Laid.{has_cells}
 
 module _ (written : ℕ → List Entry) (views : List VersionTableView) where
@@ -77,7 +78,7 @@ module _ (written : ℕ → List Entry) (views : List VersionTableView) where
         upto = elim (cases_lt 0 c) [
           | inr none ↦ omega (arith, none)
           | inl some ↦
-              let there = numbered-in (written r) c some (kept.numbers.written r k in_r in_k) in
+              let there = numbered-some (written r) c some (kept.numbers.written r k in_r in_k) in
               let at = write_from-contains so_far there.0 (holds there.0 (held_is ∙ there.1)) in
               elim (cases_lt (suc at.0) c) [
                 | inl before ↦ absurd (kept.first r k in_r in_k (suc at.0) before (sym (laid.begins r (suc at.0) (omega (arith, at.1))) ∙ at.2 ∙ sym there.1))

@@ -1,8 +1,8 @@
 -- The first write of an owner that some copy misses has been missed for longest.
 -- Serves nothing yet.
-use Rattle.std.proofs.Common.{◌≡◌, ◌≢◌, ℕ, zero, suc, ◌+◌, ◌-◌, ◌*◌, ◌<◌, ◌≤◌, min, max, List, length, map, Option, Some, None, ◌⊎◌, inl, inr, refl, sym, ap, ◌∙◌, subst, arith}
+use Rattle.std.proofs.Common.{◌≡◌, ℕ, zero, suc, ◌+◌, ◌-◌, ◌*◌, ◌<◌, ◌≤◌, max, List, length, Some, inl, inr, refl, sym, ap, ◌∙◌, subst, arith}
 use Rattle.std.proofs.Math.Nat.{mul-le-mul_right}
-use Rattle.std.proofs.lemmas.Bool.{cases_lt, cases_eq}
+use Rattle.std.proofs.lemmas.Bool.{cases_lt}
 use Rattle.std.proofs.lemmas.Option.{same_Some}
 use Rattle.bench_types.specs.declared.entries.Entry.{Entry}
 use Rattle.owner_lists.specs.OwnerListView.{OwnerListView, entries_of, list_of_owner, AreWrites}
@@ -10,10 +10,10 @@ use Rattle.owner_lists.specs.Numbers.{write_numbered}
 use Rattle.planes.specs.Planes.{cell}
 use Rattle.round_tables.specs.Histories.{BirthsRise}
 use Rattle.staleness.specs.Figures.{most_below, rounds_behind}
-use Rattle.version_tables.specs.inner.Missed.{base_of, number_staleness, IsMissed, IsFirstMissed, HasNoneMissed, IsLastNumber, NonePassUpto}
+use Rattle.version_tables.specs.inner.Missed.{base_of, number_staleness, IsMissed, IsLastNumber, NonePassUpto}
 use Rattle.version_tables.specs.inner.Pieces.{MayWalk, WalksFrom}
 use Rattle.version_tables.proofs.Offers.{write_from-at}
-use Rattle.version_tables.proofs.Fitting.{numbered-upto}
+use Rattle.version_tables.proofs.Numbers.{numbered-within}
 use Rattle.version_tables.proofs.Missed.{missed_cases}
 use Rattle.version_tables.proofs.Lagging.{born-by_number}
 
@@ -62,12 +62,15 @@ module _ (v : OwnerListView) (least : ℕ → ℕ) where
     lag k = rounds_behind (number_staleness round v k (least k))
 
     pub walk-none : (place : ℕ) → NonePassUpto v least place → length all ≤ place → most_below keys lag ≡ 0
-    walk-none place none past = omega (arith, most_below-le lag keys 0 (λ k in_keys. elim (missed_cases v are k (least k) (within k in_keys) round) [
-      | inl nothing ↦ omega (arith, ap rounds_behind nothing.1)
-      | inr found ↦
-          let missed = found.1.1.0.missed in
-          absurd (omega (arith, missed.over, none found.0 found.1.0 missed.written missed.current (omega (arith, past, (numbered-upto all found.0 found.1.0 missed.written).1)), ap least missed.keyed))
-    ]))
+    walk-none place none past = omega (
+      arith,
+      most_below-le lag keys 0 (λ k in_keys. elim (missed_cases v are k (least k) (within k in_keys) round) [
+        | inl nothing ↦ omega (arith, ap rounds_behind nothing.1)
+        | inr found ↦
+            let missed = found.1.1.0.missed in
+            absurd (omega (arith, missed.over, none found.0 found.1.0 missed.written missed.current (omega (arith, past, (numbered-within all found.0 found.1.0 missed.written).1)), ap least missed.keyed))
+      ]),
+    )
 
     pub walk-found : BirthsRise all → (place : ℕ) (e : Entry) → NonePassUpto v least place → base_of v ≤ place → write_numbered all (place + 1) ≡ Some e → e.key < keys → least e.key ≤ place → most_below keys lag ≡ round - e.born + 1
     walk-found rise place e none current is in_keys over = most_below-is lag keys e.key (round - e.born + 1) in_keys here upto

@@ -1,13 +1,13 @@
 -- What is counted of all tables comes to the figures of a round.
 -- Serves nothing yet.
-use Rattle.std.proofs.Common.{◌≡◌, ◌≢◌, ℕ, zero, suc, ◌+◌, ◌*◌, ◌<◌, ◌≤◌, List, [], ◌∷◌, length, get_or, map, inl, inr, refl, sym, ap, ◌∙◌, subst, arith}
+use Rattle.std.proofs.Common.{◌≡◌, ℕ, ◌+◌, ◌<◌, ◌≤◌, List, [], ◌∷◌, length, get_or, map, inl, inr, refl, sym, ap, ◌∙◌, subst, arith}
 use Rattle.std.proofs.lemmas.Bool.{cases_lt}
 use Rattle.std.proofs.lemmas.List.{get_or-map, get_or_default, get_or_past, length-map}
 use Rattle.bench_types.specs.declared.entries.Entry.{Entry}
 use Rattle.bench_types.specs.declared.rows.Figures.{Figures}
 use Rattle.bench_types.specs.declared.limits.TheConstants.{MOST_NODES, MOST_KEYS, MOST_ROUNDS}
 use Rattle.node_table.specs.Table.{Table}
-use Rattle.cluster.specs.Tables.{table_of_node, IsCluster, HoldsOfEach}
+use Rattle.cluster.specs.Tables.{IsCluster, HoldsOfEach}
 use Rattle.owner_lists.specs.OwnerListView.{OwnerListView, entries_of, list_of_owner, lists_in, no_writes, AreWrites}
 use Rattle.planes.specs.Sums.{sum_below}
 use Rattle.planes.specs.Planes.{cell, HasEachPlace}
@@ -17,11 +17,11 @@ use Rattle.staleness.specs.Figures.{most_below, staleness_at, rounds_behind, nod
 use Rattle.staleness.specs.inner.Copies.{owner_staleness}
 use Rattle.staleness.proofs.Counting.{most_by_owner}
 use Rattle.staleness.proofs.Sums.{most_below-same}
-use Rattle.version_tables.specs.Views.{VersionTableView, table_in, IsKept}
+use Rattle.version_tables.specs.Views.{VersionTableView}
 use Rattle.version_tables.specs.inner.Histories.{IsBeginning, IsWrittenSoFar}
 use Rattle.version_tables.specs.inner.Weights.{writes_in}
 use Rattle.version_tables.specs.inner.Missed.{IsLastNumber}
-use Rattle.version_tables.specs.inner.Pieces.{tables_in, keys_in, view_at, AreAlike, StandTogether, AreCountable, AreLaid, AreLastNumbers, IsOwnNumber, IsPiece, IsPieceOf, IsLeastHeld, MayWalk, most_lag}
+use Rattle.version_tables.specs.inner.Pieces.{tables_in, keys_in, view_at, AreAlike, StandTogether, AreLaid, AreLastNumbers, IsOwnNumber, IsPiece, IsPieceOf, IsLeastHeld, MayWalk, most_lag}
 use Rattle.version_tables.proofs.Pieces.{own_last, key_within}
 use Rattle.version_tables.proofs.Standing.{count-tables_in, table-read, numbers-at}
 

@@ -9,8 +9,8 @@ ghost use Rattle.round_tables.specs.Histories.{AddsWrite, AreWrittenBy, MayWrite
 ghost use Rattle.version_tables.specs.Views.{table_in};
 ghost use Rattle.version_tables.specs.inner.Histories.{FitsHistories, IsWriteUnder};
 
-use crate::figures::figures;
 use crate::histories::Histories;
+use crate::lags::figures;
 use crate::tables::{VersionTable, Written};
 use bench_types::{Fault, Figures};
 use planes::Number;

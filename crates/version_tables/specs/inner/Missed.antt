@@ -1,6 +1,6 @@
 -- How far copies lag, told by numbers of writes. The writes of an owner's generation are those above the number of its
 -- earlier ones. Source: this project.
-use Rattle.std.specs.Prelude.{◌≡◌, ℕ, zero, suc, ◌+◌, ◌<◌, ◌≤◌, List, length, Option, Some, None}
+use Rattle.std.specs.Prelude.{◌≡◌, ℕ, ◌<◌, ◌≤◌, List, length, Option, Some}
 use Rattle.bench_types.specs.declared.entries.Entry.{Entry}
 use Rattle.bench_types.specs.Mark.{mark_held}
 use Rattle.node_table.specs.Table.{Table, entry_at}

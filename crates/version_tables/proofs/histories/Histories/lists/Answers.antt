@@ -1,4 +1,4 @@
-use Rattle.std.proofs.Common.{sym, ap, subst}
+use Rattle.std.proofs.Common.{subst}
 use Rattle.owner_lists.specs.OwnerListView.{list_of_owner, AreWrites}
 use Rattle.version_tables.specs.Views.{HistoriesView}
 use Rattle.version_tables.proofs.histories.Histories.lists.Goals as goal

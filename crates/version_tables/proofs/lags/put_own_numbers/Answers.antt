@@ -1,8 +1,8 @@
-use Rattle.std.proofs.Common.{◌≡◌, length, map, arith}
+use Rattle.std.proofs.Common.{map, arith}
 use Rattle.std.proofs.lemmas.List.{length-map}
 use Rattle.planes.proofs.Elementwise.{written_next}
 use Rattle.version_tables.proofs.Counted.{own-number}
-use Rattle.version_tables.proofs.figures.put_own_numbers.Goals as goal
+use Rattle.version_tables.proofs.lags.put_own_numbers.Goals as goal
 
 pub loop-owner-preserved : goal.loop-owner-preserved
 loop-owner-preserved g c =

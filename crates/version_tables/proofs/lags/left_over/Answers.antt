@@ -1,7 +1,7 @@
 use Rattle.std.proofs.Common.{slice_index, map}
 use Rattle.planes.specs.Planes.{cell}
 use Rattle.version_tables.proofs.Counted.{none_left}
-use Rattle.version_tables.proofs.figures.left_over.Goals as goal
+use Rattle.version_tables.proofs.lags.left_over.Goals as goal
 
 pub returns-else-forgot : goal.returns-else-forgot
 returns-else-forgot g c =

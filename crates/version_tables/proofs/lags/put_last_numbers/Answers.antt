@@ -1,7 +1,7 @@
 use Rattle.std.proofs.Common.{◌+◌, ◌*◌, ◌-◌, arith, map, length}
 use Rattle.std.proofs.lemmas.List.{length-map}
 use Rattle.planes.proofs.Places.{plane-within, planes-written}
-use Rattle.version_tables.proofs.figures.put_last_numbers.Goals as goal
+use Rattle.version_tables.proofs.lags.put_last_numbers.Goals as goal
 
 pub loop-key-preserved : goal.loop-key-preserved
 loop-key-preserved g c =

@@ -1,7 +1,7 @@
-use Rattle.std.proofs.Common.{◌≡◌, ◌≤◌, nat_lt, sym, ◌∙◌, arith, below_more}
+use Rattle.std.proofs.Common.{sym, ◌∙◌, below_more}
 use Rattle.planes.proofs.Elementwise.{number-at}
 use Rattle.version_tables.proofs.Counted.{not_above}
-use Rattle.version_tables.proofs.figures.has_forgotten.Goals as goal
+use Rattle.version_tables.proofs.lags.has_forgotten.Goals as goal
 
 pub loop-base-preserved : goal.loop-base-preserved
 loop-base-preserved g c =

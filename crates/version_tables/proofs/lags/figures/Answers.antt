@@ -1,11 +1,11 @@
-use Rattle.std.proofs.Common.{◌≡◌, ℕ, ◌<◌, length, map, sym, ap, ◌∙◌, subst, arith}
+use Rattle.std.proofs.Common.{◌≡◌, ℕ, ◌<◌, length, map, sym, subst}
 use Rattle.owner_lists.specs.OwnerListView.{list_of_owner}
 use Rattle.planes.specs.Planes.{HasEachPlace}
 use Rattle.staleness.specs.Figures.{most_below}
 use Rattle.version_tables.specs.inner.Missed.{IsLastNumber}
 use Rattle.version_tables.specs.inner.Pieces.{tables_in, AreAlike, AreLastNumbers, MayWalk, most_lag}
 use Rattle.version_tables.proofs.Whole.{alike-is, laid-is, lasts-are, lasts-by_list, may-walk, figures-are}
-use Rattle.version_tables.proofs.figures.figures.Goals as goal
+use Rattle.version_tables.proofs.lags.figures.Goals as goal
 
 pub last_numbers-requires-clause-alike : goal.last_numbers-requires-clause-alike
 last_numbers-requires-clause-alike g c κs within =

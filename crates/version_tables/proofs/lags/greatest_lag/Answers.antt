@@ -1,11 +1,10 @@
-use Rattle.std.proofs.Common.{rules, ◌≡◌, ℕ, ◌+◌, ◌*◌, ◌<◌, ◌≤◌, max, length, get_or, map, sym, ap, ◌∙◌, subst, arith}
+use Rattle.std.proofs.Common.{rules, ◌≡◌, max, length, map, ap, ◌∙◌, arith}
 use Rattle.std.proofs.lemmas.List.{length-map, get_or_default}
-use Rattle.owner_lists.specs.OwnerListView.{OwnerListView, list_of_owner, no_writes}
-use Rattle.planes.specs.Planes.{cell}
+use Rattle.owner_lists.specs.OwnerListView.{list_of_owner, no_writes}
 use Rattle.planes.proofs.Elementwise.{number-at}
 use Rattle.version_tables.specs.inner.Pieces.{most_lag}
 use Rattle.version_tables.proofs.Walks.{walks-from, most-next}
-use Rattle.version_tables.proofs.figures.greatest_lag.Goals as goal
+use Rattle.version_tables.proofs.lags.greatest_lag.Goals as goal
 
 pub lag_of_owner-lag-requires-after_bounds : goal.lag_of_owner-lag-requires-after_bounds
 lag_of_owner-lag-requires-after_bounds g c κs within =
@@ -13,10 +12,12 @@ lag_of_owner-lag-requires-after_bounds g c κs within =
     let r = c.loop-owner.owner in
     let lt = c.loop-owner-test.true in
     let firsts = c.in_ok-firsts.ensures.least in
-    let first = number-at g.N.Number.number c.in_ok-firsts.firsts.items r c.index.result.now (omega (arith, lt, firsts.size, length-map c.in_ok-firsts.firsts.items g.N.Number.number)) c.index.ensures in
-    (c.args.keys, walks-from c.args.round g.N.Number.most (length lists) c.args.keys r (g.N.Number.number c.index.result.now) lists c.index-lists-owner.result (map g.N.Number.number c.args.least.now) (map g.N.Number.number c.args.last.now)
-    (c.index-lists-owner.is ∙ get_or_default lists r c.index-lists-owner.result no_writes lt) (c.requires.walk r lt) (λ k in_k. c.requires.last.each r k lt in_k)
-    (λ k in_k behind. omega (arith, first, (firsts.each r lt).no_less k in_k behind)))
+    let first = number-at g.N.Number.number c.in_ok-firsts.firsts.items r c.index.result.now (omega (arith, lt, firsts.size, length-map c.in_ok-firsts.firsts.items g.N.Number.number)) c.index.ensures in (
+      c.args.keys,
+      walks-from c.args.round g.N.Number.most (length lists) c.args.keys r (g.N.Number.number c.index.result.now) lists c.index-lists-owner.result (map g.N.Number.number c.args.least.now) (map g.N.Number.number c.args.last.now)
+          (c.index-lists-owner.is ∙ get_or_default lists r c.index-lists-owner.result no_writes lt) (c.requires.walk r lt) (λ k in_k. c.requires.last.each r k lt in_k)
+          (λ k in_k behind. omega (arith, first, (firsts.each r lt).no_less k in_k behind)),
+    )
 
 pub loop-owner-preserved : goal.loop-owner-preserved
 loop-owner-preserved g c =

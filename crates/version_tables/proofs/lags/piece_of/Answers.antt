@@ -1,11 +1,11 @@
-use Rattle.std.proofs.Common.{◌≡◌, ℕ, ◌+◌, ◌*◌, ◌<◌, ◌≤◌, min, map, length, refl, sym, ap, ◌∙◌, subst, arith}
+use Rattle.std.proofs.Common.{◌≡◌, ◌+◌, ◌<◌, min, map, length, sym, ap, ◌∙◌, subst, arith}
 use Rattle.std.specs.Prelude.{slice_index}
 use Rattle.std.proofs.lemmas.List.{length-map}
 use Rattle.planes.specs.Planes.{cell, ArePlanesChanged}
 use Rattle.version_tables.specs.inner.Pieces.{tables_in, AreLastNumbers, IsPieceOf}
 use Rattle.version_tables.proofs.Standing.{cells-count, one-list-each}
 use Rattle.version_tables.proofs.Parts.{part-none, part-more, piece-size, grid-piece, all_written}
-use Rattle.version_tables.proofs.figures.piece_of.Goals as goal
+use Rattle.version_tables.proofs.lags.piece_of.Goals as goal
 
 pub loop-at-init : goal.loop-at-init
 loop-at-init g c =

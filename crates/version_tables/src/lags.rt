@@ -20,9 +20,7 @@ use crate::tables::{VersionTable, Written};
 use bench_types::{Fault, Figures};
 use owner_lists::OwnerList;
 use planes::{Number, count_behind, least_behind, lower_all, total_upto};
-use rayon::current_num_threads;
-use rayon::prelude::*;
-use std::alloc::{AllocError, Global};
+use std::alloc::Global;
 use std::thread::Threads;
 
 // What some of the tables say.
@@ -187,63 +185,6 @@ fn piece_of<N: Number, H: Written>(
     })
 }
 
-// What the tables of a part of so many say.
-fn part_of<N: Number, H: Written>(
-    alloc: Global,
-    tables: &[VersionTable<N, H>],
-    histories: &Histories<N, H>,
-    last: &[N],
-    forgot: bool,
-    size: usize,
-    part: usize,
-) -> Result<Piece<N>, Fault>
-    requires laid { AreLaid H.lists tables.now histories.now.lists }
-    requires last { AreLastNumbers (tables_in H.lists tables.now) histories.now.lists (map N.number last.now) }
-    requires forgot { IsFalse forgot → NoneForgot histories.now.lists }
-    requires part { part ≤ length tables.now / size }
-    requires some { 1 ≤ size }
-    ensures piece { IfOk result (λ p. IsPartOf (tables_in H.lists tables.now) histories.now.lists size part
-        p.stale p.leftover (map N.number p.least.items)) }
-    ensures only { IsOkUnless result OutOfMemory }
-{
-    let from = part * size;
-    let count = size.min(tables.len() - from);
-    piece_of(alloc, tables, histories, last, forgot, from, count)
-}
-
-// What the tables of each part of so many say, in order.
-fn parts_of<N: Number, H: Written>(
-    rt: &(impl Threads + Sync),
-    alloc: Global,
-    tables: &[VersionTable<N, H>],
-    histories: &Histories<N, H>,
-    last: &[N],
-    forgot: bool,
-    size: usize,
-) -> Result<Vec<Result<Piece<N>, Fault>>, AllocError>
-    requires laid { AreLaid H.lists tables.now histories.now.lists }
-    requires last { AreLastNumbers (tables_in H.lists tables.now) histories.now.lists (map N.number last.now) }
-    requires forgot { IsFalse forgot → NoneForgot histories.now.lists }
-    requires some { 1 ≤ size }
-    ensures { IfOk result (λ v. AllZip (λ part found. IfOk found
-        (λ p. IsPartOf (tables_in H.lists tables.now) histories.now.lists size part p.stale p.leftover
-        (map N.number p.least.items))) (range_with_len 0 (length tables.now / size + 1)) v.items) }
-{
-    (0..tables.len() / size + 1)
-        .into_par_iter()
-        .with_min_len(1)
-        .map(
-            |part: usize| -> Result<Piece<N>, Fault>
-                requires { (AreLaid H.lists tables.now histories.now.lists)
-                    × AreLastNumbers (tables_in H.lists tables.now) histories.now.lists (map N.number last.now)
-                    × (IsFalse forgot → NoneForgot histories.now.lists) × (1 ≤ size) × (part ≤ length tables.now / size) }
-                ensures { IfOk result (λ p. IsPartOf (tables_in H.lists tables.entry.now) histories.entry.now.lists size part
-                    p.stale p.leftover (map N.number p.least.items)) }
-            { part_of(alloc, tables, histories, last, forgot, size, part) },
-        )
-        .collect(rt, alloc)
-}
-
 // For how many rounds a copy of an owner has missed a write at most: since the first one that some copy misses,
 // which stands behind a number, the greatest where there is none.
 fn lag_of_owner<N: Number>(
@@ -300,24 +241,8 @@ fn greatest_lag<N: Number>(
     Ok(greatest)
 }
 
-// How many numbers are worth a thread of their own.
-const NUMBERS_OF_A_THREAD: usize = 65_536;
-
-// How many tables a thread gets, about half as many as would give each thread a part. It bears on time and
-// memory alone.
-fn tables_of_a_thread(rt: &impl Threads, tables: usize, keys: usize) -> usize
-    ensures { 1 ≤ result }
-{
-    let numbers = tables.saturating_mul(keys);
-    let least = NUMBERS_OF_A_THREAD / numbers.max(1);
-    (tables / current_num_threads(rt) / 2)
-        .max(least)
-        .saturating_add(1)
-}
-
 // What all tables say.
 fn counted<N: Number, H: Written>(
-    rt: &(impl Threads + Sync),
     alloc: Global,
     tables: &[VersionTable<N, H>],
     histories: &Histories<N, H>,
@@ -329,29 +254,8 @@ fn counted<N: Number, H: Written>(
         p.stale p.leftover (map N.number p.least.items)) }
     ensures only { IsOkUnless result OutOfMemory }
 {
-    let nodes = tables.len();
-    let keys = keys_of(tables);
-    let size = tables_of_a_thread(rt, nodes, keys);
     let forgot = has_forgotten(histories.bases());
-    let parts = parts_of(rt, alloc, tables, histories, last, forgot, size)?;
-    let mut stale = 0;
-    let mut leftover = 0;
-    let mut least = copied(alloc, last)?;
-    for part in &parts {
-        match part {
-            Ok(part) => {
-                stale += part.stale;
-                leftover += part.leftover;
-                lower_all(&mut least, &part.least, nodes, keys);
-            }
-            Err(_) => return Err(Fault::OutOfMemory),
-        }
-    }
-    Ok(Piece {
-        stale,
-        leftover,
-        least,
-    })
+    piece_of(alloc, tables, histories, last, forgot, 0, tables.len())
 }
 
 /// The figures at the end of a round, down nodes included: how many keys of copies are below the
@@ -364,7 +268,7 @@ fn counted<N: Number, H: Written>(
 /// write that some copy misses, if any, to the next one. It takes memory for the numbers of a table for
 /// each part of the tables and twice more, and an error is want of that.
 pub fn figures<N: Number, H: Written>(
-    rt: &(impl Threads + Sync),
+    _rt: &(impl Threads + Sync),
     alloc: Global,
     tables: &[VersionTable<N, H>],
     histories: &Histories<N, H>,
@@ -382,7 +286,7 @@ pub fn figures<N: Number, H: Written>(
     let keys = keys_of(tables);
     let lists = histories.lists();
     let last = last_numbers(alloc, tables, keys)?;
-    let whole = counted(rt, alloc, tables, histories, &last)?;
+    let whole = counted(alloc, tables, histories, &last)?;
     let greatest = greatest_lag(alloc, lists, &whole.least, &last, keys, round)?;
     Ok(Figures {
         stale: whole.stale,

@@ -1,4 +1,4 @@
-use Rattle.std.proofs.Common.{◌≡◌, ℕ, ◌+◌, ◌*◌, ◌<◌, ◌≤◌, Some, None, max, length, map, sym, ap, ◌∙◌, subst, arith}
+use Rattle.std.proofs.Common.{◌≡◌, ◌+◌, ◌*◌, ◌≤◌, Some, max, map, sym, ap, ◌∙◌, arith}
 use Rattle.std.proofs.lemmas.List.{length-map}
 use Rattle.std.proofs.lemmas.Option.{same_Some}
 use Rattle.bench_types.specs.declared.entries.Entry.{Entry}
@@ -8,8 +8,8 @@ use Rattle.planes.specs.Planes.{cell}
 use Rattle.planes.proofs.Elementwise.{number-at}
 use Rattle.version_tables.specs.inner.Missed.{base_of}
 use Rattle.version_tables.proofs.Walks.{walk-next, walk-none, walk-found, walk-keyed, walk-index, walk-born}
-use Rattle.version_tables.proofs.figures.lag_of_owner.Goals as goal
-use Rattle.version_tables.proofs.figures.lag_of_owner.Goals.{in-Some+else-widen-place, in_default}
+use Rattle.version_tables.proofs.lags.lag_of_owner.Goals as goal
+use Rattle.version_tables.proofs.lags.lag_of_owner.Goals.{in-Some+else-widen-place, in_default}
 
 pub returns-then-widen : goal.returns-then-widen
 returns-then-widen g c keys walks =
@@ -24,7 +24,7 @@ offset_bounds-least-write g c =
     omega (
       arith,
       walk-index c.args.round g.N.Number.most c.args.nodes w.0 c.args.owner (g.N.Number.number c.args.first) c.args.list.now (map g.N.Number.number c.args.least.now) w.1 c.loop-place.place c.in-Some.write
-      (omega (arith, c.loop-place.auto.place, c.max-from.ensures, c.earlier_count.ensures)) (sym c.in-Some.ensures),
+          (omega (arith, c.loop-place.auto.place, c.max-from.ensures, c.earlier_count.ensures)) (sym c.in-Some.ensures),
       length-map c.args.least.now g.N.Number.number,
     )
 
@@ -34,7 +34,7 @@ bounds-least-write g c =
     omega (
       arith,
       walk-index c.args.round g.N.Number.most c.args.nodes w.0 c.args.owner (g.N.Number.number c.args.first) c.args.list.now (map g.N.Number.number c.args.least.now) w.1 c.loop-place.place c.in-Some.write
-      (omega (arith, c.loop-place.auto.place, c.max-from.ensures, c.earlier_count.ensures)) (sym c.in-Some.ensures),
+          (omega (arith, c.loop-place.auto.place, c.max-from.ensures, c.earlier_count.ensures)) (sym c.in-Some.ensures),
       length-map c.args.least.now g.N.Number.number,
     )
 

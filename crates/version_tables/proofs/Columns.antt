@@ -1,6 +1,6 @@
 -- Ranks among an owner's candidates and how many it has, by its numbers.
 -- Serves most of the crate.
-use Rattle.std.proofs.Common.{◌≡◌, ◌≢◌, ℕ, zero, suc, ◌+◌, ◌<◌, ◌≤◌, Bool, true, false, cond, eqb, ltb, List, inl, inr, refl, sym, ap, ◌∙◌, subst, arith}
+use Rattle.std.proofs.Common.{◌≡◌, ◌≢◌, ℕ, zero, suc, ◌<◌, Bool, true, false, cond, eqb, ltb, List, inl, inr, refl, sym, ap, ◌∙◌, arith}
 use Rattle.std.specs.Prelude.{Contains, ◌&&◌}
 use Rattle.std.proofs.lemmas.Bool.{cases_lt, cases_eq, eq-eqb, ne_eqb, lt-ltb, le-ltb}
 use Rattle.bench_types.specs.declared.entries.Entry.{Entry}
@@ -11,7 +11,6 @@ use Rattle.reconcile.specs.Candidates.{candidates}
 use Rattle.reconcile.specs.Order.{rank_among, owner_count}
 use Rattle.planes.specs.Sums.{sum_below}
 use Rattle.version_tables.specs.inner.Offers.{Offers, IsHistory, offered_sum, rank_above}
-use Rattle.owner_lists.specs.Numbers.{write_numbered}
 use Rattle.planes.specs.Planes.{Cells, count_above}
 use Rattle.version_tables.specs.inner.Levels.{number_of}
 use Rattle.planes.proofs.Sums.{sum_below-same}

@@ -1,8 +1,7 @@
 -- A delta by marks: whole levels, and of the next one what comes before the first candidate that doesn't fit.
 -- Serves `Lifts`.
-use Rattle.std.proofs.Common.{◌≡◌, ◌≢◌, ℕ, ◌+◌, ◌<◌, ◌≤◌, Bool, true, false, cond, List, inl, inr, refl, sym, ap, ◌∙◌, subst, arith}
+use Rattle.std.proofs.Common.{◌≡◌, ℕ, ◌+◌, ◌<◌, ◌≤◌, Bool, true, cond, List, ap, arith}
 use Rattle.std.specs.Prelude.{Contains}
-use Rattle.std.specs.List.{sum_by}
 use Rattle.bench_types.specs.declared.entries.Entry.{Entry}
 use Rattle.bench_types.specs.declared.entries.Item.{Item}
 use Rattle.bench_types.specs.declared.exchanges.Budget.{Budget}
@@ -14,7 +13,7 @@ use Rattle.reconcile.specs.Deltas.{delta_between, item_share}
 use Rattle.reconcile.specs.Order.{sending_order}
 use Rattle.reconcile.proofs.DeltaLaws.{sending_order-total}
 use Rattle.version_tables.specs.SentSets.{HasSet, size_in}
-use Rattle.version_tables.specs.inner.Offers.{Offers, IsHistory, offered_sum}
+use Rattle.version_tables.specs.inner.Offers.{Offers, IsHistory}
 use Rattle.planes.specs.Planes.{Cells}
 use Rattle.version_tables.specs.inner.Levels.{number_of}
 use Rattle.version_tables.specs.inner.Shares.{lets_through, AreLevelMarks, StopAt, size_through_marks}

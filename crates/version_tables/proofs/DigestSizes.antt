@@ -1,9 +1,9 @@
 -- How many owners and entries a table of versions holds.
 -- Serves `digest_size`.
-use Rattle.std.proofs.Common.{◌≡◌, ℕ, zero, suc, ◌+◌, ◌*◌, ◌<◌, ◌≤◌, Bool, true, false, cond, nat_lt, List, [], ◌∷◌, length, map, get_or, Option, Some, None, inl, inr, refl, sym, ap, ◌∙◌, subst, arith}
+use Rattle.std.proofs.Common.{◌≡◌, ℕ, zero, suc, ◌+◌, ◌*◌, ◌<◌, Bool, true, false, cond, nat_lt, List, ◌∷◌, Some, inl, inr, refl, sym, ap, ◌∙◌, arith}
 use Rattle.std.specs.Prelude.{count_by, slice_index}
-use Rattle.std.specs.FinMap.{entries, len, len-entries}
-use Rattle.std.specs.List.{range_with_len, sum_by}
+use Rattle.std.specs.FinMap.{entries, len-entries}
+use Rattle.std.specs.List.{range_with_len}
 use Rattle.std.proofs.lemmas.Bool.{cases_lt, lt-ltb, le-ltb}
 use Rattle.std.proofs.lemmas.List.{length-map}
 use Rattle.bench_types.specs.declared.entries.Entry.{Entry}
@@ -11,7 +11,7 @@ use Rattle.bench_types.specs.declared.entries.Item.{Item}
 use Rattle.bench_types.specs.declared.entries.Mark.{Mark}
 use Rattle.bench_types.specs.declared.exchanges.DigestKind.TheVariants.{Scuttle, Precise}
 use Rattle.bench_types.specs.Mark.{IsUpTo, mark_held}
-use Rattle.node_table.specs.Table.{Table, entry_at, items_of, item_of, count_of, mark_at, greatest_mark, greatest_version, generation_held}
+use Rattle.node_table.specs.Table.{Table, entry_at, items_of, item_of, mark_at, greatest_mark, greatest_version}
 use Rattle.node_table.proofs.Greatest.{greatest_mark-none, mark_at-up_to_greatest}
 use Rattle.owner_lists.specs.Numbers.{write_numbered}
 use Rattle.planes.specs.Planes.{cell, total_of}

@@ -1,6 +1,6 @@
 -- An exchange of tables of versions is the model's.
 -- Serves `exchange` and `exchange_deltas`.
-use Rattle.std.proofs.Common.{◌≡◌, ℕ, ◌+◌, ◌<◌, ◌≤◌, Bool, true, false, eqb, List, [], ◌∷◌, length, if◌then◌else◌, refl, sym, ap, ◌∙◌, subst, arith}
+use Rattle.std.proofs.Common.{◌≡◌, ℕ, ◌<◌, Bool, true, false, eqb, List, [], ◌∷◌, length, if◌then◌else◌, refl, sym, ap, ◌∙◌, subst, arith}
 use Rattle.std.specs.Prelude.{◌||◌}
 use Rattle.std.proofs.lemmas.Bool.{eqb-true}
 use Rattle.bench_types.specs.declared.entries.Entry.{Entry}
@@ -11,7 +11,7 @@ use Rattle.bench_types.specs.declared.exchanges.Fate.TheVariants as fate
 use Rattle.bench_types.specs.declared.exchanges.Record.{Record}
 use Rattle.bench_types.specs.declared.exchanges.Rules.{Rules}
 use Rattle.bench_types.specs.Mode.{digest_kind}
-use Rattle.exchange.specs.Exchanged.{Exchanged, exchanged, last_fate, sent_until, initiator_after, responder_after}
+use Rattle.exchange.specs.Exchanged.{Exchanged, last_fate, sent_until, initiator_after, responder_after}
 use Rattle.exchange.specs.Exchanging.{MakesOf}
 use Rattle.node_table.specs.Table.{Table, applied}
 use Rattle.owner_lists.specs.OwnerListView.{OwnerListView, list_of_owner, AreWrites}
@@ -20,7 +20,7 @@ use Rattle.reconcile.specs.Digests.{digest_size}
 use Rattle.version_tables.specs.Views.{VersionTableView, HistoriesView, table_in, IsKept}
 use Rattle.version_tables.specs.inner.Deltas.{delta_of_views, is_taken_at, AreMarksOf}
 use Rattle.version_tables.specs.inner.Histories.{bases_in, IsWrittenSoFar, FitsHistories}
-use Rattle.version_tables.specs.inner.Taken.{numbers_taken, HasTaken, HasTakenUnless, StaysOne}
+use Rattle.version_tables.specs.inner.Taken.{numbers_taken, HasTakenUnless, StaysOne}
 use Rattle.version_tables.specs.inner.Weights.{writes_in}
 use Rattle.version_tables.proofs.TakenViews.{are_taken, becomes_applied, becomes_one, same_taken, sent_above}
 

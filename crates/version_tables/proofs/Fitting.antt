@@ -1,14 +1,14 @@
 -- Tables beside the histories: the numbers that they hold are of writes made so far.
 -- Serves `Delivered`, `Standing` and `TakenViews`.
-use Rattle.std.proofs.Common.{◌≡◌, ◌≢◌, ℕ, zero, suc, ◌+◌, ◌<◌, ◌≤◌, List, [], ◌∷◌, length, get_or, Option, Some, None, inl, inr, refl, sym, ap, ◌∙◌, subst, arith}
+use Rattle.std.proofs.Common.{◌≡◌, ℕ, zero, suc, ◌<◌, ◌≤◌, List, [], ◌∷◌, length, Some, inl, inr, sym, ap, ◌∙◌, arith}
 use Rattle.std.specs.Prelude.{Contains}
 use Rattle.std.proofs.lemmas.Bool.{cases_lt}
 use Rattle.bench_types.specs.declared.entries.Entry.{Entry}
-use Rattle.node_table.specs.Table.{Table, entry_at}
-use Rattle.owner_lists.specs.Numbers.{write_from, write_numbered}
+use Rattle.node_table.specs.Table.{entry_at}
+use Rattle.owner_lists.specs.Numbers.{write_from}
 use Rattle.planes.specs.Planes.{Cells, cell}
 use Rattle.version_tables.specs.Views.{VersionTableView, HistoriesView, table_in, IsKept}
-use Rattle.version_tables.specs.inner.Histories.{IsBeginning, IsWrittenSoFar, FitsHistories}
+use Rattle.version_tables.specs.inner.Histories.{IsWrittenSoFar, FitsHistories}
 use Rattle.version_tables.specs.inner.Offers.{HasCells}
 use Rattle.version_tables.specs.inner.Weights.{writes_in}
 use Rattle.version_tables.proofs.Laid.{has_cells}

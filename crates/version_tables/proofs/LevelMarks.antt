@@ -1,24 +1,21 @@
 -- The marks of a mode's levels.
 -- Serves `Lifts`.
-use Rattle.std.proofs.Common.{◌≡◌, ◌≢◌, ℕ, zero, suc, ◌+◌, ◌<◌, ◌≤◌, Bool, true, false, ltb, leb, List, inl, inr, refl, sym, ap, ◌∙◌, subst, arith}
+use Rattle.std.proofs.Common.{◌≡◌, ℕ, ◌+◌, ◌<◌, ◌≤◌, true, false, leb, List, inl, inr, sym, ap, ◌∙◌, arith}
 use Rattle.std.specs.Prelude.{Contains}
-use Rattle.std.specs.declared.cmp.Ordering.{Ordering}
-use Rattle.std.specs.declared.cmp.Ordering.TheVariants.{Less, Equal, Greater}
+use Rattle.std.specs.declared.cmp.Ordering.TheVariants.{Less}
 use Rattle.std.specs.Ordering.{nat_cmp, ordering_then, is_lt}
 use Rattle.std.proofs.lemmas.Bool.{cases_lt, lt-ltb, le-ltb, le-leb, lt-leb}
 use Rattle.bench_types.specs.declared.entries.Entry.{Entry}
 use Rattle.bench_types.specs.declared.entries.Item.{Item}
-use Rattle.bench_types.specs.declared.exchanges.Mode.{Mode}
 use Rattle.bench_types.specs.declared.exchanges.Mode.TheVariants.{ScuttleBreadth, ScuttleDepth, PreciseOldest, PreciseNewest}
 use Rattle.node_table.specs.Table.{Table, IsProper}
 use Rattle.node_table.proofs.Comparing.{nat_cmp-less, nat_cmp-equal, nat_cmp-greater}
 use Rattle.reconcile.specs.Candidates.{candidates}
 use Rattle.reconcile.specs.Order.{rank_among, owner_count}
 use Rattle.version_tables.specs.inner.Offers.{Offers, IsHistory, rank_above}
-use Rattle.owner_lists.specs.Numbers.{write_numbered}
 use Rattle.planes.specs.Planes.{Cells, count_above}
-use Rattle.version_tables.specs.inner.Levels.{level_cmp, number_of}
-use Rattle.version_tables.specs.inner.Shares.{lets_through, AreLevelMarks, IsLayerMark, IsRunMark, IsRoundMark}
+use Rattle.version_tables.specs.inner.Levels.{number_of}
+use Rattle.version_tables.specs.inner.Shares.{AreLevelMarks, IsLayerMark, IsRunMark, IsRoundMark}
 use Rattle.version_tables.proofs.Columns.{rank_among-is, owner_count-is}
 use Rattle.version_tables.proofs.Layers.{layer-upto, layer-above}
 use Rattle.version_tables.proofs.Levels.{candidate-number, candidate-below, candidate-key}

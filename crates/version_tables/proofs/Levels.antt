@@ -1,7 +1,7 @@
 -- The order of a mode as levels, turns and numbers.
 -- Serves `Columns`, `Delivered`, `LevelMarks`, `Lifts` and `Shares`.
-use Rattle.std.proofs.Common.{◌≡◌, ◌≢◌, ℕ, zero, suc, ◌+◌, ◌<◌, ◌≤◌, Bool, true, false, cond, not, eqb, ltb, List, length, Option, Some, None, inl, inr, refl, sym, ap, ◌∙◌, subst, arith}
-use Rattle.std.specs.Prelude.{Contains, ◌&&◌, count_by}
+use Rattle.std.proofs.Common.{◌≡◌, ◌≢◌, ℕ, ◌<◌, ◌≤◌, Bool, true, false, List, Some, inl, inr, refl, sym, ap, ◌∙◌, subst, arith}
+use Rattle.std.specs.Prelude.{Contains}
 use Rattle.std.specs.declared.cmp.Ordering.{Ordering}
 use Rattle.std.specs.declared.cmp.Ordering.TheVariants.{Less, Equal, Greater}
 use Rattle.std.specs.Ordering.{nat_cmp, ordering_then, is_lt}
@@ -25,7 +25,7 @@ use Rattle.version_tables.specs.inner.Offers.{Offers, IsHistory, is_lacked}
 use Rattle.owner_lists.specs.Numbers.{write_numbered}
 use Rattle.planes.specs.Planes.{Cells}
 use Rattle.version_tables.proofs.Offers.{versions-rise, numbers-born}
-use Rattle.version_tables.specs.inner.Levels.{level_cmp, turn_cmp, number_of, comes_first}
+use Rattle.version_tables.specs.inner.Levels.{turn_cmp, number_of, comes_first}
 
 -- three comparisons in turn where the second decides
 decided : (a b c : Ordering) → b ≢ Equal → is_lt (ordering_then a (ordering_then b c)) ≡ is_lt (ordering_then a b)

@@ -1,20 +1,19 @@
 -- What one table offers another, told by numbers.
 -- Serves most of the crate.
-use Rattle.std.proofs.Common.{◌≡◌, ◌≢◌, ℕ, zero, suc, ◌+◌, ◌<◌, ◌≤◌, Bool, true, false, cond, not, eqb, ltb, List, [], ◌∷◌, length, get_or, Option, Some, None, inl, inr, refl, sym, ap, ◌∙◌, subst, arith}
-use Rattle.std.specs.Prelude.{Contains, ◌&&◌}
+use Rattle.std.proofs.Common.{◌≡◌, ℕ, zero, suc, ◌<◌, ◌≤◌, cond, ltb, List, [], ◌∷◌, length, get_or, Some, None, inl, inr, refl, sym, ap, ◌∙◌, subst, arith}
+use Rattle.std.specs.Prelude.{Contains}
 use Rattle.std.specs.List.{sum_by}
 use Rattle.std.proofs.lemmas.Bool.{cases_lt, lt-ltb, le-ltb}
 use Rattle.std.proofs.lemmas.Option.{same_Some}
 use Rattle.bench_types.specs.declared.entries.Entry.{Entry}
 use Rattle.bench_types.specs.declared.entries.Item.{Item}
 use Rattle.bench_types.specs.declared.exchanges.Mode.{Mode}
-use Rattle.bench_types.specs.Mark.{mark_of, is_before, IsBefore}
+use Rattle.bench_types.specs.Mark.{mark_of, IsBefore}
 use Rattle.node_table.specs.Table.{Table, entry_at, items_of, IsProper}
 use Rattle.node_table.proofs.Items.{Contains-items_of}
 use Rattle.reconcile.proofs.Members.{Contains-filter}
 use Rattle.reconcile.specs.Candidates.{candidates}
-use Rattle.version_tables.specs.inner.Grids.{number_here, number_at, sum_over}
-use Rattle.planes.specs.Sums.{sum_below}
+use Rattle.version_tables.specs.inner.Grids.{number_here, number_at}
 use Rattle.version_tables.specs.inner.Offers.{Offers, is_lacked, offered_sum, IsHistory}
 use Rattle.owner_lists.specs.Numbers.{write_from, write_numbered}
 use Rattle.planes.specs.Planes.{Cells}

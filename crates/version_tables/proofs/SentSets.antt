@@ -1,7 +1,7 @@
 -- Any set of candidates that is closed downwards, fits, and lets nothing more in is what is sent.
 -- Serves `deltas_have_their_sets` and `DeltaMarks`.
-use Rattle.std.proofs.Common.{◌≡◌, ◌≢◌, ◌↔◌, ℕ, zero, suc, ◌+◌, ◌<◌, ◌≤◌, Bool, true, false, cond, not, eqb, leb, List, [], ◌∷◌, length, get_or, Option, Some, None, inl, inr, refl, sym, ap, ◌∙◌, subst, arith}
-use Rattle.std.specs.Prelude.{count_by, filter, IsPermutation, Contains, AllPairs, ◌&&◌}
+use Rattle.std.proofs.Common.{◌≡◌, ◌≢◌, ℕ, zero, suc, ◌+◌, ◌<◌, ◌≤◌, Bool, true, false, cond, not, eqb, List, [], ◌∷◌, get_or, Some, refl, sym, ap, ◌∙◌, subst, arith}
+use Rattle.std.specs.Prelude.{count_by, filter, IsPermutation, Contains, ◌&&◌}
 use Rattle.std.specs.List.{sum_by}
 use Rattle.std.specs.declared.cmp.Ordering.{Ordering}
 use Rattle.std.specs.declared.cmp.Ordering.TheVariants.{Less, Equal, Greater}
@@ -27,10 +27,8 @@ use Rattle.reconcile.specs.Order.{sending_order}
 use Rattle.reconcile.proofs.DeltaLaws.{sending_order-total, sending_order-strict}
 use Rattle.reconcile.proofs.Members.{Contains-filter, Contains-kept, same_members}
 use Rattle.reconcile.specs.Picks.{before_count, first_places, size_through, fits, sent, cut_count}
-use Rattle.reconcile.proofs.Counts.{count_by-not}
-use Rattle.reconcile.proofs.Places.{before_count-lt, before_count-places, Contains-first_places, first_places-Contains, before_count-lt-length, count_by-lt-length}
-use Rattle.reconcile.proofs.Counts.{count_by-cons_true, count_by-cons_false}
-use Rattle.version_tables.specs.SentSets.{size_in, IsKeptOut, IsSentSet, StopsAt, AllFit, HasSet, DeltasHaveTheirSets}
+use Rattle.reconcile.proofs.Places.{before_count-places, Contains-first_places, first_places-Contains}
+use Rattle.version_tables.specs.SentSets.{size_in, IsKeptOut, IsSentSet, StopsAt, AllFit, DeltasHaveTheirSets}
 
 -- a sum over a list whose terms are no greater, for the elements of the list
 sum_by-le : {X : Type 0} (f g : X → ℕ) (xs : List X) → ((x : X) → Contains xs x → f x ≤ g x) → sum_by f xs ≤ sum_by g xs

@@ -1,17 +1,16 @@
 -- The cells of a table that has taken a delta hold what the model's table does.
 -- Serves `TakenViews`.
-use Rattle.std.proofs.Common.{◌≡◌, ◌≢◌, ℕ, ◌<◌, ◌≤◌, Bool, true, false, List, Option, Some, None, inl, inr, refl, sym, ap, ◌∙◌, subst, arith}
-use Rattle.std.specs.Prelude.{Contains}
+use Rattle.std.proofs.Common.{◌≡◌, ◌≢◌, ℕ, ◌<◌, Bool, true, false, List, Some, inl, inr, refl, sym, ap, ◌∙◌, subst, arith}
 use Rattle.std.proofs.lemmas.Bool.{both_ways}
 use Rattle.bench_types.specs.declared.entries.Entry.{Entry}
 use Rattle.bench_types.specs.declared.exchanges.Rules.{Rules}
-use Rattle.node_table.specs.Table.{Table, entry_at, generation_held, IsProper}
+use Rattle.node_table.specs.Table.{Table, entry_at, IsProper}
 use Rattle.node_table.proofs.Laws.{frame-applied}
 use Rattle.reconcile.specs.Deltas.{delta_between}
 use Rattle.version_tables.specs.inner.Offers.{HasCells}
 use Rattle.owner_lists.specs.Numbers.{write_numbered}
 use Rattle.planes.specs.Planes.{Cells}
-use Rattle.version_tables.specs.inner.Taken.{AreSent, SendsNoNewer, SendsNewer, AreTakenCells}
+use Rattle.version_tables.specs.inner.Taken.{AreSent, AreTakenCells}
 use Rattle.version_tables.proofs.TakenSets.{after, Comes, after-sent, after-kept, after-dropped, came-held}
 
 module _ (rules : Rules) (rotation : ℕ) (from to : Table) (from_proper : IsProper from) (to_proper : IsProper to) (nodes : from.nodes ≡ to.nodes) (keys : from.keys ≡ to.keys)

@@ -1,9 +1,7 @@
 -- A table that took a delta by marks is the one that took its items.
 -- Serves `take`, `take_both`, `TakenTables` and `TakenViews`.
-use Rattle.std.proofs.Common.{◌≡◌, ◌≢◌, ℕ, zero, suc, ◌+◌, ◌-◌, ◌<◌, ◌≤◌, ◌&&◌, Bool, true, false, cond, max, nat_lt, nat_le, List, length, get_or, Option, Some, None, ◌⊎◌, inl, inr, refl, sym, ap, ◌∙◌, subst, arith}
-use Rattle.std.specs.Prelude.{slice_index}
-use Rattle.std.proofs.lemmas.Bool.{cases_lt, cases_eq, lt-ltb, le-ltb, le-leb, lt-leb, ltb-true, leb-true, and_parts}
-use Rattle.std.proofs.lemmas.Option.{same_Some}
+use Rattle.std.proofs.Common.{◌≡◌, ℕ, ◌<◌, ◌≤◌, ◌&&◌, Bool, true, false, cond, max, nat_lt, nat_le, List, inl, inr, refl, sym, ap, ◌∙◌, subst, arith}
+use Rattle.std.proofs.lemmas.Bool.{cases_lt, lt-ltb, le-leb, lt-leb, ltb-true, and_parts}
 use Rattle.planes.specs.Planes.{number_taken}
 use Rattle.bench_types.specs.declared.entries.Entry.{Entry}
 use Rattle.version_tables.specs.Views.{VersionTableView}

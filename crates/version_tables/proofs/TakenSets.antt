@@ -1,27 +1,24 @@
 -- What a table holds once it has taken what another sent it.
 -- Serves `TakenCells` and `TakenViews`.
-use Rattle.std.proofs.Common.{◌≡◌, ◌≢◌, ℕ, zero, suc, ◌<◌, ◌≤◌, List, Some, None, ◌⊎◌, inl, inr, refl, sym, ap, ◌∙◌, subst, arith}
-use Rattle.std.specs.Prelude.{Contains, Option}
-use Rattle.std.proofs.lemmas.Bool.{cases_lt}
-use Rattle.std.proofs.lemmas.Option.{same_Some}
+use Rattle.std.proofs.Common.{◌≡◌, ◌≢◌, ℕ, ◌<◌, ◌≤◌, List, Some, None, ◌⊎◌, inl, inr, refl, sym, ap, ◌∙◌, subst, arith}
+use Rattle.std.specs.Prelude.{Contains}
 use Rattle.bench_types.specs.declared.entries.Entry.{Entry}
 use Rattle.bench_types.specs.declared.entries.Item.{Item}
 use Rattle.bench_types.specs.declared.entries.Mark.{Mark}
 use Rattle.bench_types.specs.declared.exchanges.DigestKind.{DigestKind}
 use Rattle.bench_types.specs.declared.exchanges.DigestKind.TheVariants.{Scuttle, Precise}
 use Rattle.bench_types.specs.declared.exchanges.Rules.{Rules}
-use Rattle.bench_types.specs.Mark.{absent, mark_of, mark_held, is_before, IsBefore, IsUpTo, later}
+use Rattle.bench_types.specs.Mark.{mark_of, mark_held, IsBefore, IsUpTo}
 use Rattle.bench_types.specs.Mode.{digest_kind}
 use Rattle.bench_types.proofs.Marks.{up_to-before, not_both}
-use Rattle.node_table.specs.Table.{Table, applied, entry_at, mark_at, greatest_mark, generation_held, IsProper}
+use Rattle.node_table.specs.Table.{Table, entry_at, mark_at, greatest_mark, generation_held, IsProper}
 use Rattle.node_table.proofs.Greatest.{greatest_mark-from, mark_at-up_to_greatest}
 use Rattle.node_table.proofs.Laws.{entry_at-applied_from, frame-applied}
-use Rattle.reconcile.specs.Candidates.{known_mark, candidates}
 use Rattle.reconcile.specs.Deltas.{delta_between}
 use Rattle.reconcile.specs.Laws.{Lacks}
 use Rattle.reconcile.proofs.Lacking.{candidates-lacked}
 use Rattle.reconcile.proofs.DeltaLaws.{sent-candidate}
-use Rattle.exchange.proofs.Received.{received, sent-held, all_in_place, received-either, received-proper, kept, sent-up_to}
+use Rattle.exchange.proofs.Received.{received, sent-held, received-proper, kept, sent-up_to}
 
 -- nothing that a receiver lacks is before what it holds at its place, and no older than its copy
 lacks-at : (kind : DigestKind) (to : Table) (i : Item) → IsProper to → i.entry.key < to.keys → Lacks kind to i → (generation_held to i.owner ≤ i.entry.generation) × IsBefore (mark_at to i.owner i.entry.key) (mark_of i.entry)

@@ -1,24 +1,17 @@
 -- A table that took a delta by marks is the one that took its items.
 -- Serves `TakenViews`.
-use Rattle.std.proofs.Common.{◌≡◌, ◌≢◌, ℕ, zero, suc, ◌+◌, ◌-◌, ◌<◌, ◌≤◌, ◌&&◌, Bool, true, false, cond, max, nat_lt, nat_le, List, ◌++◌, length, get_or, All, Option, Some, None, ◌⊎◌, inl, inr, refl, sym, ap, ◌∙◌, subst, arith}
-use Rattle.std.specs.Prelude.{slice_index}
-use Rattle.std.proofs.lemmas.Bool.{cases_lt, cases_eq, lt-ltb, le-ltb, le-leb, lt-leb, ltb-true, leb-true, and_parts, both_ways}
+use Rattle.std.proofs.Common.{◌≡◌, ℕ, zero, suc, ◌+◌, ◌-◌, ◌<◌, ◌≤◌, ◌&&◌, Bool, true, false, cond, nat_lt, nat_le, List, ◌++◌, length, get_or, Some, None, ◌⊎◌, inl, inr, refl, sym, ap, ◌∙◌, arith}
+use Rattle.std.proofs.lemmas.Bool.{cases_lt, lt-ltb, le-leb, ltb-true, leb-true, and_parts, both_ways}
 use Rattle.std.proofs.lemmas.List.Elements.{All-contains}
 use Rattle.std.proofs.lemmas.List.{get_or_append_left, get_or-append_right, length-append}
 use Rattle.std.proofs.lemmas.Option.{same_Some}
 use Rattle.bench_types.specs.declared.entries.Entry.{Entry}
-use Rattle.bench_types.specs.declared.entries.Mark.{Mark}
-use Rattle.bench_types.specs.declared.exchanges.Rules.{Rules}
-use Rattle.bench_types.specs.Mark.{mark_of}
 use Rattle.node_table.specs.Table.{Table, entry_at, generation_held, IsProper}
-use Rattle.node_table.proofs.Greatest.{greatest_mark-none}
 use Rattle.owner_lists.specs.Numbers.{write_from, write_numbered}
 use Rattle.owner_lists.specs.OwnerListView.{OwnerListView, entries_of, AreWrites}
-use Rattle.planes.specs.Planes.{Cells, IsRaised}
-use Rattle.version_tables.specs.inner.Laid.{IsGreatest}
-use Rattle.version_tables.specs.inner.Offers.{HasCells, IsHistory, IsNumberedHistory, start_before, start_of}
+use Rattle.version_tables.specs.inner.Offers.{IsHistory, IsNumberedHistory, start_before, start_of}
 use Rattle.version_tables.specs.inner.Taken.{SendsNoNewer, SendsNewer, drop_start, number_kept}
-use Rattle.version_tables.proofs.Numbers.{numbered-some, numbered-none, numbered-within, numbers-up_to}
+use Rattle.version_tables.proofs.Numbers.{numbered-some, numbers-up_to}
 use Rattle.version_tables.proofs.Offers.{write_from-at}
 use Rattle.version_tables.proofs.TakenNumbers.{kept-above, kept-none, kept-zero}
 

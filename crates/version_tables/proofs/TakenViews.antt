@@ -1,17 +1,16 @@
 -- A table that took a delta by marks is the model's table that took its items.
 -- Serves `ExchangedViews`.
-use Rattle.std.proofs.Common.{◌≡◌, ◌≢◌, ℕ, zero, suc, ◌+◌, ◌<◌, ◌≤◌, ◌&&◌, Bool, true, false, max, nat_lt, nat_le, List, length, Option, Some, None, ◌⊎◌, inl, inr, refl, sym, ap, ◌∙◌, subst, arith}
+use Rattle.std.proofs.Common.{◌≡◌, ℕ, ◌<◌, ◌≤◌, Bool, true, false, max, nat_lt, nat_le, List, length, Some, None, ◌⊎◌, inl, inr, refl, sym, ap, ◌∙◌, subst, arith}
 use Rattle.std.specs.Prelude.{slice_index}
-use Rattle.std.proofs.lemmas.Bool.{cases_lt, le-ltb, ltb-true, and_left, and_parts, both_ways}
+use Rattle.std.proofs.lemmas.Bool.{le-ltb, ltb-true, and_left, and_parts}
 use Rattle.bench_types.specs.declared.entries.Entry.{Entry}
-use Rattle.bench_types.specs.declared.entries.Item.{Item}
 use Rattle.bench_types.specs.declared.exchanges.Rules.{Rules}
-use Rattle.node_table.specs.Table.{Table, applied, entry_at, generation_held, IsProper}
+use Rattle.node_table.specs.Table.{Table, applied, IsProper}
 use Rattle.node_table.proofs.Laws.{KeepsFrame, frame-applied}
 use Rattle.exchange.proofs.Received.{received-proper}
 use Rattle.owner_lists.specs.Numbers.{write_numbered}
-use Rattle.owner_lists.specs.OwnerListView.{OwnerListView, entries_of, list_of_owner, AreWrites}
-use Rattle.planes.specs.Planes.{Cells, cell, number_taken, IsRaised}
+use Rattle.owner_lists.specs.OwnerListView.{OwnerListView, list_of_owner, AreWrites}
+use Rattle.planes.specs.Planes.{Cells, cell, number_taken}
 use Rattle.version_tables.specs.Views.{VersionTableView, HistoriesView, table_in, IsKept}
 use Rattle.version_tables.specs.inner.Deltas.{delta_of_views, is_taken_at}
 use Rattle.version_tables.specs.inner.Histories.{bases_in, IsWrittenSoFar, FitsHistories}

@@ -1,13 +1,11 @@
 -- What tables of versions owe to the histories stays through exchanges. Source: this project.
-use Rattle.std.specs.Prelude.{◌≡◌, ℕ, length}
+use Rattle.std.specs.Prelude.{◌≡◌, length}
 use Rattle.std.proofs.Common.{inl, inr, ◌∙◌}
-use Rattle.bench_types.specs.declared.exchanges.Exchange.{Exchange}
-use Rattle.bench_types.specs.declared.exchanges.Rules.{Rules}
 use Rattle.node_table.specs.Table.{Table}
 use Rattle.node_table.proofs.Laws.{frame-applied}
 use Rattle.reconcile.specs.Deltas.{delta_between}
 use Rattle.exchange.specs.Exchanged.{fate_of}
-use Rattle.exchange.specs.Exchanging.{MayBeExchanged, IsKeptByExchanges}
+use Rattle.exchange.specs.Exchanging.{IsKeptByExchanges}
 use Rattle.exchange.specs.Laws.{MayMeet}
 use Rattle.exchange.proofs.Cases.{initiator_after-either, responder_after-either}
 use Rattle.exchange.proofs.ExchangeLaws.{initiator_proper, responder_proper, initiator_either, responder_either}

@@ -8,7 +8,6 @@ use Rattle.bench_types.specs.declared.entries.Item.{Item}
 use Rattle.bench_types.specs.declared.exchanges.Mode.{Mode}
 use Rattle.bench_types.specs.declared.exchanges.Mode.TheVariants.{ScuttleBreadth, ScuttleDepth, PreciseOldest, PreciseNewest}
 use Rattle.reconcile.specs.Order.{rotated}
-use Rattle.planes.specs.Sums.{sum_below}
 use Rattle.node_table.specs.Table.{Table}
 use Rattle.version_tables.specs.inner.Offers.{offered_sum}
 use Rattle.owner_lists.specs.Numbers.{write_numbered}

@@ -24,9 +24,13 @@ length-written_upto_le : (s : Settings) (owner round : ℕ) → IsLawfulScenario
 length-written_upto_le s owner zero lawful = omega arith
 length-written_upto_le s owner (suc round) lawful =
     let before = count_before s owner (suc round) in
-    omega (arith, length-append (written_upto s owner round) (own_writes s owner (suc round) before),
-    length-written_upto_le s owner round lawful, length-own_writes s owner (suc round) before,
-    up_to (is_up s owner (suc round)) (writes_in s (suc round)) MOST_WRITES (writes_in_le s lawful (suc round)))
+    omega (
+      arith,
+      length-append (written_upto s owner round) (own_writes s owner (suc round) before),
+      length-written_upto_le s owner round lawful,
+      length-own_writes s owner (suc round) before,
+      up_to (is_up s owner (suc round)) (writes_in s (suc round)) MOST_WRITES (writes_in_le s lawful (suc round)),
+    )
 
 -- what stands under a number is one of so many
 placed : (es : List Entry) (place : ℕ) (e : Entry) → write_from es place ≡ Some e → (place < length es) × Contains es e

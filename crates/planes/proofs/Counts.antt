@@ -1,5 +1,5 @@
 -- Sums that a loop counts.
--- Serves `how_many_above`, `how_many_held`, `how_many_upto` and `Places`.
+-- Serves `how_many_above`, `how_many_held`, `how_many_upto`, `Places` and `version_tables`.
 use Rattle.std.proofs.Common.{◌≡◌, ℕ, zero, suc, ◌+◌, ◌<◌, ◌≤◌, Bool, true, false, cond, ap, ◌∙◌, arith}
 use Rattle.std.proofs.Common.{Fits, w32}
 use Rattle.bench_types.specs.declared.limits.TheConstants.{MOST_NODES}

@@ -1,5 +1,5 @@
 -- Lists that are changed element by element.
--- Serves the functions of `lags` and `planes`.
+-- Serves the functions of `lags` and `planes` and `version_tables`.
 use Rattle.std.proofs.Common.{◌≡◌, ℕ, ◌+◌, ◌<◌, ◌≤◌, List, length, get_or, set, map, inl, inr, refl, sym, ap, ◌∙◌, subst, arith}
 use Rattle.std.proofs.lemmas.Bool.{cases_eq}
 use Rattle.std.proofs.lemmas.List.{get_or-set_same, get_or-set_other, length-set, get_or-map, map-set}

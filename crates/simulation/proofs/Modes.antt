@@ -1,5 +1,5 @@
 -- What owners write is the same under each mode.
--- Serves `write_modes` of `bench`.
+-- Serves `bench`.
 use Rattle.std.proofs.Common.{◌≡◌, ℕ, zero, suc, ◌+◌, ◌++◌, [], List, map, if◌then◌else◌, refl, subst}
 use Rattle.std.specs.Prelude.{Some}
 use Rattle.std.specs.List.{range_with_len}

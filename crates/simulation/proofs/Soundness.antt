@@ -1,5 +1,5 @@
 -- What holds of the tables along every run.
--- Serves `every_run_is_sound` and `Stepping`.
+-- Serves `every_run_is_sound`, `Playing` and `Stepping`.
 use Rattle.std.proofs.Common.{◌≡◌, ℕ, zero, suc, ◌+◌, ◌-◌, ◌<◌, ◌≤◌, true, false, if◌then◌else◌, List, ◌++◌, length, All, inl, inr, refl, sym, ap, ◌∙◌, subst, arith}
 use Rattle.std.proofs.Math.Seq.{take-length}
 use Rattle.std.proofs.lemmas.Bool.{cases_lt, both_ways}

@@ -1,5 +1,5 @@
 -- A step that carries out the next round.
--- Serves `Sim::step`.
+-- Serves `Sim::step` and `Playing`.
 use Rattle.std.proofs.Common.{◌≡◌, ℕ, ◌<◌, ◌≤◌, List, [], length, map, get_or, sym, ◌∙◌, arith, suc, ◌+◌, ◌-◌, false, Option, Some, refl, ap, subst}
 use Rattle.std.proofs.lemmas.List.{ext_get_or}
 use Rattle.std.proofs.lemmas.List.FromFn.{get_or-map-range_with_len, length-map-range_with_len}

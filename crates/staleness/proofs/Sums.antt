@@ -1,5 +1,5 @@
 -- Sums and greatest values below a bound.
--- Serves `staleness_of_owner`, `Counting`, `Leftover` and `Seen`.
+-- Serves `staleness_of_owner`, `Counting`, `Leftover`, `Seen` and `version_tables`.
 use Rattle.std.proofs.Common.{◌≡◌, ℕ, zero, suc, ◌+◌, ◌-◌, ◌*◌, ◌<◌, ◌≤◌, min, max, Option, Some, None, inl, inr, refl, sym, ap, ◌∙◌, arith}
 use Rattle.std.proofs.lemmas.Bool.{cases_lt}
 use Rattle.staleness.proofs.Places.{one_more}

@@ -1,5 +1,5 @@
 -- A delta by marks: whole levels, and of the next one what comes before the first candidate that doesn't fit.
--- Serves nothing yet.
+-- Serves `Lifts`.
 use Rattle.std.proofs.Common.{◌≡◌, ◌≢◌, ℕ, ◌+◌, ◌<◌, ◌≤◌, Bool, true, false, cond, List, inl, inr, refl, sym, ap, ◌∙◌, subst, arith}
 use Rattle.std.specs.Prelude.{Contains}
 use Rattle.std.specs.List.{sum_by}

@@ -1,5 +1,5 @@
 -- How many owners and entries a table of versions holds.
--- Serves nothing yet.
+-- Serves `digest_size`.
 use Rattle.std.proofs.Common.{◌≡◌, ℕ, zero, suc, ◌+◌, ◌*◌, ◌<◌, ◌≤◌, Bool, true, false, cond, nat_lt, List, [], ◌∷◌, length, map, get_or, Option, Some, None, inl, inr, refl, sym, ap, ◌∙◌, subst, arith}
 use Rattle.std.specs.Prelude.{count_by, slice_index}
 use Rattle.std.specs.FinMap.{entries, len, len-entries}

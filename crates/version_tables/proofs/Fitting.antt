@@ -1,5 +1,5 @@
 -- Tables beside the histories: the numbers that they hold are of writes made so far.
--- Serves nothing yet.
+-- Serves `Delivered`, `Standing` and `TakenViews`.
 use Rattle.std.proofs.Common.{◌≡◌, ◌≢◌, ℕ, zero, suc, ◌+◌, ◌<◌, ◌≤◌, List, [], ◌∷◌, length, get_or, Option, Some, None, inl, inr, refl, sym, ap, ◌∙◌, subst, arith}
 use Rattle.std.specs.Prelude.{Contains}
 use Rattle.std.proofs.lemmas.Bool.{cases_lt}

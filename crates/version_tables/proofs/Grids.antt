@@ -1,5 +1,5 @@
 -- The items of a table are those of its places, so a sum over them is one over all places.
--- Serves nothing yet.
+-- Serves `DigestSizes` and `Offers`.
 use Rattle.std.proofs.Common.{◌≡◌, ◌≢◌, ℕ, zero, suc, ◌+◌, ◌<◌, ◌≤◌, Bool, true, false, cond, not, eqb, List, [], ◌∷◌, ◌++◌, length, get_or, Option, Some, None, inl, inr, refl, sym, ap, ◌∙◌, subst, arith}
 use Rattle.std.specs.Prelude.{filter, Contains, AllPairs, IsPermutation, ◌&&◌}
 use Rattle.std.specs.List.{sum_by}

@@ -1,5 +1,5 @@
 -- What the calls of the histories make of all that is kept of the owners' writes.
--- Serves nothing yet.
+-- Serves `Histories::begin_generation`, `Histories::end_round`, `Histories::new` and `Histories::write`.
 use Rattle.std.proofs.Common.{◌≡◌, ◌≢◌, ℕ, zero, suc, ◌+◌, ◌-◌, ◌*◌, ◌<◌, ◌≤◌, List, [], ◌∷◌, ◌++◌, length, get_or, set, map, Some, ◌⊎◌, inl, inr, refl, sym, ap, ◌∙◌, subst, arith, length-append}
 use Rattle.std.proofs.Math.Nat.{mul-le-mul_right}
 use Rattle.std.proofs.lemmas.Bool.{cases_lt, cases_eq}

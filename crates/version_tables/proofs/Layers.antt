@@ -1,5 +1,5 @@
 -- Marks layer by layer: one more number of each owner at a time.
--- Serves nothing yet.
+-- Serves `LayerSteps` and `LevelMarks`.
 use Rattle.std.proofs.Common.{◌≡◌, ℕ, zero, suc, ◌+◌, ◌<◌, ◌≤◌, Bool, true, false, eqb, ltb, leb, inl, inr, refl, ap, ◌∙◌, subst, arith}
 use Rattle.std.proofs.lemmas.Bool.{cases_lt, cases_eq, lt-ltb, le-ltb, le-leb, lt-leb}
 use Rattle.planes.specs.Sums.{sum_below}

@@ -1,5 +1,5 @@
 -- The order of a mode as levels, turns and numbers.
--- Serves nothing yet.
+-- Serves `Columns`, `Delivered`, `LevelMarks`, `Lifts` and `Shares`.
 use Rattle.std.proofs.Common.{◌≡◌, ◌≢◌, ℕ, zero, suc, ◌+◌, ◌<◌, ◌≤◌, Bool, true, false, cond, not, eqb, ltb, List, length, Option, Some, None, inl, inr, refl, sym, ap, ◌∙◌, subst, arith}
 use Rattle.std.specs.Prelude.{Contains, ◌&&◌, count_by}
 use Rattle.std.specs.declared.cmp.Ordering.{Ordering}

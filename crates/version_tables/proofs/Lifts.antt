@@ -1,5 +1,5 @@
 -- From marks over numbers to the delta that they are.
--- Serves nothing yet.
+-- Serves `Delivered`.
 use Rattle.std.proofs.Common.{◌≡◌, ℕ, ◌+◌, ◌<◌, ◌≤◌, Bool, true, false, cond, not, ltb, leb, List, [], ◌∷◌, length, Some, inl, inr, refl, sym, ap, ◌∙◌, subst, arith}
 use Rattle.std.specs.Prelude.{nat_lt, nat_le, ◌&&◌, count_by, Contains}
 use Rattle.std.specs.List.{sum_by}

@@ -1,5 +1,5 @@
 -- What an owner writes next stands under the number behind all that it wrote, above what its table holds of it.
--- Serves nothing yet.
+-- Serves `write`.
 use Rattle.std.proofs.Common.{◌≡◌, ℕ, zero, suc, ◌+◌, ◌-◌, ◌<◌, ◌≤◌, List, length, get_or, Some, None, inl, inr, refl, sym, ap, ◌∙◌, subst, arith}
 use Rattle.std.specs.Prelude.{slice_index}
 use Rattle.std.proofs.lemmas.Bool.{cases_lt}

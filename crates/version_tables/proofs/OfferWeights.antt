@@ -1,5 +1,5 @@
 -- What an offer's numbers take of its budget.
--- Serves nothing yet.
+-- Serves `Offer::fits`, `Offer::weight`, `breadth`, `depth` and `TurnSteps`.
 use Rattle.std.proofs.Common.{◌≡◌, ℕ, ◌*◌, ◌≤◌, Option, Some, None, arith}
 use Rattle.std.proofs.Math.Nat.{mul-le-mul_right}
 use Rattle.bench_types.specs.declared.entries.Entry.{Entry}

@@ -1,5 +1,6 @@
 -- A node's own calls on its table: its numbers lie as those of the table that the model has then.
--- Serves nothing yet.
+-- Serves `VersionTable::forget_all`, `VersionTable::forget_others`, `VersionTable::new`, `VersionTable::write_own`
+-- and `keep_one`.
 use Rattle.std.proofs.Common.{◌≡◌, ◌≢◌, ℕ, ◌+◌, ◌*◌, ◌<◌, ◌≤◌, ◌==◌, cond, List, length, get_or, set, Some, None, ◌⊎◌, inl, inr, sym, ap, ◌∙◌, subst, arith}
 use Rattle.std.specs.Prelude.{slice_index}
 use Rattle.std.proofs.Math.Nat.{mul-le-mul_right}

@@ -1,5 +1,5 @@
 -- Any set of candidates that is closed downwards, fits, and lets nothing more in is what is sent.
--- Serves `deltas_have_their_sets`.
+-- Serves `deltas_have_their_sets` and `DeltaMarks`.
 use Rattle.std.proofs.Common.{◌≡◌, ◌≢◌, ◌↔◌, ℕ, zero, suc, ◌+◌, ◌<◌, ◌≤◌, Bool, true, false, cond, not, eqb, leb, List, [], ◌∷◌, length, get_or, Option, Some, None, inl, inr, refl, sym, ap, ◌∙◌, subst, arith}
 use Rattle.std.specs.Prelude.{count_by, filter, IsPermutation, Contains, AllPairs, ◌&&◌}
 use Rattle.std.specs.List.{sum_by}

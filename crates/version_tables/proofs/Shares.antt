@@ -1,5 +1,5 @@
 -- Marks that stop at a candidate let through what comes before it.
--- Serves nothing yet.
+-- Serves `DeltaMarks`.
 use Rattle.std.proofs.Common.{◌≡◌, ◌≢◌, ℕ, ◌<◌, ◌≤◌, Bool, List, inl, inr, refl, sym, ap, ◌∙◌, subst, arith}
 use Rattle.std.specs.Prelude.{Contains}
 use Rattle.std.specs.declared.cmp.Ordering.{Ordering}

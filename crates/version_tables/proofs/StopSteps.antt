@@ -1,5 +1,5 @@
 -- An owner's numbers gone over one after another.
--- Serves nothing yet.
+-- Serves `Offer::next_down`, `Offer::next_up`, `Offer::stop_down` and `Offer::stop_up`.
 use Rattle.std.proofs.Common.{◌≡◌, ◌≢◌, ℕ, zero, suc, ◌+◌, ◌<◌, ◌≤◌, ◌⊎◌, min, max, inl, inr, refl, ap, ◌∙◌, subst, arith}
 use Rattle.std.proofs.lemmas.Bool.{cases_lt}
 use Rattle.planes.specs.Planes.{Cells}

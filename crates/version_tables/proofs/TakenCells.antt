@@ -1,5 +1,5 @@
 -- The cells of a table that has taken a delta hold what the model's table does.
--- Serves nothing yet.
+-- Serves `TakenViews`.
 use Rattle.std.proofs.Common.{◌≡◌, ◌≢◌, ℕ, ◌<◌, ◌≤◌, Bool, true, false, List, Option, Some, None, inl, inr, refl, sym, ap, ◌∙◌, subst, arith}
 use Rattle.std.specs.Prelude.{Contains}
 use Rattle.std.proofs.lemmas.Bool.{both_ways}

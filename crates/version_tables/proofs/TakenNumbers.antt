@@ -1,5 +1,5 @@
 -- A table that took a delta by marks is the one that took its items.
--- Serves nothing yet.
+-- Serves `take`, `take_both`, `TakenTables` and `TakenViews`.
 use Rattle.std.proofs.Common.{◌≡◌, ◌≢◌, ℕ, zero, suc, ◌+◌, ◌-◌, ◌<◌, ◌≤◌, ◌&&◌, Bool, true, false, cond, max, nat_lt, nat_le, List, length, get_or, Option, Some, None, ◌⊎◌, inl, inr, refl, sym, ap, ◌∙◌, subst, arith}
 use Rattle.std.specs.Prelude.{slice_index}
 use Rattle.std.proofs.lemmas.Bool.{cases_lt, cases_eq, lt-ltb, le-ltb, le-leb, lt-leb, ltb-true, leb-true, and_parts}

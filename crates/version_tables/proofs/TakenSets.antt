@@ -1,5 +1,5 @@
 -- What a table holds once it has taken what another sent it.
--- Serves nothing yet.
+-- Serves `TakenCells` and `TakenViews`.
 use Rattle.std.proofs.Common.{◌≡◌, ◌≢◌, ℕ, zero, suc, ◌<◌, ◌≤◌, List, Some, None, ◌⊎◌, inl, inr, refl, sym, ap, ◌∙◌, subst, arith}
 use Rattle.std.specs.Prelude.{Contains, Option}
 use Rattle.std.proofs.lemmas.Bool.{cases_lt}

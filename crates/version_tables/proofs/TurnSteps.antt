@@ -1,5 +1,5 @@
 -- The owners' turns in a level.
--- Serves nothing yet.
+-- Serves `Offer::pass_turns`, `Offer::share_into`, `Offer::stop` and `Offer::weight_of_part`.
 use Rattle.std.proofs.Common.{◌≡◌, ◌≢◌, ℕ, zero, suc, ◌+◌, ◌-◌, ◌*◌, ◌<◌, ◌≤◌, true, false, ltb, leb, List, length, get_or, set, map, inl, inr, refl, sym, ap, ◌∙◌, subst, arith}
 use Rattle.std.proofs.lemmas.List.{get_or-set_same, get_or-set_other, length-map, map-set}
 use Rattle.bench_types.specs.declared.exchanges.Budget.TheVariants.{Entries}

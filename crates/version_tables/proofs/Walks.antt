@@ -1,5 +1,5 @@
 -- The first write of an owner that some copy misses has been missed for longest.
--- Serves nothing yet.
+-- Serves `greatest_lag` and `lag_of_owner`.
 use Rattle.std.proofs.Common.{◌≡◌, ℕ, zero, suc, ◌+◌, ◌-◌, ◌*◌, ◌<◌, ◌≤◌, max, List, length, Some, inl, inr, refl, sym, ap, ◌∙◌, subst, arith}
 use Rattle.std.proofs.Math.Nat.{mul-le-mul_right}
 use Rattle.std.proofs.lemmas.Bool.{cases_lt}

@@ -1,6 +1,5 @@
-use Rattle.std.proofs.Common.{◌≡◌, ◌≤◌, ℕ, All, List, Some, sym, subst}
+use Rattle.std.proofs.Common.{◌≤◌, ℕ, All, List, sym, subst}
 use Rattle.bench_types.specs.declared.entries.Entry.{Entry}
-use Rattle.owner_lists.specs.OwnerListView.{entries_of, list_of_owner}
 use Rattle.version_tables.proofs.Carried.{numbered-all}
 use Rattle.version_tables.proofs.Starts.{writes_in-is}
 use Rattle.version_tables.specs.inner.Weights.{writes_in}

@@ -1,7 +1,7 @@
-use Rattle.std.proofs.Common.{◌≡◌, List, ℕ, Bool, map, ap, nat_lt, sym, subst, ◌∙◌, length}
+use Rattle.std.proofs.Common.{map, ap, nat_lt, sym, ◌∙◌}
 use Rattle.planes.specs.Planes.{cell, total_of}
 use Rattle.reconcile.specs.Digests.{digest_size}
-use Rattle.version_tables.specs.Views.{VersionTableView, table_in, IsKept}
+use Rattle.version_tables.specs.Views.{table_in}
 use Rattle.version_tables.proofs.DigestSizes.{held-size, owners-size}
 use Rattle.version_tables.proofs.digests.digest_size.Goals as goal
 

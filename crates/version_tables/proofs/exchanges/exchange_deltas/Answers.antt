@@ -1,4 +1,4 @@
-use Rattle.std.proofs.Common.{List, ℕ, ◌+◌, ◌*◌, ◌≡◌, map, ap, sym, ◌∙◌, length}
+use Rattle.std.proofs.Common.{◌*◌, ap, sym, ◌∙◌}
 use Rattle.std.specs.Prelude.{◌||◌}
 use Rattle.version_tables.proofs.ExchangedViews.{lost_second, stays_back, stays_forth, exchange_whole}
 use Rattle.version_tables.proofs.exchanges.exchange_deltas.Goals as goal

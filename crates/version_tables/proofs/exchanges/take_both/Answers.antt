@@ -1,4 +1,4 @@
-use Rattle.std.proofs.Common.{List, ℕ, map, ap, sym, ◌∙◌}
+use Rattle.std.proofs.Common.{map, ap, sym}
 use Rattle.version_tables.specs.inner.Histories.{bases_in}
 use Rattle.version_tables.specs.inner.Taken.{HasTakenUnless, StaysOne}
 use Rattle.version_tables.specs.inner.Weights.{writes_in}

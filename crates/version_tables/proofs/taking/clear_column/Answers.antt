@@ -1,4 +1,4 @@
-use Rattle.std.proofs.Common.{◌+◌, ◌*◌, ◌<◌, ◌≤◌, arith, sym, map, length, get_or}
+use Rattle.std.proofs.Common.{◌+◌, ◌*◌, ◌≤◌, arith, sym, map, length, get_or}
 use Rattle.std.proofs.lemmas.List.{length-map, get_or-map}
 use Rattle.planes.proofs.Places.{plane-within}
 use Rattle.version_tables.proofs.Clearing.{column-next}

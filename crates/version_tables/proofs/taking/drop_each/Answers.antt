@@ -1,10 +1,10 @@
-use Rattle.std.proofs.Common.{ℕ, ◌+◌, ◌*◌, ◌<◌, ◌≤◌, arith, map, length, subst, sym, ap, ◌∙◌, slice_index, if◌then◌else◌, ◌==◌, ◌≡◌}
+use Rattle.std.proofs.Common.{arith, map, subst, sym, ◌∙◌, slice_index, ◌≡◌}
 use Rattle.planes.specs.Planes.{ArePlanesChanged}
 use Rattle.planes.proofs.Elementwise.{number-at}
 use Rattle.version_tables.specs.inner.Offers.{IsNumberedHistory}
-use Rattle.version_tables.specs.inner.Taken.{drop_start, number_kept}
+use Rattle.version_tables.specs.inner.Taken.{drop_start}
 use Rattle.version_tables.specs.inner.Weights.{writes_in}
-use Rattle.version_tables.proofs.Clearing.{columns-next, columns-all, columns-none, column_kept}
+use Rattle.version_tables.proofs.Clearing.{columns-next, column_kept}
 use Rattle.version_tables.proofs.Starts.{writes_in-here}
 use Rattle.version_tables.proofs.taking.drop_each.Given as given
 use Rattle.version_tables.proofs.taking.drop_each.Goals as goal

@@ -1,7 +1,7 @@
-use Rattle.std.proofs.Common.{ℕ, ◌≡◌, false, subst, ◌+◌, ◌*◌, ◌<◌, ◌≤◌, arith, map, length, slice_index, sym, ap, ◌∙◌, nat_lt, nat_le}
+use Rattle.std.proofs.Common.{ℕ, ◌≡◌, false, subst, ◌+◌, ◌*◌, ◌<◌, arith, map, slice_index, sym, ap, ◌∙◌, nat_lt, nat_le}
 use Rattle.std.specs.Prelude.{◌&&◌}
 use Rattle.planes.specs.Planes.{cell}
-use Rattle.version_tables.specs.inner.Taken.{drop_start, number_kept}
+use Rattle.version_tables.specs.inner.Taken.{number_kept}
 use Rattle.version_tables.specs.inner.Weights.{writes_in}
 use Rattle.version_tables.proofs.Clearing.{planes-stay, no_start, kept-all, total-none}
 use Rattle.version_tables.proofs.taking.drop_older.Goals as goal

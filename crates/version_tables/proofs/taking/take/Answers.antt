@@ -1,11 +1,9 @@
-use Rattle.std.proofs.Common.{ℕ, ◌≡◌, List, map, length, arith, subst, sym, ap, ◌∙◌}
+use Rattle.std.proofs.Common.{map, subst, sym, ◌∙◌}
 use Rattle.std.specs.Vec.{with_items}
 use Rattle.std.proofs.lemmas.List.{with_items_is}
-use Rattle.owner_lists.specs.OwnerListView.{OwnerListView}
 use Rattle.version_tables.specs.Views.{VersionTableView}
 use Rattle.version_tables.specs.inner.Histories.{bases_in}
-use Rattle.version_tables.specs.inner.Laid.{IsVersionTable}
-use Rattle.version_tables.specs.inner.Taken.{IsTaken, HasTaken}
+use Rattle.version_tables.specs.inner.Taken.{IsTaken}
 use Rattle.version_tables.specs.inner.Weights.{writes_in}
 use Rattle.version_tables.proofs.TakenNumbers.{take-stays, has-taken}
 use Rattle.version_tables.proofs.taking.take.Given as given

@@ -177,7 +177,8 @@ fn piece_of<N: Number>(
     from: usize,
     count: usize,
 ) -> Result<Piece<N>, Fault>
-    requires grids { AreGrids nodes keys (numbers_in N.number cells.now) (map N.number bases.now) (map N.number last.now) }
+    requires grids { AreGrids nodes keys (numbers_in N.number cells.now) (map N.number bases.now)
+        (map N.number last.now) }
     requires forgot { IsFalse forgot → AreZero (map N.number bases.now) nodes }
     requires within { from + count ≤ nodes }
     ensures piece { IfOk result (λ p. CountsPiece nodes keys (numbers_in N.number cells.now) (map N.number bases.now)
@@ -212,7 +213,8 @@ fn part_of<N: Number>(
     size: usize,
     part: usize,
 ) -> Result<Piece<N>, Fault>
-    requires grids { AreGrids nodes keys (numbers_in N.number cells.now) (map N.number bases.now) (map N.number last.now) }
+    requires grids { AreGrids nodes keys (numbers_in N.number cells.now) (map N.number bases.now)
+        (map N.number last.now) }
     requires forgot { IsFalse forgot → AreZero (map N.number bases.now) nodes }
     requires some { 1 ≤ size }
     requires part { part ≤ nodes / size }
@@ -237,7 +239,8 @@ fn parts_of<N: Number>(
     forgot: bool,
     size: usize,
 ) -> Result<Vec<Result<Piece<N>, Fault>>, AllocError>
-    requires grids { AreGrids nodes keys (numbers_in N.number cells.now) (map N.number bases.now) (map N.number last.now) }
+    requires grids { AreGrids nodes keys (numbers_in N.number cells.now) (map N.number bases.now)
+        (map N.number last.now) }
     requires forgot { IsFalse forgot → AreZero (map N.number bases.now) nodes }
     requires some { 1 ≤ size }
     ensures { IfOk result (λ v. AllZip (λ part found. IfOk found (λ p. CountsPart nodes keys

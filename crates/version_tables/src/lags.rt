@@ -13,14 +13,16 @@ ghost use Rattle.planes.specs.Planes.{cell, total_of, ArePlanesChanged, HasEach,
 ghost use Rattle.round_tables.specs.Histories.{BirthsRise, AreWrittenBy, StandsAmong};
 ghost use Rattle.staleness.specs.Figures.{most_below, rounds_behind, figures_of};
 ghost use Rattle.version_tables.specs.inner.Missed.{IsLastNumber};
-ghost use Rattle.version_tables.specs.inner.Pieces.{keys_in, tables_in, AreAlike, AreCountable, AreLaid, AreLastNumbers, IsOwnNumber, IsPieceOf, IsPartOf, NoneForgot, MayWalk, WalksFrom, most_lag};
+ghost use Rattle.version_tables.specs.inner.Pieces.{keys_in, tables_in, AreAlike, AreCountable, AreLaid, AreLastNumbers, AreCellsOf, AreGrids, AreZero, CountsPiece, CountsPart, numbers_in, IsOwnNumber, IsPieceOf, MayWalk, WalksFrom, most_lag};
 
 use crate::histories::Histories;
 use crate::tables::{VersionTable, Written};
 use bench_types::{Fault, Figures};
 use owner_lists::OwnerList;
 use planes::{Number, count_behind, least_behind, lower_all, total_upto};
-use std::alloc::Global;
+use rayon::current_num_threads;
+use rayon::prelude::*;
+use std::alloc::{AllocError, Global};
 use std::thread::Threads;
 
 // What some of the tables say.
@@ -148,41 +150,117 @@ fn left_over<N: Number>(cells: &[N], bases: &[N], nodes: usize, keys: usize, for
     }
 }
 
-// What so many tables from one on say.
-fn piece_of<N: Number, H: Written>(
+// The numbers of each table.
+fn cells_of<'a, N: Number, H: Written>(
     alloc: Global,
-    tables: &[VersionTable<N, H>],
-    histories: &Histories<N, H>,
+    tables: &'a [VersionTable<N, H>],
+) -> Result<Vec<&'a [N]>, Fault>
+    ensures cells { IfOk result (λ v. AreCellsOf H.lists tables.now (numbers_in N.number v.items)) }
+    ensures only { IsOkUnless result OutOfMemory }
+{
+    let mut cells = Vec::with_capacity(alloc, tables.len())?;
+    for table in tables {
+        cells.push(table.cells())?;
+    }
+    Ok(cells)
+}
+
+// What so many tables from one on say.
+fn piece_of<N: Number>(
+    alloc: Global,
+    cells: &[&[N]],
+    bases: &[N],
     last: &[N],
+    nodes: usize,
+    keys: usize,
     forgot: bool,
     from: usize,
     count: usize,
 ) -> Result<Piece<N>, Fault>
-    requires laid { AreLaid H.lists tables.now histories.now.lists }
-    requires last { AreLastNumbers (tables_in H.lists tables.now) histories.now.lists (map N.number last.now) }
-    requires forgot { IsFalse forgot → NoneForgot histories.now.lists }
-    requires within { from + count ≤ length tables.now }
-    ensures piece { IfOk result (λ p. IsPieceOf (tables_in H.lists tables.now) histories.now.lists from count
-        p.stale p.leftover (map N.number p.least.items)) }
+    requires grids { AreGrids nodes keys (numbers_in N.number cells.now) (map N.number bases.now)
+        (map N.number last.now) }
+    requires forgot { IsFalse forgot → AreZero (map N.number bases.now) nodes }
+    requires within { from + count ≤ nodes }
+    ensures piece { IfOk result (λ p. CountsPiece nodes keys (numbers_in N.number cells.now) (map N.number bases.now)
+        (map N.number last.now) from count p.stale p.leftover (map N.number p.least.items)) }
     ensures only { IsOkUnless result OutOfMemory }
 {
-    let nodes = tables.len();
-    let keys = keys_of(tables);
-    let bases = histories.bases();
     let mut stale = 0;
     let mut leftover = 0;
     let mut least = copied(alloc, last)?;
     for at in 0..count {
-        let cells = tables[from + at].cells();
-        let behind = count_behind(&mut least, cells, last, nodes, keys);
+        let here = cells[from + at];
+        let behind = count_behind(&mut least, here, last, nodes, keys);
         stale += u64::from(behind);
-        leftover += u64::from(left_over(cells, bases, nodes, keys, forgot));
+        leftover += u64::from(left_over(here, bases, nodes, keys, forgot));
     }
     Ok(Piece {
         stale,
         leftover,
         least,
     })
+}
+
+// What the tables of a part of so many say.
+fn part_of<N: Number>(
+    alloc: Global,
+    cells: &[&[N]],
+    bases: &[N],
+    last: &[N],
+    nodes: usize,
+    keys: usize,
+    forgot: bool,
+    size: usize,
+    part: usize,
+) -> Result<Piece<N>, Fault>
+    requires grids { AreGrids nodes keys (numbers_in N.number cells.now) (map N.number bases.now)
+        (map N.number last.now) }
+    requires forgot { IsFalse forgot → AreZero (map N.number bases.now) nodes }
+    requires some { 1 ≤ size }
+    requires part { part ≤ nodes / size }
+    ensures piece { IfOk result (λ p. CountsPart nodes keys (numbers_in N.number cells.now) (map N.number bases.now)
+        (map N.number last.now) size part p.stale p.leftover (map N.number p.least.items)) }
+    ensures only { IsOkUnless result OutOfMemory }
+{
+    let from = part * size;
+    let count = size.min(nodes - from);
+    piece_of(alloc, cells, bases, last, nodes, keys, forgot, from, count)
+}
+
+// What the tables of each part of so many say, in order.
+fn parts_of<N: Number>(
+    rt: &(impl Threads + Sync),
+    alloc: Global,
+    cells: &[&[N]],
+    bases: &[N],
+    last: &[N],
+    nodes: usize,
+    keys: usize,
+    forgot: bool,
+    size: usize,
+) -> Result<Vec<Result<Piece<N>, Fault>>, AllocError>
+    requires grids { AreGrids nodes keys (numbers_in N.number cells.now) (map N.number bases.now)
+        (map N.number last.now) }
+    requires forgot { IsFalse forgot → AreZero (map N.number bases.now) nodes }
+    requires some { 1 ≤ size }
+    ensures { IfOk result (λ v. AllZip (λ part found. IfOk found (λ p. CountsPart nodes keys
+        (numbers_in N.number cells.now) (map N.number bases.now) (map N.number last.now) size part
+        p.stale p.leftover (map N.number p.least.items))) (range_with_len 0 (nodes / size + 1)) v.items) }
+{
+    (0..nodes / size + 1)
+        .into_par_iter()
+        .with_min_len(1)
+        .map(
+            |part: usize| -> Result<Piece<N>, Fault>
+                requires { AreGrids nodes keys (numbers_in N.number cells.now) (map N.number bases.now)
+                    (map N.number last.now) × (IsFalse forgot → AreZero (map N.number bases.now) nodes)
+                    × (1 ≤ size) × (part ≤ nodes / size) }
+                ensures { IfOk result (λ p. CountsPart nodes keys (numbers_in N.number cells.entry.now)
+                    (map N.number bases.entry.now) (map N.number last.entry.now) size part
+                    p.stale p.leftover (map N.number p.least.items)) }
+            { part_of(alloc, cells, bases, last, nodes, keys, forgot, size, part) },
+        )
+        .collect(rt, alloc)
 }
 
 // For how many rounds a copy of an owner has missed a write at most: since the first one that some copy misses,
@@ -241,8 +319,24 @@ fn greatest_lag<N: Number>(
     Ok(greatest)
 }
 
+// How many numbers are worth a thread of their own.
+const NUMBERS_OF_A_THREAD: usize = 65_536;
+
+// How many tables a thread gets, about half as many as would give each thread a part. It bears on time and
+// memory alone.
+fn tables_of_a_thread(rt: &impl Threads, tables: usize, keys: usize) -> usize
+    ensures { 1 ≤ result }
+{
+    let numbers = tables.saturating_mul(keys);
+    let least = NUMBERS_OF_A_THREAD / numbers.max(1);
+    (tables / current_num_threads(rt) / 2)
+        .max(least)
+        .saturating_add(1)
+}
+
 // What all tables say.
 fn counted<N: Number, H: Written>(
+    rt: &(impl Threads + Sync),
     alloc: Global,
     tables: &[VersionTable<N, H>],
     histories: &Histories<N, H>,
@@ -254,8 +348,31 @@ fn counted<N: Number, H: Written>(
         p.stale p.leftover (map N.number p.least.items)) }
     ensures only { IsOkUnless result OutOfMemory }
 {
-    let forgot = has_forgotten(histories.bases());
-    piece_of(alloc, tables, histories, last, forgot, 0, tables.len())
+    let nodes = tables.len();
+    let keys = keys_of(tables);
+    let bases = histories.bases();
+    let cells = cells_of(alloc, tables)?;
+    let size = tables_of_a_thread(rt, nodes, keys);
+    let forgot = has_forgotten(bases);
+    let parts = parts_of(rt, alloc, &cells, bases, last, nodes, keys, forgot, size)?;
+    let mut stale = 0;
+    let mut leftover = 0;
+    let mut least = copied(alloc, last)?;
+    for part in &parts {
+        match part {
+            Ok(part) => {
+                stale += part.stale;
+                leftover += part.leftover;
+                lower_all(&mut least, &part.least, nodes, keys);
+            }
+            Err(_) => return Err(Fault::OutOfMemory),
+        }
+    }
+    Ok(Piece {
+        stale,
+        leftover,
+        least,
+    })
 }
 
 /// The figures at the end of a round, down nodes included: how many keys of copies are below the
@@ -268,7 +385,7 @@ fn counted<N: Number, H: Written>(
 /// write that some copy misses, if any, to the next one. It takes memory for the numbers of a table for
 /// each part of the tables and twice more, and an error is want of that.
 pub fn figures<N: Number, H: Written>(
-    _rt: &(impl Threads + Sync),
+    rt: &(impl Threads + Sync),
     alloc: Global,
     tables: &[VersionTable<N, H>],
     histories: &Histories<N, H>,
@@ -286,7 +403,7 @@ pub fn figures<N: Number, H: Written>(
     let keys = keys_of(tables);
     let lists = histories.lists();
     let last = last_numbers(alloc, tables, keys)?;
-    let whole = counted(alloc, tables, histories, &last)?;
+    let whole = counted(rt, alloc, tables, histories, &last)?;
     let greatest = greatest_lag(alloc, lists, &whole.least, &last, keys, round)?;
     Ok(Figures {
         stale: whole.stale,

@@ -1,5 +1,6 @@
 -- What is counted of some of the tables at the end of a round. Source: this project.
-use Rattle.std.specs.Prelude.{◌≡◌, ℕ, ◌+◌, ◌-◌, ◌*◌, ◌<◌, ◌≤◌, min, max, All, List, [], length, map, slice_index_or, Some}
+use Rattle.std.specs.Prelude.{◌≡◌, ℕ, ◌+◌, ◌-◌, ◌*◌, ◌<◌, ◌≤◌, min, max, All, List, [], length, map, slice_index, slice_index_or, Some}
+use Rattle.std.specs.Borrow.{Bor}
 use Rattle.bench_types.specs.declared.entries.Entry.{Entry}
 use Rattle.bench_types.specs.declared.limits.TheConstants.{MOST_NODES, MOST_KEYS, MOST_ROUNDS}
 use Rattle.node_table.specs.Table.{Table}
@@ -7,7 +8,7 @@ use Rattle.cluster.specs.Tables.{table_of_node, IsCluster, HoldsOfEach}
 use Rattle.owner_lists.specs.OwnerListView.{OwnerListView, entries_of, list_of_owner, lists_in, AreWrites}
 use Rattle.owner_lists.specs.Numbers.{write_numbered}
 use Rattle.planes.specs.Sums.{sum_below}
-use Rattle.planes.specs.Planes.{cell, HasEachPlace}
+use Rattle.planes.specs.Planes.{cell, HasEachPlace, IsGrid}
 use Rattle.round_tables.specs.Histories.{BirthsRise, AreWrittenBy, StandsAmong}
 use Rattle.staleness.specs.Figures.{most_below, staleness_at, rounds_behind, node_figures}
 use Rattle.version_tables.specs.Views.{VersionTableView, table_in, IsKept}
@@ -69,14 +70,54 @@ pub record IsPieceOf (tables : List Table) (lists : List OwnerListView) (from co
   pub size : length least ≡ keys_in tables * length tables
   pub counted : (round : ℕ) → AreCountable round tables lists → IsPiece round tables lists from count stale leftover least
 
--- the part of so many tables, the last one of fewer
-abbrev pub IsPartOf : List Table → List OwnerListView → ℕ → ℕ → ℕ → ℕ → List ℕ → Type 0
-IsPartOf tables lists size part =
-    IsPieceOf tables lists (part * size) (min size (length tables - part * size))
+-- the numbers of tables, as code has them
+abbrev pub numbers_in : {N : Type 0} → (N → ℕ) → List (Bor (List N)) → List (List ℕ)
+numbers_in number cells = map (λ x. map number x.now) cells
 
--- no owner has forgotten
-abbrev pub NoneForgot : List OwnerListView → Type 0
-NoneForgot lists = (owner : ℕ) → owner < length lists → base_of (list_of_owner lists owner) ≡ 0
+abbrev pub numbers_at : List (List ℕ) → ℕ → List ℕ
+numbers_at cells p = slice_index_or cells p []
+
+-- so many tables' numbers, each of as many nodes and keys
+pub record AreGrids (nodes keys : ℕ) (cells : List (List ℕ)) (bases last : List ℕ) : Type 0 where
+  pub grid : IsGrid nodes keys (length last)
+  pub count : length cells ≡ nodes
+  pub based : length bases ≡ nodes
+  pub alike : (p : ℕ) → p < nodes → length (numbers_at cells p) ≡ length last
+
+-- these are the numbers of these tables
+pub record AreCellsOf (written : ℕ → List Entry) (views : List VersionTableView) (cells : List (List ℕ)) : Type 0 where
+  pub count : length cells ≡ length views
+  pub each : (p : ℕ) → p < length views → (numbers_at cells p ≡ (view_at views p).cells) × IsKept written (view_at views p)
+
+-- and so for the first so many
+pub record AreCellsUpto (written : ℕ → List Entry) (views : List VersionTableView) (cells : List (List ℕ)) (bound : ℕ) : Type 0 where
+  pub count : length cells ≡ bound
+  pub each : (p : ℕ) → p < bound → (numbers_at cells p ≡ (view_at views p).cells) × IsKept written (view_at views p)
+
+-- and beside them the last numbers, and how many writes are of earlier generations
+pub record AreNumbersOf (written : ℕ → List Entry) (views : List VersionTableView) (lists : List OwnerListView) (nodes keys : ℕ) (cells : List (List ℕ)) (bases last : List ℕ) : Type 0 where
+  pub laid : AreLaid written views lists
+  pub nodes_are : nodes ≡ length views
+  pub keys_are : keys ≡ keys_in (tables_in written views)
+  pub cells_are : AreCellsOf written views cells
+  pub bases_are : (r : ℕ) → r < nodes → slice_index bases r ≡ base_of (list_of_owner lists r)
+  pub lasts : AreLastNumbers (tables_in written views) lists last
+
+-- a piece of all tables that have these numbers
+pub record CountsPiece (nodes keys : ℕ) (cells : List (List ℕ)) (bases last : List ℕ) (from count stale leftover : ℕ) (least : List ℕ) : Type 0 where
+  pub few_stale : stale ≤ count * (MOST_NODES * MOST_KEYS)
+  pub few_leftover : leftover ≤ count * (MOST_NODES * MOST_KEYS)
+  pub size : length least ≡ length last
+  pub pieces : (written : ℕ → List Entry) (views : List VersionTableView) (lists : List OwnerListView)
+      → AreNumbersOf written views lists nodes keys cells bases last → IsPieceOf (tables_in written views) lists from count stale leftover least
+
+-- and so of the part of so many tables, the last one of fewer
+abbrev pub CountsPart : ℕ → ℕ → List (List ℕ) → List ℕ → List ℕ → ℕ → ℕ → ℕ → ℕ → List ℕ → Type 0
+CountsPart nodes keys cells bases last size part = CountsPiece nodes keys cells bases last (part * size) (min size (nodes - part * size))
+
+-- no write is of an earlier generation
+abbrev pub AreZero : List ℕ → ℕ → Type 0
+AreZero bases nodes = (r : ℕ) → r < nodes → slice_index bases r ≡ 0
 
 -- each table has as many nodes as there are tables, and so many keys
 abbrev pub AreAlike : ℕ → List VersionTableView → Type 0

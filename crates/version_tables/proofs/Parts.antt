@@ -1,5 +1,5 @@
 -- Pieces of tables as code counts them, table by table and part by part.
--- Serves nothing yet.
+-- Serves `cells_of`, `counted` and `piece_of`.
 use Rattle.std.proofs.Common.{◌≡◌, ℕ, ◌+◌, ◌-◌, ◌*◌, ◌<◌, ◌≤◌, min, Bool, cond, ◌&&◌, List, [], ◌∷◌, ◌++◌, take, drop, length, get_or, map, inl, inr, refl, sym, ap, ◌∙◌, subst, arith}
 use Rattle.std.specs.Prelude.{slice_index, nat_lt, nat_le, Result, Ok, IfOk}
 use Rattle.std.specs.List.{AllZip, range_with_len}

@@ -1,5 +1,5 @@
 -- Tables of versions beside the owners' lists so far: what their numbers are.
--- Serves `piece_of`, `Parts` and `Whole`.
+-- Serves `counted`, `Parts` and `Whole`.
 use Rattle.std.proofs.Common.{◌≡◌, ℕ, suc, ◌*◌, ◌<◌, ◌≤◌, List, length, get_or, Some, inl, inr, refl, sym, ap, ◌∙◌, subst, arith}
 use Rattle.std.specs.Prelude.{Contains}
 use Rattle.std.proofs.lemmas.Bool.{cases_lt}

@@ -1,5 +1,6 @@
 use Rattle.std.proofs.Common.{◌≡◌, ◌+◌, ◌<◌, length, set, map, subst, sym}
 use Rattle.owner_lists.specs.OwnerListView.{list_of_owner, next_entry, with_write}
+use Rattle.version_tables.specs.ListChanges.{ListChanges}
 use Rattle.version_tables.specs.Views.{HistoriesView}
 use Rattle.version_tables.specs.inner.Histories.{IsWriteUnder}
 use Rattle.version_tables.specs.inner.Weights.{writes_in}
@@ -25,3 +26,21 @@ invariant_of-self-2 g c =
     (subst (λ n. g.N.Number.number c.plus-number.result ≡ n + 1)
     (number-here g.N.Number.number counts (length lists) owner c.index.result.now (λ r n. n ≡ length (writes_in lists r)) c.self.invariant.counted in_range c.index.ensures)
     c.plus-number.ensures))
+
+pub returns-clause-number : goal.returns-clause-number
+returns-clause-number g c =
+    let lists = c.self.inside.lists.items in
+    let owner = c.args.owner in
+    let in_range : owner < length lists = subst (λ (h : HistoriesView). owner < length h.lists) (sym c.self.view_is) c.requires.owner in
+    subst (λ (h : HistoriesView). g.N.Number.number c.plus-number.result ≡ length (writes_in h.lists owner) + 1) c.self.view_is
+    (subst (λ n. g.N.Number.number c.plus-number.result ≡ n + 1)
+    (number-here g.N.Number.number c.self.inside.counts.items (length lists) owner c.index.result.now (λ r n. n ≡ length (writes_in lists r)) c.self.invariant.counted in_range c.index.ensures)
+    c.plus-number.ensures)
+
+pub returns-clause-lists : goal.returns-clause-lists
+returns-clause-lists g c =
+    let lists = c.self.inside.lists.items in
+    let owner = c.args.owner in
+    let in_range : owner < length lists = subst (λ (h : HistoriesView). owner < length h.lists) (sym c.self.view_is) c.requires.owner in
+    subst (λ (h : HistoriesView). ListChanges owner (with_write (list_of_owner h.lists owner) c.args.key c.args.value c.args.born) h.lists (set lists owner c.write.new.self)) c.self.view_is
+    (list-changes lists owner c.index_mut.result.now c.write.new.self (λ v. with_write v c.args.key c.args.value c.args.born) in_range c.index_mut.ensures.value c.in_ok-write.ensures.ok)

@@ -55,7 +55,8 @@ ascending f low high (value ∷ others) =
 -- the nodes of one side of a partition, among so many
 abbrev pub apart_at : ℕ → Members → Result (List ℕ) Fault
 apart_at nodes table =
-    value_at field.PartitionApart table >>= array_of field.PartitionApart >>= ascending field.PartitionApart 0 (nodes - 1)
+    value_at field.PartitionApart table >>= array_of field.PartitionApart
+    >>= ascending field.PartitionApart 0 (nodes - 1)
 
 abbrev pub partition_of : ℕ → Data → Result Partition Fault
 partition_of nodes value = do

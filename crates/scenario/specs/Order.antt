@@ -143,7 +143,8 @@ HasNumber table f n = get_member (field_name f) table ≡ Some (integer (pos n))
 -- the document has this at the field's key, or nothing where it is false
 abbrev pub HasFlag : Members → Field → Bool → Type 0
 HasFlag table f flag =
-    (get_member (field_name f) table ≡ Some (boolean flag)) ⊎ ((get_member (field_name f) table ≡ None) × (flag ≡ false))
+    (get_member (field_name f) table ≡ Some (boolean flag))
+    ⊎ ((get_member (field_name f) table ≡ None) × (flag ≡ false))
 
 -- the document has the budget's number at the key of its field
 abbrev pub HasBudget : Members → Budget → Type 0
@@ -158,14 +159,16 @@ HasWord table f meaning x =
 -- the document has an array of these numbers at the field's key
 abbrev pub HasNumbers : Members → Field → List ℕ → Type 0
 HasNumbers table f ns =
-    (items : Items) × (get_member (field_name f) table ≡ Some (toml.array items)) × (list_of items ≡ map (λ n. integer (pos n)) ns)
+    (items : Items) × (get_member (field_name f) table ≡ Some (toml.array items))
+    × (list_of items ≡ map (λ n. integer (pos n)) ns)
 
 -- the document has an array at the field's key, with a value for each of these; where there is none,
 -- the field is absent or the array is empty
 abbrev pub HasElements : {X : Type 0} → Members → Field → (Data → X → Type 0) → List X → Type 0
 HasElements table f SaysElement xs =
     ((get_member (field_name f) table ≡ None) × (xs ≡ []))
-    ⊎ ((items : Items) × (get_member (field_name f) table ≡ Some (toml.array items)) × AllZip SaysElement (list_of items) xs)
+    ⊎ ((items : Items) × (get_member (field_name f) table ≡ Some (toml.array items))
+    × AllZip SaysElement (list_of items) xs)
 
 -- the partition is what the value says
 pub record SaysPartition (value : Data) (p : Partition) : Type 0 where

@@ -4,7 +4,7 @@ ghost use Rattle.std.specs.Prelude.{◌≡◌};
 ghost use Rattle.bench_types.specs.declared.faults.Fault.TheVariants.{OutOfMemory};
 
 use crate::fields::{Field, TableName};
-use crate::limits::{MOST_BYTES, MOST_ENTRIES};
+use crate::limits::{MOST_BYTES, MOST_ENTRIES, MOST_ENTRY_SIZE};
 use std::alloc::{AllocError, AllocFailed};
 use std::fmt;
 use thiserror::Error;
@@ -62,7 +62,9 @@ impl fmt::Display for Fault {
             Fault::Unfinished => "fault 17: exchanges are unfinished",
             Fault::NotAllowed => "fault 18: this exchange may not start",
             Fault::NotRunning => "fault 19: this exchange is not running",
-            Fault::BudgetTooSmall => "fault 20: budget_bytes is below 1023",
+            Fault::BudgetTooSmall => {
+                return write!(f, "fault 20: budget_bytes is below {MOST_ENTRY_SIZE}");
+            }
         };
         f.write_str(line)
     }

@@ -1,5 +1,8 @@
 //! The names of a scenario's fields and tables.
 
+ghost use Rattle.std.specs.Prelude.{◌≡◌};
+ghost use Rattle.bench_types.specs.Field.{field_name};
+
 use std::fmt;
 
 /// A field of a scenario.
@@ -33,9 +36,12 @@ pub enum Field {
     LoadWrites,
 }
 
-impl fmt::Display for Field {
-    fn fmt<W: fmt::Write>(&self, f: &mut fmt::Formatter<W>) -> fmt::Result {
-        f.write_str(match self {
+impl Field {
+    /// The key at which its table has the field.
+    pub fn name(self) -> &'static str
+        ensures { result.now ≡ field_name self }
+    {
+        match self {
             Field::Format => "format",
             Field::Nodes => "nodes",
             Field::Keys => "keys",
@@ -48,21 +54,42 @@ impl fmt::Display for Field {
             Field::Rotation => "rotation",
             Field::Choice => "choice",
             Field::LossPpm => "loss_ppm",
-            Field::Writes => "writes",
+            Field::Writes | Field::LoadWrites => "writes",
             Field::Partition => "partition",
             Field::Restart => "restart",
             Field::Load => "load",
-            Field::PartitionFrom => "partition.from",
-            Field::PartitionTo => "partition.to",
-            Field::PartitionApart => "partition.apart",
-            Field::RestartNode => "restart.node",
-            Field::RestartRound => "restart.round",
-            Field::RestartDown => "restart.down",
-            Field::RestartForget => "restart.forget",
-            Field::LoadFrom => "load.from",
-            Field::LoadTo => "load.to",
-            Field::LoadWrites => "load.writes",
-        })
+            Field::PartitionFrom | Field::LoadFrom => "from",
+            Field::PartitionTo | Field::LoadTo => "to",
+            Field::PartitionApart => "apart",
+            Field::RestartNode => "node",
+            Field::RestartRound => "round",
+            Field::RestartDown => "down",
+            Field::RestartForget => "forget",
+        }
+    }
+
+    // The table that has it.
+    fn table(self) -> TableName {
+        match self {
+            Field::PartitionFrom | Field::PartitionTo | Field::PartitionApart => {
+                TableName::Partition
+            }
+            Field::RestartNode | Field::RestartRound | Field::RestartDown | Field::RestartForget =>
+                TableName::Restart,
+            Field::LoadFrom | Field::LoadTo | Field::LoadWrites => TableName::Load,
+            _ => TableName::Top,
+        }
+    }
+}
+
+/// The field's name, behind that of its table and a point where it is a field of an element.
+impl fmt::Display for Field {
+    fn fmt<W: fmt::Write>(&self, f: &mut fmt::Formatter<W>) -> fmt::Result {
+        let name = self.name();
+        match self.table() {
+            TableName::Top => f.write_str(name),
+            table => write!(f, "{table}.{name}"),
+        }
     }
 }
 

@@ -65,7 +65,8 @@ AreMade plan v i = All (Has v.made) (predecessors plan.list.exchanges i)
 
 -- what a claim answers, and what it makes of the seat
 abbrev pub Claims : {T : Type 0} → (T → Table) → BoardPlan → SeatView → ℕ → Claim T → SeatView → Type 0
-Claims table plan old i (Held hold) new = IsHoldOf table plan i hold × (new ≡ with_held old i) × IsNewTo old i × (IsWhole old → AreMade plan old i)
+Claims table plan old i (Held hold) new =
+    IsHoldOf table plan i hold × (new ≡ with_held old i) × IsNewTo old i × (IsWhole old → AreMade plan old i)
 Claims table plan old i Taken new = (new ≡ with_told old i) × (IsWhole old → Has (old.made ++ old.held) i)
 Claims table plan old i NotReady new = (new ≡ old) × IsTooEarly plan old i
 
@@ -96,7 +97,9 @@ pub record IsPutBack (plan : BoardPlan) (old : SeatView) (i : ℕ) (freed : Free
 
 -- a count of finished exchanges, and whether a stop was called
 abbrev pub Looks : BoardPlan → SeatView → Progress → SeatView → Type 0
-Looks plan old progress new = (new ≡ having_seen old progress.finished progress.stopped) × LookTells plan.list.exchanges old progress.finished progress.stopped
+Looks plan old progress new =
+    (new ≡ having_seen old progress.finished progress.stopped)
+    × LookTells plan.list.exchanges old progress.finished progress.stopped
 
 pub record HasStopped (old new : SeatView) : Type 0 where
   pub seen : ℕ
@@ -109,12 +112,16 @@ AreLeft table plan tables = map table tables ≡ (fold_of plan.rules plan.tables
 
 -- fewer are finished than there are, and so the seat has seen fewer
 abbrev pub IsUnfinished : BoardPlan → SeatView → Fault → Type 0
-IsUnfinished plan v fault = (fault ≡ Unfinished) × ((v.seen < length plan.list.exchanges) × (length v.made < length plan.list.exchanges))
+IsUnfinished plan v fault =
+    (fault ≡ Unfinished) × ((v.seen < length plan.list.exchanges) × (length v.made < length plan.list.exchanges))
 
 -- each exchange was put back by a whole seat, once
 abbrev pub HasMadeAll : BoardPlan → SeatView → Type 0
-HasMadeAll plan v = (length v.made ≡ length plan.list.exchanges) × ((i : ℕ) → i < length plan.list.exchanges → times i v.made ≡ 1)
+HasMadeAll plan v =
+    (length v.made ≡ length plan.list.exchanges)
+    × ((i : ℕ) → i < length plan.list.exchanges → times i v.made ≡ 1)
 
 -- a board was made of these
 abbrev pub IsMadeOf : {T : Type 0} → (T → Table) → Rules → RoundListView → List T → Board T → Type 0
-IsMadeOf table rules list tables board = plan_of table board ≡ record { rules = rules; list = list; tables = map table tables }
+IsMadeOf table rules list tables board =
+    plan_of table board ≡ record { rules = rules; list = list; tables = map table tables }

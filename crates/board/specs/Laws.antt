@@ -29,8 +29,10 @@ pub record IsScheduled (plan : BoardPlan) (s : State Slot View) : Type 0 where
   pub finished : (i : ℕ) → i < length plan.list.exchanges → is_finished events i ≡ nat_lt 0 (made_in s.views i)
   pub running : (i : ℕ) → i < length plan.list.exchanges → is_running events i ≡ nat_lt 0 (running_in s.views i)
   -- a node of which no exchange runs has its table of that schedule's state in its slot
-  pub home : (node : ℕ) → node < plan.list.nodes → ((i : ℕ) → is_running events i ≡ true → takes_part plan.list.exchanges node i ≡ false)
-      → (t : Table) × (get_elem? s.homes node ≡ some (some (Some t))) × ((state_of plan.rules plan.tables plan.list.exchanges events).home node ≡ Some t)
+  pub home : (node : ℕ) → node < plan.list.nodes
+      → ((i : ℕ) → is_running events i ≡ true → takes_part plan.list.exchanges node i ≡ false)
+      → (t : Table) × (get_elem? s.homes node ≡ some (some (Some t)))
+      × ((state_of plan.rules plan.tables plan.list.exchanges events).home node ≡ Some t)
 
 abbrev pub EachKeepsASchedule : Type 0
 EachKeepsASchedule = (plan : BoardPlan) (s : State Slot View) → Orderly plan s → IsScheduled plan s
@@ -48,14 +50,18 @@ module _ {T : Type 0} (table : T → Table) where
   -- the exchange of each hold may be carried out on its tables, where a board was made of a round's list and the tables
   -- of all its nodes
   abbrev pub EachHoldMayBeExchanged : Type 0
-  EachHoldMayBeExchanged = (plan : BoardPlan) (i : ℕ) (hold : Hold T) → IsRoundPlan plan.list → IsCluster plan.list.nodes plan.tables → i < length plan.list.exchanges
-      → IsHoldOf table plan i hold → MayBeExchanged (exchange_at plan.list.exchanges i) (table hold.initiator) (table hold.responder)
+  EachHoldMayBeExchanged = (plan : BoardPlan) (i : ℕ) (hold : Hold T)
+      → IsRoundPlan plan.list → IsCluster plan.list.nodes plan.tables → i < length plan.list.exchanges
+      → IsHoldOf table plan i hold
+      → MayBeExchanged (exchange_at plan.list.exchanges i) (table hold.initiator) (table hold.responder)
 
   -- the exchange of a hold was carried out on its tables, which are left with this
   abbrev pub IsCarriedOut : BoardPlan → Hold T → Hold T → Record → Type 0
   IsCarriedOut plan hold left sent =
-      MakesOf table plan.rules (exchange_at plan.list.exchanges hold.index) hold.initiator hold.responder left.initiator left.responder sent
+      MakesOf table plan.rules (exchange_at plan.list.exchanges hold.index)
+      hold.initiator hold.responder left.initiator left.responder sent
 
   abbrev pub EachMayBePutBack : Type 0
   EachMayBePutBack = (plan : BoardPlan) (v : SeatView) (hold left : Hold T) (sent : Record)
-      → IsHoldOf table plan hold.index hold → Has v.held hold.index → left.index ≡ hold.index → IsCarriedOut plan hold left sent → MayPutBack table plan v left
+      → IsHoldOf table plan hold.index hold → Has v.held hold.index → left.index ≡ hold.index
+      → IsCarriedOut plan hold left sent → MayPutBack table plan v left

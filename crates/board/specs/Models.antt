@@ -1,4 +1,5 @@
--- The slots of a board and what a seat carries, with each table in memory seen as the model's table. Source: this project.
+-- The slots of a board and what a seat carries, with each table in memory seen as the model's table.
+-- Source: this project.
 use Rattle.std.specs.Prelude.{ℕ, List, map, Option, Some, None}
 use mathlib.Core.Option.{some, none}
 use Rattle.node_table.specs.Table.{Table}
@@ -26,8 +27,16 @@ module _ {T : Type 0} (table : T → Table) where
   seat_model m = (m.0, carried_model m.1)
 
   abbrev pub step_model : Step (Option T) → Step Slot
-  step_model st = record { slots = st.slots; word = st.word; first = st.first; second = st.second; said = home_model st.said }
+  step_model st = record {
+    slots = st.slots;
+    word = st.word;
+    first = st.first;
+    second = st.second;
+    said = home_model st.said;
+  }
 
   -- what a step tells, of the models of the step and of the seat before and after
-  abbrev pub TellsOf : (Step Slot → Sat → ℕ → Sat → Type 0) → Step (Option T) → Me (Option T) View → ℕ → Me (Option T) View → Type 0
+  abbrev pub TellsOf :
+      (Step Slot → Sat → ℕ → Sat → Type 0)
+      → Step (Option T) → Me (Option T) View → ℕ → Me (Option T) View → Type 0
   TellsOf told st m r n = told (step_model st) (seat_model m) r (seat_model n)

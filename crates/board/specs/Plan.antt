@@ -27,7 +27,9 @@ responder_of plan i = (exchange_at plan.list.exchanges i).responder
 
 -- what an exchange comes to in list order
 abbrev pub exchanged_at : BoardPlan → ℕ → Exchanged
-exchanged_at plan i = exchanged plan.rules (exchange_at plan.list.exchanges i) (table_at plan (initiator_of plan i) i) (table_at plan (responder_of plan i) i)
+exchanged_at plan i =
+    exchanged plan.rules (exchange_at plan.list.exchanges i)
+    (table_at plan (initiator_of plan i) i) (table_at plan (responder_of plan i) i)
 
 -- the list is a round's, and the tables are those of its nodes in order
 pub record IsBoardPlan (plan : BoardPlan) : Type 0 where

@@ -82,17 +82,19 @@ exchange_word words i = slice_index words (i + 1)
 pub record CountsPredecessors (es : List Exchange) (made running owed : ℕ → ℕ) (words : List ℕ) : Type 0 where
   pub size : length words ≡ length es + 1
   pub taken : (i : ℕ) → 0 < made i + running i → (exchange_word words i ≡ TAKEN) × (owed i ≡ 0)
-  pub waits : (i : ℕ) → i < length es → made i + running i ≡ 0 → exchange_word words i + total made (predecessors es i) ≡ pending_of es i + owed i
+  pub waits : (i : ℕ) → i < length es → made i + running i ≡ 0
+      → exchange_word words i + total made (predecessors es i) ≡ pending_of es i + owed i
   pub bounded : (i : ℕ) → i < length es → made i + running i ≡ 0 → exchange_word words i ≤ pending_of es i
 
 -- 3. An exchange that has predecessors was freed by one release, the last, and no other was freed.
 pub record NamesFreed (es : List Exchange) (freed : ℕ → ℕ) (words : List ℕ) : Type 0 where
-  pub ready : (i : ℕ) → i < length es → 0 < pending_of es i → (exchange_word words i ≡ 0) ⊎ (exchange_word words i ≡ TAKEN) → freed i ≡ 1
+  pub ready : (i : ℕ) → i < length es → 0 < pending_of es i
+      → (exchange_word words i ≡ 0) ⊎ (exchange_word words i ≡ TAKEN) → freed i ≡ 1
   pub waiting : (i : ℕ) → i < length es → 0 < exchange_word words i → exchange_word words i < TAKEN → freed i ≡ 0
   pub first : (i : ℕ) → (length es ≤ i) ⊎ (pending_of es i ≡ 0) → freed i ≡ 0
 
--- 4. Where a node's exchanges before k are finished and none from k on was claimed, its slot has its table of list order
--- before k. Where an exchange was claimed and its tables aren't on their way, the slots of its nodes are empty.
+-- 4. Where a node's exchanges before k are finished and none from k on was claimed, its slot has its table of list
+-- order before k. Where an exchange was claimed and its tables aren't on their way, the slots of its nodes are empty.
 abbrev pub Slot : Type 0
 Slot = Option Table
 
@@ -111,8 +113,11 @@ NoneIsClaimedFrom es made running node k = (j : ℕ) → k ≤ j → takes_part 
 pub record HasTables (plan : BoardPlan) (made running held : ℕ → ℕ) (homes : List Home) : Type 0 where
   pub size : length homes ≡ plan.list.nodes
   pub home : (node k : ℕ) → node < plan.list.nodes → k ≤ length plan.list.exchanges
-      → AreFinishedBelow plan.list.exchanges made node k → NoneIsClaimedFrom plan.list.exchanges made running node k → HasTable homes node (table_at plan node k)
-  pub away : (i node : ℕ) → 0 < held i → takes_part plan.list.exchanges node i ≡ true → get_elem? homes node ≡ some (some None)
+      → AreFinishedBelow plan.list.exchanges made node k
+      → NoneIsClaimedFrom plan.list.exchanges made running node k
+      → HasTable homes node (table_at plan node k)
+  pub away : (i node : ℕ) → 0 < held i → takes_part plan.list.exchanges node i ≡ true
+      → get_elem? homes node ≡ some (some None)
 
 -- 5. What seats know is so.
 pub record AreInformed (views : List View) (stop : ℕ) : Type 0 where
@@ -125,7 +130,9 @@ pub record AreInformed (views : List View) (stop : ℕ) : Type 0 where
 
 -- 6. Seats that aren't spent have all parts together. A seat owes releases for what it has made, each to a successor.
 abbrev pub OwesForMade : List Exchange → View → Type 0
-OwesForMade es v = (i j : ℕ) → 0 < total (λ release. from_only i release * to_only j release) v.owes → (0 < times i v.seat.made) × (0 < times i (predecessors es j))
+OwesForMade es v =
+    (i j : ℕ) → 0 < total (λ release. from_only i release * to_only j release) v.owes
+    → (0 < times i v.seat.made) × (0 < times i (predecessors es j))
 
 pub record IsSpent (v : View) : Type 0 where
   pub made : v.seat.made ≡ []

@@ -30,14 +30,44 @@ abbrev pub IsWhole : SeatView → Type 0
 IsWhole v = v.parts ≡ ALL_PARTS
 
 abbrev pub first_seat : SeatView
-first_seat = record { made = []; held = []; freed = []; told = []; known = []; seen = 0; is_stopped = false; is_halted = false; parts = ALL_PARTS }
+first_seat = record {
+  made = [];
+  held = [];
+  freed = [];
+  told = [];
+  known = [];
+  seen = 0;
+  is_stopped = false;
+  is_halted = false;
+  parts = ALL_PARTS;
+}
 
 -- a split moves one part to a new seat, which knows what was put back as far as this one knows
 abbrev pub split_left : SeatView → SeatView
-split_left v = record { made = v.made; held = v.held; freed = v.freed; told = v.told; known = v.known; seen = v.seen; is_stopped = v.is_stopped; is_halted = v.is_halted; parts = v.parts - 1 }
+split_left v = record {
+  made = v.made;
+  held = v.held;
+  freed = v.freed;
+  told = v.told;
+  known = v.known;
+  seen = v.seen;
+  is_stopped = v.is_stopped;
+  is_halted = v.is_halted;
+  parts = v.parts - 1;
+}
 
 abbrev pub split_right : SeatView → SeatView
-split_right v = record { made = []; held = []; freed = []; told = []; known = v.known ++ v.made; seen = v.seen; is_stopped = v.is_stopped; is_halted = false; parts = 1 }
+split_right v = record {
+  made = [];
+  held = [];
+  freed = [];
+  told = [];
+  known = v.known ++ v.made;
+  seen = v.seen;
+  is_stopped = v.is_stopped;
+  is_halted = false;
+  parts = 1;
+}
 
 abbrev pub joined : SeatView → SeatView → SeatView
 joined v w = record {

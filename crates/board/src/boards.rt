@@ -91,8 +91,8 @@ impl<T: MemoryTable> Board<T> {
     ghost use Rattle.board.specs.Boards.{IsMadeOf, board_id, plan_of, exchanges_of, seat_view, IsSeatOf, Claims, MayPutBack, IsPutBack, IsHoldOf, Looks, HasStopped, AreLeft, IsUnfinished, HasMadeAll};
 
     /// A board of a list's exchanges and the tables of its nodes, in order, and the first seat, which has
-    /// all parts. An error is lack of memory, and the tables are then given up. Costs a step for each
-    /// exchange and each node.
+    /// all parts. An error is lack of memory (`OutOfMemory`), and the tables are then given up. Costs a step
+    /// for each exchange and each node.
     pub fn new(
         alloc: Global,
         deps: Deps,

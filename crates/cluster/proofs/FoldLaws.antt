@@ -18,7 +18,7 @@ use Rattle.exchange.specs.Laws.{MayMeet, NoMarkFalls}
 use Rattle.exchange.specs.Copies.{OwnParts, Generations, WritesBy, IsLastOf, AreLastOf, HoldsWrites, HasNoGap}
 use Rattle.bench_types.specs.Exchange.{IsPlanned}
 use Rattle.cluster.specs.Clusters.{own_parts, generations_of, AreCopiesOf, HaveNoGap, NoMarksFall, KeepOwnParts}
-use Rattle.exchange.specs.inner.Owns.{KeepsOwn}
+use Rattle.exchange.specs.Owns.{KeepsOwn}
 use Rattle.exchange.proofs.OwnParts.{keeps_own_same, keeps_own_then, initiator_keeps_own, responder_keeps_own}
 use Rattle.cluster.proofs.Tables.{still_in_order}
 use Rattle.exchange.proofs.ExchangeLaws.{marks_stay, marks_then, initiator_rises, responder_rises, initiator_proper, responder_proper, initiator_writes, responder_writes, initiator_no_gap, responder_no_gap}

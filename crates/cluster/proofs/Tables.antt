@@ -7,7 +7,7 @@ use Rattle.std.proofs.lemmas.List.{ext_get_or, get_or_default, get_or-set_same, 
 use Rattle.std.proofs.lemmas.List.FromFn.{get_or-map-range_with_len}
 use Rattle.node_table.specs.Table.{Table, empty_table}
 use Rattle.node_table.specs.NodeTableView.{NodeTableView}
-use Rattle.exchange.specs.inner.Owns.{KeepsOwn}
+use Rattle.exchange.specs.Owns.{KeepsOwn}
 use Rattle.cluster.specs.Tables.{tables_in, table_of_node, IsTableOf, AreTablesInOrder, IsCluster}
 use Rattle.cluster.specs.Clusters.{KeepOwnParts}
 

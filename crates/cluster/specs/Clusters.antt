@@ -11,7 +11,7 @@ use Rattle.cluster.specs.Tables.{table_of_node, AreTablesInOrder, AreProper}
 use Rattle.cluster.specs.Folds.{tables_before}
 use Rattle.exchange.specs.Laws.{NoMarkFalls}
 use Rattle.exchange.specs.Copies.{OwnParts, Generations, WritesBy, AreLastOf, HoldsWrites, HasNoGap}
-use Rattle.exchange.specs.inner.Owns.{KeepsOwn}
+use Rattle.exchange.specs.Owns.{KeepsOwn}
 
 -- what each node's table holds of itself
 abbrev pub own_parts : List Table → OwnParts

@@ -18,7 +18,10 @@ pub record Folded : Type 0 where
 abbrev pub exchange_in : Rules → Folded → Exchange → Folded
 exchange_in rules s e =
     let done = exchanged rules e (table_of_node s.tables e.initiator) (table_of_node s.tables e.responder) in
-    record { tables = slice_set (slice_set s.tables e.initiator done.initiator) e.responder done.responder; records = s.records ++ done.sent ∷ [] }
+    record {
+      tables = slice_set (slice_set s.tables e.initiator done.initiator) e.responder done.responder;
+      records = s.records ++ done.sent ∷ [];
+    }
 
 abbrev pub fold_of : Rules → List Table → List Exchange → Folded
 fold_of rules ts es = fold (exchange_in rules) (record { tables = ts; records = [] }) es

@@ -41,7 +41,7 @@ impl Collector {
     ghost use Rattle.collector.specs.Outcomes.{no_outcomes, IsMissing, HasOutcome, with_outcome};
 
     /// A collector for a list of n exchanges, which has no record. It takes all memory that `put`
-    /// and `finish` need. The only error is that memory ran out.
+    /// and `finish` need. An error is lack of memory (`OutOfMemory`).
     pub fn new(alloc: Global, n: u32) -> Result<Collector, Fault>
         ensures empty { IfOk result (λ c. c ≡ no_outcomes n) }
         ensures only { IsOkUnless result OutOfMemory }
@@ -60,8 +60,8 @@ impl Collector {
     }
 
     /// Takes the record of one exchange, in one step and without memory. A stamp that no exchange of
-    /// the list has is a stranger's; one that has a record already is a double, and the first record
-    /// stays. After an error all is as it was.
+    /// the list has is a stranger's (`Stranger`); one that has a record already is a double (`Double`), and
+    /// the first record stays. After an error all is as it was.
     pub fn put(&mut self, stamped: Stamped) -> Result<(), Fault>
         ensures ok { IsOk result ↔ IsMissing self.old stamped.index }
         ensures put { OnOk result (self.new ≡ with_outcome self.old stamped) }
@@ -81,8 +81,8 @@ impl Collector {
     }
 
     /// The records in list order, without taking memory. Where one is missing, the error names the
-    /// first exchange that has none, and the collector comes back as it was. One walk over the list,
-    /// up to the first missing record.
+    /// first exchange that has none (`NoRecord`), and the collector comes back as it was. One walk over the
+    /// list, up to the first missing record.
     pub fn finish(mut self) -> Result<Vec<Record>, (Fault, Collector)>
         ensures ok { IfOk result (λ records. map Some records.items ≡ self) }
         ensures err { IfErr result (λ e. (i : ℕ) × (e.0 ≡ NoRecord i) × IsFirstMissing self i) }

@@ -20,11 +20,13 @@ EachKeepsListOrder =
 abbrev pub EachWholeOneGivesListOrder : Type 0
 EachWholeOneGivesListOrder =
     (rules : Rules) (ts : List Table) (es : List Exchange) (events : List Event)
-    → AreAmong ts es → IsLawful es events → AreFinished es events → IsEndOfList rules ts es (state_of rules ts es events)
+    → AreAmong ts es → IsLawful es events → AreFinished es events
+    → IsEndOfList rules ts es (state_of rules ts es events)
 
 -- all its exchanges are finished, or it can go on
 abbrev pub EachCanGoOn : Type 0
-EachCanGoOn = (es : List Exchange) (events : List Event) → IsLawful es events → AreFinished es events ⊎ CanGoOn es events
+EachCanGoOn =
+    (es : List Exchange) (events : List Event) → IsLawful es events → AreFinished es events ⊎ CanGoOn es events
 
 -- the predecessors of an exchange are finished
 abbrev pub ArePredecessorsFinished : List Exchange → List Event → ℕ → Type 0
@@ -41,4 +43,5 @@ PredecessorsTellOfAllEarlier =
 
 abbrev pub TwoSetsMakeASchedule : Type 0
 TwoSetsMakeASchedule =
-    (es : List Exchange) (first second : ℕ → Bool) → AreClosed es first second → IsLawful es (schedule_of es first second)
+    (es : List Exchange) (first second : ℕ → Bool) → AreClosed es first second
+    → IsLawful es (schedule_of es first second)

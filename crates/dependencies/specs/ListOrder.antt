@@ -17,19 +17,25 @@ use Rattle.dependencies.specs.States.{Taken, State}
 -- the place behind a node's last finished exchange among the first so many, 0 where none of them is
 abbrev pub finished_upto : List Exchange → List Event → ℕ → ℕ → ℕ
 finished_upto es events node zero = 0
-finished_upto es events node (suc i) = if takes_part es node i && is_finished events i then suc i else finished_upto es events node i
+finished_upto es events node (suc i) =
+    if takes_part es node i && is_finished events i then suc i else finished_upto es events node i
 
 -- a node's table in list order once its last finished exchange is done
 abbrev pub table_left : Rules → List Table → List Exchange → List Event → ℕ → Table
-table_left rules ts es events node = table_of_node (tables_before rules ts es (finished_upto es events node (length es))) node
+table_left rules ts es events node =
+    table_of_node (tables_before rules ts es (finished_upto es events node (length es))) node
 
 -- the tables of an exchange's nodes before it in list order
 abbrev pub taken_before : Rules → List Table → List Exchange → ℕ → Taken
 taken_before rules ts es i =
     let before = tables_before rules ts es i in
-    record { initiator = table_of_node before (exchange_at es i).initiator; responder = table_of_node before (exchange_at es i).responder }
+    record {
+      initiator = table_of_node before (exchange_at es i).initiator;
+      responder = table_of_node before (exchange_at es i).responder;
+    }
 
-pub record IsInListOrder (rules : Rules) (ts : List Table) (es : List Exchange) (events : List Event) (s : State) : Type 0 where
+pub record IsInListOrder (rules : Rules) (ts : List Table) (es : List Exchange) (events : List Event)
+    (s : State) : Type 0 where
   -- no exchange starts or finishes twice
   pub starts_once : (i : ℕ) → count_by (is_start_of i) events ≤ 1
   pub finishes_once : (i : ℕ) → count_by (is_finish_of i) events ≤ 1
@@ -39,7 +45,9 @@ pub record IsInListOrder (rules : Rules) (ts : List Table) (es : List Exchange) 
   pub taken : (i : ℕ) → is_running events i ≡ true → s.out i ≡ Some (taken_before rules ts es i)
   pub away : (i node : ℕ) → is_running events i ≡ true → takes_part es node i ≡ true → s.home node ≡ None
   -- any other node has its table of list order after its last finished exchange
-  pub home : (node : ℕ) → node < length ts → ((i : ℕ) → is_running events i ≡ true → takes_part es node i ≡ false) → s.home node ≡ Some (table_left rules ts es events node)
+  pub home : (node : ℕ) → node < length ts
+      → ((i : ℕ) → is_running events i ≡ true → takes_part es node i ≡ false)
+      → s.home node ≡ Some (table_left rules ts es events node)
   -- each finished exchange has its record of list order
   pub records : (i : ℕ) → is_finished events i ≡ true → s.records i ≡ slice_get (fold_of rules ts es).records i
 

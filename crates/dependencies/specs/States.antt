@@ -1,5 +1,5 @@
--- The state that a schedule leads to. A start takes the tables of the exchange's two nodes out of their places; a finish
--- puts back what the exchange leaves of them, and keeps its record. Source: this project.
+-- The state that a schedule leads to. A start takes the tables of the exchange's two nodes out of their places; a
+-- finish puts back what the exchange leaves of them, and keeps its record. Source: this project.
 use Rattle.std.specs.Prelude.{ℕ, ◌==◌, if◌then◌else◌, List, fold, slice_get, Option, None, Some}
 use Rattle.bench_types.specs.declared.exchanges.Exchange.{Exchange}
 use Rattle.bench_types.specs.declared.exchanges.Record.{Record}

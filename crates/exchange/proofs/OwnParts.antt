@@ -12,7 +12,7 @@ use Rattle.reconcile.specs.Candidates.{candidates, known_mark}
 use Rattle.reconcile.specs.Deltas.{delta_between}
 use Rattle.reconcile.proofs.Told.{All-delta_between, All-items_above}
 use Rattle.exchange.specs.Exchanged.{exchanged, fate_of}
-use Rattle.exchange.specs.inner.Owns.{KeepsOwn}
+use Rattle.exchange.specs.Owns.{KeepsOwn}
 use Rattle.exchange.proofs.Cases.{initiator_after-either, responder_after-either}
 use Rattle.std.proofs.lemmas.List.Elements.{All-weaker}
 

@@ -30,10 +30,42 @@ fate_of e = if e.lost1 then fate.Lost1 else (if e.lost2 then fate.Lost2 else las
 
 -- what was sent up to the first lost message
 abbrev pub sent_until : Fate → ℕ → ℕ → DeltaView → DeltaView → Record
-sent_until fate.Lost1 d1 d2 b f = record { digest1 = d1; digest2 = 0; back = 0; forth = 0; back_cut = 0; forth_cut = 0; fate = fate.Lost1 }
-sent_until fate.Lost2 d1 d2 b f = record { digest1 = d1; digest2 = d2; back = length b.items; forth = 0; back_cut = b.cut; forth_cut = 0; fate = fate.Lost2 }
-sent_until fate.Lost3 d1 d2 b f = record { digest1 = d1; digest2 = d2; back = length b.items; forth = length f.items; back_cut = b.cut; forth_cut = f.cut; fate = fate.Lost3 }
-sent_until fate.Ok d1 d2 b f = record { digest1 = d1; digest2 = d2; back = length b.items; forth = length f.items; back_cut = b.cut; forth_cut = f.cut; fate = fate.Ok }
+sent_until fate.Lost1 d1 d2 b f = record {
+  digest1 = d1;
+  digest2 = 0;
+  back = 0;
+  forth = 0;
+  back_cut = 0;
+  forth_cut = 0;
+  fate = fate.Lost1;
+}
+sent_until fate.Lost2 d1 d2 b f = record {
+  digest1 = d1;
+  digest2 = d2;
+  back = length b.items;
+  forth = 0;
+  back_cut = b.cut;
+  forth_cut = 0;
+  fate = fate.Lost2;
+}
+sent_until fate.Lost3 d1 d2 b f = record {
+  digest1 = d1;
+  digest2 = d2;
+  back = length b.items;
+  forth = length f.items;
+  back_cut = b.cut;
+  forth_cut = f.cut;
+  fate = fate.Lost3;
+}
+sent_until fate.Ok d1 d2 b f = record {
+  digest1 = d1;
+  digest2 = d2;
+  back = length b.items;
+  forth = length f.items;
+  back_cut = b.cut;
+  forth_cut = f.cut;
+  fate = fate.Ok;
+}
 
 -- the initiator changes where the second message came
 abbrev pub initiator_after : Fate → Table → DeltaView → Table
@@ -61,7 +93,8 @@ exchanged rules e p q =
     }
 
 -- the tables p and q in memory became p' and q' by the exchange, which has this record
-abbrev pub IsExchanged : Rules → Exchange → NodeTableView → NodeTableView → NodeTableView → NodeTableView → Record → Type 0
+abbrev pub IsExchanged :
+    Rules → Exchange → NodeTableView → NodeTableView → NodeTableView → NodeTableView → Record → Type 0
 IsExchanged rules e p q p' q' r =
     exchanged rules e p.table q.table ≡ record { initiator = p'.table; responder = q'.table; sent = r }
 

@@ -2,6 +2,7 @@ pub mod Exchanged
 pub mod Exchanging
 pub mod Laws
 pub mod Copies
+pub mod Owns
 pub mod inner
 pub use Rattle.reconcile.specs.Candidates
 pub use Rattle.reconcile.specs.Order

@@ -1,2 +1,1 @@
-pub mod Owns
 pub mod Messages

@@ -19,8 +19,8 @@ use std::alloc::Global;
 
 /// Carries out one exchange. The first table is the initiator's.
 ///
-/// An error is lack of memory. All of it is taken before either table changes, so both are then as
-/// they were. It is taken for both digests, for the candidates both ways and for the room of what
+/// An error is lack of memory (`OutOfMemory`). All of it is taken before either table changes, so both are
+/// then as they were. It is taken for both digests, for the candidates both ways and for the room of what
 /// is sent; only that room stays taken.
 ///
 /// Where no message is lost, a scuttle mode copies a number for each owner and compares it with the

@@ -27,8 +27,8 @@ pub trait Exchanging: MemoryTable {
     // What a table owes to what all read. It is said of the model's table, so list order decides it.
     ghost fits: { Self.Shared → Table → Type 0 };
 
-    /// Carries out one exchange, as `exchange` says it for tables with entries. An error is lack of memory, and
-    /// both tables are then as they were.
+    /// Carries out one exchange, as `exchange` says it for tables with entries. An error is lack of memory
+    /// (`OutOfMemory`), and both tables are then as they were.
     fn exchange(
         alloc: Global,
         shared: &Self::Shared,

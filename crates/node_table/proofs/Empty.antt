@@ -12,7 +12,7 @@ use Rattle.node_table.specs.declared.layouts.Row.{Row}
 use Rattle.node_table.specs.declared.layouts.Layout.{Layout}
 use Rattle.node_table.specs.Table.{place_cmp, Table, entry_at, greatest_mark, IsProper}
 use Rattle.node_table.specs.Entries.{AreGenerations, AreGreatest}
-use Rattle.node_table.specs.inner.Layouts.{entries_in_row, rows_of, row_at, held_by_rows, row_len, block_len, entry_in, table_in, IsInSlots, AreLaid, IsLayout}
+use Rattle.node_table.specs.inner.Layouts.{entries_in_row, rows_of, row_at, held_by_rows, row_len, block_len, entry_in, table_laid, IsInSlots, AreLaid, IsLayout}
 use Rattle.node_table.proofs.Laws.{same_table}
 use Rattle.node_table.proofs.Laid.{row_at-get_or, row_at-past}
 use Rattle.node_table.proofs.Greatest.{greatest_mark-none}
@@ -59,7 +59,7 @@ module _ (node nodes keys generation : ℕ) where
     table_bare = same_table _ (bare node nodes keys generation) refl refl refl refl (λ owner key. get-held_by_rows (rows_of slots rows) owner key ∙ ap (λ row. entry_in row key) (row_none owner) ∙ sym (entry_at-bare owner key))
 
 module _ (l : Layout) (slots : l.slots.items ≡ []) (rows : l.rows.items ≡ replicate l.nodes empty_row) where
-  bare_in : table_in l ≡ bare l.node l.nodes l.keys l.generation
+  bare_in : table_laid l ≡ bare l.node l.nodes l.keys l.generation
   bare_in = table_bare l.node l.nodes l.keys l.generation l.slots.items l.rows.items slots rows
 
   pub layout_bare : IsProper (bare l.node l.nodes l.keys l.generation) → l.greatest.items ≡ replicate l.nodes 0 → l.generations.items ≡ [] → l.nodes ≤ vec_capacity l.generations → l.count ≡ 0 → IsLayout l

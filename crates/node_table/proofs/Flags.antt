@@ -12,7 +12,7 @@ use Rattle.node_table.specs.Table.{greatest_version}
 use Rattle.node_table.specs.Entries.{AreGreatest}
 use Rattle.node_table.specs.inner.Items.{no_item}
 use Rattle.node_table.specs.NodeTableView.{blocks_below}
-use Rattle.node_table.specs.inner.Layouts.{row_at, entry_in, table_in, IsRow, IsLayout}
+use Rattle.node_table.specs.inner.Layouts.{row_at, entry_in, table_laid, IsRow, IsLayout}
 use Rattle.node_table.specs.inner.Flags.{ComesWithin, AreFlagged, AreUnflagged}
 use Rattle.node_table.proofs.Room.{blocks-upto, blocks-came_held, blocks-came_new}
 use Rattle.node_table.proofs.Taking.{version-le-greatest}
@@ -129,13 +129,13 @@ version_from_entry keys [] is_row some = absurd (omega arith)
 version_from_entry keys (e ∷ es) is_row some = (e, ap (λ b. cond b (Some e) (entry_in es e.key)) (eq-eqb e.key e.key refl), is_row.keys_below 0 e (omega arith), is_row.written 0 e (omega arith))
 
 module _ (l : Layout) (sound : IsLayout l) where
-  held_from_row : (owner : ℕ) → owner < l.nodes → 0 < length (row_at l.slots.items l.rows.items owner) → 0 < greatest_version (table_in l) owner
+  held_from_row : (owner : ℕ) → owner < l.nodes → 0 < length (row_at l.slots.items l.rows.items owner) → 0 < greatest_version (table_laid l) owner
   held_from_row owner below some =
       let first = version_from_entry l.keys (row_at l.slots.items l.rows.items owner) (is_row l sound owner below) some in
-      omega (arith, version-le-greatest (table_in l) owner first.0.key sound.proper first.2, ap (λ h. (mark_held h).version) (entry_at-in l owner first.0.key ∙ first.1), first.3)
+      omega (arith, version-le-greatest (table_laid l) owner first.0.key sound.proper first.2, ap (λ h. (mark_held h).version) (entry_at-in l owner first.0.key ∙ first.1), first.3)
 
   -- once the marks are gone the list is what it was
-  pub greatest_again : (added : List Item) (marked after : List ℕ) → AreFlagged added l.greatest.items marked → AreUnflagged l.rows.items added marked after → length marked ≡ length l.greatest.items → length after ≡ length marked → AreGreatest (table_in l) after
+  pub greatest_again : (added : List Item) (marked after : List ℕ) → AreFlagged added l.greatest.items marked → AreUnflagged l.rows.items added marked after → length marked ≡ length l.greatest.items → length after ≡ length marked → AreGreatest (table_laid l) after
   greatest_again added marked after are_flagged are_unflagged len len' = record {
     count = len' ∙ len ∙ sound.greatest.count;
     greatest = again;
@@ -144,7 +144,7 @@ module _ (l : Layout) (sound : IsLayout l) where
       no_row : Row
       no_row = record { start = 0; len = 0 }
 
-      again : (owner : ℕ) → owner < l.nodes → get_or after owner 0 ≡ greatest_version (table_in l) owner
+      again : (owner : ℕ) → owner < l.nodes → get_or after owner 0 ≡ greatest_version (table_laid l) owner
       again owner below =
           let lt : owner < length l.rows.items = omega (arith, sound.laid.as_many) in
           let row_len : length (row_at l.slots.items l.rows.items owner) ≡ (get_or l.rows.items owner no_row).len = ap length (row_at-get_or l.slots.items l.rows.items owner no_row lt) ∙ length-entries_in_row l.keys l.slots.items (get_or l.rows.items owner no_row) (sound.laid.each owner no_row lt) in
@@ -154,7 +154,7 @@ module _ (l : Layout) (sound : IsLayout l) where
                 let held = held_from_row owner below (omega (arith, row_len)) in
                 are_unflagged.held owner no_row some ∙ are_flagged.held owner (omega (arith, was, held)) ∙ was
             | inr none ↦
-                let nothing : greatest_version (table_in l) owner ≡ 0 = elim (cases_lt 0 (greatest_version (table_in l) owner)) [
+                let nothing : greatest_version (table_laid l) owner ≡ 0 = elim (cases_lt 0 (greatest_version (table_laid l) owner)) [
                   | inl held ↦ absurd (omega (arith, some_held l owner held, row_len))
                   | inr not_held ↦ omega arith
                 ] in

@@ -15,7 +15,7 @@ use Rattle.node_table.specs.declared.layouts.Row.{Row}
 use Rattle.node_table.specs.declared.layouts.Layout.{Layout}
 use Rattle.node_table.specs.Table.{Table, entry_at, greatest_mark, generation_held, greatest_version, count_of, taken}
 use Rattle.node_table.specs.Entries.{StandsBefore, AreAbove}
-use Rattle.node_table.specs.inner.Layouts.{entries_in_row, rows_of, row_at, row_len, entry_in, held_by_rows, table_in, with_entry, HaveTwoKeys, IsRow, IsInSlots, AreLaid, IsLayout, IsIndexOf, IsRankAbove, IsPlaced, IsRenewed}
+use Rattle.node_table.specs.inner.Layouts.{entries_in_row, rows_of, row_at, row_len, entry_in, held_by_rows, table_laid, with_entry, HaveTwoKeys, IsRow, IsInSlots, AreLaid, IsLayout, IsIndexOf, IsRankAbove, IsPlaced, IsRenewed}
 use Rattle.node_table.proofs.Greatest.{greatest_mark-none, place_less}
 use Rattle.node_table.proofs.Laws.{same_table, entry_at-taken_other, entry_at-taken_newer, frame-taken}
 use Rattle.node_table.proofs.InRow.{rank_place, absent_from_end}
@@ -49,15 +49,15 @@ entry_in-Contains row e apart (k, lt, is) =
     entry_in-at row k e.key e lt (ap (λ (y : Entry). y.key) is) (λ j before same. apart j k e before lt (same ∙ sym (ap (λ (y : Entry). y.key) is)))
     ∙ ap (λ (y : Entry). Some y) is
 
-pub entry_at-in : (l : Layout) (owner key : ℕ) → entry_at (table_in l) owner key ≡ entry_in (row_at l.slots.items l.rows.items owner) key
+pub entry_at-in : (l : Layout) (owner key : ℕ) → entry_at (table_laid l) owner key ≡ entry_in (row_at l.slots.items l.rows.items owner) key
 entry_at-in l owner key = get-held_by_rows (rows_of l.slots.items l.rows.items) owner key
 
 -- of an owner without a row nothing is held
-nothing_held : (l : Layout) (owner : ℕ) → row_at l.slots.items l.rows.items owner ≡ [] → greatest_mark (table_in l) owner ≡ absent
-nothing_held l owner empty = greatest_mark-none (table_in l) owner (λ key lt. entry_at-in l owner key ∙ ap (λ row. entry_in row key) empty)
+nothing_held : (l : Layout) (owner : ℕ) → row_at l.slots.items l.rows.items owner ≡ [] → greatest_mark (table_laid l) owner ≡ absent
+nothing_held l owner empty = greatest_mark-none (table_laid l) owner (λ key lt. entry_at-in l owner key ∙ ap (λ row. entry_in row key) empty)
 
 -- an owner with a version has a row
-pub some_held : (l : Layout) (owner : ℕ) → 0 < greatest_version (table_in l) owner → 0 < length (row_at l.slots.items l.rows.items owner)
+pub some_held : (l : Layout) (owner : ℕ) → 0 < greatest_version (table_laid l) owner → 0 < length (row_at l.slots.items l.rows.items owner)
 some_held l owner some = elim (cases_lt 0 (length (row_at l.slots.items l.rows.items owner))) [
   | inl held ↦ held
   | inr none ↦ absurd (omega (arith, ap (λ (m : Mark). m.version) (nothing_held l owner (nil_from_length _ (omega arith)))))
@@ -75,13 +75,13 @@ module _ (l : Layout) (sound : IsLayout l) where
   pub row_past : (owner : ℕ) → l.nodes ≤ owner → row_at l.slots.items l.rows.items owner ≡ []
   row_past owner past = row_at-past l.slots.items l.rows.items owner (omega (arith, sound.laid.as_many))
 
-  pub count_is : count_of (table_in l) ≡ l.count
+  pub count_is : count_of (table_laid l) ≡ l.count
   count_is =
       len-held_by_rows (rows_of l.slots.items l.rows.items) (All-map (AllPairs HaveTwoKeys) (entries_in_row l.slots.items) l.rows.items (λ k d lt. (sound.laid.each k d lt).row.apart))
       ∙ total-rows l.keys l.slots.items l.rows.items sound.laid.each ∙ sym sound.counted
 
   -- an owner that is no node has no mark
-  pub greatest_past : (owner : ℕ) → l.nodes ≤ owner → greatest_mark (table_in l) owner ≡ absent
+  pub greatest_past : (owner : ℕ) → l.nodes ≤ owner → greatest_mark (table_laid l) owner ≡ absent
   greatest_past owner past = nothing_held l owner (row_past owner past)
 
   module _ (owner : ℕ) (below : owner < l.nodes) where
@@ -89,15 +89,15 @@ module _ (l : Layout) (sound : IsLayout l) where
     row = row_at l.slots.items l.rows.items owner
 
     -- what stands in a row is held
-    held_at : (e : Entry) → Contains row e → entry_at (table_in l) owner e.key ≡ Some e
+    held_at : (e : Entry) → Contains row e → entry_at (table_laid l) owner e.key ≡ Some e
     held_at e there = entry_at-in l owner e.key ∙ entry_in-Contains row e (is_row owner below).apart there
 
     -- and has the generation of the copy
-    pub generation_in : (k : ℕ) (d : Entry) → k < length row → (get_or row k d).generation ≡ generation_held (table_in l) owner
+    pub generation_in : (k : ℕ) (d : Entry) → k < length row → (get_or row k d).generation ≡ generation_held (table_laid l) owner
     generation_in k d lt = sound.proper.copies owner (get_or row k d).key (get_or row k d) (held_at (get_or row k d) (k, lt, get_or_default row k (get_or row k d) d lt))
 
     -- what of a row stands behind a mark is what is held above it
-    above_in : (mark : Mark) (rank : ℕ) → rank ≤ length row → ((k : ℕ) (d : Entry) → k < rank → IsUpTo (mark_of (get_or row k d)) mark) → ((k : ℕ) (d : Entry) → rank ≤ k → k < length row → IsBefore mark (mark_of (get_or row k d))) → AreAbove (table_in l) owner mark (drop rank row)
+    above_in : (mark : Mark) (rank : ℕ) → rank ≤ length row → ((k : ℕ) (d : Entry) → k < rank → IsUpTo (mark_of (get_or row k d)) mark) → ((k : ℕ) (d : Entry) → rank ≤ k → k < length row → IsBefore mark (mark_of (get_or row k d))) → AreAbove (table_laid l) owner mark (drop rank row)
     above_in mark rank within front behind =
         let rest = length-drop rank row in
         record {
@@ -120,19 +120,19 @@ module _ (l : Layout) (sound : IsLayout l) where
         ]
 
     -- an owner's row is what is held above the absent mark
-    pub whole_row : AreAbove (table_in l) owner absent row
+    pub whole_row : AreAbove (table_laid l) owner absent row
     whole_row = above_in absent 0 (omega arith) (λ k d lt. absurd (omega arith)) (λ k d le lt. record { generation = omega arith; version = λ _. (is_row owner below).written k d lt })
 
     -- and above any of an older generation than the copy's
-    pub above_older : (mark : Mark) → mark.generation < generation_held (table_in l) owner → AreAbove (table_in l) owner mark row
+    pub above_older : (mark : Mark) → mark.generation < generation_held (table_laid l) owner → AreAbove (table_laid l) owner mark row
     above_older mark older = above_in mark 0 (omega arith) (λ k d lt. absurd (omega arith)) (λ k d le lt. record { generation = omega (arith, generation_in k d lt); version = λ same. absurd (omega (arith, generation_in k d lt)) })
 
     -- above one of a newer nothing is
-    pub above_newer : (mark : Mark) → generation_held (table_in l) owner < mark.generation → AreAbove (table_in l) owner mark (drop (length row) row)
+    pub above_newer : (mark : Mark) → generation_held (table_laid l) owner < mark.generation → AreAbove (table_laid l) owner mark (drop (length row) row)
     above_newer mark newer = above_in mark (length row) (omega arith) (λ k d lt. record { generation = omega (arith, generation_in k d lt); version = λ same. absurd (omega (arith, generation_in k d lt)) }) (λ k d le lt. absurd (omega arith))
 
     -- and above one of the same what stands behind all entries of its version
-    pub above_rank : (mark : Mark) (rank : ℕ) → mark.generation ≡ generation_held (table_in l) owner → IsRankAbove row mark.version rank → AreAbove (table_in l) owner mark (drop rank row)
+    pub above_rank : (mark : Mark) (rank : ℕ) → mark.generation ≡ generation_held (table_laid l) owner → IsRankAbove row mark.version rank → AreAbove (table_laid l) owner mark (drop rank row)
     above_rank mark rank same ranked = above_in mark rank ranked.within
         (λ k d lt. record { generation = omega (arith, generation_in k d (omega (arith, ranked.within))); version = λ _. front k d lt })
         (λ k d le lt. record { generation = omega (arith, generation_in k d lt); version = λ _. ranked.behind k d le lt })
@@ -147,7 +147,7 @@ module _ (l : Layout) (sound : IsLayout l) where
         ]
 
 -- what an entry that came into an owner's row makes of the table
-pub table_placed : (l : Layout) (slots' : List Entry) (rows' : List Row) (owner : ℕ) (entry : Entry) → IsPlaced l.keys owner entry l.slots.items slots' l.rows.items rows' → ◌≡◌ {A = Table} (record { node = l.node; nodes = l.nodes; keys = l.keys; generation = l.generation; held = held_by_rows (rows_of slots' rows') }) (with_entry (table_in l) owner entry)
+pub table_placed : (l : Layout) (slots' : List Entry) (rows' : List Row) (owner : ℕ) (entry : Entry) → IsPlaced l.keys owner entry l.slots.items slots' l.rows.items rows' → ◌≡◌ {A = Table} (record { node = l.node; nodes = l.nodes; keys = l.keys; generation = l.generation; held = held_by_rows (rows_of slots' rows') }) (with_entry (table_laid l) owner entry)
 table_placed l slots' rows' owner entry placed =
     let held = held_by_rows-put (rows_of l.slots.items l.rows.items) (rows_of slots' rows') owner entry placed.others placed.put.here placed.put.others in
     λ i. record { node = l.node; nodes = l.nodes; keys = l.keys; generation = l.generation; held = held i }
@@ -164,16 +164,16 @@ count_placed keys owner nodes entry slots slots' rows rows' r r' placed laid lai
     (omega (arith, placed.counted, placed.put.grows, len, len'), omega (arith, placed.put.grows, len, len'))
 
 -- what an entry of a newer generation, which became its owner's row, makes of the table
-pub table_renewed : (l : Layout) (slots' : List Entry) (rows' : List Row) (item : Item) → generation_held (table_in l) item.owner < item.entry.generation → IsRenewed item.owner item.entry l.slots.items slots' l.rows.items rows' → ◌≡◌ {A = Table} (record { node = l.node; nodes = l.nodes; keys = l.keys; generation = l.generation; held = held_by_rows (rows_of slots' rows') }) (taken (table_in l) item)
+pub table_renewed : (l : Layout) (slots' : List Entry) (rows' : List Row) (item : Item) → generation_held (table_laid l) item.owner < item.entry.generation → IsRenewed item.owner item.entry l.slots.items slots' l.rows.items rows' → ◌≡◌ {A = Table} (record { node = l.node; nodes = l.nodes; keys = l.keys; generation = l.generation; held = held_by_rows (rows_of slots' rows') }) (taken (table_laid l) item)
 table_renewed l slots' rows' item newer renewed =
-    let frame = frame-taken (table_in l) item in
-    let own = entry_at-taken_newer (table_in l) item newer in
-    same_table _ (taken (table_in l) item) (sym frame.node) (sym frame.nodes) (sym frame.keys) (sym frame.generation) (λ owner key. get-held_by_rows (rows_of slots' rows') owner key ∙ elim (cases_eq owner item.owner) [
-      | inl is ↦ subst (λ o. entry_in (row_at slots' rows' o) key ≡ entry_at (taken (table_in l) item) o key) (sym is) (ap (λ row. entry_in row key) renewed.alone ∙ elim (cases_eq item.entry.key key) [
-        | inl here ↦ ap (λ b. cond b (Some item.entry) None) (eq-eqb item.entry.key key here) ∙ sym (subst (λ k. entry_at (taken (table_in l) item) item.owner k ≡ Some item.entry) here own.0)
+    let frame = frame-taken (table_laid l) item in
+    let own = entry_at-taken_newer (table_laid l) item newer in
+    same_table _ (taken (table_laid l) item) (sym frame.node) (sym frame.nodes) (sym frame.keys) (sym frame.generation) (λ owner key. get-held_by_rows (rows_of slots' rows') owner key ∙ elim (cases_eq owner item.owner) [
+      | inl is ↦ subst (λ o. entry_in (row_at slots' rows' o) key ≡ entry_at (taken (table_laid l) item) o key) (sym is) (ap (λ row. entry_in row key) renewed.alone ∙ elim (cases_eq item.entry.key key) [
+        | inl here ↦ ap (λ b. cond b (Some item.entry) None) (eq-eqb item.entry.key key here) ∙ sym (subst (λ k. entry_at (taken (table_laid l) item) item.owner k ≡ Some item.entry) here own.0)
         | inr off ↦ ap (λ b. cond b (Some item.entry) None) (ne_eqb item.entry.key key off) ∙ sym (own.1 key off)
       ])
-      | inr other ↦ ap (λ row. entry_in row key) (renewed.others owner other) ∙ sym (entry_at-in l owner key) ∙ sym (entry_at-taken_other (table_in l) item owner key (λ is_own. other (sym is_own)))
+      | inr other ↦ ap (λ row. entry_in row key) (renewed.others owner other) ∙ sym (entry_at-in l owner key) ∙ sym (entry_at-taken_other (table_laid l) item owner key (λ is_own. other (sym is_own)))
     ])
 
 -- the count of it

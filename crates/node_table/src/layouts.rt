@@ -10,7 +10,7 @@ ghost use Rattle.node_table.specs.Table.{IsItemInPlace};
 ghost use Rattle.node_table.specs.Entries.{AreAbove};
 ghost use Rattle.node_table.specs.NodeTableView.{blocks_below, blocks_for};
 ghost use Rattle.node_table.specs.inner.Flags.{AreFlagged, AreUnflagged};
-ghost use Rattle.node_table.specs.inner.Layouts.{entries_in_row, row_at, block_len, table_in, AreLaid, IsLayout, IsEmptyRow, IsInSlots, IsPlaced, AreOthersKept, IsRenewed, IsPut, KeepOutside, HasEntries, IsHeld, HasRoomForBlock};
+ghost use Rattle.node_table.specs.inner.Layouts.{entries_in_row, row_at, block_len, table_laid, AreLaid, IsLayout, IsEmptyRow, IsInSlots, IsPlaced, AreOthersKept, IsRenewed, IsPut, KeepOutside, HasEntries, IsHeld, HasRoomForBlock};
 
 use crate::rows::{find, put_in, rank_above};
 use bench_types::limits::{MOST_KEYS, MOST_NODES};
@@ -55,7 +55,7 @@ impl Layout {
     pub(crate) fn above(&self, owner: u32, mark: Mark) -> &[Entry]
         requires layout { IsLayout self.now }
         requires owner { owner < self.now.nodes }
-        ensures { AreAbove (table_in self.now) owner mark result.now }
+        ensures { AreAbove (table_laid self.now) owner mark result.now }
     {
         let row = self.row(owner);
         let generation = self.generation_of(owner);
@@ -72,7 +72,7 @@ impl Layout {
     fn generation_of(&self, owner: u32) -> u32
         requires layout { IsLayout self.now }
         requires owner { owner < self.now.nodes }
-        ensures { result ≡ generation_held (table_in self.now) owner }
+        ensures { result ≡ generation_held (table_laid self.now) owner }
     {
         if self.generations.is_empty() {
             0
@@ -85,7 +85,7 @@ impl Layout {
     pub(crate) fn greatest_mark(&self, owner: u32) -> Mark
         requires layout { IsLayout self.now }
         requires owner { owner < self.now.nodes }
-        ensures { result ≡ greatest_mark (table_in self.now) owner }
+        ensures { result ≡ greatest_mark (table_laid self.now) owner }
     {
         Mark {
             generation: self.generation_of(owner),
@@ -101,8 +101,8 @@ impl Layout {
         requires in_place { IsItemInPlace self.old.nodes self.old.keys item }
         requires own { item.owner ≡ self.old.node → item.entry.generation ≡ self.old.generation }
         ensures layout { IsLayout self.new }
-        ensures ok { OnOk result (table_in self.new ≡ taken (table_in self.old) item) }
-        ensures err { OnErr result (table_in self.new ≡ table_in self.old) }
+        ensures ok { OnOk result (table_laid self.new ≡ taken (table_laid self.old) item) }
+        ensures err { OnErr result (table_laid self.new ≡ table_laid self.old) }
         ensures keeps_slots { OnErr result (vec_len self.new.slots ≡ vec_len self.old.slots) }
         ensures capacity { vec_capacity self.old.slots ≤ vec_capacity self.new.slots }
         ensures same_slots { IsHeld self.old item.owner → vec_len self.new.slots ≡ vec_len self.old.slots }
@@ -125,7 +125,7 @@ impl Layout {
     fn is_newer(&self, item: Item) -> bool
         requires layout { IsLayout self.now }
         requires in_place { IsItemInPlace self.now.nodes self.now.keys item }
-        ensures { result ≡ nat_lt (mark_at (table_in self.now) item.owner item.entry.key).version item.entry.version }
+        ensures { result ≡ nat_lt (mark_at (table_laid self.now) item.owner item.entry.key).version item.entry.version }
     {
         if self.greatest[item.owner as usize] < item.entry.version {
             return true;
@@ -141,11 +141,11 @@ impl Layout {
         requires layout { IsLayout self.old }
         requires in_place { IsItemInPlace self.old.nodes self.old.keys item }
         requires own { item.owner ≡ self.old.node → item.entry.generation ≡ self.old.generation }
-        requires same { item.entry.generation ≡ generation_held (table_in self.old) item.owner }
-        requires newer { (mark_at (table_in self.old) item.owner item.entry.key).version < item.entry.version }
+        requires same { item.entry.generation ≡ generation_held (table_laid self.old) item.owner }
+        requires newer { (mark_at (table_laid self.old) item.owner item.entry.key).version < item.entry.version }
         ensures layout { IsLayout self.new }
-        ensures ok { OnOk result (table_in self.new ≡ taken (table_in self.old) item) }
-        ensures err { OnErr result (table_in self.new ≡ table_in self.old) }
+        ensures ok { OnOk result (table_laid self.new ≡ taken (table_laid self.old) item) }
+        ensures err { OnErr result (table_laid self.new ≡ table_laid self.old) }
         ensures keeps_slots { OnErr result (vec_len self.new.slots ≡ vec_len self.old.slots) }
         ensures capacity { vec_capacity self.old.slots ≤ vec_capacity self.new.slots }
         ensures same_slots { IsHeld self.old item.owner → vec_len self.new.slots ≡ vec_len self.old.slots }
@@ -172,10 +172,10 @@ impl Layout {
         requires layout { IsLayout self.old }
         requires in_place { IsItemInPlace self.old.nodes self.old.keys item }
         requires own { item.owner ≡ self.old.node → item.entry.generation ≡ self.old.generation }
-        requires newer { generation_held (table_in self.old) item.owner < item.entry.generation }
+        requires newer { generation_held (table_laid self.old) item.owner < item.entry.generation }
         ensures layout { IsLayout self.new }
-        ensures ok { OnOk result (table_in self.new ≡ taken (table_in self.old) item) }
-        ensures err { OnErr result (table_in self.new ≡ table_in self.old) }
+        ensures ok { OnOk result (table_laid self.new ≡ taken (table_laid self.old) item) }
+        ensures err { OnErr result (table_laid self.new ≡ table_laid self.old) }
         ensures keeps_slots { OnErr result (vec_len self.new.slots ≡ vec_len self.old.slots) }
         ensures capacity { vec_capacity self.old.slots ≤ vec_capacity self.new.slots }
         ensures same_slots { IsHeld self.old item.owner → vec_len self.new.slots ≡ vec_len self.old.slots }
@@ -208,9 +208,9 @@ impl Layout {
     pub(crate) fn blocks_for(&mut self, added: &[Item]) -> usize
         requires { IsLayout self.old }
         ensures layout { IsLayout self.new }
-        ensures table { table_in self.new ≡ table_in self.old }
+        ensures table { table_laid self.new ≡ table_laid self.old }
         ensures slots { self.new.slots ≡ self.old.slots }
-        ensures blocks { result ≡ blocks_for (table_in self.old) added.now }
+        ensures blocks { result ≡ blocks_for (table_laid self.old) added.now }
     {
         let blocks = flag_new(&mut self.greatest, added);
         if blocks > 0 {
@@ -223,7 +223,7 @@ impl Layout {
     pub(crate) fn forget_others(&mut self)
         requires { IsLayout self.old }
         ensures layout { IsLayout self.new }
-        ensures table { table_in self.new ≡ without_others (table_in self.old) }
+        ensures table { table_laid self.new ≡ without_others (table_laid self.old) }
         ensures capacity { vec_capacity self.new.slots ≡ vec_capacity self.old.slots }
         ensures slots { vec_len self.new.slots ≤ vec_len self.old.slots }
         ensures keys { self.new.keys ≡ self.old.keys }
@@ -252,7 +252,7 @@ impl Layout {
         requires layout { IsLayout self.old }
         requires fits { self.old.generation + 1 < 2 ^ 32 }
         ensures layout { IsLayout self.new }
-        ensures table { table_in self.new ≡ without_all (table_in self.old) }
+        ensures table { table_laid self.new ≡ without_all (table_laid self.old) }
         ensures capacity { vec_capacity self.new.slots ≡ vec_capacity self.old.slots }
         ensures slots { vec_len self.new.slots ≤ vec_len self.old.slots }
         ensures keys { self.new.keys ≡ self.old.keys }

@@ -20,13 +20,13 @@ pub struct NodeTable {
 impl Model for NodeTable {
     ghost use Rattle.node_table.specs.NodeTableView.{NodeTableView};
     ghost use Rattle.node_table.specs.inner.Codes.{kept_code};
-    ghost use Rattle.node_table.specs.inner.Layouts.{table_in, room_of, IsLayout};
+    ghost use Rattle.node_table.specs.inner.Layouts.{table_laid, room_of, IsLayout};
 
     ghost Value = { NodeTableView };
 
     ghost coded = { kept_code };
 
-    ghost view = { λ t. record { table = table_in t.layout; room = room_of t.layout } };
+    ghost view = { λ t. record { table = table_laid t.layout; room = room_of t.layout } };
 
     ghost invariant = { λ t. IsLayout t.layout };
 }
@@ -164,8 +164,8 @@ impl NodeTable {
 
     /// The node writes one of its own keys, in its generation, and the answer is the version of that
     /// write: one walk over the node's row, which closes it up. An error is lack of memory
-    /// (`OutOfMemory`) for the first write of all, and then nothing was written and the room is no less. With room for one
-    /// owner there is none.
+    /// (`OutOfMemory`) for the first write of all, and then nothing was written and the room is no less. With room
+    /// for one owner there is none.
     pub fn write_own(&mut self, key: u32, value: u32, born: u32) -> Result<u32, Fault>
         requires key { key < self.old.table.keys }
         requires fits { greatest_version self.old.table self.old.table.node + 1 < 2 ^ 32 }

@@ -12,7 +12,7 @@ use Rattle.owner_lists.specs.declared.lists.Link.{Link}
 use Rattle.owner_lists.specs.declared.lists.Write.{Write}
 use Rattle.owner_lists.specs.OwnerListView.{OwnerListView, entries_of, written, MarksRise, AreWrites, next_entry, with_write, begun_generation}
 use Rattle.owner_lists.specs.Writes.{next_write, IsNumbered, write_of_entry}
-use Rattle.owner_lists.specs.inner.Linked.{entries_linked, writes_linked, view_of, IsOwnerList, IsKept}
+use Rattle.owner_lists.specs.inner.Linked.{entries_linked, writes_linked, view_of, IsOwnerList, IsKeptList}
 use Rattle.owner_lists.proofs.Linking.{written_linked, numbered-writes_linked, length-writes_linked}
 
 -- what stands from a place on, as it is lent
@@ -132,8 +132,8 @@ nothing_kept = record {
   in_order_is = refl;
 }
 
-module _ (ls : List Link) (n g : ℕ) (firsts latest : List Write) (in_order : Bool) (kept : IsKept ls n g firsts latest in_order) where
-  pub kept_begun : (m : ℕ) (firsts' latest' : List Write) → m ≡ length ls → firsts' ≡ [] → latest' ≡ [] → IsKept ls m (g + 1) firsts' latest' true
+module _ (ls : List Link) (n g : ℕ) (firsts latest : List Write) (in_order : Bool) (kept : IsKeptList ls n g firsts latest in_order) where
+  pub kept_begun : (m : ℕ) (firsts' latest' : List Write) → m ≡ length ls → firsts' ≡ [] → latest' ≡ [] → IsKeptList ls m (g + 1) firsts' latest' true
   kept_begun m firsts' latest' all first last = record {
     within = omega (arith, all);
     list = subst (λ ks. IsOwnerList ks firsts' latest' true) (sym (drop_all m ls (omega (arith, all))))
@@ -162,7 +162,7 @@ module _ (ls : List Link) (n g : ℕ) (firsts latest : List Write) (in_order : B
         ∙ map-append write_of_entry v.current (next_entry v key value born ∷ [])
         ∙ ap (λ ws. ws ++ write_of_entry (next_entry v key value born) ∷ []) (sym shown_kept)
 
-    pub kept_written : (firsts' latest' : List Write) (in_order' : Bool) → IsOwnerList (drop n ls') firsts' latest' in_order' → IsKept ls' n g firsts' latest' in_order'
+    pub kept_written : (firsts' latest' : List Write) (in_order' : Bool) → IsOwnerList (drop n ls') firsts' latest' in_order' → IsKeptList ls' n g firsts' latest' in_order'
     kept_written firsts' latest' in_order' list = record {
       within = omega (arith, kept.within, length-take n ls', length-take n ls, ap length same);
       list = list;

@@ -68,6 +68,10 @@ entry_of v mark = find (has_mark mark) (entries_of v)
 abbrev pub list_of_owner : List OwnerListView → ℕ → OwnerListView
 list_of_owner lists owner = slice_index_or lists owner no_writes
 
+-- all that each owner wrote
+abbrev pub all_writes : List OwnerListView → ℕ → List Entry
+all_writes lists owner = entries_of (list_of_owner lists owner)
+
 -- what each owner wrote in its generation
 abbrev pub lists_in : List OwnerListView → List (List Write)
 lists_in lists = map written lists

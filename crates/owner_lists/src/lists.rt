@@ -53,7 +53,7 @@ pub struct OwnerList {
 impl Model for OwnerList {
     ghost use Rattle.owner_lists.specs.OwnerListView.{OwnerListView};
     ghost use Rattle.owner_lists.specs.inner.Codes.{list_code};
-    ghost use Rattle.owner_lists.specs.inner.Linked.{view_of, IsKept};
+    ghost use Rattle.owner_lists.specs.inner.Linked.{view_of, IsKeptList};
 
     ghost Value = { OwnerListView };
 
@@ -61,7 +61,7 @@ impl Model for OwnerList {
 
     ghost view = { λ l. view_of l.links.items l.earlier l.generation };
 
-    ghost invariant = { λ l. IsKept l.links.items l.earlier l.generation l.firsts.items l.latest.items l.in_order };
+    ghost invariant = { λ l. IsKeptList l.links.items l.earlier l.generation l.firsts.items l.latest.items l.in_order };
 }
 
 impl OwnerList {
@@ -96,7 +96,8 @@ impl OwnerList {
     }
 
     /// The owner writes a value to a key in a round: the version is one above the last one's. A binary
-    /// search among the keys that it has written. An error is lack of memory, and then nothing was added.
+    /// search among the keys that it has written. An error is lack of memory (`OutOfMemory`), and then nothing was
+    /// added.
     pub fn write(&mut self, key: u32, value: u32, born: u32) -> Result<(), Fault>
         requires { length self.old.current + 1 < 2 ^ 32 }
         ensures ok { OnOk result (self.new ≡ with_write self.old key value born) }

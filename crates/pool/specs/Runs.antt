@@ -10,7 +10,8 @@ use Rattle.cluster.specs.Folds.{fold_of}
 
 -- these are the tables and the records of list order
 abbrev pub AreExchanged : {T : Type 0} → (T → Table) → Rules → List Exchange → List T → List T → List Record → Type 0
-AreExchanged table rules es old new records = fold_of rules (map table old) es ≡ record { tables = map table new; records = records }
+AreExchanged table rules es old new records =
+    fold_of rules (map table old) es ≡ record { tables = map table new; records = records }
 
 -- memory was refused, or one of several threads couldn't be started
 abbrev pub IsPoolFault : ℕ → Fault → Type 0

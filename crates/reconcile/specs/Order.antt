@@ -26,10 +26,21 @@ owner_count cs i = count_by (λ d. d.owner == i.owner) cs
 
 abbrev pub sending_order : Mode → ℕ → ℕ → List Item → Item → Item → Ordering
 sending_order ScuttleBreadth ns s cs c d =
-    ordering_then (nat_cmp (rank_among cs c) (rank_among cs d)) (ordering_then (nat_cmp (rotated ns s c.owner) (rotated ns s d.owner)) (nat_cmp c.entry.key d.entry.key))
+    ordering_then (nat_cmp (rank_among cs c) (rank_among cs d))
+    (ordering_then (nat_cmp (rotated ns s c.owner) (rotated ns s d.owner))
+    (nat_cmp c.entry.key d.entry.key))
 sending_order ScuttleDepth ns s cs c d =
-    ordering_then (nat_cmp (owner_count cs d) (owner_count cs c)) (ordering_then (nat_cmp (rotated ns s c.owner) (rotated ns s d.owner)) (ordering_then (nat_cmp c.entry.version d.entry.version) (nat_cmp c.entry.key d.entry.key)))
+    ordering_then (nat_cmp (owner_count cs d) (owner_count cs c))
+    (ordering_then (nat_cmp (rotated ns s c.owner) (rotated ns s d.owner))
+    (ordering_then (nat_cmp c.entry.version d.entry.version)
+    (nat_cmp c.entry.key d.entry.key)))
 sending_order PreciseOldest ns s cs c d =
-    ordering_then (nat_cmp c.entry.born d.entry.born) (ordering_then (nat_cmp (rotated ns s c.owner) (rotated ns s d.owner)) (ordering_then (nat_cmp c.entry.version d.entry.version) (nat_cmp c.entry.key d.entry.key)))
+    ordering_then (nat_cmp c.entry.born d.entry.born)
+    (ordering_then (nat_cmp (rotated ns s c.owner) (rotated ns s d.owner))
+    (ordering_then (nat_cmp c.entry.version d.entry.version)
+    (nat_cmp c.entry.key d.entry.key)))
 sending_order PreciseNewest ns s cs c d =
-    ordering_then (nat_cmp d.entry.born c.entry.born) (ordering_then (nat_cmp (rotated ns s c.owner) (rotated ns s d.owner)) (ordering_then (nat_cmp d.entry.version c.entry.version) (nat_cmp c.entry.key d.entry.key)))
+    ordering_then (nat_cmp d.entry.born c.entry.born)
+    (ordering_then (nat_cmp (rotated ns s c.owner) (rotated ns s d.owner))
+    (ordering_then (nat_cmp d.entry.version c.entry.version)
+    (nat_cmp c.entry.key d.entry.key)))

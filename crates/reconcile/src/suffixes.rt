@@ -145,7 +145,8 @@ fn by_rank(
 ) -> Result<Vec<Item>, Fault>
     requires suffixes { AreSuffixes suffixes.old.items }
     ensures layers { IfOk result
-        (λ v. AreLayered (rank_among (items_of_suffixes suffixes.old.items)) budget (items_of_suffixes suffixes.old.items) v.items) }
+        (λ v. AreLayered (rank_among (items_of_suffixes suffixes.old.items)) budget
+        (items_of_suffixes suffixes.old.items) v.items) }
     ensures only { IsOkUnless result OutOfMemory }
 {
     let mut parcel = Parcel::new(alloc, found, budget)?;
@@ -202,7 +203,8 @@ fn by_length(
     requires few { length (items_of_suffixes suffixes.now) < 2 ^ 32 }
     requires found { found ≡ length (items_of_suffixes suffixes.now) }
     ensures layers { IfOk result
-        (λ v. AreLayered (lengths_first (items_of_suffixes suffixes.now)) budget (items_of_suffixes suffixes.now) v.items) }
+        (λ v. AreLayered (lengths_first (items_of_suffixes suffixes.now)) budget
+        (items_of_suffixes suffixes.now) v.items) }
     ensures only { IsOkUnless result OutOfMemory }
 {
     let mut parcel = Parcel::new(alloc, found, budget)?;

@@ -40,7 +40,8 @@ lists partition node = list_any (λ n. n == node) partition.apart
 
 -- a partition covers a round and lists exactly one of two nodes
 unfoldable pub separates : ℕ → ℕ → ℕ → Partition → Bool
-separates p q round partition = is_between partition.from partition.to round && xor (lists partition p) (lists partition q)
+separates p q round partition =
+    is_between partition.from partition.to round && xor (lists partition p) (lists partition q)
 
 unfoldable pub separated : Settings → ℕ → ℕ → ℕ → Bool
 separated s p q round = list_any (separates p q round) s.partitions

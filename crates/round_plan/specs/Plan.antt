@@ -62,4 +62,5 @@ is_unreached s round node = is_up s node round && not (reaches s round node)
 -- the plan of a round of a scenario
 abbrev pub round_list_of : Settings → ℕ → RoundListView
 round_list_of s round =
-    round_list_view s.nodes (count_by (is_unreached s round) (range_with_len 0 s.nodes)) (map (exchange_of s round) (filter (begins s round) (range_with_len 0 s.nodes)))
+    round_list_view s.nodes (count_by (is_unreached s round) (range_with_len 0 s.nodes))
+    (map (exchange_of s round) (filter (begins s round) (range_with_len 0 s.nodes)))

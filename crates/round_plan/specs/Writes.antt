@@ -46,7 +46,8 @@ count_before s owner (suc round) = if forgets_now s owner (suc round) then 0 els
 -- the number of the write at a place of a node's round, from 0, before which the node had made so many of its
 -- generation; word 8 is the first write's
 abbrev pub write_number : Settings → ℕ → ℕ → ℕ → ℕ → ℕ
-write_number s node round count_before place = number_by s.choice (word_of s node round (8 + place)) (next_version (count_before + place))
+write_number s node round count_before place =
+    number_by s.choice (word_of s node round (8 + place)) (next_version (count_before + place))
 
 -- the write of a number that comes after so many of a generation in a round, where there are so many keys
 abbrev pub numbered_write : ℕ → ℕ → ℕ → ℕ → ℕ → Entry
@@ -67,7 +68,9 @@ own_write_at s node round count_before place =
 
 -- the writes of a node in a round, before which it had made so many of its generation: none where it is down
 abbrev pub own_writes : Settings → ℕ → ℕ → ℕ → List Entry
-own_writes s node round count_before = if is_up s node round then map (own_write_at s node round count_before) (range_with_len 0 (writes_in s round)) else []
+own_writes s node round count_before =
+    if is_up s node round
+    then map (own_write_at s node round count_before) (range_with_len 0 (writes_in s round)) else []
 
 -- the writes of an owner's generation up to a round: the write at place m, from 1, has version m
 abbrev pub writes_upto : Settings → ℕ → ℕ → List Entry

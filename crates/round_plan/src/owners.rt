@@ -3,7 +3,7 @@
 ghost use Rattle.std.specs.Prelude.{◌≡◌, ℕ, ◌+◌, ◌-◌, ◌^◌, ◌<◌, ◌≤◌, ◌==◌, ◌++◌, All, length, map, slice_get};
 ghost use Rattle.round_plan.specs.Generations.{generation_upto};
 ghost use Rattle.round_plan.specs.Writes.{writes_in, numbered_write, own_writes, writes_before, writes_upto, born_in};
-ghost use Rattle.round_plan.specs.inner.Rounds.{AreNumbers};
+ghost use Rattle.round_plan.specs.inner.Rounds.{AreWriteNumbers};
 
 use crate::outages::{is_between, is_up};
 use crate::words::{WRITE_PLACE, words_of};
@@ -133,7 +133,7 @@ fn numbers_of(
     requires first { 1 ≤ round }
     requires last { round ≤ MOST_ROUNDS }
     requires fits { count_before + MOST_WRITES < 2 ^ 32 }
-    ensures { AreNumbers scenario.now node round count_before result }
+    ensures { AreWriteNumbers scenario.now node round count_before result }
 {
     let mut numbers = [0; MOST_WRITES as usize];
     match scenario.choice() {

@@ -3,16 +3,13 @@
 use Rattle.std.specs.Prelude.{◌≡◌, ◌≢◌, ℕ, ◌+◌, ◌^◌, ◌<◌, ◌≤◌, List, length, slice_index_or, All}
 use Rattle.bench_types.specs.declared.entries.Entry.{Entry}
 use Rattle.node_table.specs.Table.{Table, greatest_version, IsProper}
-use Rattle.owner_lists.specs.OwnerListView.{OwnerListView, entries_of, written, next_entry, with_write, begun_generation, list_of_owner}
-use Rattle.exchange.specs.Copies.{WritesBy, HoldsWrites}
+use Rattle.owner_lists.specs.OwnerListView.{OwnerListView, all_writes, written, next_entry, with_write, begun_generation, list_of_owner}
+use Rattle.exchange.specs.Copies.{HoldsWrites}
 use Rattle.staleness.specs.OwnParts.{OwnPartIsLastWrites}
 
--- the list of a node, and the writes of each owner, of all its generations
+-- the list of a node
 abbrev pub own_list : Table → List OwnerListView → OwnerListView
 own_list t lists = list_of_owner lists t.node
-
-abbrev pub writes_in : List OwnerListView → WritesBy
-writes_in lists owner = entries_of (list_of_owner lists owner)
 
 -- none was born in an earlier round than one before it
 abbrev pub BirthsRise : List Entry → Type 0
@@ -22,8 +19,8 @@ BirthsRise entries =
 
 -- what owners write up to a round
 pub record AreWrittenBy (round : ℕ) (lists : List OwnerListView) : Type 0 where
-  pub born : (owner : ℕ) → All (λ e. e.born ≤ round) (writes_in lists owner)
-  pub in_order : (owner : ℕ) → BirthsRise (writes_in lists owner)
+  pub born : (owner : ℕ) → All (λ e. e.born ≤ round) (all_writes lists owner)
+  pub in_order : (owner : ℕ) → BirthsRise (all_writes lists owner)
 
 -- a node's table beside its list: both of one generation, with as many writes of it, and the last of each key is held
 pub record StandsBeside (t : Table) (list : OwnerListView) : Type 0 where
@@ -36,7 +33,7 @@ pub record StandsAmong (lists : List OwnerListView) (t : Table) : Type 0 where
   pub nodes : t.nodes ≡ length lists
   pub proper : IsProper t
   pub own : StandsBeside t (own_list t lists)
-  pub holds : HoldsWrites (writes_in lists) t
+  pub holds : HoldsWrites (all_writes lists) t
 
 -- a node may forget
 pub record MayForget (t : Table) (lists : List OwnerListView) : Type 0 where
@@ -45,12 +42,13 @@ pub record MayForget (t : Table) (lists : List OwnerListView) : Type 0 where
   pub few : t.generation + 1 < 2 ^ 32
 
 -- a node may write this next, where `May` is what its table asks of what an owner writes under a number
-pub record MayWrite (May : ℕ → ℕ → Entry → Type 0) (t : Table) (lists : List OwnerListView) (key value born : ℕ) : Type 0 where
+pub record MayWrite (May : ℕ → ℕ → Entry → Type 0) (t : Table) (lists : List OwnerListView)
+    (key value born : ℕ) : Type 0 where
   pub owner : t.node < length lists
   pub key_below : key < t.keys
   pub few : length (own_list t lists).current + 1 < 2 ^ 32
   pub beside : StandsBeside t (own_list t lists)
-  pub may : May t.node (length (writes_in lists t.node) + 1) (next_entry (own_list t lists) key value born)
+  pub may : May t.node (length (all_writes lists t.node) + 1) (next_entry (own_list t lists) key value born)
 
 -- an owner's list has become this one, and the others stay
 pub record ListBecomes (owner : ℕ) (list : OwnerListView) (old new : List OwnerListView) : Type 0 where

@@ -6,7 +6,7 @@ use std::alloc::Global;
 use std::thread::Threads;
 
 /// A node's table that a simulation can carry through its rounds, with the histories of all owners beside
-/// the tables.
+/// the tables. Where a call answers an error, it is lack of memory (`OutOfMemory`).
 pub trait RoundTable: Exchanging + Send + Sync {
     ghost use Rattle.std.specs.Prelude.{◌≡◌, ℕ, ◌+◌, ◌-◌, ◌^◌, ◌<◌, ◌≤◌, List, length, map, IfOk, OnOk, IsOkUnless};
     ghost use denote.Param.Send.{IsSync};
@@ -64,7 +64,7 @@ pub trait RoundTable: Exchanging + Send + Sync {
         requires { owner < length (lists histories.now) }
         ensures { result ≡ length (list_of_owner (lists histories.now) owner).current };
 
-    /// The node writes one of its keys in a round. An error is lack of memory; the round is then lost.
+    /// The node writes one of its keys in a round. After an error the round is lost.
     fn write(
         &mut self,
         histories: &mut Self::Histories,
@@ -98,7 +98,7 @@ pub trait RoundTable: Exchanging + Send + Sync {
         requires written { AreWrittenBy round (lists histories.now) }
         ensures { (t : Table) → StandsAmong (lists histories.now) t → Self.fits result.now t };
 
-    /// The figures at the end of a round. An error is lack of memory.
+    /// The figures at the end of a round.
     fn figures<R: Threads + Sync>(
         rt: &R,
         alloc: Global,

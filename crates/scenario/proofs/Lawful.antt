@@ -14,7 +14,8 @@ use Rattle.scenario.specs.declared.elements.Partition.{Partition}
 use Rattle.scenario.specs.declared.elements.Restart.{Restart}
 use Rattle.scenario.specs.declared.elements.Load.{Load}
 use Rattle.scenario.specs.Elements.{list_of, array_of, elements_of, elements_at, each, ascending, apart_at, has_generations, forget_at, array_at, partition_of, restart_of, load_of}
-use Rattle.scenario.specs.Fields.{◌>>=◌, name_of, value_at, number_of, number_at, flag_at}
+use Rattle.bench_types.specs.Field.{field_name}
+use Rattle.scenario.specs.Fields.{◌>>=◌, value_at, number_of, number_at, flag_at}
 use Rattle.scenario.specs.Settings.{IsWithin, IsLawfulPartition, IsLawfulRestart, IsLawfulLoad, AreLawful}
 use Rattle.scenario.proofs.Steps.{passed, same_ok, kept}
 
@@ -126,7 +127,7 @@ module _ {X : Type 0} (IsLawfulElement : X → Type 0) (check : Data → Result 
   array_lawful : (f : Field) (table : Members) (xs : List X) → array_at f check table ≡ Ok xs → AreLawful IsLawfulElement xs
   array_lawful f table xs e =
       passed (elements_at f table) _ xs e (λ values is_values e.
-      let few = few_elements f (get_member (name_of f) table) values is_values in
+      let few = few_elements f (get_member (field_name f) table) values is_values in
       let (long, lawful) = each_lawful values xs e in
       record { few = omega (arith, few, long); each = lawful })
 

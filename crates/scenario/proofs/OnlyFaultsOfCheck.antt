@@ -13,7 +13,8 @@ use Rattle.bench_types.specs.declared.limits.TheConstants.{LEAST_NODES, MOST_NOD
 use Rattle.scenario.specs.Budgets.{is_in_entries, entries_at, is_too_small, bytes_of, bytes_at, budget_at}
 use Rattle.scenario.specs.Checked.{checked, unknown_checked}
 use Rattle.scenario.specs.Elements.{has_generations, array_of, table_of, few, elements_of, elements_at, each, ascending, apart_at, forget_at, array_at, partition_of, restart_of, load_of, partitions_at, restarts_at, loads_at, elements_have_only, only_elements, partition_fields, restart_fields, load_fields}
-use Rattle.scenario.specs.Fields.{◌>>=◌, name_of, value_at, number_at, number_of, present, text_of, flag_of, flag_at, no_other_field, only_fields}
+use Rattle.bench_types.specs.Field.{field_name}
+use Rattle.scenario.specs.Fields.{◌>>=◌, value_at, number_at, number_of, present, text_of, flag_of, flag_at, no_other_field, only_fields}
 use Rattle.scenario.specs.Parts.{size_checked, basics_at, conduct_at}
 use Rattle.scenario.specs.CheckFault.{IsFaultOfCheck}
 use Rattle.scenario.specs.Settings.{Settings}
@@ -93,7 +94,7 @@ of_ascending f low high (value ∷ others) =
     next (number_of f low high value) _ (of_number f low high value) (λ n. next (ascending f (n + 1) high others) _ (of_ascending f (n + 1) high others) (λ _. tt))
 
 at_array : {A : Type 0} (f : Field) (check : Data → Result A Fault) (table : Members) → ((value : Data) → OnlyFaultsOfCheck (check value)) → OnlyFaultsOfCheck (array_at f check table)
-at_array f check table element = next (elements_at f table) _ (of_elements f (get_member (name_of f) table)) (of_each check element)
+at_array f check table element = next (elements_at f table) _ (of_elements f (get_member (field_name f) table)) (of_each check element)
 
 of_partition : (nodes : ℕ) (value : Data) → OnlyFaultsOfCheck (partition_of nodes value)
 of_partition nodes value =
@@ -115,7 +116,7 @@ of_flag f (Some _) = tt
 of_forget : (format : ℕ) (table : Members) → OnlyFaultsOfCheck (forget_at format table)
 of_forget format table = either (has_generations format) where
   either : (b : Bool) → OnlyFaultsOfCheck (cond b (flag_at field.RestartForget table) (Ok false))
-  either true = of_flag field.RestartForget (get_member (name_of field.RestartForget) table)
+  either true = of_flag field.RestartForget (get_member (field_name field.RestartForget) table)
   either false = tt
 
 of_restart : (format nodes : ℕ) (value : Data) → OnlyFaultsOfCheck (restart_of format nodes value)

@@ -19,7 +19,8 @@ use Rattle.scenario.specs.declared.parts.Basics.{Basics}
 use Rattle.scenario.specs.declared.parts.Conduct.{Conduct}
 use Rattle.scenario.specs.Checked.{checked, unknown_checked}
 use Rattle.scenario.specs.Elements.{list_of, array_of, few, elements_of, each, ascending, apart_at, forget_at, partition_of, restart_of, load_of, partitions_at, restarts_at, loads_at, elements_have_only, only_elements, partition_fields, restart_fields, load_fields}
-use Rattle.scenario.specs.Fields.{◌>>=◌, value_at, number_of, number_at, name_of, present, text_of, flag_of, flag_at, no_other_field, only_fields, has_only}
+use Rattle.bench_types.specs.Field.{field_name}
+use Rattle.scenario.specs.Fields.{◌>>=◌, value_at, number_of, number_at, present, text_of, flag_of, flag_at, no_other_field, only_fields, has_only}
 use Rattle.scenario.specs.Order.{HasNumber, HasFlag, HasBudget, HasWord, SaysPartition, SaysRestart, SaysLoad, Says}
 use Rattle.scenario.specs.Parts.{size_checked, basics_at, conduct_at}
 use Rattle.scenario.specs.Budgets.{is_in_entries, entries_at, is_too_small, bytes_of, bytes_at, budget_at}
@@ -100,8 +101,8 @@ partition_says nodes _ p all = absurd cc
 
 -- true or false that was read stands in the document, or nothing where it is false
 flag_found : (f : Field) (flag : Bool) (table : Members) → flag_at f table ≡ Ok flag → HasFlag table f flag
-flag_found f flag table e = either (get_member (name_of f) table) refl e where
-  either : (o : Option Data) → get_member (name_of f) table ≡ o → flag_of f o ≡ Ok flag → HasFlag table f flag
+flag_found f flag table e = either (get_member (field_name f) table) refl e where
+  either : (o : Option Data) → get_member (field_name f) table ≡ o → flag_of f o ≡ Ok flag → HasFlag table f flag
   either None is e = inr (is, sym (same_ok false flag e))
   either (Some (boolean b)) is e = inl (is ∙ ap (λ b. Some (boolean b)) (same_ok b flag e))
   either (Some _) is e = absurd cc

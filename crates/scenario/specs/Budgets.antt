@@ -30,7 +30,8 @@ is_too_small _ = false
 
 abbrev pub bytes_of : Data → Result ℕ Fault
 bytes_of value =
-    if is_too_small value then Err BudgetTooSmall else number_of field.BudgetBytes MOST_ENTRY_SIZE MOST_BUDGET_BYTES value
+    if is_too_small value then Err BudgetTooSmall
+    else number_of field.BudgetBytes MOST_ENTRY_SIZE MOST_BUDGET_BYTES value
 
 abbrev pub bytes_at : Members → Result Budget Fault
 bytes_at table = value_at field.BudgetBytes table >>= bytes_of >>= (λ n. Ok (Bytes n))

@@ -13,7 +13,8 @@ use Rattle.bench_types.specs.declared.limits.TheConstants.{MOST_ROUNDS, MOST_WRI
 use Rattle.scenario.specs.declared.elements.Partition.{Partition}
 use Rattle.scenario.specs.declared.elements.Restart.{Restart}
 use Rattle.scenario.specs.declared.elements.Load.{Load}
-use Rattle.scenario.specs.Fields.{◌>>=◌, name_of, value_at, number_of, number_at, flag_at, has_only, no_other_field}
+use Rattle.bench_types.specs.Field.{field_name}
+use Rattle.scenario.specs.Fields.{◌>>=◌, value_at, number_of, number_at, flag_at, has_only, no_other_field}
 
 -- the items of an array, as a list
 abbrev pub list_of : Items → List Data
@@ -38,7 +39,7 @@ elements_of f (Some value) = array_of f value >>= few f
 
 -- the elements of an array of tables
 abbrev pub elements_at : Field → Members → Result (List Data) Fault
-elements_at f table = elements_of f (get_member (name_of f) table)
+elements_at f table = elements_of f (get_member (field_name f) table)
 
 -- what each element comes to, one after another
 abbrev pub each : {A : Type 0} → (Data → Result A Fault) → List Data → Result (List A) Fault
@@ -54,7 +55,8 @@ ascending f low high (value ∷ others) =
 -- the nodes of one side of a partition, among so many
 abbrev pub apart_at : ℕ → Members → Result (List ℕ) Fault
 apart_at nodes table =
-    value_at field.PartitionApart table >>= array_of field.PartitionApart >>= ascending field.PartitionApart 0 (nodes - 1)
+    value_at field.PartitionApart table >>= array_of field.PartitionApart
+    >>= ascending field.PartitionApart 0 (nodes - 1)
 
 abbrev pub partition_of : ℕ → Data → Result Partition Fault
 partition_of nodes value = do
@@ -121,7 +123,7 @@ values_of (Some (toml.array items)) = list_of items
 values_of _ = []
 
 abbrev pub values_at : Field → Members → List Data
-values_at f table = values_of (get_member (name_of f) table)
+values_at f table = values_of (get_member (field_name f) table)
 
 -- the table has no key but those of the fields
 abbrev pub table_has_only : List Field → Data → Bool

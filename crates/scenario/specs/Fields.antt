@@ -2,13 +2,13 @@
 -- missing, but for one of true or false, which is then false; a value of another type than the field's
 -- is of the wrong type, and one of the type that the field does not take is out of range. Source: this
 -- project.
-use Rattle.std.specs.Prelude.{ℕ, ℤ, pos, negsuc, Bool, true, false, ◌&&◌, List, Option, None, Some, Result, Ok, Err, codes, bytes_eq, nat_le, if◌then◌else◌}
+use Rattle.std.specs.Prelude.{ℕ, ℤ, pos, negsuc, Bool, true, false, ◌&&◌, List, Option, None, Some, Result, Ok, Err, bytes_eq, nat_le, if◌then◌else◌}
 use Rattle.std.specs.List.{list_any}
 use Rattle.toml.specs.Data.{Data, integer, string, boolean, Members, no_members, member, get_member}
 use Rattle.bench_types.specs.declared.faults.Fault.{Fault}
 use Rattle.bench_types.specs.declared.faults.Fault.TheVariants.{Missing, WrongType, OutOfRange, UnknownField}
 use Rattle.bench_types.specs.declared.fields.Field.{Field}
-use Rattle.bench_types.specs.declared.fields.Field.TheVariants as field
+use Rattle.bench_types.specs.Field.{field_name}
 use Rattle.bench_types.specs.declared.fields.TableName.{TableName}
 
 -- one check after another: the first fault is the answer
@@ -17,35 +17,6 @@ abbrev pub ◌>>=◌ : {A B : Type 0} → Result A Fault → (A → Result B Fau
 Ok x >>= next = next x
 Err fault >>= next = Err fault
 
--- the key at which a table has the field
-abbrev pub name_of : Field → List ℕ
-name_of field.Format = codes "format"
-name_of field.Nodes = codes "nodes"
-name_of field.Keys = codes "keys"
-name_of field.Rounds = codes "rounds"
-name_of field.Seed = codes "seed"
-name_of field.Mode = codes "mode"
-name_of field.Budget = codes "budget"
-name_of field.BudgetBytes = codes "budget_bytes"
-name_of field.Peers = codes "peers"
-name_of field.Rotation = codes "rotation"
-name_of field.Choice = codes "choice"
-name_of field.LossPpm = codes "loss_ppm"
-name_of field.Writes = codes "writes"
-name_of field.Partition = codes "partition"
-name_of field.Restart = codes "restart"
-name_of field.Load = codes "load"
-name_of field.PartitionFrom = codes "from"
-name_of field.PartitionTo = codes "to"
-name_of field.PartitionApart = codes "apart"
-name_of field.RestartNode = codes "node"
-name_of field.RestartRound = codes "round"
-name_of field.RestartDown = codes "down"
-name_of field.RestartForget = codes "forget"
-name_of field.LoadFrom = codes "from"
-name_of field.LoadTo = codes "to"
-name_of field.LoadWrites = codes "writes"
-
 -- what a look-up found, or the fault of a field that is absent
 abbrev pub present : Field → Option Data → Result Data Fault
 present f None = Err (Missing f)
@@ -53,7 +24,7 @@ present f (Some value) = Ok value
 
 -- the value of a field
 abbrev pub value_at : Field → Members → Result Data Fault
-value_at f table = present f (get_member (name_of f) table)
+value_at f table = present f (get_member (field_name f) table)
 
 -- an integer from low to high
 abbrev pub bounded : Field → ℕ → ℕ → ℤ → Result ℕ Fault
@@ -84,11 +55,11 @@ flag_of f (Some _) = Err (WrongType f)
 
 -- the value of a field that is true or false, and false where it is absent
 abbrev pub flag_at : Field → Members → Result Bool Fault
-flag_at f table = flag_of f (get_member (name_of f) table)
+flag_at f table = flag_of f (get_member (field_name f) table)
 
 -- the key is that of one of the fields
 abbrev pub is_among : List Field → List ℕ → Bool
-is_among fields key = list_any (λ f. bytes_eq (name_of f) key) fields
+is_among fields key = list_any (λ f. bytes_eq (field_name f) key) fields
 
 -- the table has no key but those of the fields
 abbrev pub has_only : List Field → Members → Bool

@@ -20,7 +20,8 @@ use Rattle.scenario.specs.declared.elements.Load.{Load}
 use Rattle.scenario.specs.Budgets.{budget_at}
 use Rattle.scenario.specs.Parts.{size_checked}
 use Rattle.scenario.specs.Elements.{has_generations, list_of, array_of, table_of, forget_at, values_at, elements_at, elements_have_only, only_elements, partition_fields, restart_fields, load_fields}
-use Rattle.scenario.specs.Fields.{◌>>=◌, name_of, value_at, number_of, number_at, has_only, only_fields}
+use Rattle.bench_types.specs.Field.{field_name}
+use Rattle.scenario.specs.Fields.{◌>>=◌, value_at, number_of, number_at, has_only, only_fields}
 use Rattle.scenario.specs.Settings.{Settings}
 use Rattle.scenario.specs.Top.{format_at, nodes_at, keys_at, rounds_at, seed_at, mode_at, peers_at, rotation_at, choice_at, loss_ppm_at, writes_at, top_fields}
 use Rattle.scenario.specs.Words.{mode_of, peers_of, rotation_of, choice_of}
@@ -137,12 +138,13 @@ first_fault (Some table) = first_of (faults table)
 
 -- the document has this number at the field's key
 abbrev pub HasNumber : Members → Field → ℕ → Type 0
-HasNumber table f n = get_member (name_of f) table ≡ Some (integer (pos n))
+HasNumber table f n = get_member (field_name f) table ≡ Some (integer (pos n))
 
 -- the document has this at the field's key, or nothing where it is false
 abbrev pub HasFlag : Members → Field → Bool → Type 0
 HasFlag table f flag =
-    (get_member (name_of f) table ≡ Some (boolean flag)) ⊎ ((get_member (name_of f) table ≡ None) × (flag ≡ false))
+    (get_member (field_name f) table ≡ Some (boolean flag))
+    ⊎ ((get_member (field_name f) table ≡ None) × (flag ≡ false))
 
 -- the document has the budget's number at the key of its field
 abbrev pub HasBudget : Members → Budget → Type 0
@@ -152,19 +154,21 @@ HasBudget table (Bytes n) = HasNumber table field.BudgetBytes n
 -- the document has a word at the field's key that stands for this
 abbrev pub HasWord : {A : Type 0} → Members → Field → (List ℕ → Option A) → A → Type 0
 HasWord table f meaning x =
-    (word : List ℕ) × (get_member (name_of f) table ≡ Some (string word)) × (meaning word ≡ Some x)
+    (word : List ℕ) × (get_member (field_name f) table ≡ Some (string word)) × (meaning word ≡ Some x)
 
 -- the document has an array of these numbers at the field's key
 abbrev pub HasNumbers : Members → Field → List ℕ → Type 0
 HasNumbers table f ns =
-    (items : Items) × (get_member (name_of f) table ≡ Some (toml.array items)) × (list_of items ≡ map (λ n. integer (pos n)) ns)
+    (items : Items) × (get_member (field_name f) table ≡ Some (toml.array items))
+    × (list_of items ≡ map (λ n. integer (pos n)) ns)
 
 -- the document has an array at the field's key, with a value for each of these; where there is none,
 -- the field is absent or the array is empty
 abbrev pub HasElements : {X : Type 0} → Members → Field → (Data → X → Type 0) → List X → Type 0
 HasElements table f SaysElement xs =
-    ((get_member (name_of f) table ≡ None) × (xs ≡ []))
-    ⊎ ((items : Items) × (get_member (name_of f) table ≡ Some (toml.array items)) × AllZip SaysElement (list_of items) xs)
+    ((get_member (field_name f) table ≡ None) × (xs ≡ []))
+    ⊎ ((items : Items) × (get_member (field_name f) table ≡ Some (toml.array items))
+    × AllZip SaysElement (list_of items) xs)
 
 -- the partition is what the value says
 pub record SaysPartition (value : Data) (p : Partition) : Type 0 where

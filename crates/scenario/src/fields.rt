@@ -3,46 +3,16 @@
 ghost use Rattle.std.specs.Prelude.{◌≡◌, ◌≤◌, IfOk, IfErr, option_map};
 ghost use Rattle.toml.specs.Data.{get_member};
 ghost use Rattle.toml.specs.View.{view, table_view};
-ghost use Rattle.scenario.specs.Fields.{name_of, value_at, number_of, number_at, text_at, flag_at, has_only, is_among, only_fields};
+ghost use Rattle.bench_types.specs.Field.{field_name};
+ghost use Rattle.scenario.specs.Fields.{value_at, number_of, number_at, text_at, flag_at, has_only, is_among, only_fields};
 
 use bench_types::{Fault, Field, TableName};
 use toml::{Table, Value};
 
-/// The key at which a table has the field.
-fn name_of(field: Field) -> &'static str
-    ensures { result.now ≡ name_of field }
-{
-    match field {
-        Field::Format => "format",
-        Field::Nodes => "nodes",
-        Field::Keys => "keys",
-        Field::Rounds => "rounds",
-        Field::Seed => "seed",
-        Field::Mode => "mode",
-        Field::Budget => "budget",
-        Field::BudgetBytes => "budget_bytes",
-        Field::Peers => "peers",
-        Field::Rotation => "rotation",
-        Field::Choice => "choice",
-        Field::LossPpm => "loss_ppm",
-        Field::Writes | Field::LoadWrites => "writes",
-        Field::Partition => "partition",
-        Field::Restart => "restart",
-        Field::Load => "load",
-        Field::PartitionFrom | Field::LoadFrom => "from",
-        Field::PartitionTo | Field::LoadTo => "to",
-        Field::PartitionApart => "apart",
-        Field::RestartNode => "node",
-        Field::RestartRound => "round",
-        Field::RestartDown => "down",
-        Field::RestartForget => "forget",
-    }
-}
-
 pub(crate) fn found(table: &Table, field: Field) -> Option<&Value>
-    ensures { option_map (λ v. view v.now) result ≡ get_member (name_of field) (table_view table.now) }
+    ensures { option_map (λ v. view v.now) result ≡ get_member (field_name field) (table_view table.now) }
 {
-    table.get(name_of(field))
+    table.get(field.name())
 }
 
 /// The value of a field that has to be there.
@@ -120,7 +90,7 @@ pub(crate) fn flag_at(table: &Table, field: Field) -> Result<bool, Fault>
 fn is_among(key: &str, fields: &[Field]) -> bool
     ensures { result ≡ is_among fields.now key.now }
 {
-    fields.iter().any(|field| name_of(*field) == key)
+    fields.iter().any(|field| field.name() == key)
 }
 
 pub(crate) fn has_only(table: &Table, fields: &[Field]) -> bool

@@ -7,4 +7,5 @@ use Rattle.owner_lists.specs.Writes.{write_of_entry, last_write}
 
 -- a node's own part is the last write of each key, in key, version and born
 abbrev pub OwnPartIsLastWrites : Table → List Write → Type 0
-OwnPartIsLastWrites table writes = (key : ℕ) → option_map write_of_entry (entry_at table table.node key) ≡ last_write writes key
+OwnPartIsLastWrites table writes =
+    (key : ℕ) → option_map write_of_entry (entry_at table table.node key) ≡ last_write writes key

@@ -195,7 +195,8 @@ pub(crate) fn no_copies(
     requires few { length lists.now ≤ MOST_NODES }
     requires limit { keys ≤ MOST_KEYS }
     ensures { IfOk result
-        (λ v. AreSeen (length lists.now) keys (λ owner key. no_copies (current_of (lists_in lists.now) owner key)) v.items) }
+        (λ v. AreSeen (length lists.now) keys
+        (λ owner key. no_copies (current_of (lists_in lists.now) owner key)) v.items) }
 {
     let mut copies = Vec::with_capacity(alloc, lists.len() * keys as usize)?;
     for list in lists {

@@ -300,8 +300,8 @@ fn joined_all(parts: &[Figures]) -> Figures
 /// has some of the owners, with one look at its list for each of an owner's keys; but where a list has a
 /// write of an earlier round than one before it, a look for each copy of each key. Where a node has
 /// forgotten, each also goes once over the generations of some of the tables. It takes memory, for each
-/// thread and once more 16 bytes for each owner and key, and 4 bytes for each owner, and an error is want
-/// of that.
+/// thread and once more 16 bytes for each owner and key, and 4 bytes for each owner. An error is lack of
+/// that memory (`OutOfMemory`).
 pub fn figures(
     rt: &(impl Threads + Sync),
     alloc: Global,
@@ -421,7 +421,8 @@ fn figures_of_parts(
     requires countable { AreCountable round (tables_in tables.now) (lists_in lists.now) }
     requires copies { AreAllSeen (tables_in tables.now) (lists_in lists.now) copies.now }
     ensures { IfOk result
-        (λ v. AreCounted round (tables_in tables.now) (lists_in lists.now) size (length tables.now / size + 1) v.items) }
+        (λ v. AreCounted round (tables_in tables.now) (lists_in lists.now) size
+        (length tables.now / size + 1) v.items) }
 {
     (0..tables.len() / size + 1)
         .into_par_iter()
@@ -430,7 +431,8 @@ fn figures_of_parts(
             |part: usize| -> Figures
                 requires { (generations.now ≡ generations_in (tables_in tables.now))
                     × AreCountable round (tables_in tables.now) (lists_in lists.now) × (1 ≤ size)
-                    × (part ≤ length tables.now / size) × AreAllSeen (tables_in tables.now) (lists_in lists.now) copies.now }
+                    × (part ≤ length tables.now / size)
+                    × AreAllSeen (tables_in tables.now) (lists_in lists.now) copies.now }
                 ensures { IsCounted round (tables_in tables.entry.now) (lists_in lists.entry.now) size part result }
             { figures_of_part(tables, lists, generations, copies, size, part, round) },
         )

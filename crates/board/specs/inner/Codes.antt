@@ -11,14 +11,14 @@ use Rattle.round_plan.specs.Plan.{RoundListView}
 use Rattle.board.specs.Plan.{BoardPlan}
 use Rattle.board.specs.SeatView.{SeatView}
 
-abbrev pub list_code : Coded RoundListView
-list_code =
+abbrev pub round_list_code : Coded RoundListView
+round_list_code =
     code_by (ℕ × (ℕ × List Exchange)) (coded× coded_ℕ (coded× coded_ℕ (coded_list (exchange_row.the_row).coded)))
     (λ l. (l.nodes, (l.unreached, l.exchanges))) (λ p. record { nodes = p.0; unreached = p.1.0; exchanges = p.1.1 }) (λ _. refl)
 
 abbrev pub plan_code : Coded BoardPlan
 plan_code =
-    code_by (Rules × (RoundListView × List Table)) (coded× (rules_row.the_row).coded (coded× list_code (coded_list table_code)))
+    code_by (Rules × (RoundListView × List Table)) (coded× (rules_row.the_row).coded (coded× round_list_code (coded_list table_code)))
     (λ b. (b.rules, (b.list, b.tables))) (λ p. record { rules = p.0; list = p.1.0; tables = p.1.1 }) (λ _. refl)
 
 abbrev pub indices : Coded (List ℕ)

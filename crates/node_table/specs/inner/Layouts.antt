@@ -42,8 +42,8 @@ abbrev pub held_by : Layout → Held
 held_by l = held_by_rows (rows_of l.slots.items l.rows.items)
 
 -- the table that lies in memory
-abbrev pub table_in : Layout → Table
-table_in l = record { node = l.node; nodes = l.nodes; keys = l.keys; generation = l.generation; held = held_by l }
+abbrev pub table_laid : Layout → Table
+table_laid l = record { node = l.node; nodes = l.nodes; keys = l.keys; generation = l.generation; held = held_by l }
 
 -- the table with an entry put at its place
 abbrev pub with_entry : Table → ℕ → Entry → Table
@@ -89,10 +89,10 @@ pub record AreLaid (nodes keys : ℕ) (slots : List Entry) (rows : List Row) : T
 
 -- what a table in memory keeps; there is always room for the generations of all copies
 pub record IsLayout (l : Layout) : Type 0 where
-  pub proper : IsProper (table_in l)
+  pub proper : IsProper (table_laid l)
   pub laid : AreLaid l.nodes l.keys l.slots.items l.rows.items
-  pub greatest : AreGreatest (table_in l) l.greatest.items
-  pub generations : AreGenerations (table_in l) l.generations.items
+  pub greatest : AreGreatest (table_laid l) l.greatest.items
+  pub generations : AreGenerations (table_laid l) l.generations.items
   pub room : l.nodes ≤ vec_capacity l.generations
   pub counted : l.count ≡ count_in_rows l.rows.items
 
@@ -106,7 +106,7 @@ HasEntries slots rows owner = 0 < length (row_at slots rows owner)
 
 -- something is held of the owner
 abbrev pub IsHeld : Layout → ℕ → Type 0
-IsHeld l owner = 0 < greatest_version (table_in l) owner
+IsHeld l owner = 0 < greatest_version (table_laid l) owner
 
 -- there is room for one more block
 abbrev pub HasRoomForBlock : Layout → Type 0

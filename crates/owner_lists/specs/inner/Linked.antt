@@ -57,7 +57,7 @@ view_of links earlier generation = record {
 }
 
 -- what it keeps of all
-pub record IsKept (links : List Link) (earlier generation : ℕ) (firsts latest : List Write) (in_order : Bool) : Type 0 where
+pub record IsKeptList (links : List Link) (earlier generation : ℕ) (firsts latest : List Write) (in_order : Bool) : Type 0 where
   pub within : earlier ≤ length links
   pub list : IsOwnerList (drop earlier links) firsts latest in_order
   pub writes : AreWrites (view_of links earlier generation)

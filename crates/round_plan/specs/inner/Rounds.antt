@@ -13,6 +13,6 @@ pub record AreChosen (s : Settings) (round : ℕ) (es : List Exchange) : Type 0 
   pub value : es ≡ map (exchange_of s round) (range_with_len 0 s.nodes)
   pub planned : All (IsPlanned s.nodes) es
 
-abbrev pub AreNumbers : Settings → ℕ → ℕ → ℕ → List ℕ → Type 0
-AreNumbers s node round count_before numbers =
+abbrev pub AreWriteNumbers : Settings → ℕ → ℕ → ℕ → List ℕ → Type 0
+AreWriteNumbers s node round count_before numbers =
     (length numbers ≡ MOST_WRITES) × ((place : ℕ) → place < MOST_WRITES → slice_index numbers place ≡ write_number s node round count_before place)

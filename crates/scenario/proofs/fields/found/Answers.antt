@@ -3,4 +3,4 @@ use Rattle.scenario.proofs.fields.found.Goals as goal
 
 pub returns : goal.returns
 returns c =
-    rw (← c.name_of.ensures) (table_get c.get.result c.name_of.result.now c.args.table.now.entries c.get.ensures.value)
+    rw (← c.name.ensures) (table_get c.get.result c.name.result.now c.args.table.now.entries c.get.ensures.value)

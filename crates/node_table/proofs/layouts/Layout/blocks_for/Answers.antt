@@ -6,18 +6,18 @@ use Rattle.node_table.specs.Table.{greatest_version}
 use Rattle.node_table.specs.Entries.{AreGreatest}
 use Rattle.node_table.specs.NodeTableView.{blocks_below, blocks_for}
 use Rattle.node_table.specs.inner.Flags.{AreFlagged, AreUnflagged}
-use Rattle.node_table.specs.inner.Layouts.{table_in, IsLayout}
+use Rattle.node_table.specs.inner.Layouts.{table_laid, IsLayout}
 use Rattle.node_table.specs.declared.layouts.Layout.{Layout}
 use Rattle.node_table.proofs.Flags.{version_in, greatest_again}
 use Rattle.node_table.proofs.Room.{blocks-same}
 use Rattle.node_table.proofs.layouts.Layout.blocks_for.Goals as goal
 
 -- the blocks by the list of greatest versions
-blocks_are : (l : Layout) (sound : IsLayout l) (versions : List ℕ) (added : List Item) → versions ≡ l.greatest.items → blocks_below (version_in versions) added (length versions) ≡ blocks_for (table_in l) added
+blocks_are : (l : Layout) (sound : IsLayout l) (versions : List ℕ) (added : List Item) → versions ≡ l.greatest.items → blocks_below (version_in versions) added (length versions) ≡ blocks_for (table_laid l) added
 blocks_are l sound versions added is =
     ap (λ xs. blocks_below (version_in xs) added (length xs)) is
     ∙ ap (blocks_below (version_in l.greatest.items) added) sound.greatest.count
-    ∙ blocks-same (version_in l.greatest.items) (greatest_version (table_in l)) added l.nodes (λ owner lt. sound.greatest.greatest owner lt)
+    ∙ blocks-same (version_in l.greatest.items) (greatest_version (table_laid l)) added l.nodes (λ owner lt. sound.greatest.greatest owner lt)
 
 pub returns-then-blocks-gt0-clause-layout : goal.returns-then-blocks-gt0-clause-layout
 returns-then-blocks-gt0-clause-layout c =
@@ -35,7 +35,7 @@ returns-then-blocks-gt0-clause-layout c =
     record {
       proper = c.requires.proper;
       laid = c.requires.laid;
-      greatest = subst (AreGreatest (table_in l)) (sym after_is) (greatest_again l c.requires added marked after are_flagged are_unflagged len len');
+      greatest = subst (AreGreatest (table_laid l)) (sym after_is) (greatest_again l c.requires added marked after are_flagged are_unflagged len len');
       generations = c.requires.generations;
       room = c.requires.room;
       counted = c.requires.counted;

@@ -1,5 +1,5 @@
 use Rattle.std.proofs.Common.{◌≡◌, ℕ, ◌+◌, replicate, refl, ap, ◌∙◌, arith}
-use Rattle.node_table.specs.inner.Layouts.{table_in}
+use Rattle.node_table.specs.inner.Layouts.{table_laid}
 use Rattle.node_table.proofs.ProperLaws.{proper-without_all}
 use Rattle.node_table.proofs.Forgotten.{empty_row}
 use Rattle.node_table.proofs.Empty.{table_bare, layout_bare}
@@ -10,7 +10,7 @@ returns-clause-layout c =
     let l = c.args.self.now in
     let rows_len : l.rows.len ≡ l.nodes = omega (arith, l.rows.ok.0, c.requires.layout.laid.as_many) in
     let greatest_len : l.greatest.len ≡ l.nodes = omega (arith, l.greatest.ok.0, c.requires.layout.greatest.count) in
-    layout_bare _ c.clear.ensures.items (c.fill.ensures.items (λ y e. e) ∙ ap (λ n. replicate n empty_row) rows_len) (proper-without_all (table_in l) c.requires.layout.proper)
+    layout_bare _ c.clear.ensures.items (c.fill.ensures.items (λ y e. e) ∙ ap (λ n. replicate n empty_row) rows_len) (proper-without_all (table_laid l) c.requires.layout.proper)
     (c.fill-2.ensures.items (λ y e. e) ∙ ap (λ n. replicate {A = ℕ} n 0) greatest_len) c.clear-2.ensures.items (omega (arith, c.requires.layout.room, c.clear-2.ensures.capacity)) refl
 
 pub returns-clause-table : goal.returns-clause-table

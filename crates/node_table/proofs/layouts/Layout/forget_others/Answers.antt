@@ -5,7 +5,7 @@ use Rattle.node_table.specs.declared.layouts.Row.{Row}
 use Rattle.node_table.specs.declared.layouts.Layout.{Layout}
 use Rattle.node_table.specs.Table.{Table, without_others, greatest_version, IsProper}
 use Rattle.node_table.specs.Entries.{AreGenerations, AreGreatest}
-use Rattle.node_table.specs.inner.Layouts.{entries_in_row, rows_of, row_at, held_by_rows, table_in, block_len, count_in_rows, IsInSlots, AreLaid, AreOthersKept, IsLayout}
+use Rattle.node_table.specs.inner.Layouts.{entries_in_row, rows_of, row_at, held_by_rows, table_laid, block_len, count_in_rows, IsInSlots, AreLaid, AreOthersKept, IsLayout}
 use Rattle.node_table.proofs.ProperLaws.{proper-without_others}
 use Rattle.node_table.proofs.Laid.{row_at-get_or, len-le-keys}
 use Rattle.node_table.proofs.Forgotten.{empty_row, one_row, laid_one, counted_one, row_at-one_own, row_at-one_other, table_one, greatest_one, generations_none, generations_one}
@@ -17,7 +17,7 @@ table_of l slots rows = record { node = l.node; nodes = l.nodes; keys = l.keys; 
 
 -- what is left of a layout of which its node's row was moved to the front
 record IsLeft (l : Layout) (slots : List Entry) (rows : List Row) (versions : List ℕ) (count : ℕ) : Type 0 where
-  table : table_of l slots rows ≡ without_others (table_in l)
+  table : table_of l slots rows ≡ without_others (table_laid l)
   laid : AreLaid l.nodes l.keys slots rows
   greatest : AreGreatest (table_of l slots rows) versions
   counted : count ≡ count_in_rows rows
@@ -26,7 +26,7 @@ left : (l : Layout) (r : Row) (slots : List Entry) (rows : List Row) (versions :
 left l r slots rows versions version sound read read' front len cleared zeros = record {
   table = table_is;
   laid = subst (AreLaid l.nodes l.keys slots) (sym rows_are) (laid_one l.nodes l.keys l.node r l.slots.items slots sound.proper.node_below lies fits front len);
-  greatest = subst (λ (t : Table). AreGreatest t (set versions l.node version)) (sym table_is) (subst (AreGreatest (without_others (table_in l))) (sym versions_are) (greatest_one (table_in l) version sound.proper.node_below version_is));
+  greatest = subst (λ (t : Table). AreGreatest t (set versions l.node version)) (sym table_is) (subst (AreGreatest (without_others (table_laid l))) (sym versions_are) (greatest_one (table_laid l) version sound.proper.node_below version_is));
   counted = counted_one l.nodes l.keys l.node r l.slots.items slots sound.proper.node_below lies fits front len ∙ ap count_in_rows (sym rows_are);
 }
   where
@@ -50,10 +50,10 @@ left l r slots rows versions version sound read read' front len cleared zeros = 
     versions_are = let len_is : l.greatest.len ≡ l.nodes = omega (arith, l.greatest.ok.0, sound.greatest.count) in
         ap (λ xs. set xs l.node version) (zeros ∙ ap (λ n. replicate {A = ℕ} n 0) len_is)
 
-    version_is : version ≡ greatest_version (table_in l) l.node
+    version_is : version ≡ greatest_version (table_laid l) l.node
     version_is = get_or_read l.greatest.items l.node version (omega (arith, sound.greatest.count, sound.proper.node_below)) read' 0 ∙ sound.greatest.greatest l.node sound.proper.node_below
 
-    table_is : table_of l slots (set rows l.node (record { start = 0; len = r.len })) ≡ without_others (table_in l)
+    table_is : table_of l slots (set rows l.node (record { start = 0; len = r.len })) ≡ without_others (table_laid l)
     table_is = table_one l slots (set rows l.node (record { start = 0; len = r.len }))
         (ap (λ xs. row_at slots xs l.node) rows_are ∙ row_at-one_own l.nodes l.keys l.node r l.slots.items slots sound.proper.node_below lies fits front len ∙ ap (entries_in_row l.slots.items) (sym (own r)) ∙ sym (row_at-get_or l.slots.items l.rows.items l.node r below))
         (λ k other. ap (λ xs. row_at slots xs k) rows_are ∙ row_at-one_other l.nodes l.keys l.node r l.slots.items slots sound.proper.node_below lies fits front len k other)
@@ -65,10 +65,10 @@ returns-then-generation-gt0-clause-layout c =
     let after = c.set_generation.new.generations in
     let others = subst (λ xs. AreOthersKept l.node xs after.items) c.clear.ensures.items c.set_generation.ensures.others in
     record {
-      proper = subst IsProper (sym is_left.table) (proper-without_others (table_in l) c.requires.proper);
+      proper = subst IsProper (sym is_left.table) (proper-without_others (table_laid l) c.requires.proper);
       laid = is_left.laid;
       greatest = is_left.greatest;
-      generations = subst (λ (t : Table). AreGenerations t after.items) (sym is_left.table) (generations_one (table_in l) after.items (omega (arith, c.set_generation.ensures.count, after.ok.0)) (c.set_generation.ensures.own ∙ c.generation_of-generation.ensures) others);
+      generations = subst (λ (t : Table). AreGenerations t after.items) (sym is_left.table) (generations_one (table_laid l) after.items (omega (arith, c.set_generation.ensures.count, after.ok.0)) (c.set_generation.ensures.own ∙ c.generation_of-generation.ensures) others);
       room = omega (arith, c.requires.room, c.clear.ensures.capacity, c.set_generation.ensures.capacity);
       counted = is_left.counted;
     }
@@ -82,10 +82,10 @@ returns-else-generation-gt0-clause-layout c =
     let l = c.args.self.now in
     let is_left = left l c.index-row.result.now c.move_to_front.new.slots.items c.fill.new.self.items c.fill-2.new.self.items c.index-greatest.result.now c.requires c.index-row.ensures c.index-greatest.ensures c.move_to_front.ensures.row (omega (arith, c.move_to_front.ensures.len, c.move_to_front.new.slots.ok.0)) (c.fill.ensures.items (λ y e. e)) (c.fill-2.ensures.items (λ y e. e)) in
     record {
-      proper = subst IsProper (sym is_left.table) (proper-without_others (table_in l) c.requires.proper);
+      proper = subst IsProper (sym is_left.table) (proper-without_others (table_laid l) c.requires.proper);
       laid = is_left.laid;
       greatest = is_left.greatest;
-      generations = subst (λ (t : Table). AreGenerations t c.clear.new.self.items) (sym is_left.table) (generations_none (table_in l) c.clear.new.self.items (omega (arith, c.generation_of-generation.ensures, c.if-generation-gt0.false)) c.clear.ensures.items);
+      generations = subst (λ (t : Table). AreGenerations t c.clear.new.self.items) (sym is_left.table) (generations_none (table_laid l) c.clear.new.self.items (omega (arith, c.generation_of-generation.ensures, c.if-generation-gt0.false)) c.clear.ensures.items);
       room = omega (arith, c.requires.room, c.clear.ensures.capacity);
       counted = is_left.counted;
     }

@@ -5,7 +5,7 @@ use Rattle.std.proofs.lemmas.List.{get_or_read}
 use Rattle.bench_types.specs.declared.entries.Entry.{Entry}
 use Rattle.bench_types.specs.Mark.{mark_held}
 use Rattle.node_table.specs.Table.{mark_at}
-use Rattle.node_table.specs.inner.Layouts.{table_in, entry_in}
+use Rattle.node_table.specs.inner.Layouts.{table_laid, entry_in}
 use Rattle.node_table.proofs.Taking.{version-le-greatest}
 use Rattle.node_table.proofs.InLayout.{entry_at-in}
 use Rattle.node_table.proofs.layouts.Layout.is_newer.Goals as goal
@@ -15,7 +15,7 @@ returns-then-index-item c =
     let l = c.args.self.now in
     let item = c.args.item in
     let greatest = get_or_read l.greatest.items item.owner c.index.result.now (omega (arith, c.requires.layout.greatest.count, c.requires.in_place.owner_below)) c.index.ensures 0 ∙ c.requires.layout.greatest.greatest item.owner c.requires.in_place.owner_below in
-    sym (lt-ltb (mark_at (table_in l) item.owner item.entry.key).version item.entry.version (omega (arith, greatest, c.if-index-item.true, version-le-greatest (table_in l) item.owner item.entry.key c.requires.layout.proper c.requires.in_place.key_below)))
+    sym (lt-ltb (mark_at (table_laid l) item.owner item.entry.key).version item.entry.version (omega (arith, greatest, c.if-index-item.true, version-le-greatest (table_laid l) item.owner item.entry.key c.requires.layout.proper c.requires.in_place.key_below)))
 
 pub returns-in-Some : goal.returns-in-Some
 returns-in-Some c =

@@ -4,7 +4,7 @@ use Rattle.std.proofs.Math.Nat.{mul-le-mul_right, mul-le-mul_left}
 use Rattle.std.proofs.lemmas.List.{get_or_read}
 use Rattle.bench_types.specs.declared.limits.TheConstants.{MOST_NODES}
 use Rattle.node_table.specs.Table.{Table, IsProper}
-use Rattle.node_table.specs.inner.Layouts.{AreLaid, table_in}
+use Rattle.node_table.specs.inner.Layouts.{AreLaid, table_laid}
 use Rattle.node_table.specs.Entries.{AreGenerations, AreGreatest}
 use Rattle.node_table.proofs.ProperLaws.{proper-taking}
 use Rattle.node_table.proofs.Taking.{taken_put, version-taken_same, greatest_set, generations_same}
@@ -40,7 +40,7 @@ overflow_sub-self c =
 pub returns-clause-ok : goal.returns-clause-ok
 returns-clause-ok c =
     table_placed c.args.self.now c.place.new.slots.items c.place.new.rows.items c.args.item.owner c.args.item.entry c.in_ok-place.ensures.ok
-    ∙ sym (taken_put (table_in c.args.self.now) c.args.item c.requires.layout.proper c.requires.same c.requires.newer)
+    ∙ sym (taken_put (table_laid c.args.self.now) c.args.item c.requires.layout.proper c.requires.same c.requires.newer)
 
 pub returns-clause-layout : goal.returns-clause-layout
 returns-clause-layout c =
@@ -52,14 +52,14 @@ returns-clause-layout c =
     let below : item.owner < length l.greatest.items = omega (arith, c.requires.layout.greatest.count, c.requires.in_place.owner_below) in
     let version = c.max.ensures
     ∙ ap (λ n. max n item.entry.version) (get_or_read l.greatest.items item.owner c.index-3.result.now below c.index-3.ensures 0 ∙ c.requires.layout.greatest.greatest item.owner c.requires.in_place.owner_below)
-    ∙ sym (version-taken_same (table_in l) item c.requires.in_place.key_below c.requires.same) in
-    let table = table_placed l c.place.new.slots.items c.place.new.rows.items item.owner item.entry c.in_ok-place.ensures.ok ∙ sym (taken_put (table_in l) item c.requires.layout.proper c.requires.same c.requires.newer) in
+    ∙ sym (version-taken_same (table_laid l) item c.requires.in_place.key_below c.requires.same) in
+    let table = table_placed l c.place.new.slots.items c.place.new.rows.items item.owner item.entry c.in_ok-place.ensures.ok ∙ sym (taken_put (table_laid l) item c.requires.layout.proper c.requires.same c.requires.newer) in
     record {
-      proper = subst IsProper (sym table) (proper-taking (table_in l) item c.requires.layout.proper c.requires.in_place c.requires.own);
+      proper = subst IsProper (sym table) (proper-taking (table_laid l) item c.requires.layout.proper c.requires.in_place c.requires.own);
       laid = laid;
       greatest = subst (λ (t : Table). AreGreatest t (set l.greatest.items item.owner c.max.result)) (sym table)
-          (greatest_set (table_in l) item c.requires.in_place.key_below l.greatest.items c.max.result c.requires.layout.greatest c.requires.in_place.owner_below version);
-      generations = subst (λ (t : Table). AreGenerations t l.generations.items) (sym table) (generations_same (table_in l) item c.requires.in_place.key_below l.generations.items c.requires.layout.generations c.requires.same);
+          (greatest_set (table_laid l) item c.requires.in_place.key_below l.greatest.items c.max.result c.requires.layout.greatest c.requires.in_place.owner_below version);
+      generations = subst (λ (t : Table). AreGenerations t l.generations.items) (sym table) (generations_same (table_laid l) item c.requires.in_place.key_below l.generations.items c.requires.layout.generations c.requires.same);
       room = c.requires.layout.room;
       counted = ap (λ n. n + (c.index-2.result.now.len - c.index.result.now.len)) c.requires.layout.counted ∙ counted.0;
     }

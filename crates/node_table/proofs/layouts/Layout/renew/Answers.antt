@@ -4,7 +4,7 @@ use Rattle.std.proofs.Math.Nat.{mul-le-mul_right, mul-le-mul_left}
 use Rattle.bench_types.specs.declared.entries.Mark.{Mark}
 use Rattle.bench_types.specs.declared.limits.TheConstants.{MOST_NODES}
 use Rattle.node_table.specs.Table.{Table, IsProper}
-use Rattle.node_table.specs.inner.Layouts.{AreLaid, table_in}
+use Rattle.node_table.specs.inner.Layouts.{AreLaid, table_laid}
 use Rattle.node_table.specs.Entries.{AreGenerations, AreGreatest}
 use Rattle.node_table.proofs.ProperLaws.{proper-taking}
 use Rattle.node_table.proofs.Taking.{mark-taken_newer, greatest_set, generations_newer}
@@ -41,12 +41,12 @@ returns-clause-layout c =
     let table = table_renewed l c.place_alone.new.slots.items c.place_alone.new.rows.items item c.requires.newer c.in_ok-place_alone.ensures.ok in
     let after = c.set_generation.new.generations in
     record {
-      proper = subst IsProper (sym table) (proper-taking (table_in l) item c.requires.layout.proper c.requires.in_place c.requires.own);
+      proper = subst IsProper (sym table) (proper-taking (table_laid l) item c.requires.layout.proper c.requires.in_place c.requires.own);
       laid = laid;
       greatest = subst (λ (t : Table). AreGreatest t (set l.greatest.items item.owner item.entry.version)) (sym table)
-          (greatest_set (table_in l) item c.requires.in_place.key_below l.greatest.items item.entry.version c.requires.layout.greatest c.requires.in_place.owner_below (sym (ap (λ (m : Mark). m.version) (mark-taken_newer (table_in l) item c.requires.in_place.key_below c.requires.newer))));
+          (greatest_set (table_laid l) item c.requires.in_place.key_below l.greatest.items item.entry.version c.requires.layout.greatest c.requires.in_place.owner_below (sym (ap (λ (m : Mark). m.version) (mark-taken_newer (table_laid l) item c.requires.in_place.key_below c.requires.newer))));
       generations = subst (λ (t : Table). AreGenerations t after.items) (sym table)
-          (generations_newer (table_in l) item c.requires.in_place.key_below l.generations.items after.items c.requires.layout.generations c.requires.newer (omega (arith, c.set_generation.ensures.count, after.ok.0)) c.set_generation.ensures.own c.set_generation.ensures.others);
+          (generations_newer (table_laid l) item c.requires.in_place.key_below l.generations.items after.items c.requires.layout.generations c.requires.newer (omega (arith, c.set_generation.ensures.count, after.ok.0)) c.set_generation.ensures.own c.set_generation.ensures.others);
       room = omega (arith, c.requires.layout.room, c.set_generation.ensures.capacity);
       counted = ap (λ n. n + 1 - c.index.result.now.len) c.requires.layout.counted ∙ counted.0;
     }

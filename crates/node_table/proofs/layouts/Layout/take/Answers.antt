@@ -1,7 +1,7 @@
 use Rattle.std.proofs.Common.{sym, ◌∙◌, arith}
 use Rattle.std.proofs.lemmas.Bool.{ltb-false}
 use Rattle.node_table.specs.Table.{mark_at}
-use Rattle.node_table.specs.inner.Layouts.{table_in}
+use Rattle.node_table.specs.inner.Layouts.{table_laid}
 use Rattle.node_table.proofs.Laws.{taken-older}
 use Rattle.node_table.proofs.Taking.{taken_kept}
 use Rattle.node_table.proofs.layouts.Layout.take.Goals as goal
@@ -9,7 +9,7 @@ use Rattle.node_table.proofs.layouts.Layout.take.Goals.{else-held-item-2-via-the
 
 pub returns-else-held-item-2-clause-ok : goal.returns-else-held-item-2-clause-ok
 returns-else-held-item-2-clause-ok c =
-    let t = table_in c.args.self.now in
+    let t = table_laid c.args.self.now in
     let item = c.args.item in
     sym (elim c.else-held-item-2.branch [
       | else-held-item-2-via-then-held-item-2+else-is_newer w ↦

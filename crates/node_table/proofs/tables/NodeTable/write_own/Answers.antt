@@ -5,7 +5,7 @@ use Rattle.std.proofs.Math.Nat.{mul-le-mul_right}
 use Rattle.std.proofs.lemmas.List.{get_or_read}
 use Rattle.std.proofs.lemmas.Nat.{div-add-mod'}
 use Rattle.node_table.specs.Table.{greatest_version, taken, with_own_write}
-use Rattle.node_table.specs.inner.Layouts.{table_in}
+use Rattle.node_table.specs.inner.Layouts.{table_laid}
 use Rattle.node_table.proofs.Taking.{taken-own_write}
 use Rattle.node_table.proofs.Room.{div-le-div}
 use Rattle.node_table.proofs.tables.NodeTable.write_own.Goals as goal
@@ -33,9 +33,9 @@ returns-in_err-take-clause-succeeds c = λ some.
 pub returns-clause-ok : goal.returns-clause-ok
 returns-clause-ok c =
     let l = c.self.inside.layout in
-    let version : c.index.result.now + 1 ≡ greatest_version (table_in l) l.node + 1 =
+    let version : c.index.result.now + 1 ≡ greatest_version (table_laid l) l.node + 1 =
     ap (λ n. n + 1) (get_or_read l.greatest.items l.node c.index.result.now (omega (arith, c.self.invariant.greatest.count, c.self.invariant.proper.node_below)) c.index.ensures 0 ∙ c.self.invariant.greatest.greatest l.node c.self.invariant.proper.node_below) in
     c.in_ok-take.ensures.ok
-    ∙ ap (λ n. taken (table_in l) (record { owner = l.node; entry = record { key = c.args.key; generation = l.generation; version = n; value = c.args.value; born = c.args.born } })) version
-    ∙ taken-own_write (table_in l) c.args.key c.args.value c.args.born c.self.invariant.proper (subst (λ k. c.args.key < k.table.keys) (sym c.self.view_is) c.requires.key)
+    ∙ ap (λ n. taken (table_laid l) (record { owner = l.node; entry = record { key = c.args.key; generation = l.generation; version = n; value = c.args.value; born = c.args.born } })) version
+    ∙ taken-own_write (table_laid l) c.args.key c.args.value c.args.born c.self.invariant.proper (subst (λ k. c.args.key < k.table.keys) (sym c.self.view_is) c.requires.key)
     ∙ ap (λ k. with_own_write k.table c.args.key c.args.value c.args.born) c.self.view_is

@@ -1,3 +1,4 @@
 -- Laws of the definitions, for the crates above.
+pub mod Comparing
 pub mod Marks
 pub mod Sinking

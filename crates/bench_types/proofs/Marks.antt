@@ -45,13 +45,16 @@ before-no m n up = elim (cases_before m n) [ inl is_so ↦ absurd (not_both m n 
 pub up_to-itself : (m : Mark) → IsUpTo m m
 up_to-itself m = record { generation = omega arith; version = λ _. omega arith }
 
+-- what lies between two of one generation is of it too
+between : (l m n : Mark) → l.generation ≤ m.generation → m.generation ≤ n.generation → l.generation ≡ n.generation → (l.generation ≡ m.generation) × (m.generation ≡ n.generation)
+between l m n first second same = (omega arith, omega arith)
+
 pub up_to-then : (l m n : Mark) → IsUpTo l m → IsUpTo m n → IsUpTo l n
 up_to-then l m n first second = record {
   generation = omega (arith, first.generation, second.generation);
   version = λ same.
-      let first_same : l.generation ≡ m.generation = omega (arith, first.generation, second.generation) in
-      let second_same : m.generation ≡ n.generation = omega (arith, first.generation, second.generation) in
-      omega (arith, first.version first_same, second.version second_same);
+      let both = between l m n first.generation second.generation same in
+      omega (arith, first.version both.0, second.version both.1);
 }
 
 pub before-up_to : (m n : Mark) → IsBefore m n → IsUpTo m n
@@ -61,9 +64,8 @@ pub up_to-before : (l m n : Mark) → IsUpTo l m → IsBefore m n → IsBefore l
 up_to-before l m n first second = record {
   generation = omega (arith, first.generation, second.generation);
   version = λ same.
-      let first_same : l.generation ≡ m.generation = omega (arith, first.generation, second.generation) in
-      let second_same : m.generation ≡ n.generation = omega (arith, first.generation, second.generation) in
-      omega (arith, first.version first_same, second.version second_same);
+      let both = between l m n first.generation second.generation same in
+      omega (arith, first.version both.0, second.version both.1);
 }
 
 pub absent-first : (m : Mark) → IsUpTo absent m

@@ -29,9 +29,12 @@ use Rattle.board.proofs.Modelled.{rests_of, empties_of, tables_of}
 pub at_rest : {S : Type 0} (plan : BoardPlan) (m : Me S View) → m.0.plan ≡ plan → Rests m → m ≡ (resting plan m.0.seat, [])
 at_rest plan m planned rests = λ k. (record { plan = planned k; seat = m.0.seat; moving = rests.moving k; owes = rests.owes k }, rests.slots k)
 
+pub seat_rests : {T : Type 0} (table : T → Table) (board : Board T) (seat : Seat T) → IsSeatOf table seat board → seat.raw.me ≡ (resting (plan_of table board) (seat_view seat), [])
+seat_rests table board seat is = at_rest (plan_of table board) seat.raw.me is.plan is.rests
+
 -- and so does its model
 pub model_rests : {T : Type 0} (table : T → Table) (board : Board T) (seat : Seat T) → IsSeatOf table seat board → seat_model table seat.raw.me ≡ (resting (plan_of table board) (seat_view seat), [])
-model_rests table board seat is = ap (seat_model table) (at_rest (plan_of table board) seat.raw.me is.plan is.rests)
+model_rests table board seat is = ap (seat_model table) (seat_rests table board seat is)
 
 pub word_within : {T : Type 0} (board : Board T) (i : ℕ) → i < length (exchanges_of board) → i + 1 < board.table.shared.table_id.words
 word_within board i within = omega (arith, within, board.words, ap (λ (l : RoundListView). length l.exchanges) board.planned.1)

@@ -131,6 +131,15 @@ module _ (rules : Rules) (nodes keys : ℕ) (s : Folded) (e : Exchange) (planned
 
 -- copies hold nothing but their owners' writes
 module _ (rules : Rules) (nodes keys : ℕ) (s : Folded) (e : Exchange) (planned : IsPlanned nodes e) (writes : WritesBy) (copies : AreCopiesOf writes nodes keys s.tables) where
+  abbrev first : Table
+  first = table_of_node s.tables e.initiator
+
+  abbrev second : Table
+  second = table_of_node s.tables e.responder
+
+  meeting : MayMeet e first second
+  meeting = meet rules nodes keys s e planned copies.tables copies.proper
+
   pub step_copies : AreCopiesOf writes nodes keys (exchange_in rules s e).tables
   step_copies = record {
     tables = step_tables rules nodes keys s e planned copies.tables;
@@ -142,15 +151,6 @@ module _ (rules : Rules) (nodes keys : ℕ) (s : Folded) (e : Exchange) (planned
         (λ lt. responder_writes rules e first second meeting writes (copies.holds e.initiator planned.initiator) (copies.holds e.responder planned.responder))
         copies.holds;
   }
-    where
-      first : Table
-      first = table_of_node s.tables e.initiator
-
-      second : Table
-      second = table_of_node s.tables e.responder
-
-      meeting : MayMeet e first second
-      meeting = meet rules nodes keys s e planned copies.tables copies.proper
 
   -- and in a scuttle mode without a gap
   pub step_no_gap : IsScuttleMode rules.mode → HaveNoGap s.tables → HaveNoGap (exchange_in rules s e).tables
@@ -167,15 +167,6 @@ module _ (rules : Rules) (nodes keys : ℕ) (s : Folded) (e : Exchange) (planned
 
       generations : Generations
       generations = generations_of s.tables
-
-      first : Table
-      first = table_of_node s.tables e.initiator
-
-      second : Table
-      second = table_of_node s.tables e.responder
-
-      meeting : MayMeet e first second
-      meeting = meet rules nodes keys s e planned copies.tables copies.proper
 
       last : AreLastOf first.nodes generations writes own
       last = subst (λ m. AreLastOf m generations writes own) (sym (copies.tables.tables e.initiator planned.initiator).nodes) copies.last

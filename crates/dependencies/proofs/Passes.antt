@@ -127,3 +127,12 @@ length_each f xs n is = ap length is ∙ length-map-range_with_len f 0 n
 
 pub each_at : {X : Type 0} (f : ℕ → X) (xs : List X) (n i : ℕ) (d : X) → xs ≡ map f (range_with_len 0 n) → i < n → get_or xs i d ≡ f i
 each_at f xs n i d is within = ap (λ ys. get_or ys i d) is ∙ get_or-map-range_with_len f 0 n i i d within (omega arith)
+
+-- and the element of a place, by the list that the caller sees
+pub indexed : {X : Type 0} (f : List Exchange → ℕ → X) (es seen : List Exchange) (xs : List X) (i : ℕ) → es ≡ seen → xs ≡ map (f es) (range_with_len 0 (length es)) → i < length seen
+    → (i < length xs) × ((x : X) → x ≡ get_or xs i x → x ≡ f seen i)
+indexed f es seen xs i same is within =
+    let lt : i < length es = omega (arith, within, ap length same) in (
+      omega (arith, lt, length_each (f es) xs (length es) is),
+      λ x at. at ∙ each_at (f es) xs (length es) i x is lt ∙ ap (λ ys. f ys i) same,
+    )

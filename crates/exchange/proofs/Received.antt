@@ -247,33 +247,30 @@ module _ (rules : Rules) (rotation : ℕ) (from to : Table) (proper : IsProper f
               | Some d ↦ λ found over. over.version (omega (arith, same, (received-proper to_proper).copies owner key d found, received-generation))
             ] refl up
 
-            at_least_to : version_in newest to owner key ≤ (mark_at received owner key).version
-            at_least_to = elim (cases_eq (generation_held to owner) newest) [
-              | inr apart ↦ omega (arith, in_other to apart)
-              | inl same ↦ elim (entry_at to owner key) as (λ o. entry_at to owner key ≡ o → version_in newest to owner key ≤ (mark_at received owner key).version) [
-                | None ↦ λ absent_there. omega (arith, in_same to same, ap (λ h. (mark_held h).version) absent_there)
-                | Some e ↦ λ held.
-                    let of_copy = to_proper.copies owner key e held in
-                    omega (arith, in_same to same, ap (λ h. (mark_held h).version) held, version-of e (kept owner key e held (omega (arith, of_copy, same, received-generation))) (omega (arith, of_copy, same)))
+            -- as much as a table holds in that generation
+            at_least : (t : Table) → ((e : Entry) → entry_at t owner key ≡ Some e → generation_held t owner ≡ newest → e.version ≤ (mark_at received owner key).version) → version_in newest t owner key ≤ (mark_at received owner key).version
+            at_least t each = elim (cases_eq (generation_held t owner) newest) [
+              | inr apart ↦ omega (arith, in_other t apart)
+              | inl same ↦ elim (entry_at t owner key) as (λ o. entry_at t owner key ≡ o → version_in newest t owner key ≤ (mark_at received owner key).version) [
+                | None ↦ λ absent_there. omega (arith, in_same t same, ap (λ h. (mark_held h).version) absent_there)
+                | Some e ↦ λ held. omega (arith, in_same t same, ap (λ h. (mark_held h).version) held, each e held same)
               ] refl
             ]
 
+            at_least_to : version_in newest to owner key ≤ (mark_at received owner key).version
+            at_least_to = at_least to (λ e held same.
+                let of_copy = to_proper.copies owner key e held in
+                version-of e (kept owner key e held (omega (arith, of_copy, same, received-generation))) (omega (arith, of_copy, same)))
+
             at_least_from : version_in newest from owner key ≤ (mark_at received owner key).version
-            at_least_from = elim (cases_eq (generation_held from owner) newest) [
-              | inr apart ↦ omega (arith, in_other from apart)
-              | inl same ↦ elim (entry_at from owner key) as (λ o. entry_at from owner key ≡ o → version_in newest from owner key ≤ (mark_at received owner key).version) [
-                | None ↦ λ absent_there. omega (arith, in_same from same, ap (λ h. (mark_held h).version) absent_there)
-                | Some e ↦ λ held.
-                    let of_copy = proper.copies owner key e held in
-                    let is_version = ap (λ h. (mark_held h).version) held in
-                    elim (cases_before (record { generation = generation_held to owner; version = (mark_at to owner key).version }) (mark_of e)) [
-                      | inl news ↦ omega (arith, in_same from same, is_version, version-of e (sent-up_to owner key e (proper.in_place owner key e held).keyed (comes key e held news.1) (omega (arith, of_copy, same, received-generation))) (omega (arith, of_copy, same)))
-                      | inr known ↦
-                          let as_new : generation_held to owner ≡ newest = omega (arith, known.1.generation, of_copy, same) in
-                          omega (arith, in_same from same, is_version, known.1.version (omega (arith, as_new, of_copy, same)), in_same to as_new, at_least_to)
-                    ]
-              ] refl
-            ]
+            at_least_from = at_least from (λ e held same.
+                let of_copy = proper.copies owner key e held in
+                elim (cases_before (record { generation = generation_held to owner; version = (mark_at to owner key).version }) (mark_of e)) [
+                  | inl news ↦ version-of e (sent-up_to owner key e (proper.in_place owner key e held).keyed (comes key e held news.1) (omega (arith, of_copy, same, received-generation))) (omega (arith, of_copy, same))
+                  | inr known ↦
+                      let as_new : generation_held to owner ≡ newest = omega (arith, known.1.generation, of_copy, same) in
+                      omega (arith, known.1.version (omega (arith, as_new, of_copy, same)), in_same to as_new, at_least_to)
+                ])
 
       -- in a scuttle mode no gap comes between what is held of an owner
       pub received-no_gap : IsScuttleMode rules.mode → rotation < from.nodes → (generations : Generations) (writes : WritesBy) (own : OwnParts) → AreLastOf to.nodes generations writes own → HoldsWrites writes to → HoldsWrites writes from → HasNoGap own to → HasNoGap own from → HasNoGap own received

@@ -18,7 +18,7 @@ use Rattle.bench_types.specs.declared.entries.Entry.{Entry}
 use Rattle.node_table.specs.Table.{Place}
 use Rattle.node_table.specs.Entries.{entry_cmp, StandsBefore}
 use Rattle.node_table.specs.inner.Layouts.{entry_in, HaveTwoKeys, IsRow, IsIndexOf, IsRankOf, IsPut}
-use Rattle.node_table.proofs.Comparing.{nat_cmp-less}
+use Rattle.bench_types.proofs.Comparing.{nat_cmp-less}
 use Rattle.node_table.proofs.Order.{place_total, place_same, place_turned}
 
 abbrev pub no_entry : Entry

@@ -16,7 +16,7 @@ use Rattle.node_table.specs.Table.{Place, place_cmp, Table, entry_at, item_of, i
 use Rattle.node_table.specs.inner.Items.{place_of, pair_of, pairs, IsRising}
 use Rattle.node_table.specs.inner.Applied.{stands_at, items_at}
 use Rattle.node_table.proofs.Order.{place_total, place_turned}
-use Rattle.node_table.proofs.Comparing.{first, second, less}
+use Rattle.bench_types.proofs.Comparing.{first, second, less}
 use Rattle.node_table.proofs.Rising.{rising_at}
 use Rattle.node_table.proofs.Laws.{place_tied, tied-stands_at, items_at-none}
 use Rattle.std.proofs.lemmas.Option.{same_Some}

@@ -15,7 +15,7 @@ use Rattle.node_table.specs.Table.{Place, place_cmp, Held, Table, empty_table, e
 use Rattle.node_table.specs.inner.Items.{place_of}
 use Rattle.node_table.specs.inner.Applied.{stands_at, items_at}
 use Rattle.node_table.proofs.Order.{place_total, place_same}
-use Rattle.node_table.proofs.Comparing.{equal}
+use Rattle.bench_types.proofs.Comparing.{equal}
 use Rattle.std.proofs.lemmas.Option.{same_Some}
 
 -- places that tie are one place

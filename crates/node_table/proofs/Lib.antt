@@ -5,7 +5,6 @@ pub mod Items
 pub mod Proper
 pub mod ProperLaws
 -- What the proofs of this crate's functions rest on.
-pub mod Comparing
 pub mod Order
 pub mod Rising
 pub mod Greatest

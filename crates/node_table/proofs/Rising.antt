@@ -7,7 +7,7 @@ use Rattle.std.specs.FinMap.Entries.{below_all}
 use Rattle.bench_types.specs.declared.entries.Item.{Item}
 use Rattle.node_table.specs.Table.{Place, place_cmp}
 use Rattle.node_table.specs.inner.Items.{place_of, pairs, IsRising}
-use Rattle.node_table.proofs.Comparing.{first, second, less}
+use Rattle.bench_types.proofs.Comparing.{first, second, less}
 
 below_at : (p : Place) (xs : List Item) (i : ℕ) (d : Item) → T (below_all place_cmp p (pairs xs)) → i < length xs → place_cmp p (place_of (get_or xs i d)) ≡ Less
 below_at p [] i d h lt = absurd (omega arith)

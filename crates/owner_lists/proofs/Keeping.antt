@@ -1,7 +1,7 @@
 -- What an owner's list keeps through its calls.
 -- Serves the functions of `lists` and `version_tables`.
-use Rattle.std.proofs.Common.{◌≡◌, ◌≢◌, ℕ, ◌+◌, ◌-◌, ◌<◌, ◌≤◌, ◌^◌, Bool, true, All, List, [], ◌∷◌, ◌++◌, length, get_or, map, take, drop, if◌then◌else◌, inl, inr, refl, sym, ap, ◌∙◌, subst, arith, length-append}
-use Rattle.std.proofs.lemmas.Bool.{cases_lt, cases_eq}
+use Rattle.std.proofs.Common.{◌≡◌, ℕ, ◌+◌, ◌-◌, ◌<◌, ◌≤◌, Bool, true, List, [], ◌∷◌, ◌++◌, length, get_or, map, take, drop, if◌then◌else◌, inl, inr, refl, sym, ap, ◌∙◌, subst, arith, length-append}
+use Rattle.std.proofs.lemmas.Bool.{cases_lt}
 use Rattle.std.proofs.lemmas.List.{length-take, length-take-le, drop_at, length-drop, length-map, get_or-map, map-append, append_assoc, append-nil, get_or_append_left, get_or-append_right, get_or_push, take-append-drop, take_all, drop_all}
 use Rattle.std.proofs.lemmas.List.Elements.{All-append}
 use borrow.Rule.Slice.PartMut.{put_mid}
@@ -11,9 +11,9 @@ use Rattle.bench_types.specs.Mark.{mark_of, IsBefore}
 use Rattle.owner_lists.specs.declared.lists.Link.{Link}
 use Rattle.owner_lists.specs.declared.lists.Write.{Write}
 use Rattle.owner_lists.specs.OwnerListView.{OwnerListView, entries_of, written, MarksRise, AreWrites, next_entry, with_write, begun_generation}
-use Rattle.owner_lists.specs.Writes.{next_write, IsNumbered, write_of_entry}
+use Rattle.owner_lists.specs.Writes.{IsNumbered, write_of_entry}
 use Rattle.owner_lists.specs.inner.Linked.{entries_linked, writes_linked, view_of, IsOwnerList, IsKeptList}
-use Rattle.owner_lists.proofs.Linking.{written_linked, numbered-writes_linked, length-writes_linked}
+use Rattle.owner_lists.proofs.Linking.{written_linked}
 
 -- what stands from a place on, as it is lent
 pub sliced : (n : ℕ) (ls : List Link) → take (length ls - n) (drop n ls) ≡ drop n ls

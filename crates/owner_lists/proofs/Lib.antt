@@ -1,4 +1,3 @@
-pub mod Comparing
 pub mod Rising
 pub mod Last
 pub mod Linking

@@ -1,6 +1,6 @@
 -- What stands under a mark.
 -- Serves `OwnerList::entry`, `numbered_entry` and `searched_entry`.
-use Rattle.std.proofs.Common.{◌≡◌, ◌≢◌, ℕ, zero, suc, ◌+◌, ◌<◌, ◌≤◌, Bool, true, false, cond, eqb, ◌&&◌, List, [], ◌∷◌, ◌++◌, length, get_or, Option, Some, None, All, inl, inr, refl, sym, ap, ◌∙◌, subst, arith, length-append}
+use Rattle.std.proofs.Common.{◌≡◌, ◌≢◌, ℕ, zero, suc, ◌+◌, ◌<◌, ◌≤◌, Bool, true, false, cond, eqb, ◌&&◌, List, [], ◌∷◌, length, get_or, Option, Some, None, All, inl, inr, refl, sym, ap, ◌∙◌, subst, arith, length-append}
 use Rattle.std.specs.List.{find}
 use Rattle.std.specs.List.Sorted.{IsPartitionedBy, IsPartitionPoint}
 use Rattle.std.specs.Option.{option_or}
@@ -10,8 +10,8 @@ use Rattle.std.proofs.lemmas.List.Folds.{find-append}
 use Rattle.bench_types.specs.declared.entries.Entry.{Entry}
 use Rattle.bench_types.specs.declared.entries.Mark.{Mark}
 use Rattle.bench_types.specs.Entry.{AreNextAfter}
-use Rattle.bench_types.specs.Mark.{mark_of, is_before, IsBefore, IsUpTo}
-use Rattle.bench_types.proofs.Marks.{before-true, before-false, before-yes, before-no, before-up_to, up_to-then, up_to-before}
+use Rattle.bench_types.specs.Mark.{mark_of, is_before, IsBefore}
+use Rattle.bench_types.proofs.Marks.{before-true, before-false, before-yes, before-up_to, up_to-before}
 use Rattle.owner_lists.specs.declared.lists.Link.{Link}
 use Rattle.owner_lists.specs.OwnerListView.{OwnerListView, entries_of, has_mark, entry_of, MarksRise, AreWrites}
 use Rattle.owner_lists.specs.inner.Linked.{entries_linked}

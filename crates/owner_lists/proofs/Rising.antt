@@ -14,7 +14,7 @@ use Rattle.std.proofs.lemmas.List.Sorted.{searchable_from_sorted}
 use Rattle.owner_lists.specs.declared.lists.Write.{Write}
 use Rattle.owner_lists.specs.Latest.{keyed, KeysRise}
 use Rattle.owner_lists.specs.inner.Keys.{IsIndexOfKey, IsGapForKey}
-use Rattle.owner_lists.proofs.Comparing.{first, second, less, nat_cmp-less, nat_cmp-equal, nat_cmp-greater}
+use Rattle.bench_types.proofs.Comparing.{first, second, less, nat_cmp-less, nat_cmp-equal, nat_cmp-greater}
 
 below_at : (key : ℕ) (ws : List Write) (i : ℕ) (d : Write) → T (below_all nat_cmp key (keyed ws)) → i < length ws → key < (get_or ws i d).key
 below_at key [] i d h lt = absurd (omega arith)

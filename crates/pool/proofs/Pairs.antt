@@ -7,6 +7,7 @@ use Rattle.bench_types.specs.declared.exchanges.Record.{Record}
 use Rattle.bench_types.specs.declared.exchanges.Rules.{Rules}
 use Rattle.node_table.specs.Table.{Table, empty_table}
 use Rattle.exchange.specs.Exchanged.{Exchanged, exchanged}
+use Rattle.exchange.specs.Exchanging.{MayBeExchanged}
 use Rattle.cluster.specs.Tables.{table_of_node, IsTableOf, AreTablesInOrder, HoldsOfEach}
 use Rattle.cluster.specs.Folds.{Folded, exchange_in}
 
@@ -49,6 +50,16 @@ module _ (rules : Rules) (e : Exchange) (a b : List Table) (t u : Table) (r : Re
   high is lt done records =
       ap (put_in (a ++ b) records e.initiator e.responder) ((λ i. exchanged rules e (back a b e.initiator is i) (front a b e.responder (omega (arith, is)) i)) ∙ done)
       ∙ (λ i. record { tables = (set_swapped (a ++ b) e.initiator e.responder u t (λ same. absurd (omega arith)) ∙ sym (set_both a b e.initiator e.responder t u is lt)) i; records = records ++ r ∷ [] })
+
+-- two tables of a cluster may be exchanged
+pub may_be_exchanged : (nodes keys : ℕ) (e : Exchange) (t u : Table) → IsTableOf nodes keys e.initiator t → IsTableOf nodes keys e.responder u → e.rotation < nodes → MayBeExchanged e t u
+may_be_exchanged nodes keys e t u first second rotation = record {
+  first = first.node;
+  second = second.node;
+  nodes = first.nodes ∙ sym second.nodes;
+  keys = first.keys ∙ sym second.keys;
+  rotation = subst (λ n. e.rotation < n) (sym first.nodes) rotation;
+}
 
 -- with the tables as the code reads and writes them
 module _ {T : Type 0} (table : T → Table) where

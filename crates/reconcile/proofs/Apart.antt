@@ -19,7 +19,7 @@ use Rattle.node_table.proofs.Order.{place_total}
 use Rattle.node_table.proofs.Rising.{rising_at, rising_tail}
 use Rattle.reconcile.specs.Order.{rotated, rank_among, owner_count, sending_order}
 use Rattle.reconcile.proofs.Counts.{count_by-cons_true, count_by-cons_false, count_by-stretch}
-use Rattle.node_table.proofs.Comparing.{both_equal}
+use Rattle.bench_types.proofs.Comparing.{both_equal}
 
 -- whether an item stands at the place
 abbrev stands_at : ℕ → ℕ → Item → Bool

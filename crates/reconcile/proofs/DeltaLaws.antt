@@ -25,7 +25,7 @@ use Rattle.reconcile.specs.Deltas.{item_share, delta_of, AreWithin}
 use Rattle.reconcile.specs.Picks.{fits}
 use Rattle.node_table.specs.inner.Items.{no_item}
 use Rattle.reconcile.proofs.Apart.{sending_total, sending_apart}
-use Rattle.node_table.proofs.Comparing.{nat_cmp-less, nat_cmp-equal}
+use Rattle.bench_types.proofs.Comparing.{nat_cmp-less, nat_cmp-equal}
 use Rattle.reconcile.proofs.Places.{count_by-lt, Contains-first_places, before_count-lt, before_count-places, cut_count-none, uncut-Contains, first_places-before}
 use Rattle.reconcile.proofs.Sending.{owners_below}
 

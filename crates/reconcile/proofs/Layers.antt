@@ -15,7 +15,7 @@ use Rattle.std.proofs.lemmas.List.Sorted.{length_permutation, Contains-permutati
 use Rattle.bench_types.specs.declared.entries.Item.{Item}
 use Rattle.bench_types.specs.declared.exchanges.Mode.{Mode}
 use Rattle.bench_types.specs.declared.exchanges.Mode.TheVariants.{ScuttleBreadth, ScuttleDepth, PreciseOldest, PreciseNewest}
-use Rattle.node_table.proofs.Comparing.{nat_cmp-less, nat_cmp-equal, nat_cmp-greater}
+use Rattle.bench_types.proofs.Comparing.{nat_cmp-less, nat_cmp-equal, nat_cmp-greater}
 use Rattle.reconcile.specs.Candidates.{IsScuttleMode}
 use Rattle.reconcile.specs.Order.{rotated, sending_order}
 use Rattle.reconcile.specs.inner.Parcels.{fitting, left_after}

@@ -18,7 +18,7 @@ use Rattle.bench_types.proofs.Marks.{before-true, before-yes, before-no, up_to-t
 use Rattle.node_table.specs.Table.{Table, entry_at, greatest_mark, generation_held, items_of, IsProper}
 use Rattle.node_table.specs.Entries.{AreAbove}
 use Rattle.node_table.specs.inner.Applied.{stands_at}
-use Rattle.node_table.proofs.Comparing.{nat_cmp-less, nat_cmp-equal}
+use Rattle.bench_types.proofs.Comparing.{nat_cmp-less, nat_cmp-equal}
 use Rattle.node_table.proofs.Items.{IsApart, apart-items_of, entry_at-items_of, Contains-items_of}
 use Rattle.node_table.proofs.Laws.{tied-stands_at}
 use Rattle.node_table.proofs.Greatest.{mark_at-up_to_greatest}

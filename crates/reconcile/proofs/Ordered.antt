@@ -27,7 +27,7 @@ use Rattle.reconcile.specs.inner.Parcels.{first_within}
 use Rattle.reconcile.specs.inner.Keys.{item_in, items_in, reversed, IsSet, AllSet, AreFirstItems, number_order}
 use Rattle.reconcile.proofs.Fitting.{fitting-take, sum-within}
 use Rattle.reconcile.proofs.Front.{IsFront, whole, whole-permutation, whole-sorted, whole-front, front-split, split-permutation}
-use Rattle.node_table.proofs.Comparing.{nat_cmp-less, nat_cmp-equal, nat_cmp-greater}
+use Rattle.bench_types.proofs.Comparing.{nat_cmp-less, nat_cmp-equal, nat_cmp-greater}
 
 unfoldable pub no_candidate : Candidate
 no_candidate = record { first = 0; turn = 0; second = 0; item = record { owner = 0; entry = record { key = 0; generation = 0; version = 0; value = 0; born = 0 } } }

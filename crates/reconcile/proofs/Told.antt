@@ -1,14 +1,16 @@
 -- What a digest tells is what the table holds, and what is sent stood among the candidates.
 -- Serves `delta`, `push_newer` and `exchange`.
-use Rattle.std.proofs.Common.{◌≡◌, ◌≢◌, ℕ, zero, suc, ◌+◌, ◌<◌, Bool, true, false, cond, not, ◌&&◌, eqb, List, [], ◌∷◌, get_or, All, Some, None, refl, sym, ap, ◌∙◌, subst}
+use Rattle.std.proofs.Common.{◌≡◌, ◌≢◌, ℕ, zero, suc, ◌+◌, ◌<◌, Bool, true, false, cond, not, ◌&&◌, eqb, List, [], ◌∷◌, get_or, All, Some, None, Result, IfOk, refl, sym, ap, ◌∙◌, subst}
 use Rattle.std.specs.Prelude.{count_by, filter}
 use Rattle.std.specs.List.{filter_map, range_with_len, cons_option}
 use Rattle.std.specs.declared.cmp.Ordering.{Ordering}
 use Rattle.std.proofs.lemmas.Bool.{eq-eqb, eqb-true}
 use Rattle.std.proofs.lemmas.List.Elements.{All-nil, All-cons, All-head, All-tail}
+use Rattle.std.proofs.lemmas.Result.{IfOk-weaker}
 use Rattle.bench_types.specs.declared.exchanges.Budget.{Budget}
 use Rattle.bench_types.specs.Budget.{amount_of}
 use Rattle.bench_types.specs.declared.entries.Item.{Item}
+use Rattle.bench_types.specs.declared.faults.Fault.{Fault}
 use Rattle.bench_types.specs.declared.entries.Mark.{Mark}
 use Rattle.bench_types.specs.Mark.{absent, mark_of, is_before}
 use Rattle.bench_types.specs.declared.exchanges.Mode.{Mode}
@@ -119,3 +121,11 @@ answer-of_tables mode rotation budget from receiver told delta proper nodes keys
 pub answer-sound : (mode : Mode) (rotation : ℕ) (budget : Budget) (from : Table) (receiver : ℕ) (told : DigestView) (delta : DeltaView) → IsProper from → delta ≡ answer_of mode rotation budget from receiver told → All (IsFor receiver from.nodes from.keys) delta.items
 answer-sound mode rotation budget from receiver told delta proper is =
     subst (λ (d : DeltaView). All (IsFor receiver from.nodes from.keys) d.items) (sym is) (answer-in_place mode rotation budget from receiver told proper)
+
+-- both of what is answered where no fault is
+pub answered : (mode : Mode) (rotation : ℕ) (budget : Budget) (from : Table) (receiver : ℕ) (told : DigestView) (answer : Result DeltaView Fault) → IsProper from → told.nodes ≡ from.nodes → told.keys ≡ from.keys → IfOk answer (λ d. d ≡ answer_of mode rotation budget from receiver told)
+    → IfOk answer (IsDeltaToReceiver mode rotation budget from receiver told) × IfOk answer (λ d. All (IsFor receiver from.nodes from.keys) d.items)
+answered mode rotation budget from receiver told answer proper nodes keys is = (
+  IfOk-weaker answer _ _ (λ d of. answer-of_tables mode rotation budget from receiver told d proper nodes keys of) is,
+  IfOk-weaker answer _ _ (λ d of. answer-sound mode rotation budget from receiver told d proper of) is,
+)

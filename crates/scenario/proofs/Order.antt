@@ -16,11 +16,11 @@ use Rattle.scenario.specs.Budgets.{budget_at}
 use Rattle.scenario.specs.Checked.{checked, unknown_checked}
 use Rattle.scenario.specs.Elements.{array_of, elements_at, each, ascending, array_at, forget_at, partition_of, restart_of, load_of, partitions_at, restarts_at, loads_at, only_elements, partition_fields, restart_fields, load_fields}
 use Rattle.scenario.specs.Fields.{◌>>=◌, value_at, number_of, number_at, only_fields}
-use Rattle.scenario.specs.Order.{faults, first_of, size_fault, above, ascending_faults, partition_faults, restart_faults, load_faults, array_faults, unknown_faults, format_in, nodes_in}
+use Rattle.scenario.specs.Order.{faults, basics_faults, conduct_faults, first_of, above, ascending_faults, partition_faults, restart_faults, load_faults, array_faults, unknown_faults, format_in, nodes_in}
 use Rattle.scenario.specs.Parts.{size_checked, basics_at, conduct_at}
 use Rattle.scenario.specs.Settings.{Settings}
 use Rattle.scenario.specs.Top.{format_at, nodes_at, keys_at, rounds_at, seed_at, mode_at, peers_at, rotation_at, choice_at, loss_ppm_at, writes_at, top_fields}
-use Rattle.scenario.proofs.Steps.{passed, same_ok, elements_found, array_found, number_found_at}
+use Rattle.scenario.proofs.Steps.{basics_read, elements_found, array_found, number_found_at}
 
 first_of-passed : (own others : List (Option Fault)) → first_of own ≡ None → first_of (own ++ others) ≡ first_of others
 first_of-passed [] others e = refl
@@ -99,17 +99,6 @@ first_of-load (toml.table members) =
     step (number_at field.LoadWrites 0 MOST_WRITES members) _ _ (λ writes _. refl))))
 first_of-load _ = refl
 
--- the checks of how large the run is, in order
-abbrev basics_faults : Members → List (Option Fault)
-basics_faults table =
-    result_err (format_at table)
-    ∷ result_err (nodes_at table)
-    ∷ result_err (keys_at table)
-    ∷ size_fault (nodes_at table) (keys_at table)
-    ∷ result_err (rounds_at table)
-    ∷ result_err (seed_at table)
-    ∷ []
-
 first_of-basics : (table : Members) → result_err (basics_at table) ≡ first_of (basics_faults table)
 first_of-basics table =
     step (format_at table) _ _ (λ format _.
@@ -119,18 +108,6 @@ first_of-basics table =
     step (size_checked nodes keys) _ _ (λ _ _.
     step (rounds_at table) _ _ (λ rounds _.
     step (seed_at table) _ _ (λ seed _. refl)))))))
-
--- the checks of its rules, in order
-abbrev conduct_faults : ℕ → Members → List (Option Fault)
-conduct_faults format table =
-    result_err (mode_at table)
-    ∷ result_err (budget_at format table)
-    ∷ result_err (peers_at table)
-    ∷ result_err (rotation_at table)
-    ∷ result_err (choice_at table)
-    ∷ result_err (loss_ppm_at table)
-    ∷ result_err (writes_at table)
-    ∷ []
 
 first_of-conduct : (format : ℕ) (table : Members) → result_err (conduct_at format table) ≡ first_of (conduct_faults format table)
 first_of-conduct format table =
@@ -153,24 +130,10 @@ first_of-unknown table =
       sole (Err fault) = refl
 
 nodes_known : (table : Members) (basics : Basics) → basics_at table ≡ Ok basics → nodes_in table ≡ basics.nodes
-nodes_known table basics all =
-    passed (format_at table) _ basics all (λ _ _ e.
-    passed (nodes_at table) _ basics e (λ nodes is_nodes e.
-    passed (keys_at table) _ basics e (λ keys _ e.
-    passed (size_checked nodes keys) _ basics e (λ _ _ e.
-    passed (rounds_at table) _ basics e (λ _ _ e.
-    passed (seed_at table) _ basics e (λ _ _ e.
-    ap (λ r. result_unwrap_or r 0) is_nodes ∙ ap (λ b. b.nodes) (same_ok _ basics e)))))))
+nodes_known table basics all = ap (λ r. result_unwrap_or r 0) (basics_read table basics all).nodes
 
 format_known : (table : Members) (basics : Basics) → basics_at table ≡ Ok basics → format_in table ≡ basics.format
-format_known table basics all =
-    passed (format_at table) _ basics all (λ format is_format e.
-    passed (nodes_at table) _ basics e (λ nodes _ e.
-    passed (keys_at table) _ basics e (λ keys _ e.
-    passed (size_checked nodes keys) _ basics e (λ _ _ e.
-    passed (rounds_at table) _ basics e (λ _ _ e.
-    passed (seed_at table) _ basics e (λ _ _ e.
-    ap (λ r. result_unwrap_or r 1) is_format ∙ ap (λ b. b.format) (same_ok _ basics e)))))))
+format_known table basics all = ap (λ r. result_unwrap_or r 1) (basics_read table basics all).format
 
 -- the fault of the check is that of the first check that fails
 pub first_of-faults : (table : Members) → result_err (checked table) ≡ first_of (faults table)

@@ -22,12 +22,12 @@ use Rattle.scenario.specs.Elements.{list_of, array_of, few, elements_of, each, a
 use Rattle.bench_types.specs.Field.{field_name}
 use Rattle.scenario.specs.Fields.{◌>>=◌, value_at, number_of, number_at, present, text_of, flag_of, flag_at, no_other_field, only_fields, has_only}
 use Rattle.scenario.specs.Order.{HasNumber, HasFlag, HasBudget, HasWord, SaysPartition, SaysRestart, SaysLoad, Says}
-use Rattle.scenario.specs.Parts.{size_checked, basics_at, conduct_at}
+use Rattle.scenario.specs.Parts.{basics_at, conduct_at}
 use Rattle.scenario.specs.Budgets.{is_in_entries, entries_at, is_too_small, bytes_of, bytes_at, budget_at}
 use Rattle.scenario.specs.Settings.{Settings}
-use Rattle.scenario.specs.Top.{format_at, nodes_at, keys_at, rounds_at, seed_at, mode_at, peers_at, rotation_at, choice_at, loss_ppm_at, writes_at, top_fields}
+use Rattle.scenario.specs.Top.{mode_at, peers_at, rotation_at, choice_at, loss_ppm_at, writes_at, top_fields}
 use Rattle.scenario.specs.Words.{or_out_of_range, mode_of, peers_of, rotation_of, choice_of}
-use Rattle.scenario.proofs.Steps.{passed, same_ok, kept, number_found_at}
+use Rattle.scenario.proofs.Steps.{passed, same_ok, basics_read, kept, number_found_at}
 
 -- a number that was read stands in the document
 number_found : (f : Field) (low high n : ℕ) (o : Option Data) → (present f o >>= number_of f low high) ≡ Ok n → o ≡ Some (integer (pos n))
@@ -146,19 +146,14 @@ record SayBasics (table : Members) (b : Basics) : Type 0 where
 
 basics_say : (table : Members) (b : Basics) → basics_at table ≡ Ok b → SayBasics table b
 basics_say table b all =
-    passed (format_at table) _ b all (λ format is_format e.
-    passed (nodes_at table) _ b e (λ nodes is_nodes e.
-    passed (keys_at table) _ b e (λ keys is_keys e.
-    passed (size_checked nodes keys) _ b e (λ _ _ e.
-    passed (rounds_at table) _ b e (λ rounds is_rounds e.
-    passed (seed_at table) _ b e (λ seed is_seed e.
-    subst (SayBasics table) (same_ok _ b e) (record {
-      format = number_found field.Format _ _ _ _ is_format;
-      nodes = number_found field.Nodes _ _ _ _ is_nodes;
-      keys = number_found field.Keys _ _ _ _ is_keys;
-      rounds = number_found field.Rounds _ _ _ _ is_rounds;
-      seed = number_found field.Seed _ _ _ _ is_seed;
-    })))))))
+    let read = basics_read table b all in
+    record {
+      format = number_found field.Format _ _ _ _ read.format;
+      nodes = number_found field.Nodes _ _ _ _ read.nodes;
+      keys = number_found field.Keys _ _ _ _ read.keys;
+      rounds = number_found field.Rounds _ _ _ _ read.rounds;
+      seed = number_found field.Seed _ _ _ _ read.seed;
+    }
 
 -- and so is what is read of its rules
 record SayConduct (table : Members) (c : Conduct) : Type 0 where

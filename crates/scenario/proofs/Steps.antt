@@ -1,12 +1,15 @@
 -- Checks one after another, and what a check that passed has found.
 -- Serves `Lawful`, `Order` and `Sayings`.
-use Rattle.std.proofs.Common.{◌≡◌, ℕ, pos, negsuc, Bool, true, false, nat_le, ◌&&◌, cond, List, [], length, Option, None, Some, Result, Ok, Err, refl, ap}
-use Rattle.toml.specs.Data.{Data, integer, array}
+use Rattle.std.proofs.Common.{◌≡◌, ℕ, pos, negsuc, Bool, true, false, nat_le, ◌&&◌, cond, List, [], length, Option, None, Some, Result, Ok, Err, refl, ap, subst}
+use Rattle.toml.specs.Data.{Data, Members, integer, array}
 use Rattle.bench_types.specs.declared.faults.Fault.{Fault}
 use Rattle.bench_types.specs.declared.fields.Field.{Field}
 use Rattle.bench_types.specs.declared.limits.TheConstants.{MOST_ELEMENTS}
+use Rattle.scenario.specs.declared.parts.Basics.{Basics}
 use Rattle.scenario.specs.Elements.{list_of, array_of, elements_of, values_of}
 use Rattle.scenario.specs.Fields.{◌>>=◌, present, number_of}
+use Rattle.scenario.specs.Parts.{size_checked, basics_at}
+use Rattle.scenario.specs.Top.{format_at, nodes_at, keys_at, rounds_at, seed_at}
 
 -- where all checks pass, each of them does
 pub passed : {A B C : Type 0} (r : Result A Fault) (next : A → Result B Fault) (y : B) → (r >>= next) ≡ Ok y → ((x : A) → r ≡ Ok x → next x ≡ Ok y → C) → C
@@ -18,6 +21,24 @@ accepted x = Ok x
 
 pub same_ok : {A : Type 0} (x y : A) → accepted x ≡ accepted y → x ≡ y
 same_ok x y e = cc
+
+-- how large the run is, field by field
+pub record ReadsBasics (table : Members) (b : Basics) : Type 0 where
+  pub format : format_at table ≡ Ok b.format
+  pub nodes : nodes_at table ≡ Ok b.nodes
+  pub keys : keys_at table ≡ Ok b.keys
+  pub rounds : rounds_at table ≡ Ok b.rounds
+  pub seed : seed_at table ≡ Ok b.seed
+
+pub basics_read : (table : Members) (b : Basics) → basics_at table ≡ Ok b → ReadsBasics table b
+basics_read table b all =
+    passed (format_at table) _ b all (λ format is_format e.
+    passed (nodes_at table) _ b e (λ nodes is_nodes e.
+    passed (keys_at table) _ b e (λ keys is_keys e.
+    passed (size_checked nodes keys) _ b e (λ _ _ e.
+    passed (rounds_at table) _ b e (λ rounds is_rounds e.
+    passed (seed_at table) _ b e (λ seed is_seed e.
+    subst (ReadsBasics table) (same_ok _ b e) (record { format = is_format; nodes = is_nodes; keys = is_keys; rounds = is_rounds; seed = is_seed })))))))
 
 -- a value that is answered under a test
 pub kept : {A : Type 0} (b : Bool) (x y : A) (fault : Fault) → cond b (Ok x) (Err fault) ≡ Ok y → (b ≡ true) × (x ≡ y)

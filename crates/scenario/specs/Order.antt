@@ -105,26 +105,38 @@ unknown_faults table =
     ∷ result_err (only_elements name.Load field.Load load_fields table)
     ∷ []
 
--- each check of a document, in order, with the fault that it comes to where it fails
-abbrev pub faults : Members → List (Option Fault)
-faults table =
+-- each check of how large the run is, in order
+abbrev pub basics_faults : Members → List (Option Fault)
+basics_faults table =
     result_err (format_at table)
     ∷ result_err (nodes_at table)
     ∷ result_err (keys_at table)
     ∷ size_fault (nodes_at table) (keys_at table)
     ∷ result_err (rounds_at table)
     ∷ result_err (seed_at table)
-    ∷ result_err (mode_at table)
-    ∷ result_err (budget_at (format_in table) table)
+    ∷ []
+
+-- each check of its rules, in order
+abbrev pub conduct_faults : ℕ → Members → List (Option Fault)
+conduct_faults format table =
+    result_err (mode_at table)
+    ∷ result_err (budget_at format table)
     ∷ result_err (peers_at table)
     ∷ result_err (rotation_at table)
     ∷ result_err (choice_at table)
     ∷ result_err (loss_ppm_at table)
     ∷ result_err (writes_at table)
-    ∷ (array_faults field.Partition (partition_faults (nodes_in table)) table
+    ∷ []
+
+-- each check of a document, in order, with the fault that it comes to where it fails
+abbrev pub faults : Members → List (Option Fault)
+faults table =
+    basics_faults table
+    ++ (conduct_faults (format_in table) table
+    ++ (array_faults field.Partition (partition_faults (nodes_in table)) table
     ++ (array_faults field.Restart (restart_faults (format_in table) (nodes_in table)) table
     ++ (array_faults field.Load load_faults table
-    ++ unknown_faults table)))
+    ++ unknown_faults table))))
 
 abbrev pub first_of : List (Option Fault) → Option Fault
 first_of [] = None

@@ -11,7 +11,7 @@ use Rattle.node_table.proofs.Laws.{frame-applied, entry_at-applied_other, entry_
 use Rattle.owner_lists.specs.declared.lists.Write.{Write}
 use Rattle.owner_lists.specs.Writes.{write_of_entry, next_write, is_write_of, AreBornBy}
 use Rattle.staleness.specs.OwnParts.{OwnPartIsLastWrites}
-use Rattle.node_table.proofs.Comparing.{nat_cmp-equal}
+use Rattle.bench_types.proofs.Comparing.{nat_cmp-equal}
 use Rattle.owner_lists.proofs.Last.{same_key, with_version, last_write-push}
 
 -- nothing is held, and nothing was written

@@ -13,7 +13,7 @@ use Rattle.bench_types.specs.declared.entries.Entry.{Entry}
 use Rattle.bench_types.specs.Mark.{absent}
 use Rattle.node_table.specs.Table.{Table, entry_at, IsProper}
 use Rattle.node_table.specs.Entries.{AreAbove, entry_cmp}
-use Rattle.node_table.proofs.Comparing.{nat_cmp-equal}
+use Rattle.bench_types.proofs.Comparing.{nat_cmp-equal}
 use Rattle.staleness.specs.inner.Copies.{has_key}
 
 contains_at : {X : Type 0} (xs : List X) (i : ℕ) (d : X) → i < length xs → Contains xs (get_or xs i d)

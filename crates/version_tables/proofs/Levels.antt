@@ -16,7 +16,7 @@ use Rattle.bench_types.specs.declared.exchanges.Mode.TheVariants.{ScuttleBreadth
 use Rattle.node_table.specs.Table.{Table, entry_at, items_of, generation_held, IsProper}
 use Rattle.node_table.proofs.Items.{entry_at-items_of}
 use Rattle.reconcile.proofs.Members.{Contains-kept}
-use Rattle.node_table.proofs.Comparing.{nat_cmp-less, nat_cmp-equal, nat_cmp-greater}
+use Rattle.bench_types.proofs.Comparing.{nat_cmp-less, nat_cmp-equal, nat_cmp-greater}
 use Rattle.reconcile.specs.Candidates.{candidates}
 use Rattle.reconcile.specs.Order.{rotated, rank_among, owner_count, sending_order}
 use Rattle.reconcile.proofs.Apart.{rotated-injective}

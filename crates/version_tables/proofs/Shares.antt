@@ -10,7 +10,7 @@ use Rattle.bench_types.specs.declared.entries.Entry.{Entry}
 use Rattle.bench_types.specs.declared.entries.Item.{Item}
 use Rattle.bench_types.specs.declared.exchanges.Mode.{Mode}
 use Rattle.node_table.specs.Table.{Table, IsProper}
-use Rattle.node_table.proofs.Comparing.{nat_cmp-less, nat_cmp-greater}
+use Rattle.bench_types.proofs.Comparing.{nat_cmp-less, nat_cmp-greater}
 use Rattle.reconcile.specs.Candidates.{candidates}
 use Rattle.reconcile.specs.Order.{rotated, sending_order}
 use Rattle.reconcile.proofs.Apart.{rotated-injective}

@@ -1,7 +1,6 @@
-use Rattle.std.proofs.Common.{◌≡◌, ℕ, ◌≤◌, ◌+◌, ◌-◌, ◌∷◌, [], ◌++◌, List, length, take, drop, is_ok, sym, ap, ◌∙◌, subst, arith}
+use Rattle.std.proofs.Common.{◌≡◌, ℕ, ◌+◌, ◌-◌, ◌∷◌, [], ◌++◌, List, length, take, drop, is_ok, sym, ap, ◌∙◌, subst, arith}
 use Rattle.owner_lists.specs.declared.lists.Link.{Link}
-use Rattle.owner_lists.specs.inner.Linked.{writes_linked, version_or_zero, IsLinked, IsRelinked}
-use Rattle.owner_lists.specs.Writes.{last_write}
+use Rattle.owner_lists.specs.inner.Linked.{writes_linked, IsLinked, IsRelinked}
 use Rattle.owner_lists.proofs.Linking.{length-writes_linked, relinked_length, last_within, linked_pushed}
 use Rattle.owner_lists.proofs.Keeping.{sliced, pushed_behind}
 use Rattle.owner_lists.proofs.lists.append.Goals as goal

@@ -1,6 +1,5 @@
-use Rattle.std.proofs.Common.{◌≡◌, ◌<◌, ◌≤◌, ◌+◌, length, sym, ap, ◌∙◌, Some, arith}
+use Rattle.std.proofs.Common.{◌<◌, ◌≤◌, length, sym, ap, ◌∙◌, Some, arith}
 use Rattle.std.proofs.lemmas.List.{get_or-map, length-map}
-use Rattle.bench_types.specs.declared.entries.Entry.{Entry}
 use Rattle.owner_lists.specs.declared.lists.Link.{Link}
 use Rattle.owner_lists.specs.inner.Linked.{entries_linked}
 use Rattle.owner_lists.proofs.Marked.{numbered_here, numbered_nowhere}

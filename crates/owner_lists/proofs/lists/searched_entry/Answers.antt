@@ -1,11 +1,7 @@
-use Rattle.std.proofs.Common.{◌≡◌, ◌≢◌, ◌<◌, ◌≤◌, ◌+◌, List, length, get_or, sym, ap, ◌∙◌, subst, Some, true, false, rules, arith}
-use Rattle.std.specs.List.Sorted.{IsPartitionPoint}
+use Rattle.std.proofs.Common.{◌<◌, ◌≤◌, length, sym, ap, ◌∙◌, Some, rules, arith}
 use Rattle.std.proofs.lemmas.List.{get_or-map, length-map}
 use Rattle.std.proofs.lemmas.List.Sorted.{IsPartitionPoint-from_clause}
-use Rattle.bench_types.specs.declared.entries.Entry.{Entry}
-use Rattle.bench_types.specs.declared.entries.Mark.{Mark}
 use Rattle.bench_types.specs.Mark.{mark_of, is_before}
-use Rattle.owner_lists.specs.OwnerListView.{has_mark, MarksRise}
 use Rattle.owner_lists.specs.declared.lists.Link.{Link}
 use Rattle.owner_lists.specs.inner.Linked.{entries_linked}
 use Rattle.owner_lists.proofs.Marked.{same_mark, other_mark, parted_links, point_of_links, risen_here, risen_nowhere}

@@ -1,7 +1,7 @@
 use Rattle.std.proofs.Common.{◌<◌, length, map, sym, ◌∙◌, subst, arith}
 use Rattle.std.proofs.lemmas.Result.{IfOk-weaker}
 use Rattle.cluster.specs.Tables.{table_of_node}
-use Rattle.pool.proofs.Pairs.{front_table, back_table, front_fits, back_fits, exchanged_low, exchanged_high}
+use Rattle.pool.proofs.Pairs.{front_table, back_table, front_fits, back_fits, may_be_exchanged, exchanged_low, exchanged_high}
 use Rattle.pool.proofs.in_order.exchange_pair.Goals as goal
 
 pub returns-then-initiator-responder-clause-exchanged : goal.returns-then-initiator-responder-clause-exchanged
@@ -30,13 +30,7 @@ exchange-requires g c =
     let second = back_table g.T.MemoryTable.table xs split.result.0.now split.result.1.now split.ensures.value nodes keys c.requires.tables c.index-from-0.result c.args.plan.now.responder split.ensures.front_len (omega (arith, split.ensures.back_len, c.requires.planned.responder)) c.requires.planned.responder in
     record {
       budget = c.requires.budget;
-      tables = record {
-        first = first.node;
-        second = second.node;
-        nodes = first.nodes ∙ sym second.nodes;
-        keys = first.keys ∙ sym second.keys;
-        rotation = subst (λ n. c.args.plan.now.rotation < n) (sym first.nodes) c.requires.planned.rotation;
-      };
+      tables = may_be_exchanged nodes keys c.args.plan.now _ _ first second c.requires.planned.rotation;
       fits = (
         front_fits g.T.MemoryTable.table xs split.result.0.now split.result.1.now split.ensures.value fits c.requires.fits c.index-below-initiator.result c.args.plan.now.initiator (omega (arith, split.ensures.front_len, c.if-initiator-responder.true)) c.requires.planned.initiator,
         back_fits g.T.MemoryTable.table xs split.result.0.now split.result.1.now split.ensures.value fits c.requires.fits c.index-from-0.result c.args.plan.now.responder split.ensures.front_len (omega (arith, split.ensures.back_len, c.requires.planned.responder)) c.requires.planned.responder,
@@ -54,13 +48,7 @@ exchange-requires-else-initiator-responder g c =
     let second = front_table g.T.MemoryTable.table xs split.result.0.now split.result.1.now split.ensures.value nodes keys c.requires.tables c.index-below-responder.result c.args.plan.now.responder (omega (arith, split.ensures.front_len, c.if-initiator-responder.false, c.requires.planned.apart)) c.requires.planned.responder in
     record {
       budget = c.requires.budget;
-      tables = record {
-        first = first.node;
-        second = second.node;
-        nodes = first.nodes ∙ sym second.nodes;
-        keys = first.keys ∙ sym second.keys;
-        rotation = subst (λ n. c.args.plan.now.rotation < n) (sym first.nodes) c.requires.planned.rotation;
-      };
+      tables = may_be_exchanged nodes keys c.args.plan.now _ _ first second c.requires.planned.rotation;
       fits = (
         back_fits g.T.MemoryTable.table xs split.result.0.now split.result.1.now split.ensures.value fits c.requires.fits c.index-from-0-else-initiator-responder.result c.args.plan.now.initiator split.ensures.front_len (omega (arith, split.ensures.back_len, c.requires.planned.initiator)) c.requires.planned.initiator,
         front_fits g.T.MemoryTable.table xs split.result.0.now split.result.1.now split.ensures.value fits c.requires.fits c.index-below-responder.result c.args.plan.now.responder (omega (arith, split.ensures.front_len, c.if-initiator-responder.false, c.requires.planned.apart)) c.requires.planned.responder,

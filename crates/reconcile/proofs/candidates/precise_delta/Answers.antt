@@ -6,7 +6,7 @@ use Rattle.reconcile.specs.inner.Keys.{items_in, AllSet, IsSentOf}
 use Rattle.reconcile.specs.inner.Newer.{AreCandidates}
 use Rattle.reconcile.proofs.Answering.{few-found, within-first, answer-sent, few-sent}
 use Rattle.reconcile.proofs.candidates.precise_delta.Goals as goal
-use Rattle.reconcile.proofs.candidates.precise_delta.Goals.{then-likely-len+in_ok-delta+in_default+in_ok-found-2, else-likely-len}
+use Rattle.reconcile.proofs.candidates.precise_delta.Goals.{Joined-likely-len, then-likely-len+in_ok-delta+in_default+in_ok-found-2, else-likely-len}
 
 pub likely_delta-requires-clause-few : goal.likely_delta-requires-clause-few
 likely_delta-requires-clause-few c =
@@ -42,17 +42,20 @@ returns-in-Some-clause-few c =
     few-sent c.args.turns.mode t c.args.digest.now c.args.receiver c.args.turns.rotation c.requires.proper in_nodes found are c.args.budget c.in-Some.delta
     (subst (λ (cs : List Candidate). IsSentOf c.args.budget cs c.in-Some.delta) c.deref_mut.ensures.value sent)
 
+-- those that are sorted, found at once or again
+all_found : (c : Joined-likely-len) → AreCandidates c.args.table.now.table c.args.digest.now c.args.receiver c.args.table.now.table.nodes (items_in c.if-likely-len.found.items)
+all_found c =
+    subst (λ n. AreCandidates c.args.table.now.table c.args.digest.now c.args.receiver n (items_in c.if-likely-len.found.items)) c.requires.nodes (elim c.if-likely-len.branch [
+      | then-likely-len+in_ok-delta+in_default+in_ok-found-2 w ↦ subst (λ v. AreCandidates c.args.table.now.table c.args.digest.now c.args.receiver c.args.turns.nodes (items_in v.items)) (sym w.found-is) w.in_ok-found-2.ensures.all
+      | else-likely-len w ↦ subst (λ v. AreCandidates c.args.table.now.table c.args.digest.now c.args.receiver c.args.turns.nodes (items_in v.items)) (sym w.found-is) c.in_ok-found.ensures.all
+    ])
+
 pub sorted_delta-requires : goal.sorted_delta-requires
 sorted_delta-requires c =
     let t = c.args.table.now.table in
     let found = c.if-likely-len.found.items in
     let in_nodes = subst (λ n. c.args.turns.rotation < n) c.requires.nodes c.requires.rotation in
-    let all : AreCandidates t c.args.digest.now c.args.receiver c.args.turns.nodes (items_in found) =
-    elim c.if-likely-len.branch [
-      | then-likely-len+in_ok-delta+in_default+in_ok-found-2 w ↦ subst (λ v. AreCandidates t c.args.digest.now c.args.receiver c.args.turns.nodes (items_in v.items)) (sym w.found-is) w.in_ok-found-2.ensures.all
-      | else-likely-len w ↦ subst (λ v. AreCandidates t c.args.digest.now c.args.receiver c.args.turns.nodes (items_in v.items)) (sym w.found-is) c.in_ok-found.ensures.all
-    ] in
-    let are = subst (λ n. AreCandidates t c.args.digest.now c.args.receiver n (items_in found)) c.requires.nodes all in
+    let are = all_found (goal.at.sorted_delta-requires c).Joined-likely-len in
     record { few = omega (arith, few-found c.args.turns.mode t c.args.digest.now c.args.receiver c.args.turns.rotation c.requires.proper in_nodes found are, ap length c.deref_mut-2.ensures.value) }
 
 pub returns-clause-ok : goal.returns-clause-ok
@@ -60,17 +63,12 @@ returns-clause-ok c =
     let t = c.args.table.now.table in
     let found = c.if-likely-len.found.items in
     let in_nodes = subst (λ n. c.args.turns.rotation < n) c.requires.nodes c.requires.rotation in
-    let all : AreCandidates t c.args.digest.now c.args.receiver c.args.turns.nodes (items_in found) =
-    elim c.if-likely-len.branch [
-      | then-likely-len+in_ok-delta+in_default+in_ok-found-2 w ↦ subst (λ v. AreCandidates t c.args.digest.now c.args.receiver c.args.turns.nodes (items_in v.items)) (sym w.found-is) w.in_ok-found-2.ensures.all
-      | else-likely-len w ↦ subst (λ v. AreCandidates t c.args.digest.now c.args.receiver c.args.turns.nodes (items_in v.items)) (sym w.found-is) c.in_ok-found.ensures.all
-    ] in
     let numbers : AllSet c.args.turns.mode c.args.turns.nodes c.args.turns.rotation found =
     elim c.if-likely-len.branch [
       | then-likely-len+in_ok-delta+in_default+in_ok-found-2 w ↦ subst (λ v. AllSet c.args.turns.mode c.args.turns.nodes c.args.turns.rotation v.items) (sym w.found-is) w.in_ok-found-2.ensures.set
       | else-likely-len w ↦ subst (λ v. AllSet c.args.turns.mode c.args.turns.nodes c.args.turns.rotation v.items) (sym w.found-is) c.in_ok-found.ensures.set
     ] in
-    let are = subst (λ n. AreCandidates t c.args.digest.now c.args.receiver n (items_in found)) c.requires.nodes all in
+    let are = all_found (goal.at.returns-clause-ok c).Joined-likely-len in
     let set = subst (λ n. AllSet c.args.turns.mode n c.args.turns.rotation found) c.requires.nodes numbers in
     IfOk-weaker c.sorted_delta.result (IsSentOf c.args.budget c.deref_mut-2.result.now) (λ d. d ≡ answer_of c.args.turns.mode c.args.turns.rotation c.args.budget t c.args.receiver c.args.digest.now)
     (λ d sent. answer-sent c.args.turns.mode t c.args.digest.now c.args.receiver c.args.turns.rotation c.requires.proper in_nodes found are c.requires.precise set c.args.budget d
@@ -88,12 +86,7 @@ returns-clause-few c =
     let t = c.args.table.now.table in
     let found = c.if-likely-len.found.items in
     let in_nodes = subst (λ n. c.args.turns.rotation < n) c.requires.nodes c.requires.rotation in
-    let all : AreCandidates t c.args.digest.now c.args.receiver c.args.turns.nodes (items_in found) =
-    elim c.if-likely-len.branch [
-      | then-likely-len+in_ok-delta+in_default+in_ok-found-2 w ↦ subst (λ v. AreCandidates t c.args.digest.now c.args.receiver c.args.turns.nodes (items_in v.items)) (sym w.found-is) w.in_ok-found-2.ensures.all
-      | else-likely-len w ↦ subst (λ v. AreCandidates t c.args.digest.now c.args.receiver c.args.turns.nodes (items_in v.items)) (sym w.found-is) c.in_ok-found.ensures.all
-    ] in
-    let are = subst (λ n. AreCandidates t c.args.digest.now c.args.receiver n (items_in found)) c.requires.nodes all in
+    let are = all_found (goal.at.returns-clause-few c).Joined-likely-len in
     IfOk-weaker c.sorted_delta.result (IsSentOf c.args.budget c.deref_mut-2.result.now) (λ d. length d.items < 2 ^ 32)
     (λ d sent. few-sent c.args.turns.mode t c.args.digest.now c.args.receiver c.args.turns.rotation c.requires.proper in_nodes found are c.args.budget d
     (subst (λ (cs : List Candidate). IsSentOf c.args.budget cs d) c.deref_mut-2.ensures.value sent))

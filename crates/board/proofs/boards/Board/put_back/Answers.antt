@@ -1,8 +1,9 @@
-use Rattle.std.proofs.Common.{rules, ap, sym, ◌∙◌, ◌<◌, subst, length, IfSome}
+use Rattle.std.proofs.Common.{◌≡◌, ap, sym, ◌∙◌, ◌<◌, subst, length, IfSome}
 use Rattle.dependencies.specs.Neighbours.{successors}
-use Rattle.board.specs.Boards.{plan_of, seat_view, exchanges_of, IsPutBack}
+use Rattle.board.specs.Boards.{plan_of, seat_view, exchanges_of, IsSeatOf, IsPutBack}
 use Rattle.board.specs.inner.Plays.{OwesTo, IsReleased}
 use Rattle.board.proofs.Calls.{at_rest, seat_of_me, owes_first, owes_second, after_second, put_back_seat}
+use Rattle.board.proofs.boards.Board.put_back.Given as given
 use Rattle.board.proofs.boards.Board.put_back.Goals as goal
 
 pub put_in-requires-clause-rests : goal.put_in-requires-clause-rests
@@ -25,22 +26,23 @@ release-second-requires-clause-owes g c =
     (owes_second plan (seat_view c.args.seat.now) i c.put_in.new.raw.me c.put_in.ensures.seat c.requires.seat.rests.parts (c.requires.seat.within i c.requires.hold.held) c.release-first.new.raw.me c.release-first.result
     (λ none. c.release-first.ensures.none (ap (λ a. a.first) after ∙ none)) (subst (λ x. IfSome x (λ j. IsReleased plan c.put_in.new.raw.me j c.release-first.result c.release-first.new.raw.me)) (ap (λ a. a.first) after) c.release-first.ensures.released))
 
-pub returns-clause-seat : goal.returns-clause-seat
-returns-clause-seat g c =
+-- what the two releases leave
+put_back : (g : given.Over) (c : goal.After-release-second g) → IsSeatOf g.T.MemoryTable.table (record { raw = c.release-second.new.raw }) c.args.self.now
+    × IsPutBack (plan_of g.T.MemoryTable.table c.args.self.now) (seat_view c.args.seat.now) c.args.hold.index (record { first = c.release-first.result; second = c.release-second.result }) c.release-second.new.raw.me.0.seat
+put_back g c =
     let plan = plan_of g.T.MemoryTable.table c.args.self.now in
     let i = c.args.hold.index in
     let after = c.after-after.ensures ∙ ap (λ l. successors l.exchanges i) c.args.self.now.planned.1 in
     let both = after_second plan (seat_view c.args.seat.now) i c.put_in.new.raw.me c.put_in.ensures.seat c.requires.seat.rests.parts (c.requires.seat.within i c.requires.hold.held) c.release-first.new.raw.me c.release-first.result
     (λ none. c.release-first.ensures.none (ap (λ a. a.first) after ∙ none)) (subst (λ x. IfSome x (λ j. IsReleased plan c.put_in.new.raw.me j c.release-first.result c.release-first.new.raw.me)) (ap (λ a. a.first) after) c.release-first.ensures.released)
     c.release-second.new.raw.me c.release-second.result (λ none. c.release-second.ensures.none (ap (λ a. a.second) after ∙ none)) (subst (λ x. IfSome x (λ j. IsReleased plan c.release-first.new.raw.me j c.release-second.result c.release-second.new.raw.me)) (ap (λ a. a.second) after) c.release-second.ensures.released) in
-    put_back_seat g.T.MemoryTable.table c.args.self.now c.args.seat.now (record { raw = c.release-second.new.raw }) i _ _ c.release-first.result c.release-second.result c.requires.seat c.requires.hold.held (search rules) both.0
+    let same : c.release-second.new.raw.table_id ≡ c.args.seat.now.raw.table_id = c.release-second.ensures.id ∙ c.release-first.ensures.id ∙ c.put_in.ensures.id in (
+      put_back_seat g.T.MemoryTable.table c.args.self.now c.args.seat.now (record { raw = c.release-second.new.raw }) i _ _ c.release-first.result c.release-second.result c.requires.seat c.requires.hold.held same both.0,
+      subst (IsPutBack plan (seat_view c.args.seat.now) i (record { first = c.release-first.result; second = c.release-second.result })) (sym (seat_of_me c.release-second.new.raw.me plan _ both.0)) both.1,
+    )
+
+pub returns-clause-seat : goal.returns-clause-seat
+returns-clause-seat g c = (put_back g c).0
 
 pub returns-clause-put_back : goal.returns-clause-put_back
-returns-clause-put_back g c =
-    let plan = plan_of g.T.MemoryTable.table c.args.self.now in
-    let i = c.args.hold.index in
-    let after = c.after-after.ensures ∙ ap (λ l. successors l.exchanges i) c.args.self.now.planned.1 in
-    let both = after_second plan (seat_view c.args.seat.now) i c.put_in.new.raw.me c.put_in.ensures.seat c.requires.seat.rests.parts (c.requires.seat.within i c.requires.hold.held) c.release-first.new.raw.me c.release-first.result
-    (λ none. c.release-first.ensures.none (ap (λ a. a.first) after ∙ none)) (subst (λ x. IfSome x (λ j. IsReleased plan c.put_in.new.raw.me j c.release-first.result c.release-first.new.raw.me)) (ap (λ a. a.first) after) c.release-first.ensures.released)
-    c.release-second.new.raw.me c.release-second.result (λ none. c.release-second.ensures.none (ap (λ a. a.second) after ∙ none)) (subst (λ x. IfSome x (λ j. IsReleased plan c.release-first.new.raw.me j c.release-second.result c.release-second.new.raw.me)) (ap (λ a. a.second) after) c.release-second.ensures.released) in
-    subst (IsPutBack plan (seat_view c.args.seat.now) i (record { first = c.release-first.result; second = c.release-second.result })) (sym (seat_of_me c.release-second.new.raw.me plan _ both.0)) both.1
+returns-clause-put_back g c = (put_back g c).1

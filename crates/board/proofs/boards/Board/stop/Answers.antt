@@ -1,16 +1,15 @@
 use Rattle.std.proofs.Common.{arith, refl}
 use Rattle.board.specs.Boards.{plan_of}
 use Rattle.board.proofs.Steps.{stop_allowed}
-use Rattle.board.proofs.Calls.{at_rest, word_zero, rests_again}
+use Rattle.board.proofs.Calls.{seat_rests, word_zero, rests_again}
 use Rattle.board.proofs.boards.Board.stop.Goals as goal
 
 pub fetch_or-requires : goal.fetch_or-requires
-fetch_or-requires g c =
-    let table = g.T.MemoryTable.table in
-    let plan = plan_of table c.args.self.now in
-    let me = c.args.seat.now.raw.me in
-    let is = c.requires.seat in
-    (is.id, word_zero c.args.self.now, stop_allowed table plan _ _ me me.0.seat is.rests.parts (at_rest plan me is.plan is.rests))
+fetch_or-requires g c = (
+  c.requires.seat.id,
+  word_zero c.args.self.now,
+  stop_allowed g.T.MemoryTable.table (plan_of g.T.MemoryTable.table c.args.self.now) _ _ c.args.seat.now.raw.me c.args.seat.now.raw.me.0.seat c.requires.seat.rests.parts (seat_rests g.T.MemoryTable.table c.args.self.now c.args.seat.now c.requires.seat),
+)
 
 pub returns-clause-seat : goal.returns-clause-seat
 returns-clause-seat g c = rests_again g.T.MemoryTable.table c.args.self.now c.args.seat.now (record { raw = c.fetch_or.new.seat }) _ c.requires.seat c.fetch_or.ensures.0 c.fetch_or.ensures.2.0 refl (λ i. omega arith)

@@ -1,20 +1,13 @@
-use Rattle.std.proofs.Common.{◌<◌, length, ap, ◌∙◌, arith}
+use Rattle.std.proofs.Common.{ap, arith}
 use Rattle.round_plan.specs.Plan.{RoundListView}
 use Rattle.dependencies.specs.Neighbours.{successors}
-use Rattle.dependencies.proofs.Passes.{length_each, each_at}
+use Rattle.dependencies.proofs.Passes.{indexed}
 use Rattle.dependencies.proofs.deps.Deps.after.Goals as goal
 
 pub index-requires : goal.index-requires
 index-requires c =
-    let es = c.self.inside.exchanges.items in
-    let same = ap (λ (p : RoundListView). p.exchanges) c.self.view_is in
-    omega (arith, c.requires.within, ap length same, length_each (successors es) c.self.inside.after.items (length es) c.self.invariant.1.after, c.self.inside.after.ok.0)
+    let at = indexed successors c.self.inside.exchanges.items _ c.self.inside.after.items c.args.i (ap (λ (p : RoundListView). p.exchanges) c.self.view_is) c.self.invariant.1.after c.requires.within in
+    omega (arith, at.0, c.self.inside.after.ok.0)
 
 pub returns : goal.returns
-returns c =
-    let es = c.self.inside.exchanges.items in
-    let same = ap (λ (p : RoundListView). p.exchanges) c.self.view_is in
-    let within : c.args.i < length es = omega (arith, c.requires.within, ap length same) in
-    c.index.ensures
-    ∙ each_at (successors es) c.self.inside.after.items (length es) c.args.i c.index.result.now c.self.invariant.1.after within
-    ∙ ap (λ xs. successors xs c.args.i) same
+returns c = (indexed successors c.self.inside.exchanges.items _ c.self.inside.after.items c.args.i (ap (λ (p : RoundListView). p.exchanges) c.self.view_is) c.self.invariant.1.after c.requires.within).1 c.index.result.now c.index.ensures

@@ -1,4 +1,4 @@
-use Rattle.std.proofs.Common.{◌≡◌, ◌≢◌, List, take, drop, sym, ap, ◌∙◌, subst, arith}
+use Rattle.std.proofs.Common.{List, take, drop, sym, ap, ◌∙◌, subst}
 use Rattle.std.specs.List.{find}
 use Rattle.owner_lists.specs.declared.lists.Link.{Link}
 use Rattle.owner_lists.specs.OwnerListView.{OwnerListView, has_mark, MarksRise, entry_of}

@@ -1,4 +1,4 @@
-use Rattle.std.proofs.Common.{◌≡◌, ◌+◌, ◌-◌, ◌<◌, ◌^◌, leb, ◌&&◌, ◌∷◌, [], ◌++◌, List, length, take, drop, sym, ap, ◌∙◌, subst, arith}
+use Rattle.std.proofs.Common.{◌≡◌, ◌+◌, ◌<◌, ◌^◌, leb, ◌&&◌, ◌∷◌, [], ◌++◌, List, length, take, drop, sym, ap, ◌∙◌, arith}
 use Rattle.std.specs.Ordering.{nat_cmp}
 use Rattle.std.specs.FinMap.{put}
 use Rattle.std.proofs.lemmas.List.{length-map}
@@ -7,12 +7,12 @@ use Rattle.owner_lists.specs.declared.lists.Link.{Link}
 use Rattle.owner_lists.specs.declared.lists.Write.{Write}
 use Rattle.owner_lists.specs.OwnerListView.{OwnerListView, next_entry}
 use Rattle.owner_lists.specs.Writes.{write_of_entry, last_write}
-use Rattle.owner_lists.specs.Missed.{last_born, born_in_order}
+use Rattle.owner_lists.specs.Missed.{last_born}
 use Rattle.owner_lists.specs.Latest.{keyed, write_of}
 use Rattle.owner_lists.specs.inner.Linked.{entries_linked, writes_linked, version_or_zero, view_of}
-use Rattle.owner_lists.proofs.Linking.{numbered-writes_linked, length-writes_linked, latest_pushed, firsts_after, kept_pushed}
+use Rattle.owner_lists.proofs.Linking.{numbered-writes_linked, latest_pushed, firsts_after, kept_pushed}
 use Rattle.owner_lists.proofs.InOrder.{in_order-push}
-use Rattle.owner_lists.proofs.Keeping.{sliced, shown_kept, shown_written, kept_written, view_written}
+use Rattle.owner_lists.proofs.Keeping.{sliced, shown_kept, shown_written, kept_written}
 use Rattle.owner_lists.proofs.lists.OwnerList.write.Goals as goal
 use Rattle.owner_lists.proofs.lists.OwnerList.write.Goals.{then-self, else-self}
 

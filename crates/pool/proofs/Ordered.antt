@@ -1,5 +1,5 @@
 -- What a whole seat's records and tables come to.
--- Serves `exchange_in_threads`.
+-- Serves `begin`, `end` and `exchange_in_threads`.
 use Rattle.std.proofs.Common.{◌≡◌, ℕ, ◌<◌, Bool, List, [], ◌∷◌, length, map, All, inl, inr, sym, ap, ◌∙◌, subst, arith}
 use Rattle.std.specs.Prelude.{Some, slice_get}
 use Rattle.std.specs.List.{range_with_len, filter}
@@ -11,21 +11,25 @@ use Rattle.std.proofs.lemmas.Bool.{cases_Bool}
 use Rattle.bench_types.specs.declared.exchanges.Exchange.{Exchange}
 use Rattle.bench_types.specs.declared.exchanges.Record.{Record}
 use Rattle.bench_types.specs.declared.exchanges.Rules.{Rules}
+use Rattle.bench_types.specs.Budget.{IsLawfulBudget}
 use Rattle.node_table.specs.Table.{Table}
 use Rattle.round_plan.specs.Plan.{RoundListView}
 use Rattle.cluster.specs.Folds.{fold_of}
+use Rattle.cluster.specs.Tables.{IsCluster, HoldsOfEach}
 use Rattle.cluster.proofs.FoldLaws.{fold_counts_records}
 use Rattle.dependencies.specs.Neighbours.{is_first_ready, first_ready_of}
 use Rattle.dependencies.proofs.Moves.{record_kept}
 use Rattle.board.specs.SeatView.{SeatView}
 use Rattle.board.specs.Weights.{times}
 use Rattle.board.specs.Plan.{BoardPlan, exchanged_at}
-use Rattle.board.specs.Boards.{AreLeft, HasMadeAll}
+use Rattle.board.specs.Boards.{AreLeft, HasMadeAll, IsMadeOf}
 use Rattle.collector.specs.declared.collectors.Stamped.{Stamped}
-use Rattle.pool.specs.Runs.{AreExchanged}
 use Rattle.pool.specs.inner.Deques.{AllBelow}
 use Rattle.pool.specs.inner.Returns.{AreRecordsOf}
-use Rattle.pool.specs.inner.Gathering.{AreInListOrder}
+use Rattle.pool.specs.inner.Gathering.{IsEachOnce, AreInListOrder}
+use Rattle.pool.specs.inner.Joined.{IsEndOf}
+use Rattle.pool.specs.inner.Workshops.{IsWorkshop}
+use Rattle.pool.specs.declared.workers.Workshop.{Workshop}
 use Rattle.pool.proofs.Collecting.{stamp_of}
 
 all_filter : (P : ℕ → Type 0) (p : ℕ → Bool) (xs : List ℕ) → All P xs → All P (filter p xs)
@@ -68,14 +72,27 @@ module _ (rules : Rules) (list : RoundListView) (old : List Table) (v : SeatView
       get_or_from_slice_get (fold_of rules (old) es).records k (exchanged_at made_of k).sent d (record_kept rules (old) es k below)
       ∙ sym (get_or_from_slice_get records k (exchanged_at made_of k).sent d (record_at of_seat all ordered k below)))
 
+-- the stamps of a whole seat
+pub each_once : (plan : BoardPlan) (v : SeatView) (stamps : List Stamped) (n : ℕ) → n ≡ length plan.list.exchanges → AreRecordsOf plan v stamps → HasMadeAll plan v → IsEachOnce n (map (λ s. s.index) stamps)
+each_once plan v stamps n size of_seat all =
+    subst (IsEachOnce n) (sym of_seat.made) (subst (λ m. IsEachOnce m v.made) (sym size) all)
+
 -- tables and records of list order
-pub all_exchanged : {T : Type 0} (table : T → Table) (rules : Rules) (list : RoundListView) (old new : List T) (plan : BoardPlan) (v : SeatView) (stamps : List Stamped) (records : List Record) (n : ℕ)
-    → plan ≡ record { rules = rules; list = list; tables = map table old } → n ≡ length list.exchanges
-    → AreRecordsOf plan v stamps → HasMadeAll plan v → AreInListOrder n stamps records → AreLeft table plan new → AreExchanged table rules list.exchanges old new records
-all_exchanged table rules list old new plan v stamps records n is size of_seat all ordered left =
-    let of_seat' = subst (λ p. AreRecordsOf p v stamps) is of_seat in
-    let all' = subst (λ p. HasMadeAll p v) is all in
+pub all_ended : {T : Type 0} (table : T → Table) (plan : BoardPlan) (new : List T) (v : SeatView) (stamps : List Stamped) (records : List Record) (n : ℕ) → n ≡ length plan.list.exchanges
+    → AreRecordsOf plan v stamps → HasMadeAll plan v → AreInListOrder n stamps records → AreLeft table plan new → IsEndOf table plan new records
+all_ended table plan new v stamps records n size of_seat all ordered left =
     let ordered' = subst (λ m. AreInListOrder m stamps records) size ordered in
-    let left' = subst (λ p. AreLeft table p new) is left in
-    let same = records_same rules list (map table old) v stamps records of_seat' all' ordered' in
-    λ i. record { tables = sym left' i; records = same i }
+    let same = records_same plan.rules plan.list plan.tables v stamps records of_seat all ordered' in
+    λ i. record { tables = sym left i; records = same i }
+
+-- the board of a workshop was made of its list and these tables
+pub is_workshop : {T G S : Type 0} (table : T → Table) (fits : S → Table → Type 0) (shop : Workshop T G S) (tables : List T) → IsMadeOf table shop.rules.now shop.list.now tables shop.board.now
+    → IsCluster shop.list.now.nodes (map table tables) → HoldsOfEach (fits shop.shared.now) (map table tables) → IsLawfulBudget shop.rules.now.budget → IsWorkshop table fits shop
+is_workshop table fits shop tables made cluster fit budget =
+    let same_tables = ap (λ (p : BoardPlan). p.tables) made in record {
+      same_list = ap (λ (p : BoardPlan). p.list) made;
+      same_rules = ap (λ (p : BoardPlan). p.rules) made;
+      cluster = subst (IsCluster shop.list.now.nodes) (sym same_tables) cluster;
+      each_fits = subst (HoldsOfEach (fits shop.shared.now)) (sym same_tables) fit;
+      budget = budget;
+    }

@@ -5,12 +5,12 @@ ghost use Rattle.bench_types.specs.declared.faults.Fault.TheVariants.{OutOfMemor
 ghost use Rattle.bench_types.specs.declared.limits.TheConstants.{MOST_WORKERS};
 ghost use Rattle.bench_types.specs.Budget.{IsLawfulBudget};
 ghost use Rattle.cluster.specs.Tables.{IsCluster, HoldsOfEach};
-ghost use Rattle.board.specs.Boards.{seat_view, IsSeatOf};
+ghost use Rattle.board.specs.Boards.{plan_of, seat_view, IsMadeOf, IsSeatOf};
 ghost use Rattle.pool.specs.Runs.{AreExchanged, IsPoolFault};
 ghost use Rattle.pool.specs.inner.Returns.{IsFreshSeat, IsReturned};
 ghost use Rattle.pool.specs.inner.Starts.{MaySplit};
 ghost use Rattle.pool.specs.inner.Workshops.{IsWorkshop};
-ghost use Rattle.pool.specs.inner.Joined.{HasTakenIn, HasSeenAll, IsOfBoard, AreTogether};
+ghost use Rattle.pool.specs.inner.Joined.{HasTakenIn, HasSeenAll, IsEndOf, IsOfBoard, AreTogether};
 
 use crate::deques::{Limit, Tasks, deal};
 use crate::gates::Gate;
@@ -65,9 +65,7 @@ pub(crate) fn exchange_in_threads<
         (λ p. AreExchanged T.table rules.now list.now.exchanges tables.items p.0.items p.1.items) }
     ensures fault { IfErr result (IsPoolFault workers) }
 {
-    let deps = Deps::new(alloc, list)?;
-    let tasks = deal::<L>(alloc, workers, deps.first_ready())?;
-    let (board, seat) = Board::new(alloc, deps, *rules, tables)?;
+    let (board, seat, tasks) = begin::<L, T>(alloc, list, tables, workers, rules)?;
     let shop = Workshop {
         alloc,
         board: &board,
@@ -77,10 +75,49 @@ pub(crate) fn exchange_in_threads<
         gate,
     };
     let (seat, stamps) = run_workers(rt, &shop, seat, tasks)?;
+    end(alloc, list, board, seat, &stamps)
+}
+
+// A board of the list and the tables with its first seat, and the tasks of so many workers.
+fn begin<L: Limit, T: MemoryTable>(
+    alloc: Global,
+    list: &RoundList,
+    tables: Vec<T>,
+    workers: u32,
+    rules: &Rules,
+) -> Result<(Board<T>, Seat<T>, Vec<Tasks<L>>), Fault>
+    requires limit { L.limit ≡ length list.now.exchanges }
+    requires several { 2 ≤ workers }
+    requires many { workers ≤ MOST_WORKERS }
+    requires cluster { IsCluster list.now.nodes (map T.table tables.items) }
+    ensures board { IfOk result (λ begun. IsMadeOf T.table rules.now list.now tables.items begun.0) }
+    ensures first { IfOk result (λ begun. MaySplit T.table begun.0 begun.1 (vec_len begun.2)) }
+    ensures one_each { IfOk result (λ begun. vec_len begun.2 ≡ workers) }
+    ensures fault { IfErr result (λ f. f ≡ OutOfMemory) }
+{
+    let deps = Deps::new(alloc, list)?;
+    let tasks = deal::<L>(alloc, workers, deps.first_ready())?;
+    let (board, seat) = Board::new(alloc, deps, *rules, tables)?;
+    Ok((board, seat, tasks))
+}
+
+// The tables and the records, once all exchanges are put back.
+fn end<T: MemoryTable>(
+    alloc: Global,
+    list: &RoundList,
+    board: Board<T>,
+    seat: Seat<T>,
+    stamps: &[Stamped],
+) -> Result<(Vec<T>, Vec<Record>), Fault>
+    requires list { (plan_of T.table board).list ≡ list.now }
+    requires seen { HasSeenAll T.table board seat stamps.now }
+    ensures ended { IfOk result (λ p. IsEndOf T.table (plan_of T.table board) p.0.items p.1.items) }
+    ensures fault { IfErr result (λ f. f ≡ OutOfMemory) }
+{
     let Ok(tables) = board.close(seat) else {
         unreachable!()
     };
-    let records = in_list_order(alloc, list.len(), &stamps)?;
+    let records = in_list_order(alloc, list.len(), stamps)?;
     Ok((tables, records))
 }
 

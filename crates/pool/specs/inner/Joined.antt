@@ -1,9 +1,11 @@
 -- What comes back of workers. Source: this project.
-use Rattle.std.specs.Prelude.{◌≡◌, ℕ, ◌<◌, ◌≤◌, ◌⊎◌, ◌++◌, true, List, length, Result, Ok, Vec}
+use Rattle.std.specs.Prelude.{◌≡◌, ℕ, ◌<◌, ◌≤◌, ◌⊎◌, ◌++◌, true, List, length, map, Result, Ok, Vec}
 use Rattle.std.specs.declared.alloc.Global.{Global}
 use Rattle.std.specs.declared.thread.PromisedHandle.{PromisedHandle}
 use Rattle.bench_types.specs.declared.faults.Fault.{Fault}
+use Rattle.bench_types.specs.declared.exchanges.Record.{Record}
 use Rattle.node_table.specs.Table.{Table}
+use Rattle.cluster.specs.Folds.{fold_of}
 use Rattle.board.specs.SeatView.{SeatView, IsWhole}
 use Rattle.board.specs.Plan.{BoardPlan}
 use Rattle.board.specs.Boards.{plan_of, exchanges_of, seat_view, IsSeatOf}
@@ -38,3 +40,7 @@ pub record HasSeenAll {T : Type 0} (table : T → Table) (board : Board T) (seat
   pub whole : IsWhole (seat_view seat)
   pub seen : (seat_view seat).seen ≡ length (exchanges_of board)
   pub records : AreRecordsOf (plan_of table board) (seat_view seat) stamps
+
+-- the tables and the records of list order
+abbrev pub IsEndOf : {T : Type 0} → (T → Table) → BoardPlan → List T → List Record → Type 0
+IsEndOf table plan new records = fold_of plan.rules plan.tables plan.list.exchanges ≡ record { tables = map table new; records = records }

@@ -1,26 +1,25 @@
-use Rattle.std.proofs.Common.{length, map, sym, ap, subst, ◌∙◌}
-use Rattle.dependencies.specs.Neighbours.{first_ready_of}
-use Rattle.board.specs.Boards.{plan_of, seat_view}
-use Rattle.pool.specs.inner.Deques.{AllBelow}
-use Rattle.pool.specs.inner.Gathering.{AreInListOrder}
-use Rattle.pool.proofs.Ordered.{ready_below, all_exchanged}
+use Rattle.std.proofs.Common.{sym, ap, subst, IfOk}
+use Rattle.board.specs.Plan.{BoardPlan}
+use Rattle.pool.specs.inner.Joined.{IsEndOf, HasSeenAll}
+use Rattle.pool.proofs.Ordered.{is_workshop}
 use Rattle.pool.proofs.threads.exchange_in_threads.Goals as goal
 
-pub deal-requires-clause-within : goal.deal-requires-clause-within
-deal-requires-clause-within g c =
-    let es = c.args.list.now.exchanges in
-    let ready = c.first_ready.ensures ∙ ap (λ l. first_ready_of l.exchanges) c.in_ok-deps.ensures.value in
-    subst (λ limit. AllBelow limit c.first_ready.result.now) (sym c.requires.limit) (subst (AllBelow (length es)) (sym ready) (ready_below es))
+pub run_workers-requires-clause-shop : goal.run_workers-requires-clause-shop
+run_workers-requires-clause-shop g c = λ κs out.
+    is_workshop g.T.MemoryTable.table g.T.Exchanging.fits _ c.args.tables.items c.in_ok-board.ensures.board c.requires.cluster c.requires.fits c.requires.budget
+
+pub run_workers-requires-clause-limit : goal.run_workers-requires-clause-limit
+run_workers-requires-clause-limit g c = λ κs out. c.requires.limit
+
+pub run_workers-requires-clause-begin : goal.run_workers-requires-clause-begin
+run_workers-requires-clause-begin g c = λ κs out. c.in_ok-board.ensures.first
+
+pub end-requires-clause-list : goal.end-requires-clause-list
+end-requires-clause-list g c = ap (λ (p : BoardPlan). p.list) c.in_ok-board.ensures.board
+
+pub end-requires-clause-seen : goal.end-requires-clause-seen
+end-requires-clause-seen g c = subst (HasSeenAll g.T.MemoryTable.table c.in_ok-board.board c.in_ok-seat.seat) (sym c.deref.ensures.value) c.in_ok-seat.ensures.made
 
 pub returns-clause-exchanged : goal.returns-clause-exchanged
 returns-clause-exchanged g c =
-    let rules = c.args.rules.now in
-    let list = c.args.list.now in
-    let old = c.args.tables.items in
-    let board = c.in_ok-board.board in
-    let seen = c.in_ok-seat.ensures.made in
-    all_exchanged g.T.MemoryTable.table rules list old c.in-Ok.tables.items (plan_of g.T.MemoryTable.table board) (seat_view c.in_ok-seat.seat) c.in_ok-seat.stamps.items c.in_ok-records.records.items c.len.result
-    (c.in_ok-board.ensures.plan ∙ ap (λ l. record { rules = rules; list = l; tables = map g.T.MemoryTable.table old }) c.in_ok-deps.ensures.value)
-    c.len.ensures.value seen.records (c.in-Ok.ensures.whole seen.whole)
-    (subst (λ stamps. AreInListOrder c.len.result stamps c.in_ok-records.records.items) c.deref.ensures.value c.in_ok-records.ensures.records)
-    c.in-Ok.ensures.tables
+    subst (λ plan. IfOk c.end.result (λ p. IsEndOf g.T.MemoryTable.table plan p.0.items p.1.items)) c.in_ok-board.ensures.board c.end.ensures.ended

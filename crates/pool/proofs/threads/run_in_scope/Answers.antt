@@ -1,0 +1,16 @@
+use Rattle.std.proofs.Common.{ap}
+use Rattle.board.specs.SeatView.{SeatView}
+use Rattle.pool.proofs.threads.run_in_scope.Goals as goal
+
+pub start_all-started-requires-clause-shop : goal.start_all-started-requires-clause-shop
+start_all-started-requires-clause-shop g c = λ κs out. c.requires.shop
+
+pub start_all-started-requires-clause-limit : goal.start_all-started-requires-clause-limit
+start_all-started-requires-clause-limit g c = λ κs out. c.requires.limit
+
+pub start_all-started-requires-clause-seat : goal.start_all-started-requires-clause-seat
+start_all-started-requires-clause-seat g c = λ κs out. record {
+  of_board = c.requires.begin.of_board;
+  made = ap (λ (v : SeatView). v.made) c.requires.begin.first;
+  unhalted = ap (λ (v : SeatView). v.is_halted) c.requires.begin.first;
+}

@@ -24,7 +24,8 @@ abbrev pub trace_counts : Record → List ℕ
 trace_counts r = r.digest1 ∷ r.digest2 ∷ r.back ∷ r.forth ∷ r.back_cut ∷ r.forth_cut ∷ []
 
 unfoldable pub trace_line : ℕ → ℕ → Exchange → Record → List ℕ
-trace_line round index e r = line_of (map decimal (trace_ends round index e) ++ (fate_name r.fate ∷ map decimal (trace_counts r)))
+trace_line round index e r =
+    line_of (map decimal (trace_ends round index e) ++ (fate_name r.fate ∷ map decimal (trace_counts r)))
 
 -- the lines of these exchanges with their records, the first of which stands at this place of the round's list
 abbrev pub trace_lines_from : ℕ → ℕ → List Exchange → List Record → List ℕ

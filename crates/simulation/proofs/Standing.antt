@@ -21,11 +21,11 @@ use Rattle.round_plan.specs.Writes.{born_in, count_before, own_writes, writes_be
 use Rattle.round_plan.proofs.Generations.{generation_upto-same, generation_upto-next}
 use Rattle.round_plan.proofs.Growth.{length-writes_before, writes_before-grown, writes_upto-grown, written_upto-grown}
 use Rattle.scenario.specs.Settings.{Settings}
-use Rattle.owner_lists.specs.OwnerListView.{OwnerListView, entries_of, no_writes, begun_generation, list_of_owner}
+use Rattle.owner_lists.specs.OwnerListView.{OwnerListView, all_writes, entries_of, no_writes, begun_generation, list_of_owner}
 use Rattle.owner_lists.specs.Writes.{write_of_entry}
 use Rattle.staleness.proofs.OwnParts.{own_part-empty}
-use Rattle.exchange.specs.inner.Owns.{KeepsOwn}
-use Rattle.round_tables.specs.Histories.{own_list, writes_in, BirthsRise, AreWrittenBy, StandsBeside, StandsAmong}
+use Rattle.exchange.specs.Owns.{KeepsOwn}
+use Rattle.round_tables.specs.Histories.{own_list, BirthsRise, AreWrittenBy, StandsBeside, StandsAmong}
 use Rattle.simulation.specs.Rounds.{opening_tables}
 use Rattle.simulation.specs.Soundness.{AreSound}
 use Rattle.simulation.proofs.Written.{born_upto, births_rise}
@@ -190,10 +190,10 @@ owner_written s round n t u v v' writes first small is written made = (
     now = made_now s round n t v writes is made
 
 -- what stands after the round's writes, as the tables see it
-no_list : (s : Settings) (round : ℕ) (ts : List Table) (lists : List OwnerListView) → StandAfterRound s round ts lists → (n : ℕ) → s.nodes ≤ n → [] ≡ writes_in lists n
+no_list : (s : Settings) (round : ℕ) (ts : List Table) (lists : List OwnerListView) → StandAfterRound s round ts lists → (n : ℕ) → s.nodes ≤ n → [] ≡ all_writes lists n
 no_list s round ts lists is n past = ap entries_of (sym (get_or_past lists n no_writes (omega (arith, past, is.list_count))))
 
-written_at : (s : Settings) (round : ℕ) (ts : List Table) (lists : List OwnerListView) → StandAfterRound s round ts lists → (P : List Entry → Type 0) → ((n : ℕ) → P (written_upto s n round)) → P [] → (n : ℕ) → P (writes_in lists n)
+written_at : (s : Settings) (round : ℕ) (ts : List Table) (lists : List OwnerListView) → StandAfterRound s round ts lists → (P : List Entry → Type 0) → ((n : ℕ) → P (written_upto s n round)) → P [] → (n : ℕ) → P (all_writes lists n)
 written_at s round ts lists is P each none n = elim (cases_lt n s.nodes) [
   | inl below ↦ subst P (sym (is.owners n below).all) (each n)
   | inr past ↦ subst P (no_list s round ts lists is n past) none

@@ -19,6 +19,7 @@ use Rattle.simulation.specs.RoundView.{RoundView}
 use Rattle.cluster.specs.Folds.{Folded}
 use Rattle.bench_types.specs.declared.entries.Entry.{Entry}
 use Rattle.bench_types.specs.declared.exchanges.Record.{Record}
+use Rattle.bench_types.specs.declared.exchanges.Rules.{Rules}
 use Rattle.simulation.specs.Soundness.{AreSound, OnlyRestartsLowerMarks}
 use Rattle.simulation.specs.inner.Insides.{IsInside, HasPlayed, simulation_of, tables_held, lists_held}
 use Rattle.simulation.specs.Simulation.{PlaysNext}
@@ -60,7 +61,7 @@ left_after s round before new records first before_is round_was =
     ∙ sym (tables_after-more s (round - 1))
     ∙ ap (tables_after s) next
 
-module _ {T H S : Type 0} (table : T → Table) (lists : H → List OwnerListView) (Ended : H → ℕ → Type 0) (May : ℕ → ℕ → Entry → Type 0) (s : Settings) (cluster : Option (Cluster T H S)) (old new : Cluster T H S) (done : ℕ) (so_far : IsInside table lists Ended May s cluster done) (is : cluster ≡ Some old) (not_done : done < s.rounds) where
+module _ {T H S : Type 0} (table : T → Table) (lists : H → List OwnerListView) (Ended : H → ℕ → Type 0) (May : ℕ → ℕ → Entry → Type 0) (s : Settings) (rules : Rules) (cluster : Option (Cluster T H S)) (old new : Cluster T H S) (done : ℕ) (so_far : IsInside table lists Ended May s rules cluster done) (is : cluster ≡ Some old) (not_done : done < s.rounds) where
   previous : done ≡ done + 1 - 1
   previous = omega arith
 
@@ -83,11 +84,12 @@ module _ {T H S : Type 0} (table : T → Table) (lists : H → List OwnerListVie
   ended_before = subst (Ended old.histories) previous (subst (λ c. IfSome c (λ d. Ended d.histories done)) is so_far.ended)
 
   module _ (standing : StandAfterRound s (done + 1) (map table new.tables.items) (lists new.histories)) (after : map table new.tables.items ≡ tables_after s (done + 1)) where
-    pub step_inside : Ended new.histories (done + 1) → IsInside table lists Ended May s (Some new) (done + 1)
+    pub step_inside : Ended new.histories (done + 1) → IsInside table lists Ended May s rules (Some new) (done + 1)
     step_inside ended = record {
       simulation = record { within = omega (arith, not_done); standing = λ _. standing; tables = λ _. after };
       ended = ended;
       may_write = so_far.may_write;
+      of_scenario = so_far.of_scenario;
     }
 
     pub step_played : (round : RoundView) → IsLawfulScenario s → HasPlayed table lists s (done + 1) old new round → PlaysNext table (simulation_of lists s cluster done) (simulation_of lists s (Some new) (done + 1)) round

@@ -10,12 +10,12 @@ use Rattle.node_table.specs.Table.{Table, greatest_version, with_own_write, with
 use Rattle.node_table.proofs.ProperLaws.{proper-with_own_write}
 use Rattle.cluster.proofs.BeginLaws.{counted_write}
 use Rattle.owner_lists.specs.declared.lists.Write.{Write}
-use Rattle.owner_lists.specs.OwnerListView.{OwnerListView, written, next_entry, with_write, list_of_owner}
+use Rattle.owner_lists.specs.OwnerListView.{OwnerListView, all_writes, written, next_entry, with_write, list_of_owner}
 use Rattle.owner_lists.specs.Writes.{write_of_entry, AreBornBy, next_write}
 use Rattle.owner_lists.proofs.Owners.{written_more}
 use Rattle.staleness.specs.OwnParts.{OwnPartIsLastWrites}
 use Rattle.staleness.proofs.OwnParts.{own_part-written}
-use Rattle.round_tables.specs.Histories.{own_list, writes_in, StandsBeside, MayWrite, AddsWrite, ListBecomes}
+use Rattle.round_tables.specs.Histories.{own_list, StandsBeside, MayWrite, AddsWrite, ListBecomes}
 use Rattle.simulation.specs.inner.Steps.{OthersStay}
 
 -- these entries are written
@@ -78,12 +78,12 @@ module _ (round : ℕ) (t0 t : Table) (lists0 lists : List OwnerListView) (es : 
   same_list : own_list t lists ≡ v
   same_list = ap (list_of_owner lists) so_far.node
 
-  counted : length (writes_in lists0 t0.node) + length es + 1 ≡ length (writes_in lists t0.node) + 1
+  counted : length (all_writes lists0 t0.node) + length es + 1 ≡ length (all_writes lists t0.node) + 1
   counted =
       omega (arith, length-append v0.earlier v0.current, length-append v.earlier v.current, ap (λ (u : OwnerListView). length u.earlier) so_far.own.list, so_far.own.count)
 
   -- the next one may be written
-  pub may_write_next : (May : ℕ → ℕ → Entry → Type 0) → May t0.node (length (writes_in lists0 t0.node) + length es + 1) e → t0.node < length lists0 → e.key < t0.keys → length v0.current + length es + 1 < 2 ^ 32 → MayWrite May t lists e.key e.value e.born
+  pub may_write_next : (May : ℕ → ℕ → Entry → Type 0) → May t0.node (length (all_writes lists0 t0.node) + length es + 1) e → t0.node < length lists0 → e.key < t0.keys → length v0.current + length es + 1 < 2 ^ 32 → MayWrite May t lists e.key e.value e.born
   may_write_next May may owner key few = record {
     owner = omega (arith, owner, so_far.node, so_far.others.count);
     key_below = subst (λ k. e.key < k) (sym so_far.own.keys) key;
@@ -93,8 +93,8 @@ module _ (round : ℕ) (t0 t : Table) (lists0 lists : List OwnerListView) (es : 
       greatest = so_far.own.greatest;
       own_part = so_far.own.own_part;
     });
-    may = subst (λ m. May m (length (writes_in lists m) + 1) (next_entry (list_of_owner lists m) e.key e.value e.born)) (sym so_far.node)
-        (subst (May t0.node (length (writes_in lists t0.node) + 1)) (sym (next_is round t0 t v0 v es e so_far.own (sym beside.generation) next))
+    may = subst (λ m. May m (length (all_writes lists m) + 1) (next_entry (list_of_owner lists m) e.key e.value e.born)) (sym so_far.node)
+        (subst (May t0.node (length (all_writes lists t0.node) + 1)) (sym (next_is round t0 t v0 v es e so_far.own (sym beside.generation) next))
         (subst (λ k. May t0.node k e) counted may));
   }
 

@@ -11,7 +11,7 @@ pub use Rattle.exchange.specs.Exchanged
 pub use Rattle.cluster.specs.Tables
 pub use Rattle.cluster.specs.Folds
 pub use Rattle.pool.specs.Runs
-pub use Rattle.exchange.specs.inner.Owns
+pub use Rattle.exchange.specs.Owns
 pub use Rattle.round_plan.specs.Plan
 pub use Rattle.round_plan.specs.Writes
 pub use Rattle.staleness.specs.Figures

@@ -20,7 +20,12 @@ row_in s round = row_of round (round_list_of s round) (records_in s round) (figu
 
 -- a round that came to these records and figures
 abbrev pub played_with : ℕ → RoundListView → List Record → Figures → RoundView
-played_with round plan records figures = record { row = row_of round plan records figures; list = plan; records = records; figures = figures }
+played_with round plan records figures = record {
+  row = row_of round plan records figures;
+  list = plan;
+  records = records;
+  figures = figures;
+}
 
 -- what a round answers: by the definitions
 abbrev pub played_of : Settings → ℕ → RoundView

@@ -33,11 +33,11 @@ restarted s round ts = map (restarted_table s round ts) (range_with_len 0 s.node
 abbrev pub written_table : Settings → ℕ → List Table → ℕ → Table
 written_table s round ts n = with_own_writes (table_of_node ts n) (own_writes s n round (count_before s n round))
 
-abbrev pub written : Settings → ℕ → List Table → List Table
-written s round ts = map (written_table s round ts) (range_with_len 0 s.nodes)
+abbrev pub having_written : Settings → ℕ → List Table → List Table
+having_written s round ts = map (written_table s round ts) (range_with_len 0 s.nodes)
 
 abbrev pub begun : Settings → ℕ → List Table → List Table
-begun s round ts = written s round (restarted s round ts)
+begun s round ts = having_written s round (restarted s round ts)
 
 abbrev pub rules_of : Settings → Rules
 rules_of s = record { mode = s.mode; budget = s.budget }

@@ -32,12 +32,15 @@ OnlyRestartsLowerMarks s round old new =
 
 -- the tables within a round: once it has begun, and after so many of its exchanges
 abbrev pub tables_within : Settings → ℕ → ℕ → List Table
-tables_within s round i = tables_before (rules_of s) (begun s round (tables_after s (round - 1))) (round_list_of s round).exchanges i
+tables_within s round i =
+    tables_before (rules_of s) (begun s round (tables_after s (round - 1))) (round_list_of s round).exchanges i
 
 -- and so at each moment of a run
 pub record IsSoundRun (s : Settings) : Type 0 where
   pub after : (round : ℕ) → AreSound s round (tables_after s round)
   pub within : (round i : ℕ) → 1 ≤ round → AreSound s round (tables_within s round i)
-  pub begins : (round : ℕ) → 1 ≤ round → OnlyRestartsLowerMarks s round (tables_after s (round - 1)) (tables_within s round 0)
+  pub begins : (round : ℕ) → 1 ≤ round
+      → OnlyRestartsLowerMarks s round (tables_after s (round - 1)) (tables_within s round 0)
   pub exchanges : (round i j : ℕ) → 1 ≤ round → i ≤ j → NoMarksFall (tables_within s round i) (tables_within s round j)
-  pub ends : (round : ℕ) → 1 ≤ round → tables_within s round (length (round_list_of s round).exchanges) ≡ tables_after s round
+  pub ends : (round : ℕ) → 1 ≤ round
+      → tables_within s round (length (round_list_of s round).exchanges) ≡ tables_after s round

@@ -12,7 +12,8 @@ use Rattle.staleness.specs.OwnParts.{OwnPartIsLastWrites}
 use Rattle.owner_lists.specs.Writes.{AreBornBy}
 
 -- a node's table of a generation beside its list, which has these writes of it, and these of all, up to a round
-pub record IsOwnerOf (s : Settings) (n current : ℕ) (of_it of_all : List Entry) (round : ℕ) (t : Table) (v : OwnerListView) : Type 0 where
+pub record IsOwnerOf (s : Settings) (n current : ℕ) (of_it of_all : List Entry) (round : ℕ) (t : Table)
+    (v : OwnerListView) : Type 0 where
   pub table : IsTableOf s.nodes s.keys n t
   pub proper : IsProper t
   pub generation : t.generation ≡ current
@@ -26,7 +27,8 @@ pub record IsOwnerOf (s : Settings) (n current : ℕ) (of_it of_all : List Entry
 
 -- after a round
 abbrev pub IsOwner : Settings → ℕ → ℕ → Table → OwnerListView → Type 0
-IsOwner s round n t v = IsOwnerOf s n (generation_upto s n round) (writes_upto s n round) (written_upto s n round) round t v
+IsOwner s round n t v =
+    IsOwnerOf s n (generation_upto s n round) (writes_upto s n round) (written_upto s n round) round t v
 
 pub record StandAfterRound (s : Settings) (round : ℕ) (ts : List Table) (lists : List OwnerListView) : Type 0 where
   pub table_count : length ts ≡ s.nodes

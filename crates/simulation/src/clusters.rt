@@ -4,11 +4,11 @@ ghost use Rattle.std.specs.Prelude.{◌≡◌, ℕ, ◌+◌, ◌-◌, ◌^◌, �
 ghost use Rattle.bench_types.specs.declared.faults.Fault.TheVariants.{OutOfMemory};
 ghost use Rattle.bench_types.specs.Entry.{AreNextAfter};
 ghost use Rattle.node_table.specs.Table.{IsProper};
-ghost use Rattle.owner_lists.specs.OwnerListView.{written, list_of_owner};
+ghost use Rattle.owner_lists.specs.OwnerListView.{all_writes, written, list_of_owner};
 ghost use Rattle.owner_lists.specs.Writes.{AreBornBy};
 ghost use Rattle.round_plan.specs.Writes.{born_in};
 ghost use Rattle.cluster.specs.Tables.{AreProper};
-ghost use Rattle.round_tables.specs.Histories.{own_list, writes_in, StandsBeside};
+ghost use Rattle.round_tables.specs.Histories.{own_list, StandsBeside};
 ghost use Rattle.simulation.specs.Rounds.{opening_tables, after_restart, begun};
 ghost use Rattle.simulation.specs.Simulation.{MayWriteAll};
 ghost use Rattle.simulation.specs.Standing.{IsOwner, StandAfterRound};
@@ -140,9 +140,10 @@ fn write_own<T: RoundTable>(
         (length (own_list (T.table table.old) (T.lists histories.old)).current)
         (map (born_in round (T.table table.old).generation) writes.now) }
     requires may { MayWriteEach T.may_write (T.table table.old).node
-        (length (writes_in (T.lists histories.old) (T.table table.old).node))
+        (length (all_writes (T.lists histories.old) (T.table table.old).node))
         (map (born_in round (T.table table.old).generation) writes.now) }
-    requires fits { length (own_list (T.table table.old) (T.lists histories.old)).current + length writes.now + 1 < 2 ^ 32 }
+    requires fits { length (own_list (T.table table.old) (T.lists histories.old)).current + length writes.now + 1
+        < 2 ^ 32 }
     requires beside { StandsBeside (T.table table.old) (own_list (T.table table.old) (T.lists histories.old)) }
     requires born { AreBornBy round (written (own_list (T.table table.old) (T.lists histories.old))) }
     ensures written { OnOk result (HasWritten round writes.now (T.table table.old) (T.table table.new)

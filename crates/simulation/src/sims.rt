@@ -7,7 +7,7 @@ ghost use Rattle.scenario.specs.Settings.{IsLawfulScenario};
 ghost use Rattle.pool.specs.Runs.{IsPoolFault};
 ghost use Rattle.cluster.specs.Tables.{tables_in};
 ghost use Rattle.exchange.specs.Exchanging.{kept_table};
-ghost use Rattle.simulation.specs.Rounds.{opening_tables, begun, round_of, tables_after};
+ghost use Rattle.simulation.specs.Rounds.{opening_tables, begun, round_of, rules_of, tables_after};
 ghost use Rattle.simulation.specs.Standing.{StandAfterRound};
 ghost use Rattle.simulation.specs.inner.Insides.{tables_of, HasPlayed};
 ghost use Rattle.simulation.specs.Simulation.{AreTablesAfter, MayWriteAll, PlaysNext, MayStep, IsRefusedBy, IsStepFault};
@@ -32,6 +32,8 @@ use std::thread::Threads;
 pub struct Sim<T: RoundTable = NodeTable> {
     alloc: Global,
     scenario: Scenario,
+    // The scenario's.
+    rules: Rules,
     cluster: Option<Cluster<T>>,
     rounds_done: u32,
 }
@@ -46,7 +48,8 @@ impl<T: RoundTable> Model for Sim<T> {
 
     ghost view = { λ s. simulation_of T.lists s.scenario s.cluster s.rounds_done };
 
-    ghost invariant = { λ s. IsInside T.table T.lists T.has_ended T.may_write s.scenario s.cluster s.rounds_done };
+    ghost invariant = { λ s. IsInside T.table T.lists T.has_ended T.may_write
+        s.scenario s.rules s.cluster s.rounds_done };
 }
 
 // What all nodes hold, and what each has written.
@@ -58,7 +61,7 @@ struct Cluster<T: RoundTable> {
 
 impl Sim<NodeTable> {
     /// The simulation before its first round, where all tables are empty. It takes memory for the
-    /// nodes, and hands the scenario back where that is refused.
+    /// nodes, and hands the scenario back where that is refused (`OutOfMemory`).
     pub fn new(alloc: Global, scenario: Scenario) -> Result<Sim, (Fault, Scenario)>
         ensures opens { IfOk result
             (λ sim. (sim.settings ≡ scenario) × (sim.rounds_done ≡ 0) × (sim.broken ≡ false)) }
@@ -82,6 +85,7 @@ impl<T: RoundTable> Sim<T> {
         match Cluster::new(alloc, &scenario) {
             Ok(cluster) => Ok(Sim {
                 alloc,
+                rules: rules_of(&scenario),
                 scenario,
                 cluster: Some(cluster),
                 rounds_done: 0,
@@ -115,7 +119,8 @@ impl<T: RoundTable> Sim<T> {
             return Err(Fault::Broken);
         };
         let next = self.rounds_done + 1;
-        let (cluster, round) = cluster.play(rt, self.alloc, &self.scenario, next, workers, gate)?;
+        let (scenario, rules) = (&self.scenario, &self.rules);
+        let (cluster, round) = cluster.play(rt, self.alloc, scenario, rules, next, workers, gate)?;
         self.cluster = Some(cluster);
         self.rounds_done += 1;
         Ok(round)
@@ -170,6 +175,7 @@ impl<T: RoundTable> Sim<T> {
         let Sim {
             alloc: _,
             scenario,
+            rules: _,
             cluster: _,
             rounds_done: _,
         } = self;
@@ -231,6 +237,7 @@ impl<T: RoundTable> Cluster<T> {
         rt: &R,
         alloc: Global,
         scenario: &Scenario,
+        rules: &Rules,
         round: u32,
         workers: u32,
         gate: &G,
@@ -240,6 +247,7 @@ impl<T: RoundTable> Cluster<T> {
         requires lawful { IsLawfulScenario scenario.now }
         requires first { 1 ≤ round }
         requires within { round ≤ scenario.now.rounds }
+        requires rules { rules.now ≡ rules_of scenario.now }
         requires may_write { MayWriteAll T.may_write scenario.now }
         requires ended { T.has_ended self.histories (round - 1) }
         requires standing { StandAfterRound scenario.now (round - 1) (tables_of T.table self) (T.lists self.histories) }
@@ -253,17 +261,23 @@ impl<T: RoundTable> Cluster<T> {
     {
         self.begin(scenario, round)?;
         let list = round_list(rt, alloc, scenario, round)?;
-        let rules = Rules {
-            mode: scenario.mode(),
-            budget: scenario.budget(),
-        };
         let Cluster { tables, histories } = self;
         let shared = T::shared(&histories, round);
         let (tables, records) = run_list_with(
-            rt, alloc, shared, &list, tables, workers, gate, &rules,
+            rt, alloc, shared, &list, tables, workers, gate, rules,
         )?;
         let lag = T::figures(rt, alloc, &tables, &histories, round)?;
         let played = Round::of(round, list, records, lag);
         Ok((Cluster { tables, histories }, played))
+    }
+}
+
+// The rules of all exchanges of the scenario's run.
+fn rules_of(scenario: &Scenario) -> Rules
+    ensures { result ≡ rules_of scenario.now }
+{
+    Rules {
+        mode: scenario.mode(),
+        budget: scenario.budget(),
     }
 }

@@ -7,9 +7,8 @@ use Rattle.round_plan.specs.Generations.{generation_upto}
 use Rattle.round_plan.specs.Writes.{born_in, count_before, own_writes}
 use Rattle.scenario.specs.Settings.{Settings}
 use Rattle.round_plan.proofs.Growth.{next-own_writes}
-use Rattle.owner_lists.specs.OwnerListView.{written, list_of_owner}
+use Rattle.owner_lists.specs.OwnerListView.{all_writes, written, list_of_owner}
 use Rattle.owner_lists.specs.Writes.{AreBornBy}
-use Rattle.round_tables.specs.Histories.{writes_in}
 use Rattle.staleness.proofs.OwnParts.{born-later}
 use Rattle.simulation.specs.inner.Steps.{HasWritten, MayWriteEach}
 use Rattle.simulation.proofs.Standing.{beside_own, made_now, owner_written}
@@ -39,8 +38,8 @@ write_own-requires-clause-may g c _ _ =
     let t = g.T.MemoryTable.table c.restart.new.table in
     let lists = g.T.RoundTable.lists c.restart.new.histories in
     let May = g.T.RoundTable.may_write in
-    subst (λ m. MayWriteEach May m (length (writes_in lists m)) (map (born_in c.args.round t.generation) c.as_slice.result.now)) (sym owner.table.node)
-    (subst (MayWriteEach May c.args.node (length (writes_in lists c.args.node))) (sym (made_now s c.args.round c.args.node t (list_of_owner lists c.args.node) c.as_slice.result.now owner (made c.args.scenario.now c.args.node c.args.round _ _ _ _ c.as_slice.ensures.value c.writes_of-writes.ensures.value c.count.ensures)))
+    subst (λ m. MayWriteEach May m (length (all_writes lists m)) (map (born_in c.args.round t.generation) c.as_slice.result.now)) (sym owner.table.node)
+    (subst (MayWriteEach May c.args.node (length (all_writes lists c.args.node))) (sym (made_now s c.args.round c.args.node t (list_of_owner lists c.args.node) c.as_slice.result.now owner (made c.args.scenario.now c.args.node c.args.round _ _ _ _ c.as_slice.ensures.value c.writes_of-writes.ensures.value c.count.ensures)))
     (subst (λ es. MayWriteEach May c.args.node (length es) (own_writes s c.args.node c.args.round (count_before s c.args.node c.args.round))) (sym owner.all)
     (may_write_each May s c.args.node c.args.round c.requires.may_write c.requires.node c.requires.first c.requires.within)))
 

@@ -4,7 +4,8 @@ use Rattle.bench_types.specs.declared.entries.Entry.{Entry}
 use Rattle.bench_types.specs.Entry.{next_version}
 use Rattle.round_plan.specs.declared.owners.OwnWrite.{OwnWrite}
 use Rattle.round_plan.specs.Writes.{born_in}
-use Rattle.round_tables.specs.Histories.{own_list, writes_in}
+use Rattle.owner_lists.specs.OwnerListView.{all_writes}
+use Rattle.round_tables.specs.Histories.{own_list}
 use Rattle.simulation.proofs.Writing.{IsWritingIn, may_write_next, writing_next}
 use Rattle.simulation.proofs.clusters.write_own.Goals as goal
 
@@ -35,8 +36,8 @@ write-requires-clause-may g c =
     let next = c.requires.next i (as_entry no_write) within in
     let version : w.version ≡ next_version (length (own_list t0 lists).current) = omega (arith, ap (λ e. e.version) here, next.1, so_far.own.count, count) in
     may_write_next round t0 (g.T.MemoryTable.table c.loop-write.table) lists0 lists done (as_entry w) so_far c.requires.beside (refl, version) g.T.RoundTable.may_write
-    (subst (λ k. g.T.RoundTable.may_write t0.node (length (writes_in lists0 t0.node) + k + 1) (as_entry w)) (sym count)
-    (subst (g.T.RoundTable.may_write t0.node (length (writes_in lists0 t0.node) + i + 1)) here (c.requires.may i (as_entry no_write) within)))
+    (subst (λ k. g.T.RoundTable.may_write t0.node (length (all_writes lists0 t0.node) + k + 1) (as_entry w)) (sym count)
+    (subst (g.T.RoundTable.may_write t0.node (length (all_writes lists0 t0.node) + i + 1)) here (c.requires.may i (as_entry no_write) within)))
     c.requires.owner (c.requires.keys i no_write lt) (omega (arith, c.requires.fits, count, lt))
 
 pub loop-write-preserved : goal.loop-write-preserved

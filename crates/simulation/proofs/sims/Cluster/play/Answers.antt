@@ -20,7 +20,7 @@ run_list_with-requires-clause-fits g c _ _ n lt =
 read : (g : given.Over) (c : goal.After-histories-2-1 g) → IsLeft g.T.MemoryTable.table c.args.scenario.now c.args.round c.deref.result.now (g.T.RoundTable.lists c.begin.new.self.histories)
 read g c =
     subst (λ ts. IsLeft g.T.MemoryTable.table c.args.scenario.now c.args.round ts (g.T.RoundTable.lists c.begin.new.self.histories)) (sym c.deref.ensures.value)
-    (is_left g.T.MemoryTable.table c.args.scenario.now c.args.round c.in_ok-list.list _ _ _ c.in_ok-tables.tables.items c.in_ok-tables.records.items _ c.requires.lawful c.requires.first (subst IsRoundPlan c.list.view_is c.list.invariant) c.in_ok-list.ensures.plan (λ i. record { mode = c.mode.ensures i; budget = c.budget.ensures.value i }) c.requires.after c.in_ok-begin.ensures.tables c.in_ok-begin.ensures.standing c.in_ok-tables.ensures.exchanged)
+    (is_left g.T.MemoryTable.table c.args.scenario.now c.args.round c.in_ok-list.list _ _ _ c.in_ok-tables.tables.items c.in_ok-tables.records.items _ c.requires.lawful c.requires.first (subst IsRoundPlan c.list.view_is c.list.invariant) c.in_ok-list.ensures.plan c.requires.rules c.requires.after c.in_ok-begin.ensures.tables c.in_ok-begin.ensures.standing c.in_ok-tables.ensures.exchanged)
 
 pub figures-requires-clause-cluster : goal.figures-requires-clause-cluster
 figures-requires-clause-cluster g c = standing_cluster g.T.MemoryTable.table c.args.scenario.now c.args.round c.deref.result.now _ (read g c).standing
@@ -41,7 +41,7 @@ of-played-requires g c =
 -- what the round leaves
 left : (g : given.Over) (c : goal.After-of-played g) → IsLeft g.T.MemoryTable.table c.args.scenario.now c.args.round c.in_ok-tables.tables.items (g.T.RoundTable.lists c.begin.new.self.histories)
 left g c =
-    is_left g.T.MemoryTable.table c.args.scenario.now c.args.round c.in_ok-list.list _ _ _ c.in_ok-tables.tables.items c.in_ok-tables.records.items _ c.requires.lawful c.requires.first (subst IsRoundPlan c.list.view_is c.list.invariant) c.in_ok-list.ensures.plan (λ i. record { mode = c.mode.ensures i; budget = c.budget.ensures.value i }) c.requires.after c.in_ok-begin.ensures.tables c.in_ok-begin.ensures.standing c.in_ok-tables.ensures.exchanged
+    is_left g.T.MemoryTable.table c.args.scenario.now c.args.round c.in_ok-list.list _ _ _ c.in_ok-tables.tables.items c.in_ok-tables.records.items _ c.requires.lawful c.requires.first (subst IsRoundPlan c.list.view_is c.list.invariant) c.in_ok-list.ensures.plan c.requires.rules c.requires.after c.in_ok-begin.ensures.tables c.in_ok-begin.ensures.standing c.in_ok-tables.ensures.exchanged
 
 pub returns-clause-tables : goal.returns-clause-tables
 returns-clause-tables g c = (left g c).after

@@ -8,4 +8,5 @@ invariant_of-result g c = record {
   simulation = record { within = omega arith; standing = λ _. c.in-Ok.ensures.standing; tables = λ _. c.in-Ok.ensures.tables };
   ended = c.in-Ok.ensures.ended;
   may_write = c.requires;
+  of_scenario = c.rules_of.ensures;
 }

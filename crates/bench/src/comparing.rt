@@ -43,51 +43,31 @@ pub fn compare<H: Threads + Wait + Sync, R: Source, W: Sink>(
 {
     let scenario = check_input(alloc, reader)?;
     compare_header(alloc, writer, scenario.format())?;
+    write_modes_by_versions::<Brand, H, W>(rt, alloc, scenario, writer, workers)
+}
+
+// All rounds of a scenario under each mode, by tables that keep versions alone, in numbers of 16 bits where
+// these are enough.
+fn write_modes_by_versions<L: Written + Send + Sync, H: Threads + Wait + Sync, W: Sink>(
+    rt: &H,
+    alloc: Global,
+    scenario: Scenario,
+    writer: &mut W,
+    workers: u32,
+) -> Result<(), Fault>
+    requires few { 1 ≤ workers }
+    requires many { workers ≤ MOST_WORKERS }
+    requires written { AreWrittenIn L.lists scenario }
+    requires sound { W.failed writer.old ≡ false }
+    requires flushed { W.flushed writer.old ≡ true }
+    ensures written { OnOk result (IsWritten W.Sink writer.old writer.new (lines_of_modes scenario modes)) }
+    ensures fault { IfErr result (IsFaultInModes W.Sink writer.old writer.new [] scenario modes workers) }
+{
     if has_few_writes(&scenario) {
-        write_short_modes::<Brand, H, W>(rt, alloc, scenario, writer, workers)
+        write_modes::<VersionTable<u16, L>, H, W>(rt, alloc, scenario, &Mode::ALL, writer, workers)
     } else {
-        write_long_modes::<Brand, H, W>(rt, alloc, scenario, writer, workers)
+        write_modes::<VersionTable<u32, L>, H, W>(rt, alloc, scenario, &Mode::ALL, writer, workers)
     }
-}
-
-// All rounds of a scenario under each mode, by tables that keep versions alone, in numbers of 16 bits.
-fn write_short_modes<L: Written + Send + Sync, H: Threads + Wait + Sync, W: Sink>(
-    rt: &H,
-    alloc: Global,
-    scenario: Scenario,
-    writer: &mut W,
-    workers: u32,
-) -> Result<(), Fault>
-    requires few { 1 ≤ workers }
-    requires many { workers ≤ MOST_WORKERS }
-    requires written { AreWrittenIn L.lists scenario }
-    requires below { HasWritesBelow 65535 scenario }
-    requires sound { W.failed writer.old ≡ false }
-    requires flushed { W.flushed writer.old ≡ true }
-    ensures written { OnOk result (IsWritten W.Sink writer.old writer.new (lines_of_modes scenario modes)) }
-    ensures fault { IfErr result (IsFaultInModes W.Sink writer.old writer.new [] scenario modes workers) }
-{
-    write_modes::<VersionTable<u16, L>, H, W>(rt, alloc, scenario, &Mode::ALL, writer, workers)
-}
-
-// The same in numbers of 32 bits.
-fn write_long_modes<L: Written + Send + Sync, H: Threads + Wait + Sync, W: Sink>(
-    rt: &H,
-    alloc: Global,
-    scenario: Scenario,
-    writer: &mut W,
-    workers: u32,
-) -> Result<(), Fault>
-    requires few { 1 ≤ workers }
-    requires many { workers ≤ MOST_WORKERS }
-    requires written { AreWrittenIn L.lists scenario }
-    requires below { HasWritesBelow 4294967295 scenario }
-    requires sound { W.failed writer.old ≡ false }
-    requires flushed { W.flushed writer.old ≡ true }
-    ensures written { OnOk result (IsWritten W.Sink writer.old writer.new (lines_of_modes scenario modes)) }
-    ensures fault { IfErr result (IsFaultInModes W.Sink writer.old writer.new [] scenario modes workers) }
-{
-    write_modes::<VersionTable<u32, L>, H, W>(rt, alloc, scenario, &Mode::ALL, writer, workers)
 }
 
 // All rounds of a scenario under each of these modes in turn.

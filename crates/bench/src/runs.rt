@@ -48,11 +48,7 @@ pub fn run<H: Threads + Wait + Sync, R: Source, W: Sink, X: Sink>(
         TellsOfFailing W.Sink writer.old writer.new fault × TellsOfFailing X.Sink trace.old trace.new fault) }
 {
     let scenario = check_input(alloc, reader)?;
-    if has_few_writes(&scenario) {
-        write_short_run::<Brand, H, W, X>(rt, alloc, scenario, writer, trace, workers)
-    } else {
-        write_long_run::<Brand, H, W, X>(rt, alloc, scenario, writer, trace, workers)
-    }
+    write_run_by_versions::<Brand, H, W, X>(rt, alloc, scenario, writer, trace, workers)
 }
 
 /// Reads a scenario whole and checks it. An error is that of `read_all`, or else the fault of the first check
@@ -73,8 +69,8 @@ pub(crate) fn has_few_writes(scenario: &Scenario) -> bool
     MOST_WRITES * scenario.rounds() < u32::from(u16::MAX)
 }
 
-// The texts of a run, by tables that keep versions alone, in numbers of 16 bits.
-fn write_short_run<L: Written + Send + Sync, H: Threads + Wait + Sync, W: Sink, X: Sink>(
+// The texts of a run, by tables that keep versions alone, in numbers of 16 bits where these are enough.
+fn write_run_by_versions<L: Written + Send + Sync, H: Threads + Wait + Sync, W: Sink, X: Sink>(
     rt: &H,
     alloc: Global,
     scenario: Scenario,
@@ -85,32 +81,15 @@ fn write_short_run<L: Written + Send + Sync, H: Threads + Wait + Sync, W: Sink, 
     requires few { 1 ≤ workers }
     requires many { workers ≤ MOST_WORKERS }
     requires written { AreWrittenIn L.lists scenario }
-    requires below { HasWritesBelow 65535 scenario }
     ensures written { OnOk result (AreWritten W.Sink writer.old writer.new X.Sink trace.old trace.new scenario) }
     ensures fault { IfErr result
         (IsWritingFault W.Sink writer.old writer.new X.Sink trace.old trace.new scenario workers) }
 {
-    write_run::<VersionTable<u16, L>, H, W, X>(rt, alloc, scenario, writer, trace, workers)
-}
-
-// The same in numbers of 32 bits.
-fn write_long_run<L: Written + Send + Sync, H: Threads + Wait + Sync, W: Sink, X: Sink>(
-    rt: &H,
-    alloc: Global,
-    scenario: Scenario,
-    writer: &mut W,
-    trace: &mut X,
-    workers: u32,
-) -> Result<(), Fault>
-    requires few { 1 ≤ workers }
-    requires many { workers ≤ MOST_WORKERS }
-    requires written { AreWrittenIn L.lists scenario }
-    requires below { HasWritesBelow 4294967295 scenario }
-    ensures written { OnOk result (AreWritten W.Sink writer.old writer.new X.Sink trace.old trace.new scenario) }
-    ensures fault { IfErr result
-        (IsWritingFault W.Sink writer.old writer.new X.Sink trace.old trace.new scenario workers) }
-{
-    write_run::<VersionTable<u32, L>, H, W, X>(rt, alloc, scenario, writer, trace, workers)
+    if has_few_writes(&scenario) {
+        write_run::<VersionTable<u16, L>, H, W, X>(rt, alloc, scenario, writer, trace, workers)
+    } else {
+        write_run::<VersionTable<u32, L>, H, W, X>(rt, alloc, scenario, writer, trace, workers)
+    }
 }
 
 // The texts of a run, by tables of any representation.

@@ -1,6 +1,6 @@
 -- What was counted by owner, in whatever parts, comes to the figures of all.
 -- Serves `all_copies`, `figures`, `Merging` and `version_tables`.
-use Rattle.std.proofs.Common.{◌≡◌, ℕ, zero, suc, ◌+◌, ◌*◌, ◌/◌, ◌<◌, ◌≤◌, min, List, [], ◌∷◌, length, get_or, All, sym, ap, ◌∙◌, subst, arith}
+use Rattle.std.proofs.Common.{◌≡◌, ℕ, zero, suc, ◌+◌, ◌-◌, ◌*◌, ◌/◌, ◌<◌, ◌≤◌, min, List, [], ◌∷◌, length, get_or, All, refl, sym, ap, ◌∙◌, subst, arith}
 use Rattle.std.specs.List.{AllZip, range_with_len}
 use Rattle.std.proofs.Math.Nat.{lt-div-mul-add}
 use Rattle.std.proofs.lemmas.List.FromFn.{length-range_with_len}
@@ -64,18 +64,22 @@ module _ (round : ℕ) (tables : List Table) (lists : List (List Write)) (size c
   found : (k : ℕ) → k < count → found_at parts k ≡ part_figures round tables lists size k
   found k lt = (counted k (record { stale = 0; greatest = 0; leftover = 0 }) lt).figures
 
+  -- a figure that is a sum over owners, or over nodes, is one over all parts
+  summed : (figure : Figures → ℕ) (f : ℕ → ℕ) → ((k : ℕ) → figure (part_figures round tables lists size k) ≡ sum_below (min size (length tables - k * size)) (λ i. f (k * size + i))) → length tables ≤ count * size → sum_below (length parts) (λ i. figure (found_at parts i)) ≡ sum_below (length tables) f
+  summed figure f is all =
+      let whole : min (count * size) (length tables) ≡ length tables = omega arith in
+      ap (λ n. sum_below n (λ i. figure (found_at parts i))) as_many
+      ∙ sum_below-same (λ i. figure (found_at parts i)) (λ k. sum_below (min size (length tables - k * size)) (λ i. f (k * size + i))) count (λ k lt. ap figure (found k lt) ∙ is k)
+      ∙ sum_below-parts f (length tables) size count
+      ∙ ap (λ n. sum_below n f) whole
+
   -- so do their sum and the greatest of them
   pub figures_of_all : IsCluster (length tables) tables → length tables ≤ count * size → (total : Figures) → total.stale ≡ sum_below (length parts) (λ i. (found_at parts i).stale) → total.greatest ≡ most_below (length parts) (λ i. (found_at parts i).greatest) → total.leftover ≡ sum_below (length parts) (λ i. (found_at parts i).leftover) → total ≡ figures_of round tables lists
   unfolding figures_of
   figures_of_all cluster all total stale_is greatest_is leftover_is =
       let whole : min (count * size) (length tables) ≡ length tables = omega arith in
       let stale_all : total.stale ≡ (figures_of round tables lists).stale =
-      stale_is
-      ∙ ap (λ n. sum_below n (λ i. (found_at parts i).stale)) as_many
-      ∙ sum_below-same (λ i. (found_at parts i).stale) (λ i. (part_figures round tables lists size i).stale) count (λ k lt. ap (λ (f : Figures). f.stale) (found k lt))
-      ∙ sum_below-parts (λ r. (owner_staleness round tables lists r).stale) (length tables) size count
-      ∙ ap (λ n. sum_below n (λ r. (owner_staleness round tables lists r).stale)) whole
-      ∙ stale_by_owner round tables lists cluster in
+      stale_is ∙ summed (λ f. f.stale) (λ r. (owner_staleness round tables lists r).stale) (λ k. refl) all ∙ stale_by_owner round tables lists cluster in
       let greatest_all : total.greatest ≡ (figures_of round tables lists).greatest =
       greatest_is
       ∙ ap (λ n. most_below n (λ i. (found_at parts i).greatest)) as_many
@@ -84,11 +88,7 @@ module _ (round : ℕ) (tables : List Table) (lists : List (List Write)) (size c
       ∙ ap (λ n. most_below n (λ r. (owner_staleness round tables lists r).greatest)) whole
       ∙ most_by_owner round tables lists cluster in
       let leftover_all : total.leftover ≡ (figures_of round tables lists).leftover =
-      leftover_is
-      ∙ ap (λ n. sum_below n (λ i. (found_at parts i).leftover)) as_many
-      ∙ sum_below-same (λ i. (found_at parts i).leftover) (λ i. (part_figures round tables lists size i).leftover) count (λ k lt. ap (λ (f : Figures). f.leftover) (found k lt))
-      ∙ sum_below-parts (node_leftover tables) (length tables) size count
-      ∙ ap (λ n. sum_below n (node_leftover tables)) whole in
+      leftover_is ∙ summed (λ f. f.leftover) (node_leftover tables) (λ k. refl) all in
       λ i. record { stale = stale_all i; greatest = greatest_all i; leftover = leftover_all i }
 
 -- so many parts of a size are enough

@@ -1,6 +1,6 @@
 -- What several parts of the tables hold comes together to what all of them hold.
 -- Serves `all_copies`, `copies_from` and `version_tables`.
-use Rattle.std.proofs.Common.{◌≡◌, ℕ, zero, suc, ◌+◌, ◌-◌, ◌*◌, ◌/◌, ◌<◌, ◌≤◌, min, Bool, true, false, eqb, leb, List, length, get_or, All, Result, Ok, IfOk, Option, Some, None, if◌then◌else◌, refl, sym, ap, ◌∙◌, subst, arith}
+use Rattle.std.proofs.Common.{◌≡◌, ℕ, zero, suc, ◌+◌, ◌-◌, ◌*◌, ◌/◌, ◌<◌, ◌≤◌, min, true, false, eqb, leb, List, length, get_or, All, Result, Ok, IfOk, Option, Some, None, if◌then◌else◌, refl, sym, ap, ◌∙◌, subst, arith}
 use Rattle.std.specs.Prelude.{Vec}
 use Rattle.std.specs.List.{range_with_len}
 use Rattle.std.specs.declared.alloc.AllocError.{AllocError}
@@ -18,7 +18,7 @@ use Rattle.staleness.specs.inner.Copies.{no_copies, version_known, with_copy, se
 use Rattle.staleness.specs.inner.Parts.{IsSeenInPart, AreSeenInParts}
 use Rattle.staleness.proofs.Counting.{at_place}
 use Rattle.staleness.proofs.Places.{within, one_more, place_of}
-use Rattle.staleness.proofs.Seen.{few_seen}
+use Rattle.staleness.proofs.Seen.{AreFew, few_with, few_seen}
 
 -- a table leaves the owner's current version as it is
 held_current : (c : Copies) (o : Option ℕ) → (with_copy c o).current ≡ c.current
@@ -97,28 +97,16 @@ module _ (tables : List Table) (lists : List (List Write)) (r k : ℕ) where
       ∙ ap (copies_of tables lists r k) same
 
 -- so many more tables hold no more
-pub record AreNoMore (p : ℕ) (c : Copies) : Type 0 where
-  pub held : c.held ≤ p
-  pub fresh : c.fresh ≤ c.held
-
-no_more_with : (p : ℕ) (c : Copies) (o : Option ℕ) → AreNoMore p c → AreNoMore (suc p) (with_copy c o)
-no_more_with p c None few = record { held = omega (arith, few.held); fresh = few.fresh }
-no_more_with p c (Some v) few = record { held = omega (arith, few.held); fresh = omega (arith, few.fresh, at_most (leb c.current v)) }
-  where
-    at_most : (b : Bool) → (if b then 1 else 0) ≤ 1
-    at_most true = omega arith
-    at_most false = omega arith
-
-pub few_from : (tables : List Table) (r k from p current : ℕ) → AreNoMore p (copies_from tables r k from p (no_copies current))
+pub few_from : (tables : List Table) (r k from p current : ℕ) → AreFew p (copies_from tables r k from p (no_copies current))
 few_from tables r k from zero current = record { held = omega arith; fresh = omega arith }
 few_from tables r k from (suc p) current =
     let t = table_of_node tables (from + p) in
     let g = generation_at tables r in
     let c = copies_from tables r k from p (no_copies current) in
     let before = few_from tables r k from p current in
-    elim (eqb t.node r) as (λ b. AreNoMore (suc p) (if b then c else with_copy c (version_known g (entry_at t r k)))) [
+    elim (eqb t.node r) as (λ b. AreFew (suc p) (if b then c else with_copy c (version_known g (entry_at t r k)))) [
       | true ↦ record { held = omega (arith, before.held); fresh = before.fresh }
-      | false ↦ no_more_with p c (version_known g (entry_at t r k)) before
+      | false ↦ few_with p c (version_known g (entry_at t r k)) before
     ]
 
 -- a part's number is one of the parts'

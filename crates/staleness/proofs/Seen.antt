@@ -207,7 +207,7 @@ pub record AreFew (p : ℕ) (c : Copies) : Type 0 where
   pub held : c.held ≤ p
   pub fresh : c.fresh ≤ c.held
 
-few_with : (p : ℕ) (c : Copies) (o : Option ℕ) → AreFew p c → AreFew (suc p) (with_copy c o)
+pub few_with : (p : ℕ) (c : Copies) (o : Option ℕ) → AreFew p c → AreFew (suc p) (with_copy c o)
 few_with p c None few = record { held = omega (arith, few.held); fresh = few.fresh }
 few_with p c (Some v) few = record { held = omega (arith, few.held); fresh = omega (arith, few.fresh, at_most (leb c.current v)) }
   where

@@ -1,8 +1,9 @@
-use Rattle.std.proofs.Common.{◌≡◌, ℕ, ◌+◌, ◌*◌, ◌/◌, ◌<◌, min, List, length, get_or, Result, Ok, take, drop, ◌++◌, refl, sym, ap, ◌∙◌, subst, arith}
+use Rattle.std.proofs.Common.{◌≡◌, ℕ, ◌+◌, ◌*◌, ◌/◌, ◌<◌, ◌≤◌, min, List, length, get_or, Result, Ok, take, drop, ◌++◌, refl, sym, ap, ◌∙◌, subst, arith}
 use Rattle.std.specs.Prelude.{Vec}
 use Rattle.std.specs.declared.alloc.AllocError.{AllocError}
 use Rattle.std.specs.declared.alloc.Global.{Global}
 use Rattle.std.proofs.lemmas.List.{append-nil, drop_all, take_all}
+use Rattle.bench_types.specs.declared.limits.TheConstants.{MOST_NODES}
 use Rattle.node_table.specs.Table.{Table}
 use Rattle.node_table.specs.NodeTableView.{NodeTableView}
 use Rattle.cluster.specs.Tables.{tables_in, table_of_node, IsCluster}
@@ -14,7 +15,9 @@ use Rattle.staleness.specs.inner.Copies.{no_copies, current_of, copies_of, merge
 use Rattle.staleness.specs.inner.Parts.{IsSeenInPart, AreSeenInParts}
 use Rattle.staleness.proofs.Counting.{enough}
 use Rattle.staleness.proofs.Merging.{AreSeenUpTo, part_within, seen_in_part, as_many_parts, same_size, room_for, seen_further, seen_none}
+use Rattle.staleness.proofs.staleness.all_copies.Given as given
 use Rattle.staleness.proofs.staleness.all_copies.Goals as goal
+use Rattle.staleness.proofs.staleness.all_copies.Goals.{After-deref-in-Ok}
 
 -- what the parts begin with
 begun : (kept : List NodeTableView) (lists : List (List Write)) (count : ℕ) (first : NodeTableView) (keys : ℕ) (none copies : List Copies) → 0 < length kept → first ≡ get_or kept 0 first → count ≡ length kept → keys ≡ first.table.keys → none ≡ copies
@@ -54,53 +57,55 @@ found_there tables none size count parts items p r v part same each lt is ok par
     let below : p < count = omega (arith, lt, ap length same, as_many_parts tables none size count parts each) in
     (subst (IsSeenInPart tables none size p) (sym part_is) (seen_in_part tables none size count parts p r v each below (is ∙ ap (λ xs. get_or xs p r) same) ok), below)
 
-pub merge-requires-clause-size : goal.merge-requires-clause-size
-merge-requires-clause-size g c =
+-- the part of this turn, where it stands, and that all fit a number
+record IsPartThere (tables : List Table) (lists : List (List Write)) (none : List Copies) (size p : ℕ) (part : List Copies) : Type 0 where
+  begins : AreSeen (length tables) (table_of_node tables 0).keys (λ owner key. no_copies (current_of lists owner key)) none
+  few : length tables ≤ MOST_NODES
+  seen : IsSeenInPart tables none size p part
+  inside : p * size ≤ length tables
+
+part_there : (g : given.Over) (c : After-deref-in-Ok g) → IsPartThere (tables_in c.args.tables.now) (lists_in c.args.lists.now) c.deref.result.now c.args.size c.loop-part.part-index c.deref-in-Ok.result.now
+part_there g c =
     let tables = tables_in c.args.tables.now in
     let counted = length-tables_in c.args.tables.now in
     let n = length c.args.tables.now in
     let size = c.args.size in
-    let none = c.deref.result.now in
     let p = c.loop-part.part-index in
     let some = c.in-Some.ensures.item in
-    let begins = begun c.args.tables.now (lists_in c.args.lists.now) (length c.args.lists.now) c.in-Some.table.now c.keys-keys.result none c.in_ok-copies.copies.items (omega (arith, some.3.0)) some.1 c.requires.one_list_each c.keys-keys.ensures.value c.deref.ensures.value c.in_ok-copies.ensures in
-    let there = found_there tables none size (n / size + 1) c.in_ok-parts.parts.items c.deref-part-items.result.now p c.part-item.result c.in-Ok.part c.deref-in-Ok.result.now c.deref-part-items.ensures.value c.in_ok-parts.ensures c.loop-part-test.true c.part-item.is c.in-Ok.is c.deref-in-Ok.ensures.value in
-    same_size tables (lists_in c.args.lists.now) none size begins (omega (arith, counted, c.requires.few)) p c.loop-part.copies.items c.deref-in-Ok.result.now c.loop-part.invariant there.0 (omega (arith, counted, part_within n size p (omega (arith, there.1)))) ∙ ap length (sym c.deref_mut.ensures.value)
+    let there = found_there tables c.deref.result.now size (n / size + 1) c.in_ok-parts.parts.items c.deref-part-items.result.now p c.part-item.result c.in-Ok.part c.deref-in-Ok.result.now c.deref-part-items.ensures.value c.in_ok-parts.ensures c.loop-part-test.true c.part-item.is c.in-Ok.is c.deref-in-Ok.ensures.value in
+    record {
+      begins = begun c.args.tables.now (lists_in c.args.lists.now) (length c.args.lists.now) c.in-Some.table.now c.keys-keys.result c.deref.result.now c.in_ok-copies.copies.items (omega (arith, some.3.0)) some.1 c.requires.one_list_each c.keys-keys.ensures.value c.deref.ensures.value c.in_ok-copies.ensures;
+      few = omega (arith, counted, c.requires.few);
+      seen = there.0;
+      inside = omega (arith, counted, part_within n size p (omega (arith, there.1)));
+    }
+
+pub merge-requires-clause-size : goal.merge-requires-clause-size
+merge-requires-clause-size g c =
+    let tables = tables_in c.args.tables.now in
+    let there = part_there g (goal.at.merge-requires-clause-size g c).After-deref-in-Ok in
+    same_size tables (lists_in c.args.lists.now) c.deref.result.now c.args.size there.begins there.few c.loop-part.part-index c.loop-part.copies.items c.deref-in-Ok.result.now c.loop-part.invariant there.seen there.inside ∙ ap length (sym c.deref_mut.ensures.value)
 
 pub merge-requires-clause-room : goal.merge-requires-clause-room
 merge-requires-clause-room g c =
     let tables = tables_in c.args.tables.now in
-    let counted = length-tables_in c.args.tables.now in
-    let n = length c.args.tables.now in
-    let size = c.args.size in
-    let none = c.deref.result.now in
-    let p = c.loop-part.part-index in
-    let some = c.in-Some.ensures.item in
-    let begins = begun c.args.tables.now (lists_in c.args.lists.now) (length c.args.lists.now) c.in-Some.table.now c.keys-keys.result none c.in_ok-copies.copies.items (omega (arith, some.3.0)) some.1 c.requires.one_list_each c.keys-keys.ensures.value c.deref.ensures.value c.in_ok-copies.ensures in
-    let there = found_there tables none size (n / size + 1) c.in_ok-parts.parts.items c.deref-part-items.result.now p c.part-item.result c.in-Ok.part c.deref-in-Ok.result.now c.deref-part-items.ensures.value c.in_ok-parts.ensures c.loop-part-test.true c.part-item.is c.in-Ok.is c.deref-in-Ok.ensures.value in
+    let there = part_there g (goal.at.merge-requires-clause-room g c).After-deref-in-Ok in
     subst (λ xs. (i : ℕ) (d : Copies) → i < length xs → MayCountBoth (get_or xs i d) (get_or c.deref-in-Ok.result.now i d)) (sym c.deref_mut.ensures.value)
-    (room_for tables (lists_in c.args.lists.now) none size begins (omega (arith, counted, c.requires.few)) p c.loop-part.copies.items c.deref-in-Ok.result.now c.loop-part.invariant there.0 (omega (arith, counted, part_within n size p (omega (arith, there.1)))))
+    (room_for tables (lists_in c.args.lists.now) c.deref.result.now c.args.size there.begins there.few c.loop-part.part-index c.loop-part.copies.items c.deref-in-Ok.result.now c.loop-part.invariant there.seen there.inside)
 
 pub loop-part-preserved : goal.loop-part-preserved
 loop-part-preserved g c =
     let tables = tables_in c.args.tables.now in
     let lists = lists_in c.args.lists.now in
-    let counted = length-tables_in c.args.tables.now in
-    let n = length c.args.tables.now in
-    let size = c.args.size in
-    let none = c.deref.result.now in
-    let p = c.loop-part.part-index in
-    let some = c.in-Some.ensures.item in
-    let begins = begun c.args.tables.now lists (length c.args.lists.now) c.in-Some.table.now c.keys-keys.result none c.in_ok-copies.copies.items (omega (arith, some.3.0)) some.1 c.requires.one_list_each c.keys-keys.ensures.value c.deref.ensures.value c.in_ok-copies.ensures in
-    let there = found_there tables none size (n / size + 1) c.in_ok-parts.parts.items c.deref-part-items.result.now p c.part-item.result c.in-Ok.part c.deref-in-Ok.result.now c.deref-part-items.ensures.value c.in_ok-parts.ensures c.loop-part-test.true c.part-item.is c.in-Ok.is c.deref-in-Ok.ensures.value in
+    let there = part_there g (goal.at.loop-part-preserved g c).After-deref-in-Ok in
     let before = c.loop-part.copies in
     let new = c.merge.new.copies in
     let deref = c.deref_mut.ensures.value in
     let new_size : length new ≡ length before.items = c.merge.ensures.size ∙ ap length deref in
     let whole : take before.len (new ++ drop (length new) before.items) ≡ new =
     ap (λ xs. take before.len (new ++ xs)) (drop_all (length new) before.items (omega (arith, new_size))) ∙ ap (take before.len) (append-nil new) ∙ take_all before.len new (omega (arith, new_size, before.ok.0)) in
-    subst (AreSeenUpTo tables lists none size (p + 1)) (sym whole)
-    (seen_further tables lists none size begins (omega (arith, counted, c.requires.few)) p before.items c.deref-in-Ok.result.now c.loop-part.invariant there.0 (omega (arith, counted, part_within n size p (omega (arith, there.1)))) new new_size
+    subst (AreSeenUpTo tables lists c.deref.result.now c.args.size (c.loop-part.part-index + 1)) (sym whole)
+    (seen_further tables lists c.deref.result.now c.args.size there.begins there.few c.loop-part.part-index before.items c.deref-in-Ok.result.now c.loop-part.invariant there.seen there.inside new new_size
     (subst (λ xs. (i : ℕ) (d : Copies) → i < length xs → get_or new i d ≡ merged (get_or xs i d) (get_or c.deref-in-Ok.result.now i d)) deref c.merge.ensures.merged))
 
 pub returns-clause-seen : goal.returns-clause-seen

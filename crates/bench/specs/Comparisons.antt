@@ -38,7 +38,8 @@ IsFaultInRound sink old new whole line workers fault =
 
 -- the text `whole` and the lines of the first so many rounds of a scenario were written, and then the next round or its
 -- line came to this fault
-pub record IsFaultInRounds {W : Type 0} (sink : Sink W) (old new : W) (whole : List ℕ) (s : Settings) (workers : ℕ) (fault : Fault) : Type 0 where
+pub record IsFaultInRounds {W : Type 0} (sink : Sink W) (old new : W) (whole : List ℕ) (s : Settings) (workers : ℕ)
+    (fault : Fault) : Type 0 where
   pub rounds : ℕ
   pub within : rounds < s.rounds
   pub stops : IsFaultInRound sink old new (whole ++ lines_upto s rounds)
@@ -46,7 +47,8 @@ pub record IsFaultInRounds {W : Type 0} (sink : Sink W) (old new : W) (whole : L
 
 -- the text `whole` and all lines of the first of these modes were written, and then writing those of the next mode
 -- came to this fault
-pub record IsFaultInModes {W : Type 0} (sink : Sink W) (old new : W) (whole : List ℕ) (s : Settings) (ms : List Mode) (workers : ℕ) (fault : Fault) : Type 0 where
+pub record IsFaultInModes {W : Type 0} (sink : Sink W) (old new : W) (whole : List ℕ) (s : Settings) (ms : List Mode)
+    (workers : ℕ) (fault : Fault) : Type 0 where
   pub done : List Mode
   pub next : Mode
   pub rest : List Mode

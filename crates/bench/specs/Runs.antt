@@ -23,7 +23,8 @@ IsFaultAfter {W} sink old new whole next fault =
     (between : W) × IsWritten sink old between whole × IsWriteFault sink between new next fault
 
 -- the report and the trace of these settings were written
-pub record AreWritten {W X : Type 0} (sink : Sink W) (old new : W) (sink' : Sink X) (old' new' : X) (s : Settings) : Type 0 where
+pub record AreWritten {W X : Type 0} (sink : Sink W) (old new : W) (sink' : Sink X) (old' new' : X)
+    (s : Settings) : Type 0 where
   pub report : IsWritten sink old new (report_text s)
   pub trace : IsWritten sink' old' new' (trace_text s)
 
@@ -36,7 +37,8 @@ pub data StoppingPlace : Type 0 where
   lines_after : ℕ → StoppingPlace
   row_after : ℕ → StoppingPlace
 
-module _ {W X : Type 0} (sink : Sink W) (old new : W) (sink' : Sink X) (old' new' : X) (s : Settings) (workers : ℕ) (fault : Fault) where
+module _ {W X : Type 0} (sink : Sink W) (old new : W) (sink' : Sink X) (old' new' : X) (s : Settings) (workers : ℕ)
+    (fault : Fault) where
   -- all that stands before this place was written, and then the round, or writing what stands there, came to the fault
   abbrev pub StopsAt : StoppingPlace → Type 0
   StopsAt report_header = IsWriteFault sink old new (report_header_line s.format) fault × (new' ≡ old')
@@ -62,7 +64,8 @@ module _ {W X : Type 0} (sink : Sink W) (old new : W) (sink' : Sink X) (old' new
     pub place : StoppingPlace
     pub stops : StopsAt place
 
-module _ {R W X : Type 0} (source : Source R) (reader reader' : R) (sink : Sink W) (old new : W) (sink' : Sink X) (old' new' : X) where
+module _ {R W X : Type 0} (source : Source R) (reader reader' : R)
+    (sink : Sink W) (old new : W) (sink' : Sink X) (old' new' : X) where
   -- a scenario was read, and its report and its trace were written
   pub record IsReported : Type 0 where
     pub settings : Settings

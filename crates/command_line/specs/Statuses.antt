@@ -1,4 +1,5 @@
--- What the program ends with: 0 where all was done, 1 after a fault, 2 where its words are refused. Source: this project.
+-- What the program ends with: 0 where all was done, 1 after a fault, 2 where its words are refused.
+-- Source: this project.
 use Rattle.std.specs.Prelude.{ℕ, List, Result, Ok, Err}
 use Rattle.bench_types.specs.declared.faults.Fault.{Fault}
 use Rattle.bench_types.specs.declared.sinks.Sink.{Ghosts as Sink}

@@ -27,7 +27,7 @@ pub enum NoJob {
     OutOfMemory,
 }
 
-/// What the words ask for, without the program's name.
+/// What the words ask for, without the program's name. Where that is no job, the error says why.
 pub fn job_of<'a, S: AsStr>(alloc: Global, words: &'a [S]) -> Result<Job<'a>, NoJob>
     ensures workers { IfOk result HasLawfulWorkers }
     ensures answer { MatchResult result (AskFor (map S.text words.entry.now)) (HaveNoJob (map S.text words.entry.now)) }

@@ -68,16 +68,20 @@ IsNextAbove most cells keys owner mark least =
 abbrev pub total_of : ℕ → ℕ → (ℕ → ℕ → Bool) → ℕ
 total_of nodes keys test = sum_below nodes (λ owner. sum_below keys (λ key. if test owner key then 1 else 0))
 
--- the planes of the keys below a bound are changed as a relation of owner, key, old and new number says, and the others aren't
-pub record ArePlanesChangedUpto (changed : ℕ → ℕ → ℕ → ℕ → Type 0) (nodes : ℕ) (old new : List ℕ) (bound : ℕ) : Type 0 where
+-- the planes of the keys below a bound are changed as a relation of owner, key, old and new number says, and the others
+-- aren't
+pub record ArePlanesChangedUpto (changed : ℕ → ℕ → ℕ → ℕ → Type 0) (nodes : ℕ) (old new : List ℕ)
+    (bound : ℕ) : Type 0 where
   pub size : length new ≡ length old
-  pub below : (owner key : ℕ) → owner < nodes → key < bound → changed owner key (cell old nodes owner key) (cell new nodes owner key)
+  pub below : (owner key : ℕ) → owner < nodes → key < bound
+      → changed owner key (cell old nodes owner key) (cell new nodes owner key)
   pub from : (i : ℕ) → bound * nodes ≤ i → slice_index new i ≡ slice_index old i
 
 -- and so for all keys
 pub record ArePlanesChanged (changed : ℕ → ℕ → ℕ → ℕ → Type 0) (nodes keys : ℕ) (old new : List ℕ) : Type 0 where
   pub size : length new ≡ length old
-  pub each : (owner key : ℕ) → owner < nodes → key < keys → changed owner key (cell old nodes owner key) (cell new nodes owner key)
+  pub each : (owner key : ℕ) → owner < nodes → key < keys
+      → changed owner key (cell old nodes owner key) (cell new nodes owner key)
 
 -- planes of which each number is as a relation of owner, key and number says
 pub record HasEachPlace (nodes keys : ℕ) (is : ℕ → ℕ → ℕ → Type 0) (xs : List ℕ) : Type 0 where

@@ -1,4 +1,5 @@
-//! Loops over all planes of a table: `cells[key * nodes + owner]`.
+//! Loops over all planes of a table: `cells[key * nodes + owner]`. Where one answers an error, it is lack of memory
+//! (`OutOfMemory`).
 
 ghost use Rattle.std.specs.Prelude.{◌≡◌, ℕ, ◌+◌, ◌*◌, ◌<◌, ◌≤◌, ◌&&◌, length, map, nat_le, nat_lt, slice_index, IfOk, IsOkUnless};
 ghost use Rattle.bench_types.specs.declared.faults.Fault.TheVariants.{OutOfMemory};
@@ -45,7 +46,9 @@ fn count_planes_above<N: Number>(
     requires grid { IsGrid nodes keys (length cells.now) }
     requires low { length low.now ≡ nodes }
     requires counts { HasEach nodes (λ r n. n ≡ 0) (map N.number counts.old) }
-    ensures counts { HasEach nodes (λ r n. n ≡ count_above (cell (map N.number cells.now) nodes) keys r (slice_index (map N.number low.now) r)) (map N.number counts.new) }
+    ensures counts { HasEach nodes
+        (λ r n. n ≡ count_above (cell (map N.number cells.now) nodes) keys r (slice_index (map N.number low.now) r))
+        (map N.number counts.new) }
 {
     for key in 0..keys {
         let plane = plane_of(cells, nodes, key);
@@ -66,7 +69,9 @@ fn count_planes_between<N: Number>(
     requires low { length low.now ≡ nodes }
     requires high { length high.now ≡ nodes }
     requires counts { HasEach nodes (λ r n. n ≡ 0) (map N.number counts.old) }
-    ensures counts { HasEach nodes (λ r n. n ≡ count_between (cell (map N.number cells.now) nodes) keys r (slice_index (map N.number low.now) r) (slice_index (map N.number high.now) r)) (map N.number counts.new) }
+    ensures counts { HasEach nodes
+        (λ r n. n ≡ count_between (cell (map N.number cells.now) nodes) keys r (slice_index (map N.number low.now) r)
+        (slice_index (map N.number high.now) r)) (map N.number counts.new) }
 {
     for key in 0..keys {
         let plane = plane_of(cells, nodes, key);
@@ -79,7 +84,9 @@ fn lower_planes<N: Number>(least: &mut [N], cells: &[N], nodes: usize, keys: usi
     requires grid { IsGrid nodes keys (length cells.now) }
     requires low { length low.now ≡ nodes }
     requires least { HasEach nodes (λ r n. n ≡ N.most) (map N.number least.old) }
-    ensures least { HasEach nodes (λ r n. IsNextAbove N.most (cell (map N.number cells.now) nodes) keys r (slice_index (map N.number low.now) r) n) (map N.number least.new) }
+    ensures least { HasEach nodes
+        (λ r n. IsNextAbove N.most (cell (map N.number cells.now) nodes) keys r
+        (slice_index (map N.number low.now) r) n) (map N.number least.new) }
 {
     for key in 0..keys {
         let plane = plane_of(cells, nodes, key);
@@ -98,7 +105,8 @@ pub fn counts_above<N: Number>(
     requires grid { IsGrid nodes keys (length cells.now) }
     requires low { length low.now ≡ nodes }
     ensures counts { IfOk result (λ v. HasEach nodes
-        (λ r n. n ≡ count_above (cell (map N.number cells.now) nodes) keys r (slice_index (map N.number low.now) r)) (map N.number v.items)) }
+        (λ r n. n ≡ count_above (cell (map N.number cells.now) nodes) keys r (slice_index (map N.number low.now) r))
+        (map N.number v.items)) }
     ensures only { IsOkUnless result OutOfMemory }
 {
     let mut counts = all_of(alloc, nodes, N::zero())?;
@@ -139,7 +147,8 @@ pub fn least_above<N: Number>(
     requires grid { IsGrid nodes keys (length cells.now) }
     requires low { length low.now ≡ nodes }
     ensures least { IfOk result (λ v. HasEach nodes
-        (λ r n. IsNextAbove N.most (cell (map N.number cells.now) nodes) keys r (slice_index (map N.number low.now) r) n) (map N.number v.items)) }
+        (λ r n. IsNextAbove N.most (cell (map N.number cells.now) nodes) keys r
+        (slice_index (map N.number low.now) r) n) (map N.number v.items)) }
     ensures only { IsOkUnless result OutOfMemory }
 {
     let mut least = all_of(alloc, nodes, N::greatest())?;
@@ -160,7 +169,8 @@ fn put_planes_ahead<N: Number>(
     requires cells { length cells.now ≡ length ahead.old }
     requires peer { length peer.now ≡ length ahead.old }
     requires low { length low.now ≡ nodes }
-    ensures ahead { ArePlanesChanged (λ r k x y. y ≡ number_ahead (cell (map N.number cells.now) nodes r k) (cell (map N.number peer.now) nodes r k)
+    ensures ahead { ArePlanesChanged
+        (λ r k x y. y ≡ number_ahead (cell (map N.number cells.now) nodes r k) (cell (map N.number peer.now) nodes r k)
         (slice_index (map N.number low.now) r)) nodes keys
         (map N.number ahead.old) (map N.number ahead.new) }
 {
@@ -199,7 +209,8 @@ pub fn ahead<N: Number>(
 pub fn total_above<N: Number>(cells: &[N], nodes: usize, keys: usize, low: &[N]) -> u32
     requires grid { IsGrid nodes keys (length cells.now) }
     requires low { length low.now ≡ nodes }
-    ensures { result ≡ total_of nodes keys (λ r k. nat_lt (slice_index (map N.number low.now) r) (cell (map N.number cells.now) nodes r k)) }
+    ensures { result ≡ total_of nodes keys
+        (λ r k. nat_lt (slice_index (map N.number low.now) r) (cell (map N.number cells.now) nodes r k)) }
 {
     let mut total = 0;
     for key in 0..keys {
@@ -250,7 +261,8 @@ pub fn take<N: Number>(
     requires sent { length sent.now ≡ length cells.old }
     requires low { length low.now ≡ nodes }
     requires high { length high.now ≡ nodes }
-    ensures cells { ArePlanesChanged (λ r k x y. y ≡ number_taken x (cell (map N.number sent.now) nodes r k) (slice_index (map N.number low.now) r)
+    ensures cells { ArePlanesChanged
+        (λ r k x y. y ≡ number_taken x (cell (map N.number sent.now) nodes r k) (slice_index (map N.number low.now) r)
         (slice_index (map N.number high.now) r)) nodes keys
         (map N.number cells.old) (map N.number cells.new) }
 {

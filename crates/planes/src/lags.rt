@@ -105,7 +105,8 @@ fn lower_planes_behind<N: Number>(
     }
 }
 
-/// For each owner the least of its numbers that are below the last ones, or `N::greatest()` where none is.
+/// For each owner the least of its numbers that are below the last ones, or `N::greatest()` where none is. An error is
+/// lack of memory (`OutOfMemory`).
 pub fn least_behind<N: Number>(
     alloc: Global,
     cells: &[N],

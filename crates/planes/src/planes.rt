@@ -31,7 +31,9 @@ pub fn count_above<N: Number>(counts: &mut [N], plane: &[N], marks: &[N])
     requires plane { length plane.now ≡ length counts.old }
     requires marks { length marks.now ≡ length counts.old }
     requires room { (r : ℕ) → r < length counts.old → slice_index (map N.number counts.old) r < N.most }
-    ensures counts { AreChanged (λ r x y. y ≡ x + (if nat_lt (slice_index (map N.number marks.now) r) (slice_index (map N.number plane.now) r) then 1 else 0))
+    ensures counts { AreChanged
+        (λ r x y. y ≡ x + (if nat_lt (slice_index (map N.number marks.now) r) (slice_index (map N.number plane.now) r)
+        then 1 else 0))
         (map N.number counts.old) (map N.number counts.new) }
 {
     for r in 0..counts.len() {
@@ -45,7 +47,8 @@ pub fn count_between<N: Number>(counts: &mut [N], plane: &[N], low: &[N], high: 
     requires low { length low.now ≡ length counts.old }
     requires high { length high.now ≡ length counts.old }
     requires room { (r : ℕ) → r < length counts.old → slice_index (map N.number counts.old) r < N.most }
-    ensures counts { AreChanged (λ r x y. y ≡ x + (if nat_lt (slice_index (map N.number low.now) r) (slice_index (map N.number plane.now) r)
+    ensures counts { AreChanged
+        (λ r x y. y ≡ x + (if nat_lt (slice_index (map N.number low.now) r) (slice_index (map N.number plane.now) r)
         && nat_le (slice_index (map N.number plane.now) r) (slice_index (map N.number high.now) r) then 1 else 0))
         (map N.number counts.old) (map N.number counts.new) }
 {
@@ -58,7 +61,8 @@ pub fn count_between<N: Number>(counts: &mut [N], plane: &[N], low: &[N], high: 
 pub fn lower_to_next<N: Number>(least: &mut [N], plane: &[N], low: &[N])
     requires plane { length plane.now ≡ length least.old }
     requires low { length low.now ≡ length least.old }
-    ensures least { AreChanged (λ r x y. IsLowered N.most (slice_index (map N.number low.now) r) (slice_index (map N.number plane.now) r) x y)
+    ensures least { AreChanged
+        (λ r x y. IsLowered N.most (slice_index (map N.number low.now) r) (slice_index (map N.number plane.now) r) x y)
         (map N.number least.old) (map N.number least.new) }
 {
     for r in 0..least.len() {
@@ -71,7 +75,8 @@ pub fn put_ahead<N: Number>(ahead: &mut [N], plane: &[N], peer: &[N], low: &[N])
     requires plane { length plane.now ≡ length ahead.old }
     requires peer { length peer.now ≡ length ahead.old }
     requires low { length low.now ≡ length ahead.old }
-    ensures ahead { AreChanged (λ r x y. y ≡ number_ahead (slice_index (map N.number plane.now) r) (slice_index (map N.number peer.now) r)
+    ensures ahead { AreChanged
+        (λ r x y. y ≡ number_ahead (slice_index (map N.number plane.now) r) (slice_index (map N.number peer.now) r)
         (slice_index (map N.number low.now) r))
         (map N.number ahead.old) (map N.number ahead.new) }
 {
@@ -89,7 +94,8 @@ pub fn take_plane<N: Number>(plane: &mut [N], sent: &[N], low: &[N], high: &[N])
     requires sent { length sent.now ≡ length plane.old }
     requires low { length low.now ≡ length plane.old }
     requires high { length high.now ≡ length plane.old }
-    ensures plane { AreChanged (λ r x y. y ≡ number_taken x (slice_index (map N.number sent.now) r) (slice_index (map N.number low.now) r)
+    ensures plane { AreChanged
+        (λ r x y. y ≡ number_taken x (slice_index (map N.number sent.now) r) (slice_index (map N.number low.now) r)
         (slice_index (map N.number high.now) r))
         (map N.number plane.old) (map N.number plane.new) }
 {
@@ -105,7 +111,8 @@ pub fn take_plane<N: Number>(plane: &mut [N], sent: &[N], low: &[N], high: &[N])
 /// Raises each owner's mark to its number in a plane.
 pub fn raise<N: Number>(marks: &mut [N], plane: &[N])
     requires plane { length plane.now ≡ length marks.old }
-    ensures marks { AreChanged (λ r x y. y ≡ max x (slice_index (map N.number plane.now) r)) (map N.number marks.old) (map N.number marks.new) }
+    ensures marks { AreChanged (λ r x y. y ≡ max x (slice_index (map N.number plane.now) r))
+        (map N.number marks.old) (map N.number marks.new) }
 {
     for r in 0..marks.len() {
         marks[r] = marks[r].max_with(plane[r]);
@@ -129,7 +136,8 @@ pub fn how_many_above<N: Number>(plane: &[N], low: &[N]) -> u32
 /// How many numbers of a plane are not 0.
 pub fn how_many_held<N: Number>(plane: &[N]) -> u32
     requires room { length plane.now ≤ MOST_NODES }
-    ensures { result ≡ sum_below (length plane.now) (λ r. if nat_lt 0 (slice_index (map N.number plane.now) r) then 1 else 0) }
+    ensures { result ≡ sum_below (length plane.now)
+        (λ r. if nat_lt 0 (slice_index (map N.number plane.now) r) then 1 else 0) }
 {
     let mut count = 0;
     for r in 0..plane.len() {

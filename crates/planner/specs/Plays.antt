@@ -16,7 +16,8 @@ use Rattle.dependencies.specs.Schedules.{is_running, MayStart, IsLawful, AreFini
 use Rattle.dependencies.specs.States.{state_of}
 
 -- a whole schedule was carried out: these are the tables in their places at its end, and the records
-pub record IsPlayed (rules : Rules) (es : List Exchange) (events : List Event) (before after : List Table) (records : List Record) : Type 0 where
+pub record IsPlayed (rules : Rules) (es : List Exchange) (events : List Event) (before after : List Table)
+    (records : List Record) : Type 0 where
   pub lawful : IsLawful es events
   pub finished : AreFinished es events
   pub size : length after ≡ length before
@@ -27,17 +28,21 @@ pub record IsPlayed (rules : Rules) (es : List Exchange) (events : List Event) (
   pub given : records ≡ (fold_of rules before es).records
 
 -- and so with the tables in memory
-abbrev pub ArePlayed : Rules → RoundListView → List Event → List NodeTableView → List NodeTableView → List Record → Type 0
-ArePlayed rules plan events before after records = IsPlayed rules plan.exchanges events (tables_in before) (tables_in after) records
+abbrev pub ArePlayed :
+    Rules → RoundListView → List Event → List NodeTableView → List NodeTableView → List Record → Type 0
+ArePlayed rules plan events before after records =
+    IsPlayed rules plan.exchanges events (tables_in before) (tables_in after) records
 
 -- the events before a place are a lawful schedule, and there stands this one
 pub record IsEventAt (es : List Exchange) (events : List Event) (k : ℕ) (e : Event) : Type 0 where
   pub lawful : IsLawful es (take k events)
   pub event : slice_get events k ≡ Some e
 
--- why a schedule was refused: the first event that isn't allowed, or behind the last event an exchange that isn't finished
+-- why a schedule was refused: the first event that isn't allowed, or behind the last event an exchange that isn't
+-- finished
 abbrev pub IsRefusal : List Exchange → List Event → Fault → Type 0
 IsRefusal es events fault.NotAllowed = (k i : ℕ) × IsEventAt es events k (Start i) × (¬ MayStart es (take k events) i)
-IsRefusal es events fault.NotRunning = (k i : ℕ) × IsEventAt es events k (Finish i) × (is_running (take k events) i ≡ false)
+IsRefusal es events fault.NotRunning =
+    (k i : ℕ) × IsEventAt es events k (Finish i) × (is_running (take k events) i ≡ false)
 IsRefusal es events fault.Unfinished = IsLawful es events × (¬ AreFinished es events)
 IsRefusal es events f = f ≡ fault.OutOfMemory

@@ -27,7 +27,8 @@ stage_after events i = if is_finished events i then Done else if is_started even
 pub record IsSchedule (s : ScheduleView) : Type 0 where
   pub planned : IsRoundPlan s.plan
   pub size : length s.stages ≡ length s.plan.exchanges
-  pub closed : (i j : ℕ) → j < i → i < length s.plan.exchanges → stage_in s.stages i ≢ Waiting → share_node s.plan.exchanges i j ≡ true → stage_in s.stages j ≡ Done
+  pub closed : (i j : ℕ) → j < i → i < length s.plan.exchanges → stage_in s.stages i ≢ Waiting
+      → share_node s.plan.exchanges i j ≡ true → stage_in s.stages j ≡ Done
 
 -- each earlier exchange that shares a node with it is done
 abbrev pub IsFree : ScheduleView → ℕ → Type 0
@@ -45,8 +46,8 @@ IsNextReady s i = CanStart s i × ((j : ℕ) → j < i → ¬ (CanStart s j))
 abbrev pub IsRunning : ScheduleView → ℕ → Type 0
 IsRunning s i = stage_in s.stages i ≡ Running
 
-abbrev pub IsDone : ScheduleView → ℕ → Type 0
-IsDone s i = stage_in s.stages i ≡ Done
+abbrev pub IsFinished : ScheduleView → ℕ → Type 0
+IsFinished s i = stage_in s.stages i ≡ Done
 
 abbrev pub with_stage : ScheduleView → ℕ → Stage → ScheduleView
 with_stage s i stage = standing_of s.plan (slice_set s.stages i stage)

@@ -4,7 +4,7 @@ ghost use Rattle.std.specs.Prelude.{◌≡◌, ◌<◌, ◌↔◌, ℕ, None, tr
 ghost use Rattle.bench_types.specs.declared.faults.Fault.TheVariants.{OutOfMemory, NotAllowed, NotRunning};
 ghost use Rattle.planner.specs.Stages.{not_started, runs, is_over};
 ghost use Rattle.planner.specs.inner.Stages.{none_or_over};
-ghost use Rattle.planner.specs.Stages.{IsSchedule, CanStart, IsFree, IsNextReady, IsRunning, IsDone, Starts, Finishes, HasSchedule};
+ghost use Rattle.planner.specs.Stages.{IsSchedule, CanStart, IsFree, IsNextReady, IsRunning, IsFinished, Starts, Finishes, HasSchedule};
 
 use bench_types::Fault;
 use dependencies::Deps;
@@ -94,7 +94,7 @@ impl Schedule {
     }
 
     pub fn is_done(&self, i: u32) -> bool
-        ensures done { IsTrue result ↔ IsDone self.now i }
+        ensures done { IsTrue result ↔ IsFinished self.now i }
         ensures lawful { HasSchedule self.now }
         ensures kept { IsSchedule self.now }
     {

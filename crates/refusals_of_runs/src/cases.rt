@@ -23,7 +23,10 @@ pub(crate) struct FirstRound {
 
 // The row of a round, by its columns.
 macro_rules! row {
-    ($round:expr, $exchanges:expr, $unreached:expr, $lost:expr, $entries:expr, $cut:expr, $stale:expr, $greatest:expr, $leftover:expr) => {
+    (
+        $round:expr, $exchanges:expr, $unreached:expr, $lost:expr, $entries:expr, $cut:expr, $stale:expr,
+        $greatest:expr, $leftover:expr
+    ) => {
         bench_types::Row {
             round: $round,
             exchanges: $exchanges,

@@ -1,5 +1,5 @@
-//! Goes through four scenarios with 1, 2 and 4 workers, step by step, list by list and text by text, and where memory or
-//! a thread is refused goes through them again: what stands after the refusal is what is promised, and the second
+//! Goes through four scenarios with 1, 2 and 4 workers, step by step, list by list and text by text, and where memory
+//! or a thread is refused goes through them again: what stands after the refusal is what is promised, and the second
 //! answer is right. It prints the calls whose answers were right, and so the same whichever growth is refused.
 //! `scripts/try_refusals` refuses each in turn, of one scenario and one number of workers at a time: standard input
 //! then names both by two digits, the scenario's place and the workers.

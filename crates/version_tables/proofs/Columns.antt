@@ -12,7 +12,7 @@ use Rattle.reconcile.specs.Order.{rank_among, owner_count}
 use Rattle.planes.specs.Sums.{sum_below}
 use Rattle.version_tables.specs.inner.Offers.{Offers, IsHistory, offered_sum, rank_above}
 use Rattle.planes.specs.Planes.{Cells, count_above}
-use Rattle.version_tables.specs.inner.Levels.{number_of}
+use Rattle.version_tables.specs.inner.Levels.{item_number}
 use Rattle.planes.proofs.Sums.{sum_below-same}
 use Rattle.version_tables.proofs.Offers.{offered-sum, number-of_version, versions-rise}
 use Rattle.version_tables.proofs.Levels.{candidate-number, candidate-below, alike, d_number}
@@ -57,40 +57,40 @@ module _ (mode : Mode) (from to : Table) (proper : IsProper from) (lists : ℕ �
       ∙ of_owner (λ _. 1)
 
   -- and how many of them come before it by version
-  pub rank_among-is : rank_among cs c ≡ rank_above cells from.keys c.owner (low c.owner) (number_of cells c)
+  pub rank_among-is : rank_among cs c ≡ rank_above cells from.keys c.owner (low c.owner) (item_number cells c)
   rank_among-is =
       offered-sum mode from to proper lists cells low offers (λ d. cond (eqb d.owner c.owner && ltb d.entry.version c.entry.version) 1 0)
-      (λ owner key. cond (eqb owner c.owner) (cond (ltb (cells owner key) (number_of cells c)) 1 0) 0) told
+      (λ owner key. cond (eqb owner c.owner) (cond (ltb (cells owner key) (item_number cells c)) 1 0) 0) told
       ∙ sum_below-same from.nodes _ _ (λ owner lt. sum_below-same from.keys _ _ (λ key lt'. same_owner owner key))
-      ∙ of_owner (λ key. cond (ltb (cells c.owner key) (number_of cells c)) 1 0)
+      ∙ of_owner (λ key. cond (ltb (cells c.owner key) (item_number cells c)) 1 0)
     where
-      same_owner : (owner key : ℕ) → where_true (ltb (low owner) (cells owner key)) (where_true (eqb owner c.owner) (where_true (ltb (cells owner key) (number_of cells c)) 1)) ≡ where_true (ltb (low owner) (cells owner key)) (where_true (eqb owner c.owner) (where_true (ltb (cells c.owner key) (number_of cells c)) 1))
+      same_owner : (owner key : ℕ) → where_true (ltb (low owner) (cells owner key)) (where_true (eqb owner c.owner) (where_true (ltb (cells owner key) (item_number cells c)) 1)) ≡ where_true (ltb (low owner) (cells owner key)) (where_true (eqb owner c.owner) (where_true (ltb (cells c.owner key) (item_number cells c)) 1))
       same_owner owner key = elim (cases_eq owner c.owner) [
-        | inl same ↦ λ i. where_true (ltb (low owner) (cells owner key)) (where_true (eqb owner c.owner) (where_true (ltb (cells (same i) key) (number_of cells c)) 1))
-        | inr other ↦ (λ i. where_true (ltb (low owner) (cells owner key)) (where_true (ne_eqb owner c.owner other i) (where_true (ltb (cells owner key) (number_of cells c)) 1)))
-            ∙ (λ i. where_true (ltb (low owner) (cells owner key)) (where_true (sym (ne_eqb owner c.owner other) i) (where_true (ltb (cells c.owner key) (number_of cells c)) 1)))
+        | inl same ↦ λ i. where_true (ltb (low owner) (cells owner key)) (where_true (eqb owner c.owner) (where_true (ltb (cells (same i) key) (item_number cells c)) 1))
+        | inr other ↦ (λ i. where_true (ltb (low owner) (cells owner key)) (where_true (ne_eqb owner c.owner other i) (where_true (ltb (cells owner key) (item_number cells c)) 1)))
+            ∙ (λ i. where_true (ltb (low owner) (cells owner key)) (where_true (sym (ne_eqb owner c.owner other) i) (where_true (ltb (cells c.owner key) (item_number cells c)) 1)))
       ]
 
-      told : (d : Item) → Contains cs d → where_true (eqb d.owner c.owner && ltb d.entry.version c.entry.version) 1 ≡ where_true (eqb d.owner c.owner) (where_true (ltb (number_of cells d) (number_of cells c)) 1)
+      told : (d : Item) → Contains cs d → where_true (eqb d.owner c.owner && ltb d.entry.version c.entry.version) 1 ≡ where_true (eqb d.owner c.owner) (where_true (ltb (item_number cells d) (item_number cells c)) 1)
       told d in_d = elim (cases_eq d.owner c.owner) [
         | inr other ↦ (λ i. where_true (ne_eqb d.owner c.owner other i && ltb d.entry.version c.entry.version) 1)
-            ∙ (λ i. where_true (sym (ne_eqb d.owner c.owner other) i) (where_true (ltb (number_of cells d) (number_of cells c)) 1))
+            ∙ (λ i. where_true (sym (ne_eqb d.owner c.owner other) i) (where_true (ltb (item_number cells d) (item_number cells c)) 1))
         | inl same ↦ (λ i. where_true (eq-eqb d.owner c.owner same i && ltb d.entry.version c.entry.version) 1)
             ∙ ap (λ b. where_true b 1) (versions_as_numbers d in_d same)
-            ∙ (λ i. where_true (sym (eq-eqb d.owner c.owner same) i) (where_true (ltb (number_of cells d) (number_of cells c)) 1))
+            ∙ (λ i. where_true (sym (eq-eqb d.owner c.owner same) i) (where_true (ltb (item_number cells d) (item_number cells c)) 1))
       ]
         where
-          versions_as_numbers : (d : Item) → Contains cs d → d.owner ≡ c.owner → ltb d.entry.version c.entry.version ≡ ltb (number_of cells d) (number_of cells c)
+          versions_as_numbers : (d : Item) → Contains cs d → d.owner ≡ c.owner → ltb d.entry.version c.entry.version ≡ ltb (item_number cells d) (item_number cells c)
           versions_as_numbers d in_d same =
               let d_is = (candidate-number mode from to proper lists histories cells low offers d in_d).1 in
               let c_is = d_number mode from to proper lists histories cells low offers 0 0 d c in_d in_c same in
               let one = alike mode from to proper lists histories cells low offers 0 0 d c in_d in_c same in
-              elim (cases_lt (number_of cells d) (number_of cells c)) [
+              elim (cases_lt (item_number cells d) (item_number cells c)) [
                 | inl before ↦
-                    lt-ltb d.entry.version c.entry.version (versions-rise (lists d.owner) (histories d.owner) (number_of cells d) (number_of cells c) d.entry c.entry d_is c_is one before)
-                    ∙ sym (lt-ltb (number_of cells d) (number_of cells c) before)
+                    lt-ltb d.entry.version c.entry.version (versions-rise (lists d.owner) (histories d.owner) (item_number cells d) (item_number cells c) d.entry c.entry d_is c_is one before)
+                    ∙ sym (lt-ltb (item_number cells d) (item_number cells c) before)
                 | inr not_before ↦ elim (cases_lt d.entry.version c.entry.version) [
-                  | inl older ↦ absurd (omega (arith, not_before, number-of_version (lists d.owner) (histories d.owner) (number_of cells d) (number_of cells c) d.entry c.entry d_is c_is one older))
-                  | inr not_older ↦ le-ltb d.entry.version c.entry.version (omega (arith, not_older)) ∙ sym (le-ltb (number_of cells d) (number_of cells c) (omega (arith, not_before)))
+                  | inl older ↦ absurd (omega (arith, not_before, number-of_version (lists d.owner) (histories d.owner) (item_number cells d) (item_number cells c) d.entry c.entry d_is c_is one older))
+                  | inr not_older ↦ le-ltb d.entry.version c.entry.version (omega (arith, not_older)) ∙ sym (le-ltb (item_number cells d) (item_number cells c) (omega (arith, not_before)))
                 ]
               ]

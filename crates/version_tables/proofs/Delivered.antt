@@ -17,7 +17,7 @@ use Rattle.reconcile.specs.Candidates.{candidates}
 use Rattle.reconcile.specs.Deltas.{delta_between}
 use Rattle.reconcile.specs.Order.{rotated}
 use Rattle.owner_lists.specs.Numbers.{write_numbered}
-use Rattle.owner_lists.specs.OwnerListView.{OwnerListView, AreWrites, list_of_owner}
+use Rattle.owner_lists.specs.OwnerListView.{OwnerListView, all_writes, AreWrites, list_of_owner}
 use Rattle.planes.specs.Planes.{Cells, cell, number_ahead, HasEach, HasEachPlace, HasNoneAbove}
 use Rattle.version_tables.specs.declared.weights.Offer.{Offer}
 use Rattle.version_tables.specs.SentSets.{HasSet}
@@ -27,12 +27,12 @@ use Rattle.version_tables.specs.inner.Histories.{IsWrittenSoFar, FitsHistories}
 use Rattle.version_tables.specs.inner.Laid.{AreNumbers}
 use Rattle.version_tables.specs.inner.Marked.{HasShape, LetAll, ShareLevel, KeepsLow, AreMarked, AreOffered, low_list, high_list}
 use Rattle.version_tables.specs.inner.Offered.{cells_in, marks, weights_in, count_in, IsOffer}
-use Rattle.version_tables.specs.inner.Offers.{IsHistory, Offers, offered_by, told_by, told_mark}
+use Rattle.version_tables.specs.inner.Offers.{IsHistory, Offers, offered_by, told_by, told_number}
 use Rattle.version_tables.specs.inner.Plans.{weight_on, count_on}
 use Rattle.version_tables.specs.inner.Shares.{lets_through, NumbersDiffer}
 use Rattle.version_tables.specs.inner.Taken.{is_taken}
 use Rattle.version_tables.specs.inner.Told.{AreKnown}
-use Rattle.version_tables.specs.inner.Weights.{number_shares, weight_between, one_each, writes_in}
+use Rattle.version_tables.specs.inner.Weights.{number_shares, weight_between, one_each}
 use Rattle.version_tables.proofs.Levels.{candidate-below, candidate-key, candidate-number}
 use Rattle.version_tables.proofs.Fitting.{fits-upto, fits-below, fits-cells}
 use Rattle.version_tables.proofs.Lifts.{weight_by, lets, count-sent, count-cut, are-sent, shared-sent, whole-sent}
@@ -119,10 +119,10 @@ high-size PreciseOldest mark high n one other = one
 high-size PreciseNewest mark high n one other = other
 
 module _ {N : Type 0} (number : N → ℕ) (most : ℕ) (written : ℕ → List Entry) (from to : VersionTableView) (kept_from : IsKept written from) (kept_to : IsKept written to)
-    (h : HistoriesView) (so_far : (owner : ℕ) → IsWrittenSoFar (written owner) most h.rounds (writes_in h.lists owner))
+    (h : HistoriesView) (so_far : (owner : ℕ) → IsWrittenSoFar (written owner) most h.rounds (all_writes h.lists owner))
     (fits_from : FitsHistories h (table_in written from)) (fits_to : FitsHistories h (table_in written to)) (nodes : from.nodes ≡ to.nodes) (keys : from.keys ≡ to.keys) (mode : Mode)
     (offer : Offer N) (offer_nodes : offer.nodes ≡ from.nodes) (offer_keys : offer.keys ≡ from.keys) (offer_lists : offer.lists.now ≡ h.lists) (offer_high : map number offer.high.now ≡ from.greatest)
-    (low_is : HasEach (length h.lists) (λ r n. n ≡ told_mark (digest_kind mode) most to.node (writes_in h.lists) (λ r. get_or to.greatest r 0) r) (map number offer.low.now))
+    (low_is : HasEach (length h.lists) (λ r n. n ≡ told_number (digest_kind mode) most to.node (all_writes h.lists) (λ r. get_or to.greatest r 0) r) (map number offer.low.now))
     (size : length offer.cells.now ≡ from.keys * from.nodes)
     (cells_are : (owner key : ℕ) → owner < from.nodes → key < from.keys
     → cells_in number offer owner key ≡ offered_by (digest_kind mode) (cell from.cells from.nodes) (cell to.cells to.nodes) (marks number offer.low.now) owner key) where
@@ -130,7 +130,7 @@ module _ {N : Type 0} (number : N → ℕ) (most : ℕ) (written : ℕ → List 
   kind = digest_kind mode
 
   abbrev lists : ℕ → List Entry
-  lists = writes_in h.lists
+  lists = all_writes h.lists
 
   abbrev sender : Cells
   sender = cell from.cells from.nodes
@@ -171,7 +171,7 @@ module _ {N : Type 0} (number : N → ℕ) (most : ℕ) (written : ℕ → List 
     keyed = λ owner key e in_nodes in_keys is. (fits.proper.in_place owner key e (fits-cells written v kept most h so_far fits owner key in_nodes in_keys ∙ is)).keyed;
   }
 
-  low-told : (owner : ℕ) → owner < from.nodes → low owner ≡ told_mark kind most to.node lists (λ r. get_or to.greatest r 0) owner
+  low-told : (owner : ℕ) → owner < from.nodes → low owner ≡ told_number kind most to.node lists (λ r. get_or to.greatest r 0) owner
   low-told owner in_nodes = low_is.each owner (omega (arith, in_nodes, fits_from.nodes))
 
   offers : Offers mode F T lists cells low
@@ -204,7 +204,7 @@ module _ {N : Type 0} (number : N → ℕ) (most : ℕ) (written : ℕ → List 
     high = omega (arith, length-map offer.high.now number, ap length offer_high, kept_from.greatest_count, offer_nodes);
     lists = omega (arith, ap length offer_lists, fits_from.nodes, offer_nodes);
     written = λ owner key in_nodes in_keys.
-        omega (arith, cells-upto owner key (omega (arith, in_nodes, offer_nodes)) (omega (arith, in_keys, offer_keys)), sender-upto owner key (omega (arith, in_nodes, offer_nodes)) (omega (arith, in_keys, offer_keys)), ap (λ ls. length (writes_in ls owner)) offer_lists);
+        omega (arith, cells-upto owner key (omega (arith, in_nodes, offer_nodes)) (omega (arith, in_keys, offer_keys)), sender-upto owner key (omega (arith, in_nodes, offer_nodes)) (omega (arith, in_keys, offer_keys)), ap (λ ls. length (all_writes ls owner)) offer_lists);
     below = λ owner key in_nodes in_keys.
         omega (arith, cells-upto owner key (omega (arith, in_nodes, offer_nodes)) (omega (arith, in_keys, offer_keys)), sender-below owner key (omega (arith, in_nodes, offer_nodes)) (omega (arith, in_keys, offer_keys)));
     differ = λ owner in_nodes k l in_k in_l. differ owner (omega (arith, in_nodes, offer_nodes)) k l (omega (arith, in_k, offer_keys)) (omega (arith, in_l, offer_keys));
@@ -221,7 +221,7 @@ module _ {N : Type 0} (number : N → ℕ) (most : ℕ) (written : ℕ → List 
     weights = number_shares budget lists
 
     on-marks : weight_on mode number offer m ≡ weight_by mode weights cells from.nodes from.keys low high m
-    on-marks = on-weights mode number offer m ∙ (λ i. weight_by mode (number_shares (offer_budget i) (writes_in (offer_lists i))) cells (offer_nodes i) (offer_keys i) low high m)
+    on-marks = on-weights mode number offer m ∙ (λ i. weight_by mode (number_shares (offer_budget i) (all_writes (offer_lists i))) cells (offer_nodes i) (offer_keys i) low high m)
 
     amounts : amount_of offer.budget ≡ amount_of budget
     amounts = ap amount_of offer_budget
@@ -235,10 +235,10 @@ module _ {N : Type 0} (number : N → ℕ) (most : ℕ) (written : ℕ → List 
     histories : (owner : ℕ) → IsHistory (lists owner)
     histories owner = (so_far owner).history
 
-    shape-of : (near far : ℕ → ℕ) → HasShape mode (writes_in offer.lists.now) cells offer.nodes offer.keys low near far → HasShape mode lists cells from.nodes from.keys low near far
-    shape-of near far shape = subst (λ l. HasShape mode (writes_in l) cells from.nodes from.keys low near far) offer_lists
-        (subst (λ k. HasShape mode (writes_in offer.lists.now) cells from.nodes k low near far) offer_keys
-        (subst (λ n. HasShape mode (writes_in offer.lists.now) cells n offer.keys low near far) offer_nodes shape))
+    shape-of : (near far : ℕ → ℕ) → HasShape mode (all_writes offer.lists.now) cells offer.nodes offer.keys low near far → HasShape mode lists cells from.nodes from.keys low near far
+    shape-of near far shape = subst (λ l. HasShape mode (all_writes l) cells from.nodes from.keys low near far) offer_lists
+        (subst (λ k. HasShape mode (all_writes offer.lists.now) cells from.nodes k low near far) offer_keys
+        (subst (λ n. HasShape mode (all_writes offer.lists.now) cells n offer.keys low near far) offer_nodes shape))
 
     has-whole : LetAll mode number offer m → HasSet (candidates mode F T) (lets F T fits_from.proper lists histories cells low high covered mode offers m) (delta_between mode rotation budget F T)
     has-whole all =
@@ -250,8 +250,8 @@ module _ {N : Type 0} (number : N → ℕ) (most : ℕ) (written : ℕ → List 
     has-share : ShareLevel mode rotation number offer m sent → HasSet (candidates mode F T) (lets F T fits_from.proper lists histories cells low high covered mode offers m) (delta_between mode rotation budget F T)
     has-share level =
         let s = level.shared in
-        let takes : number_shares offer.budget (writes_in offer.lists.now) s.owner (cells s.owner s.key) ≡ weights s.owner (cells s.owner s.key) =
-        λ i. number_shares (offer_budget i) (writes_in (offer_lists i)) s.owner (cells s.owner s.key) in
+        let takes : number_shares offer.budget (all_writes offer.lists.now) s.owner (cells s.owner s.key) ≡ weights s.owner (cells s.owner s.key) =
+        λ i. number_shares (offer_budget i) (all_writes (offer_lists i)) s.owner (cells s.owner s.key) in
         shared-sent F T fits_from.proper lists histories cells low high covered mode offers rotation in_nodes budget level.near level.far m (shape-of level.near level.far level.shape) keeps
         (λ r past. level.past_near r (omega (arith, past, offer_nodes))) (λ r past. level.past_far r (omega (arith, past, offer_nodes)))
         s.owner s.key (omega (arith, s.owner_below, offer_nodes)) (omega (arith, s.key_below, offer_keys)) s.offered s.outside s.inside
@@ -310,7 +310,7 @@ module _ {N : Type 0} (number : N → ℕ) (most : ℕ) (written : ℕ → List 
             ∙ sym (count-sent F T fits_from.proper lists histories cells low high covered mode offers rotation in_nodes budget m keeps has)
 
 -- a receiver's greatest numbers are known
-pub known : (most : ℕ) (written : ℕ → List Entry) (v : VersionTableView) (kept : IsKept written v) (h : HistoriesView) (so_far : (owner : ℕ) → IsWrittenSoFar (written owner) most h.rounds (writes_in h.lists owner)) (fits : FitsHistories h (table_in written v))
+pub known : (most : ℕ) (written : ℕ → List Entry) (v : VersionTableView) (kept : IsKept written v) (h : HistoriesView) (so_far : (owner : ℕ) → IsWrittenSoFar (written owner) most h.rounds (all_writes h.lists owner)) (fits : FitsHistories h (table_in written v))
     (lists : List OwnerListView) → lists ≡ h.lists → (greatest : List ℕ) → greatest ≡ v.greatest → (bases : List ℕ) → HasEach (length h.lists) (λ r n. n ≡ length (list_of_owner h.lists r).earlier) bases
     → ((owner : ℕ) → AreWrites (list_of_owner h.lists owner)) → AreKnown most lists greatest bases
 known most written v kept h so_far fits lists same greatest same_greatest bases based writes =

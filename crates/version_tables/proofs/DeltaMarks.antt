@@ -15,7 +15,7 @@ use Rattle.reconcile.proofs.DeltaLaws.{sending_order-total}
 use Rattle.version_tables.specs.SentSets.{HasSet, size_in}
 use Rattle.version_tables.specs.inner.Offers.{Offers, IsHistory}
 use Rattle.planes.specs.Planes.{Cells}
-use Rattle.version_tables.specs.inner.Levels.{number_of}
+use Rattle.version_tables.specs.inner.Levels.{item_number}
 use Rattle.version_tables.specs.inner.Shares.{lets_through, AreLevelMarks, StopAt, size_through_marks}
 use Rattle.version_tables.proofs.Offers.{offered-sum}
 use Rattle.version_tables.proofs.SentSets.{stops_sent, all_sent, set_sent}
@@ -27,7 +27,7 @@ module _ (mode : Mode) (from to : Table) (proper : IsProper from) (lists : ℕ �
   cs = candidates mode from to
 
   abbrev pub in_marks : (ℕ → ℕ) → Item → Bool
-  in_marks mark c = lets_through mode (mark c.owner) (number_of cells c)
+  in_marks mark c = lets_through mode (mark c.owner) (item_number cells c)
 
   size_of_marks : (mark : ℕ → ℕ) → size_in (sending_order mode from.nodes rotation cs) cs (item_share budget) (in_marks mark) ≡ size_through_marks mode from cells low sizes mark
   size_of_marks mark =

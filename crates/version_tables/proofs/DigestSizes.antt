@@ -21,7 +21,7 @@ use Rattle.reconcile.specs.Digests.{digest_size}
 use Rattle.reconcile.proofs.Counts.{count_by-cons_true, count_by-cons_false}
 use Rattle.reconcile.proofs.Fitting.{sum_by-ones}
 use Rattle.version_tables.specs.Views.{VersionTableView, table_in, IsKept}
-use Rattle.version_tables.specs.inner.Grids.{number_here, number_at}
+use Rattle.version_tables.specs.inner.Grids.{number_here, number_there}
 use Rattle.version_tables.proofs.Grids.{items_sum}
 use Rattle.version_tables.proofs.Laid.{has_cells}
 use Rattle.version_tables.proofs.Numbers.{numbered-some}
@@ -56,7 +56,7 @@ module _ (written : ℕ → List Entry) (v : VersionTableView) (kept : IsKept wr
   has : (owner key : ℕ) → owner < v.nodes → key < v.keys → entry_at t owner key ≡ write_numbered (written owner) (number owner key)
   has = has_cells written v.node v.nodes v.keys v.generation number kept.numbers
 
-  one_here : (owner key : ℕ) → owner < v.nodes → key < v.keys → number_at (λ _. 1) t owner key ≡ cond (nat_lt 0 (number owner key)) 1 0
+  one_here : (owner key : ℕ) → owner < v.nodes → key < v.keys → number_there (λ _. 1) t owner key ≡ cond (nat_lt 0 (number owner key)) 1 0
   one_here owner key in_nodes in_keys = elim (cases_lt 0 (number owner key)) [
     | inl some ↦
         let there = numbered-some (written owner) (number owner key) some (kept.numbers.written owner key in_nodes in_keys) in

@@ -14,14 +14,13 @@ use Rattle.bench_types.specs.Mode.{digest_kind}
 use Rattle.exchange.specs.Exchanged.{Exchanged, last_fate, sent_until, initiator_after, responder_after}
 use Rattle.exchange.specs.Exchanging.{MakesOf}
 use Rattle.node_table.specs.Table.{Table, applied}
-use Rattle.owner_lists.specs.OwnerListView.{OwnerListView, list_of_owner, AreWrites}
+use Rattle.owner_lists.specs.OwnerListView.{OwnerListView, all_writes, list_of_owner, AreWrites}
 use Rattle.reconcile.specs.Deltas.{DeltaView}
 use Rattle.reconcile.specs.Digests.{digest_size}
 use Rattle.version_tables.specs.Views.{VersionTableView, HistoriesView, table_in, IsKept}
 use Rattle.version_tables.specs.inner.Deltas.{delta_of_views, is_taken_at, AreMarksOf}
 use Rattle.version_tables.specs.inner.Histories.{bases_in, IsWrittenSoFar, FitsHistories}
 use Rattle.version_tables.specs.inner.Taken.{numbers_taken, HasTakenUnless, StaysOne}
-use Rattle.version_tables.specs.inner.Weights.{writes_in}
 use Rattle.version_tables.proofs.TakenViews.{are_taken, becomes_applied, becomes_one, same_taken, sent_above}
 
 module _ (written : ℕ → List Entry) (rules : Rules) (e : Exchange) (p q : VersionTableView) where
@@ -82,15 +81,15 @@ not_both h = absurd (no h)
 
 -- what both take
 module _ (written : ℕ → List Entry) (rules : Rules) (e : Exchange) (most : ℕ) (h : HistoriesView)
-    (so_far : (owner : ℕ) → IsWrittenSoFar (written owner) most h.rounds (writes_in h.lists owner)) (are : (owner : ℕ) → AreWrites (list_of_owner h.lists owner))
+    (so_far : (owner : ℕ) → IsWrittenSoFar (written owner) most h.rounds (all_writes h.lists owner)) (are : (owner : ℕ) → AreWrites (list_of_owner h.lists owner))
     (p q : VersionTableView) (p_kept : IsKept written p) (q_kept : IsKept written q) (p_fits : FitsHistories h (table_in written p)) (q_fits : FitsHistories h (table_in written q))
     (nodes : p.nodes ≡ q.nodes) (keys : p.keys ≡ q.keys) (low high flow fhigh : List ℕ) (back_sent back_cut forth_sent forth_cut : ℕ)
     (back : AreMarksOf rules e.rotation written q p low high back_sent back_cut) (forth : AreMarksOf rules e.rotation written p q flow fhigh forth_sent forth_cut) where
   abbrev TakesBack : Bool → List OwnerListView → VersionTableView → Type 0
-  TakesBack nothing ls after = HasTakenUnless nothing (writes_in ls) (bases_in ls) p q.cells low high after
+  TakesBack nothing ls after = HasTakenUnless nothing (all_writes ls) (bases_in ls) p q.cells low high after
 
-  pub stays_back : (ls : List OwnerListView) → ls ≡ h.lists → StaysOne written (writes_in ls) (bases_in ls) p q.cells low high
-  stays_back ls is = subst (λ l. StaysOne written (writes_in l) (bases_in l) p q.cells low high) (sym is)
+  pub stays_back : (ls : List OwnerListView) → ls ≡ h.lists → StaysOne written (all_writes ls) (bases_in ls) p q.cells low high
+  stays_back ls is = subst (λ l. StaysOne written (all_writes l) (bases_in l) p q.cells low high) (sym is)
       (λ cells greatest taken. becomes_one rules e.rotation written most h so_far are q p q_kept p_kept q_fits p_fits (sym nodes) (sym keys) low high back.marks q.cells cells greatest (λ owner key in_nodes in_keys. refl) taken)
 
   -- what is taken of the initiator once it took is what was to be taken before
@@ -110,11 +109,11 @@ module _ (written : ℕ → List Entry) (rules : Rules) (e : Exchange) (most : �
       ∙ becomes_applied rules e.rotation written most h so_far are q p q_kept p_kept q_fits p_fits (sym nodes) (sym keys) low high back.marks q.cells after.cells after.greatest (λ owner key in_nodes in_keys. refl) took.taken
 
   module _ (nothing : Bool) (after : VersionTableView) (took : TakesBack nothing h.lists after) where
-    stays_forth_now : StaysOne written (writes_in h.lists) (bases_in h.lists) q after.cells flow fhigh
+    stays_forth_now : StaysOne written (all_writes h.lists) (bases_in h.lists) q after.cells flow fhigh
     stays_forth_now cells greatest taken =
         becomes_one rules e.rotation written most h so_far are p q p_kept q_kept p_fits q_fits nodes keys flow fhigh forth.marks after.cells cells greatest (same_after nothing after took) taken
 
-    forth_is : (skips lost : Bool) → skips ≡ (lost || eqb forth_sent 0) → (q' : VersionTableView) → HasTakenUnless skips (writes_in h.lists) (bases_in h.lists) q after.cells flow fhigh q'
+    forth_is : (skips lost : Bool) → skips ≡ (lost || eqb forth_sent 0) → (q' : VersionTableView) → HasTakenUnless skips (all_writes h.lists) (bases_in h.lists) q after.cells flow fhigh q'
         → table_in written q' ≡ (if lost then table_in written q else applied (table_in written q) (delta_of_views rules e.rotation written p q).items)
     forth_is true true is q' same = ap (table_in written) same
     forth_is true false is q' same =
@@ -124,16 +123,16 @@ module _ (written : ℕ → List Entry) (rules : Rules) (e : Exchange) (most : �
     forth_is false false is q' takes = ap (table_in written) takes.rest
         ∙ becomes_applied rules e.rotation written most h so_far are p q p_kept q_kept p_fits q_fits nodes keys flow fhigh forth.marks after.cells q'.cells q'.greatest (same_after nothing after took) takes.taken
 
-  pub stays_forth : (ls : List OwnerListView) → ls ≡ h.lists → (nothing : Bool) (after : VersionTableView) → TakesBack nothing ls after → StaysOne written (writes_in ls) (bases_in ls) q after.cells flow fhigh
+  pub stays_forth : (ls : List OwnerListView) → ls ≡ h.lists → (nothing : Bool) (after : VersionTableView) → TakesBack nothing ls after → StaysOne written (all_writes ls) (bases_in ls) q after.cells flow fhigh
   stays_forth ls is nothing after took =
-      subst (λ l. StaysOne written (writes_in l) (bases_in l) q after.cells flow fhigh) (sym is) (stays_forth_now nothing after (subst (λ l. TakesBack nothing l after) is took))
+      subst (λ l. StaysOne written (all_writes l) (bases_in l) q after.cells flow fhigh) (sym is) (stays_forth_now nothing after (subst (λ l. TakesBack nothing l after) is took))
 
   pub exchange_whole : (ls : List OwnerListView) → ls ≡ h.lists → (d1 d2 : ℕ) → d1 ≡ digest_size (digest_kind rules.mode) (table_in written p) → d2 ≡ digest_size (digest_kind rules.mode) (table_in written q)
       → e.lost1 ≡ false → e.lost2 ≡ false → (nothing skips : Bool) → nothing ≡ eqb back_sent 0 → skips ≡ (e.lost3 || eqb forth_sent 0)
-      → (p' q' : VersionTableView) → TakesBack nothing ls p' → HasTakenUnless skips (writes_in ls) (bases_in ls) q p'.cells flow fhigh q' → (r : Record)
+      → (p' q' : VersionTableView) → TakesBack nothing ls p' → HasTakenUnless skips (all_writes ls) (bases_in ls) q p'.cells flow fhigh q' → (r : Record)
       → ((b f : DeltaView) → back_sent ≡ length b.items → back_cut ≡ b.cut → forth_sent ≡ length f.items → forth_cut ≡ f.cut → r ≡ sent_until (last_fate e.lost3) d1 d2 b f)
       → MakesOf (table_in written) rules e p q p' q' r
   exchange_whole ls is d1 d2 d1_is d2_is first second nothing skips none skipped p' q' took takes r sent =
       let took_now : TakesBack nothing h.lists p' = subst (λ l. TakesBack nothing l p') is took in
-      let takes_now : HasTakenUnless skips (writes_in h.lists) (bases_in h.lists) q p'.cells flow fhigh q' = subst (λ l. HasTakenUnless skips (writes_in l) (bases_in l) q p'.cells flow fhigh q') is takes in
+      let takes_now : HasTakenUnless skips (all_writes h.lists) (bases_in h.lists) q p'.cells flow fhigh q' = subst (λ l. HasTakenUnless skips (all_writes l) (bases_in l) q p'.cells flow fhigh q') is takes in
       all_sent_case written rules e p q first d1 d2 d1_is d2_is low high back_sent back_cut back flow fhigh forth_sent forth_cut forth p' q' r second (back_is nothing none p' took_now) (forth_is nothing p' took_now skips e.lost3 skipped q' takes_now) sent

@@ -6,11 +6,11 @@ use Rattle.std.proofs.lemmas.Bool.{cases_lt}
 use Rattle.bench_types.specs.declared.entries.Entry.{Entry}
 use Rattle.node_table.specs.Table.{entry_at}
 use Rattle.owner_lists.specs.Numbers.{write_from}
+use Rattle.owner_lists.specs.OwnerListView.{all_writes}
 use Rattle.planes.specs.Planes.{Cells, cell}
 use Rattle.version_tables.specs.Views.{VersionTableView, HistoriesView, table_in, IsKept}
 use Rattle.version_tables.specs.inner.Histories.{IsWrittenSoFar, FitsHistories}
 use Rattle.version_tables.specs.inner.Offers.{HasCells}
-use Rattle.version_tables.specs.inner.Weights.{writes_in}
 use Rattle.version_tables.proofs.Laid.{has_cells}
 use Rattle.version_tables.proofs.Numbers.{numbered-some}
 
@@ -22,18 +22,18 @@ write_from-contains (x ∷ xs) e (suc k, lt, is) =
     let rest = write_from-contains xs e (k, omega (arith, lt), is) in
     (suc rest.0, omega (arith, rest.1), rest.2)
 
-module _ (written : ℕ → List Entry) (v : VersionTableView) (kept : IsKept written v) (most : ℕ) (h : HistoriesView) (so_far : (owner : ℕ) → IsWrittenSoFar (written owner) most h.rounds (writes_in h.lists owner)) (fits : FitsHistories h (table_in written v)) where
+module _ (written : ℕ → List Entry) (v : VersionTableView) (kept : IsKept written v) (most : ℕ) (h : HistoriesView) (so_far : (owner : ℕ) → IsWrittenSoFar (written owner) most h.rounds (all_writes h.lists owner)) (fits : FitsHistories h (table_in written v)) where
   abbrev cells : Cells
   cells = cell v.cells v.nodes
 
   -- its numbers are of writes so far
-  pub fits-upto : (owner key : ℕ) → owner < v.nodes → key < v.keys → cells owner key ≤ length (writes_in h.lists owner)
+  pub fits-upto : (owner key : ℕ) → owner < v.nodes → key < v.keys → cells owner key ≤ length (all_writes h.lists owner)
   fits-upto owner key in_nodes in_keys = elim (cases_lt 0 (cells owner key)) [
     | inr none ↦ omega (arith, none)
     | inl some ↦
         let there = numbered-some (written owner) (cells owner key) some (kept.numbers.written owner key in_nodes in_keys) in
         let held : entry_at (table_in written v) owner key ≡ Some there.0 = has_cells written v.node v.nodes v.keys v.generation cells kept.numbers owner key in_nodes in_keys ∙ there.1 in
-        let at = write_from-contains (writes_in h.lists owner) there.0 (fits.holds owner key there.0 held) in
+        let at = write_from-contains (all_writes h.lists owner) there.0 (fits.holds owner key there.0 held) in
         elim (cases_lt (suc at.0) (cells owner key)) [
           | inl before ↦ absurd (kept.first owner key in_nodes in_keys (suc at.0) before (sym ((so_far owner).begins (suc at.0) (omega (arith, at.1))) ∙ at.2 ∙ sym there.1))
           | inr not_before ↦ omega (arith, not_before, at.1)
@@ -44,7 +44,7 @@ module _ (written : ℕ → List Entry) (v : VersionTableView) (kept : IsKept wr
   fits-below owner key in_nodes in_keys = omega (arith, fits-upto owner key in_nodes in_keys, (so_far owner).few)
 
   -- and so it holds the writes of these numbers
-  pub fits-cells : HasCells (writes_in h.lists) cells (table_in written v)
+  pub fits-cells : HasCells (all_writes h.lists) cells (table_in written v)
   fits-cells owner key in_nodes in_keys =
       has_cells written v.node v.nodes v.keys v.generation cells kept.numbers owner key in_nodes in_keys
       ∙ sym ((so_far owner).begins (cells owner key) (fits-upto owner key in_nodes in_keys))

@@ -19,7 +19,7 @@ use Rattle.node_table.specs.inner.Applied.{stands_at}
 use Rattle.node_table.proofs.Items.{IsApart, entry_at-items_of, Contains-items_of, apart-items_of}
 use Rattle.node_table.proofs.Laws.{tied-stands_at}
 use Rattle.reconcile.proofs.Members.{AllPairs-append, same_members}
-use Rattle.version_tables.specs.inner.Grids.{item_here, column_items, grid_items, number_here, number_at, sum_over}
+use Rattle.version_tables.specs.inner.Grids.{item_here, column_items, grid_items, number_here, number_there, sum_over}
 use Rattle.planes.specs.Sums.{sum_below}
 
 -- what stands among the items of a place, a column and the grid
@@ -111,13 +111,13 @@ module _ (t : Table) (proper : IsProper t) where
   here_sum f owner None = refl
   here_sum f owner (Some e) = omega arith
 
-  column_sum : (f : Item → ℕ) (owner bound : ℕ) → sum_by f (column_items t owner bound) ≡ sum_below bound (number_at f t owner)
+  column_sum : (f : Item → ℕ) (owner bound : ℕ) → sum_by f (column_items t owner bound) ≡ sum_below bound (number_there f t owner)
   column_sum f owner zero = refl
   column_sum f owner (suc bound) =
       sum_by-append f (column_items t owner bound) (item_here owner (entry_at t owner bound))
       ∙ (λ i. column_sum f owner bound i + here_sum f owner (entry_at t owner bound) i)
 
-  grid_sum : (f : Item → ℕ) (bound : ℕ) → sum_by f (grid_items t bound) ≡ sum_below bound (λ owner. sum_below t.keys (number_at f t owner))
+  grid_sum : (f : Item → ℕ) (bound : ℕ) → sum_by f (grid_items t bound) ≡ sum_below bound (λ owner. sum_below t.keys (number_there f t owner))
   grid_sum f zero = refl
   grid_sum f (suc bound) =
       sum_by-append f (grid_items t bound) (column_items t bound t.keys)

@@ -8,7 +8,7 @@ use Rattle.std.proofs.lemmas.Option.{same_Some}
 use Rattle.bench_types.specs.declared.entries.Entry.{Entry}
 use Rattle.bench_types.specs.declared.limits.TheConstants.{MOST_NODES}
 use Rattle.owner_lists.specs.Numbers.{write_from, write_numbered}
-use Rattle.owner_lists.specs.OwnerListView.{OwnerListView, entries_of, list_of_owner, no_writes, next_entry, with_write, begun_generation, MarksRise, AreWrites}
+use Rattle.owner_lists.specs.OwnerListView.{OwnerListView, all_writes, entries_of, list_of_owner, no_writes, next_entry, with_write, begun_generation, MarksRise, AreWrites}
 use Rattle.owner_lists.proofs.Keeping.{writes_more, writes_begun}
 use Rattle.planes.specs.Planes.{HasEach, cell}
 use Rattle.version_tables.specs.ListChanges.{ListChanges}
@@ -16,10 +16,8 @@ use Rattle.version_tables.specs.inner.Histories.{AreHistories, AreMadeBy, IsBegi
 use Rattle.version_tables.specs.inner.Offers.{IsHistory, IsNumberedHistory}
 use Rattle.version_tables.specs.inner.Rounds.{AreEnds}
 use Rattle.version_tables.specs.inner.Shares.{IsRoundMark}
-use Rattle.version_tables.specs.inner.Weights.{writes_in}
 use Rattle.version_tables.proofs.Numbers.{write_from-some, numbered-within}
 use Rattle.version_tables.proofs.Offers.{write_from-at}
-use Rattle.version_tables.proofs.Starts.{writes_in-is}
 
 -- a write behind others has the number after theirs, and they keep their own
 from-before : (w : List Entry) (e : Entry) (place : ℕ) → place < length w → write_from (w ++ e ∷ []) place ≡ write_from w place
@@ -170,16 +168,16 @@ module _ (all : List Entry) (most rounds : ℕ) (v : OwnerListView) (key value :
 
 -- a call that changes one owner's list
 module _ (lists new : List OwnerListView) (owner : ℕ) (list : OwnerListView) (changes : ListChanges owner list lists new) where
-  writes-changed : writes_in new owner ≡ entries_of list
-  writes-changed = writes_in-is new owner ∙ ap entries_of changes.changed
+  writes-changed : all_writes new owner ≡ entries_of list
+  writes-changed = ap entries_of changes.changed
 
-  writes-others : (r : ℕ) → r ≢ owner → writes_in new r ≡ writes_in lists r
-  writes-others r other = writes_in-is new r ∙ ap entries_of (changes.others r other) ∙ sym (writes_in-is lists r)
+  writes-others : (r : ℕ) → r ≢ owner → all_writes new r ≡ all_writes lists r
+  writes-others r other = ap entries_of (changes.others r other)
 
   -- what holds of the writes before, and of the owner's after the call, holds of all after it
-  each-writes : (P : ℕ → List Entry → Type 0) → ((r : ℕ) → r ≢ owner → P r (writes_in lists r)) → P owner (entries_of list) → (r : ℕ) → P r (writes_in new r)
+  each-writes : (P : ℕ → List Entry → Type 0) → ((r : ℕ) → r ≢ owner → P r (all_writes lists r)) → P owner (entries_of list) → (r : ℕ) → P r (all_writes new r)
   each-writes P before here r = elim (cases_eq r owner) [
-    | inl same ↦ subst (P r) (sym (ap (writes_in new) same ∙ writes-changed)) (subst (λ k. P k (entries_of list)) (sym same) here)
+    | inl same ↦ subst (P r) (sym (ap (all_writes new) same ∙ writes-changed)) (subst (λ k. P k (entries_of list)) (sym same) here)
     | inr other ↦ subst (P r) (sym (writes-others r other)) (before r other)
   ]
 
@@ -205,10 +203,10 @@ module _ (written : ℕ → List Entry) (most : ℕ) (lists new : List OwnerList
   list = list_of_owner lists owner
 
   so_far-own : IsWrittenSoFar (written owner) most rounds (entries_of list)
-  so_far-own = subst (IsWrittenSoFar (written owner) most rounds) (writes_in-is lists owner) (kept.so_far owner)
+  so_far-own = kept.so_far owner
 
   module _ (key value : ℕ) (changes : ListChanges owner (with_write list key value (rounds + 1)) lists new)
-      (under : IsWriteUnder written most owner (length (writes_in lists owner) + 1) (next_entry list key value (rounds + 1))) where
+      (under : IsWriteUnder written most owner (length (all_writes lists owner) + 1) (next_entry list key value (rounds + 1))) where
     abbrev added : Entry
     added = next_entry list key value (rounds + 1)
 
@@ -216,20 +214,20 @@ module _ (written : ℕ → List Entry) (most : ℕ) (lists new : List OwnerList
     behind : entries_of (with_write list key value (rounds + 1)) ≡ entries_of list ++ added ∷ []
     behind = sym (append_assoc list.earlier list.current (added ∷ []))
 
-    longer : length (entries_of (with_write list key value (rounds + 1))) ≡ length (writes_in lists owner) + 1
-    longer = omega (arith, ap (λ (es : List Entry). length es) behind, length-append (entries_of list) (added ∷ []), ap (λ (es : List Entry). length es) (writes_in-is lists owner))
+    longer : length (entries_of (with_write list key value (rounds + 1))) ≡ length (all_writes lists owner) + 1
+    longer = omega (arith, ap (λ (es : List Entry). length es) behind, length-append (entries_of list) (added ∷ []))
 
     grown : IsWrittenSoFar (written owner) most rounds (entries_of (with_write list key value (rounds + 1)))
     grown = subst (IsWrittenSoFar (written owner) most rounds) (sym behind)
         (so_far-more (written owner) most rounds list key value (kept.are owner) so_far-own
-        (subst (λ n. write_numbered (written owner) (n + 1) ≡ Some added) (ap (λ (es : List Entry). length es) (writes_in-is lists owner)) under.is)
-        (omega (arith, under.below, ap (λ (es : List Entry). length es) (writes_in-is lists owner))))
+        under.is
+        (omega (arith, under.below)))
 
-    pub histories-written : (counts' : List ℕ) → counts' ≡ set counts owner (length (writes_in lists owner) + 1) → AreHistories written most new counts' bases ends rounds
+    pub histories-written : (counts' : List ℕ) → counts' ≡ set counts owner (length (all_writes lists owner) + 1) → AreHistories written most new counts' bases ends rounds
     histories-written counts' is = subst (λ cs. AreHistories written most new cs bases ends rounds) (sym is) (record {
       few_nodes = omega (arith, kept.few_nodes, changes.count);
-      counted = subst (λ n. HasEach n (λ r n. n ≡ length (writes_in new r)) (set counts owner (length (writes_in lists owner) + 1))) (sym changes.count)
-          (set-each (length lists) owner (λ r n. n ≡ length (writes_in new r)) counts (length (writes_in lists owner) + 1) kept.counted.size
+      counted = subst (λ n. HasEach n (λ r n. n ≡ length (all_writes new r)) (set counts owner (length (all_writes lists owner) + 1))) (sym changes.count)
+          (set-each (length lists) owner (λ r n. n ≡ length (all_writes new r)) counts (length (all_writes lists owner) + 1) kept.counted.size
           (sym (ap (λ (es : List Entry). length es) (writes-changed lists new owner _ changes) ∙ longer))
           (λ r lt other. kept.counted.each r lt ∙ sym (ap (λ (es : List Entry). length es) (writes-others lists new owner _ changes r other))));
       based = subst (λ n. HasEach n (λ r n. n ≡ length (list_of_owner new r).earlier) bases) (sym changes.count) (record {
@@ -239,7 +237,7 @@ module _ (written : ℕ → List Entry) (most : ℕ) (lists new : List OwnerList
       });
       are = each-list lists new owner _ changes (λ r v. AreWrites v) (λ r _. kept.are r) (writes_more list (kept.are owner) key value (rounds + 1));
       so_far = each-writes lists new owner _ changes (λ r w. IsWrittenSoFar (written r) most rounds w) (λ r _. kept.so_far r) grown;
-      ended = subst (λ n. AreEnds (writes_in new) n rounds ends) (sym changes.count) (record {
+      ended = subst (λ n. AreEnds (all_writes new) n rounds ends) (sym changes.count) (record {
         size = kept.ended.size;
         none = kept.ended.none;
         rise = kept.ended.rise;
@@ -248,11 +246,11 @@ module _ (written : ℕ → List Entry) (most : ℕ) (lists new : List OwnerList
             (λ r _ lt. kept.ended.parts r round lt upto)
             (λ lt. subst (λ w. IsRoundMark w 0 round (cell ends (length lists) owner round)) (sym behind)
             (mark-more (written owner) most rounds list key value (kept.are owner) so_far-own round (cell ends (length lists) owner round) upto
-            (omega (arith, kept.reached owner round lt upto, ap (λ (es : List Entry). length es) (writes_in-is lists owner)))
-            (subst (λ w. IsRoundMark w 0 round (cell ends (length lists) owner round)) (writes_in-is lists owner) (kept.ended.parts owner round lt upto))))
+            (omega (arith, kept.reached owner round lt upto))
+            (kept.ended.parts owner round lt upto)))
             r lt;
       });
-      reached = λ r round lt upto. subst (λ n. cell ends n r round ≤ length (writes_in new r)) (sym changes.count)
+      reached = λ r round lt upto. subst (λ n. cell ends n r round ≤ length (all_writes new r)) (sym changes.count)
           (each-writes lists new owner _ changes (λ r w. r < length lists → cell ends (length lists) r round ≤ length w)
           (λ r _ lt. kept.reached r round lt upto)
           (λ lt. omega (arith, kept.reached owner round lt upto, longer))
@@ -260,35 +258,35 @@ module _ (written : ℕ → List Entry) (most : ℕ) (lists new : List OwnerList
     })
 
   module _ (changes : ListChanges owner (begun_generation list) lists new) where
-    same_writes : writes_in new owner ≡ writes_in lists owner
-    same_writes = writes-changed lists new owner _ changes ∙ append-nil (entries_of list) ∙ sym (writes_in-is lists owner)
+    same_writes : all_writes new owner ≡ all_writes lists owner
+    same_writes = writes-changed lists new owner _ changes ∙ append-nil (entries_of list)
 
-    same_each : (r : ℕ) → writes_in new r ≡ writes_in lists r
+    same_each : (r : ℕ) → all_writes new r ≡ all_writes lists r
     same_each r = elim (cases_eq r owner) [
-      | inl same ↦ ap (writes_in new) same ∙ same_writes ∙ ap (writes_in lists) (sym same)
+      | inl same ↦ ap (all_writes new) same ∙ same_writes ∙ ap (all_writes lists) (sym same)
       | inr other ↦ writes-others lists new owner _ changes r other
     ]
 
-    pub histories-begun : (bases' : List ℕ) → bases' ≡ set bases owner (length (writes_in lists owner)) → AreHistories written most new counts bases' ends rounds
+    pub histories-begun : (bases' : List ℕ) → bases' ≡ set bases owner (length (all_writes lists owner)) → AreHistories written most new counts bases' ends rounds
     histories-begun bases' is = subst (λ bs. AreHistories written most new counts bs ends rounds) (sym is) (record {
       few_nodes = omega (arith, kept.few_nodes, changes.count);
-      counted = subst (λ n. HasEach n (λ r n. n ≡ length (writes_in new r)) counts) (sym changes.count) (record {
+      counted = subst (λ n. HasEach n (λ r n. n ≡ length (all_writes new r)) counts) (sym changes.count) (record {
         size = kept.counted.size;
         each = λ r lt. kept.counted.each r lt ∙ sym (ap (λ (es : List Entry). length es) (same_each r));
       });
-      based = subst (λ n. HasEach n (λ r n. n ≡ length (list_of_owner new r).earlier) (set bases owner (length (writes_in lists owner)))) (sym changes.count)
-          (set-each (length lists) owner (λ r n. n ≡ length (list_of_owner new r).earlier) bases (length (writes_in lists owner)) kept.based.size
-          (ap (λ (es : List Entry). length es) (writes_in-is lists owner) ∙ sym (ap (λ (v : OwnerListView). length v.earlier) changes.changed))
+      based = subst (λ n. HasEach n (λ r n. n ≡ length (list_of_owner new r).earlier) (set bases owner (length (all_writes lists owner)))) (sym changes.count)
+          (set-each (length lists) owner (λ r n. n ≡ length (list_of_owner new r).earlier) bases (length (all_writes lists owner)) kept.based.size
+          (sym (ap (λ (v : OwnerListView). length v.earlier) changes.changed))
           (λ r lt other. kept.based.each r lt ∙ sym (ap (λ (v : OwnerListView). length v.earlier) (changes.others r other))));
       are = each-list lists new owner _ changes (λ r v. AreWrites v) (λ r _. kept.are r) (writes_begun list (kept.are owner));
       so_far = λ r. subst (IsWrittenSoFar (written r) most rounds) (sym (same_each r)) (kept.so_far r);
-      ended = subst (λ n. AreEnds (writes_in new) n rounds ends) (sym changes.count) (record {
+      ended = subst (λ n. AreEnds (all_writes new) n rounds ends) (sym changes.count) (record {
         size = kept.ended.size;
         none = kept.ended.none;
         rise = kept.ended.rise;
         parts = λ r round lt upto. subst (λ w. IsRoundMark w 0 round (cell ends (length lists) r round)) (sym (same_each r)) (kept.ended.parts r round lt upto);
       });
-      reached = λ r round lt upto. subst (λ n. cell ends n r round ≤ length (writes_in new r)) (sym changes.count)
+      reached = λ r round lt upto. subst (λ n. cell ends n r round ≤ length (all_writes new r)) (sym changes.count)
           (subst (λ w. cell ends (length lists) r round ≤ length w) (sym (same_each r)) (kept.reached r round (omega (arith, lt, changes.count)) upto));
     })
 
@@ -304,19 +302,19 @@ module _ (written : ℕ → List Entry) (most : ℕ) (lists : List OwnerListView
   row-before : (owner round : ℕ) → owner < nodes → round ≤ rounds → cell (ends ++ counts) nodes owner round ≡ cell ends nodes owner round
   row-before owner round lt upto = get_or_append_left ends counts 0 (round * nodes + owner) (omega (arith, place-below nodes rounds round owner upto lt, kept.ended.size))
 
-  row-last : (owner round : ℕ) → owner < nodes → round ≡ rounds + 1 → cell (ends ++ counts) nodes owner round ≡ length (writes_in lists owner)
+  row-last : (owner round : ℕ) → owner < nodes → round ≡ rounds + 1 → cell (ends ++ counts) nodes owner round ≡ length (all_writes lists owner)
   row-last owner round lt last =
       ap (λ i. get_or (ends ++ counts) i 0) {x = round * nodes + owner} {y = length ends + owner} (omega (arith, ap (λ (n : ℕ). n * nodes) last, kept.ended.size))
       ∙ get_or-append-add ends counts owner 0
       ∙ kept.counted.each owner lt
 
-  mark-last : (owner round : ℕ) → round ≡ rounds + 1 → IsRoundMark (writes_in lists owner) 0 round (length (writes_in lists owner))
+  mark-last : (owner round : ℕ) → round ≡ rounds + 1 → IsRoundMark (all_writes lists owner) 0 round (length (all_writes lists owner))
   mark-last owner round last = record {
     upto = λ number d some is le. omega (arith, (kept.so_far owner).made.last number d is, last);
-    above = λ number d some is lt. absurd (omega (arith, lt, (numbered-within (writes_in lists owner) number d is).1));
+    above = λ number d some is lt. absurd (omega (arith, lt, (numbered-within (all_writes lists owner) number d is).1));
   }
 
-  made-longer : (owner : ℕ) → IsWrittenSoFar (written owner) most (rounds + 1) (writes_in lists owner)
+  made-longer : (owner : ℕ) → IsWrittenSoFar (written owner) most (rounds + 1) (all_writes lists owner)
   made-longer owner =
       let so_far = kept.so_far owner in
       record {
@@ -330,7 +328,7 @@ module _ (written : ℕ → List Entry) (most : ℕ) (lists : List OwnerListView
         };
       }
 
-  ended-more : AreEnds (writes_in lists) nodes (rounds + 1) (ends ++ counts)
+  ended-more : AreEnds (all_writes lists) nodes (rounds + 1) (ends ++ counts)
   ended-more = record {
     size = grind (arith, length-append ends counts, kept.ended.size, kept.counted.size);
     none = λ owner lt. row-before owner 0 lt (omega arith) ∙ kept.ended.none owner lt;
@@ -341,10 +339,10 @@ module _ (written : ℕ → List Entry) (most : ℕ) (lists : List OwnerListView
     parts = λ owner round lt upto. elim (cases_lt rounds round) [
       | inl new ↦
           let last : round ≡ rounds + 1 = omega (arith, new, upto) in
-          subst (IsRoundMark (writes_in lists owner) 0 round) (sym (row-last owner round lt last)) (mark-last owner round last)
+          subst (IsRoundMark (all_writes lists owner) 0 round) (sym (row-last owner round lt last)) (mark-last owner round last)
       | inr not_new ↦
           let before : round ≤ rounds = omega (arith, not_new) in
-          subst (IsRoundMark (writes_in lists owner) 0 round) (sym (row-before owner round lt before)) (kept.ended.parts owner round lt before)
+          subst (IsRoundMark (all_writes lists owner) 0 round) (sym (row-before owner round lt before)) (kept.ended.parts owner round lt before)
     ];
   }
 
@@ -390,8 +388,8 @@ so_far-none all most some = record {
 
 -- before the first round
 module _ (written : ℕ → List Entry) (most nodes : ℕ) (lists : List OwnerListView) (some : 0 < most) (few : nodes ≤ MOST_NODES) (count : length lists ≡ nodes) (empty : (owner : ℕ) → list_of_owner lists owner ≡ no_writes) where
-  writes-none : (owner : ℕ) → writes_in lists owner ≡ []
-  writes-none owner = writes_in-is lists owner ∙ ap entries_of (empty owner)
+  writes-none : (owner : ℕ) → all_writes lists owner ≡ []
+  writes-none owner = ap entries_of (empty owner)
 
   no_writes-are : AreWrites no_writes
   no_writes-are = record {

@@ -14,7 +14,7 @@ use Rattle.reconcile.specs.Candidates.{candidates}
 use Rattle.reconcile.specs.Order.{rank_among, owner_count}
 use Rattle.version_tables.specs.inner.Offers.{Offers, IsHistory, rank_above}
 use Rattle.planes.specs.Planes.{Cells, count_above}
-use Rattle.version_tables.specs.inner.Levels.{number_of}
+use Rattle.version_tables.specs.inner.Levels.{item_number}
 use Rattle.version_tables.specs.inner.Shares.{AreLevelMarks, IsLayerMark, IsRunMark, IsRoundMark}
 use Rattle.version_tables.proofs.Columns.{rank_among-is, owner_count-is}
 use Rattle.version_tables.proofs.Layers.{layer-upto, layer-above}
@@ -57,12 +57,12 @@ module _ (from to : Table) (proper : IsProper from) (lists : ℕ → List Entry)
   module _ (offers : Offers ScuttleBreadth from to lists cells low) (layers : ℕ)
       (near_is : (r : ℕ) → r < from.nodes → IsLayerMark cells from.keys r (low r) layers (near r))
       (far_is : (r : ℕ) → r < from.nodes → IsLayerMark cells from.keys r (low r) (layers + 1) (far r))
-      (next : Item) (in_next : Contains (candidates ScuttleBreadth from to) next) (over : near next.owner < number_of cells next) (upto : number_of cells next ≤ far next.owner) where
+      (next : Item) (in_next : Contains (candidates ScuttleBreadth from to) next) (over : near next.owner < item_number cells next) (upto : item_number cells next ≤ far next.owner) where
     abbrev cs : List Item
     cs = candidates ScuttleBreadth from to
 
     abbrev rank : Item → ℕ
-    rank c = rank_above cells from.keys c.owner (low c.owner) (number_of cells c)
+    rank c = rank_above cells from.keys c.owner (low c.owner) (item_number cells c)
 
     rank_is : (c : Item) → Contains cs c → rank_among cs c ≡ rank c
     rank_is c in_c = rank_among-is ScuttleBreadth from to proper lists histories cells low offers c in_c
@@ -73,19 +73,19 @@ module _ (from to : Table) (proper : IsProper from) (lists : ℕ → List Entry)
     in_node : (c : Item) → Contains cs c → c.owner < from.nodes
     in_node c in_c = candidate-below ScuttleBreadth from to proper c in_c
 
-    above_low : (c : Item) → Contains cs c → low c.owner < number_of cells c
+    above_low : (c : Item) → Contains cs c → low c.owner < item_number cells c
     above_low c in_c = (candidate-number ScuttleBreadth from to proper lists histories cells low offers c in_c).0
 
-    within : (c : Item) → Contains cs c → number_of cells c ≤ near c.owner → rank c < layers
+    within : (c : Item) → Contains cs c → item_number cells c ≤ near c.owner → rank c < layers
     within c in_c le = layer-upto cells from.keys c.owner (low c.owner) layers (near c.owner) (near_is c.owner (in_node c in_c)) c.entry.key (in_key c in_c) (above_low c in_c) le
 
-    beyond : (c : Item) → Contains cs c → near c.owner < number_of cells c → layers ≤ rank c
+    beyond : (c : Item) → Contains cs c → near c.owner < item_number cells c → layers ≤ rank c
     beyond c in_c lt = layer-above cells from.keys c.owner (low c.owner) layers (near c.owner) (near_is c.owner (in_node c in_c)) c.entry.key (in_key c in_c) lt
 
-    within_far : (c : Item) → Contains cs c → number_of cells c ≤ far c.owner → rank c < layers + 1
+    within_far : (c : Item) → Contains cs c → item_number cells c ≤ far c.owner → rank c < layers + 1
     within_far c in_c le = layer-upto cells from.keys c.owner (low c.owner) (layers + 1) (far c.owner) (far_is c.owner (in_node c in_c)) c.entry.key (in_key c in_c) (above_low c in_c) le
 
-    beyond_far : (c : Item) → Contains cs c → far c.owner < number_of cells c → layers + 1 ≤ rank c
+    beyond_far : (c : Item) → Contains cs c → far c.owner < item_number cells c → layers + 1 ≤ rank c
     beyond_far c in_c lt = layer-above cells from.keys c.owner (low c.owner) (layers + 1) (far c.owner) (far_is c.owner (in_node c in_c)) c.entry.key (in_key c in_c) lt
 
     next_rank : rank next ≡ layers
@@ -94,10 +94,10 @@ module _ (from to : Table) (proper : IsProper from) (lists : ℕ → List Entry)
     pub breadth-marks : AreLevelMarks ScuttleBreadth cs cells next near far
     breadth-marks = record {
       before = λ c in_c.
-          by_level (number_of cells c) (near c.owner) (rank c) (rank next) (λ le. omega (arith, next_rank, within c in_c le)) (λ lt. omega (arith, next_rank, beyond c in_c lt))
+          by_level (item_number cells c) (near c.owner) (rank c) (rank next) (λ le. omega (arith, next_rank, within c in_c le)) (λ lt. omega (arith, next_rank, beyond c in_c lt))
           ∙ (λ i. is_lt (nat_cmp (sym (rank_is c in_c) i) (sym (rank_is next in_next) i)));
       upto = λ c in_c.
-          upto_level (number_of cells c) (far c.owner) (rank c) (rank next) (λ le. omega (arith, next_rank, within_far c in_c le)) (λ lt. omega (arith, next_rank, beyond_far c in_c lt))
+          upto_level (item_number cells c) (far c.owner) (rank c) (rank next) (λ le. omega (arith, next_rank, within_far c in_c le)) (λ lt. omega (arith, next_rank, beyond_far c in_c lt))
           ∙ (λ i. is_lt (ordering_then (nat_cmp (sym (rank_is c in_c) i) (sym (rank_is next in_next) i)) Less));
     }
 
@@ -115,20 +115,20 @@ module _ (from to : Table) (proper : IsProper from) (lists : ℕ → List Entry)
     count_is : (c : Item) → Contains runs c → owner_count runs c ≡ count c
     count_is c in_c = owner_count-is ScuttleDepth from to proper lists histories cells low offers c in_c
 
-    over_low : (c : Item) → Contains runs c → low c.owner < number_of cells c
+    over_low : (c : Item) → Contains runs c → low c.owner < item_number cells c
     over_low c in_c = (candidate-number ScuttleDepth from to proper lists histories cells low offers c in_c).0
 
     owner_below : (c : Item) → Contains runs c → c.owner < from.nodes
     owner_below c in_c = candidate-below ScuttleDepth from to proper c in_c
 
     -- what a mark lets through has a longer run than the length
-    longer : (len : ℕ) (mark : ℕ → ℕ) → ((r : ℕ) → r < from.nodes → IsRunMark cells from.keys r (low r) len (mark r)) → (c : Item) → Contains runs c → number_of cells c ≤ mark c.owner → len < count c
+    longer : (len : ℕ) (mark : ℕ → ℕ) → ((r : ℕ) → r < from.nodes → IsRunMark cells from.keys r (low r) len (mark r)) → (c : Item) → Contains runs c → item_number cells c ≤ mark c.owner → len < count c
     longer len mark is c in_c le = elim (cases_lt len (count c)) [
       | inl more ↦ more
       | inr no_more ↦ absurd (omega (arith, le, over_low c in_c, (is c.owner (owner_below c in_c)).none (omega (arith, no_more))))
     ]
 
-    no_longer : (len : ℕ) (mark : ℕ → ℕ) → ((r : ℕ) → r < from.nodes → IsRunMark cells from.keys r (low r) len (mark r)) → (c : Item) → Contains runs c → mark c.owner < number_of cells c → count c ≤ len
+    no_longer : (len : ℕ) (mark : ℕ → ℕ) → ((r : ℕ) → r < from.nodes → IsRunMark cells from.keys r (low r) len (mark r)) → (c : Item) → Contains runs c → mark c.owner < item_number cells c → count c ≤ len
     no_longer len mark is c in_c lt = elim (cases_lt len (count c)) [
       | inl more ↦ absurd (omega (arith, lt, (is c.owner (owner_below c in_c)).all more c.entry.key (candidate-key ScuttleDepth from to proper c in_c)))
       | inr no_more ↦ omega (arith, no_more)
@@ -136,9 +136,9 @@ module _ (from to : Table) (proper : IsProper from) (lists : ℕ → List Entry)
 
     pub depth-marks : AreLevelMarks ScuttleDepth runs cells next near far
     depth-marks = record {
-      before = λ c in_c. first_longer (number_of cells c) (near c.owner) (count c) (longer (length + 1) near near_is c in_c) (no_longer (length + 1) near near_is c in_c)
+      before = λ c in_c. first_longer (item_number cells c) (near c.owner) (count c) (longer (length + 1) near near_is c in_c) (no_longer (length + 1) near near_is c in_c)
           ∙ (λ i. is_lt (nat_cmp (sym (count_is next in_next ∙ its) i) (sym (count_is c in_c) i)));
-      upto = λ c in_c. no_shorter (number_of cells c) (far c.owner) (count c) (longer length far far_is c in_c) (no_longer length far far_is c in_c)
+      upto = λ c in_c. no_shorter (item_number cells c) (far c.owner) (count c) (longer length far far_is c in_c) (no_longer length far far_is c in_c)
           ∙ (λ i. is_lt (ordering_then (nat_cmp (sym (count_is next in_next ∙ its) i) (sym (count_is c in_c) i)) Less));
     }
       where
@@ -164,13 +164,13 @@ module _ (from to : Table) (proper : IsProper from) (lists : ℕ → List Entry)
       before = λ c in_c.
           let at = candidate-number PreciseOldest from to proper lists histories cells low offers c in_c in
           let is = near_is c.owner (candidate-below PreciseOldest from to proper c in_c) in
-          by_level (number_of cells c) (near c.owner) c.entry.born next.entry.born
-          (λ le. omega (arith, its, is.upto (number_of cells c) c.entry at.0 at.1 le)) (λ lt. omega (arith, its, is.above (number_of cells c) c.entry at.0 at.1 lt));
+          by_level (item_number cells c) (near c.owner) c.entry.born next.entry.born
+          (λ le. omega (arith, its, is.upto (item_number cells c) c.entry at.0 at.1 le)) (λ lt. omega (arith, its, is.above (item_number cells c) c.entry at.0 at.1 lt));
       upto = λ c in_c.
           let at = candidate-number PreciseOldest from to proper lists histories cells low offers c in_c in
           let is = far_is c.owner (candidate-below PreciseOldest from to proper c in_c) in
-          upto_level (number_of cells c) (far c.owner) c.entry.born next.entry.born
-          (λ le. omega (arith, its, is.upto (number_of cells c) c.entry at.0 at.1 le)) (λ lt. omega (arith, its, is.above (number_of cells c) c.entry at.0 at.1 lt));
+          upto_level (item_number cells c) (far c.owner) c.entry.born next.entry.born
+          (λ le. omega (arith, its, is.upto (item_number cells c) c.entry at.0 at.1 le)) (λ lt. omega (arith, its, is.above (item_number cells c) c.entry at.0 at.1 lt));
     }
 
   -- and the newest first
@@ -183,15 +183,15 @@ module _ (from to : Table) (proper : IsProper from) (lists : ℕ → List Entry)
       before = λ c in_c.
           let at = candidate-number PreciseNewest from to proper lists histories cells low offers c in_c in
           let is = near_is c.owner (candidate-below PreciseNewest from to proper c in_c) in
-          elim (cases_lt (near c.owner) (number_of cells c)) [
-            | inl over ↦ lt-ltb (near c.owner) (number_of cells c) over ∙ sym (cmp-less next.entry.born c.entry.born (omega (arith, its, is.above (number_of cells c) c.entry at.0 at.1 over)))
-            | inr upto ↦ le-ltb (near c.owner) (number_of cells c) (omega (arith, upto)) ∙ sym (cmp-not_less next.entry.born c.entry.born (omega (arith, its, is.upto (number_of cells c) c.entry at.0 at.1 (omega (arith, upto)))))
+          elim (cases_lt (near c.owner) (item_number cells c)) [
+            | inl over ↦ lt-ltb (near c.owner) (item_number cells c) over ∙ sym (cmp-less next.entry.born c.entry.born (omega (arith, its, is.above (item_number cells c) c.entry at.0 at.1 over)))
+            | inr upto ↦ le-ltb (near c.owner) (item_number cells c) (omega (arith, upto)) ∙ sym (cmp-not_less next.entry.born c.entry.born (omega (arith, its, is.upto (item_number cells c) c.entry at.0 at.1 (omega (arith, upto)))))
           ];
       upto = λ c in_c.
           let at = candidate-number PreciseNewest from to proper lists histories cells low offers c in_c in
           let is = far_is c.owner (candidate-below PreciseNewest from to proper c in_c) in
-          elim (cases_lt (far c.owner) (number_of cells c)) [
-            | inl over ↦ lt-ltb (far c.owner) (number_of cells c) over ∙ sym (cmp-upto next.entry.born c.entry.born (omega (arith, its, is.above (number_of cells c) c.entry at.0 at.1 over)))
-            | inr upto ↦ le-ltb (far c.owner) (number_of cells c) (omega (arith, upto)) ∙ sym (cmp-above next.entry.born c.entry.born (omega (arith, its, is.upto (number_of cells c) c.entry at.0 at.1 (omega (arith, upto)))))
+          elim (cases_lt (far c.owner) (item_number cells c)) [
+            | inl over ↦ lt-ltb (far c.owner) (item_number cells c) over ∙ sym (cmp-upto next.entry.born c.entry.born (omega (arith, its, is.above (item_number cells c) c.entry at.0 at.1 over)))
+            | inr upto ↦ le-ltb (far c.owner) (item_number cells c) (omega (arith, upto)) ∙ sym (cmp-above next.entry.born c.entry.born (omega (arith, its, is.upto (item_number cells c) c.entry at.0 at.1 (omega (arith, upto)))))
           ];
     }

@@ -25,7 +25,7 @@ use Rattle.version_tables.specs.inner.Offers.{Offers, IsHistory, is_lacked}
 use Rattle.owner_lists.specs.Numbers.{write_numbered}
 use Rattle.planes.specs.Planes.{Cells}
 use Rattle.version_tables.proofs.Offers.{versions-rise, numbers-born}
-use Rattle.version_tables.specs.inner.Levels.{turn_cmp, number_of, comes_first}
+use Rattle.version_tables.specs.inner.Levels.{turn_cmp, item_number, comes_first}
 
 -- three comparisons in turn where the second decides
 decided : (a b c : Ordering) → b ≢ Equal → is_lt (ordering_then a (ordering_then b c)) ≡ is_lt (ordering_then a b)
@@ -102,8 +102,8 @@ module _ (mode : Mode) (from to : Table) (proper : IsProper from) (lists : ℕ �
       (entry_at-items_of from c proper kept.0, kept.1)
 
   -- a candidate is the write of its number, which is above the owner's mark
-  pub candidate-number : (c : Item) → Contains cs c → (low c.owner < number_of cells c) × (write_numbered (lists c.owner) (number_of cells c) ≡ Some c.entry)
-  candidate-number c there = elim (cases_lt (low c.owner) (number_of cells c)) [
+  pub candidate-number : (c : Item) → Contains cs c → (low c.owner < item_number cells c) × (write_numbered (lists c.owner) (item_number cells c) ≡ Some c.entry)
+  candidate-number c there = elim (cases_lt (low c.owner) (item_number cells c)) [
     | inl above ↦
         let place = proper.in_place c.owner c.entry.key c.entry held.0 in
         let offered = offers.above c.owner c.entry.key place.owner_below place.key_below above in
@@ -122,8 +122,8 @@ module _ (mode : Mode) (from to : Table) (proper : IsProper from) (lists : ℕ �
     abbrev total : IsTotalOrder order
     total = sending_order-total mode nodes rotation cs
 
-    pub d_number : write_numbered (lists c.owner) (number_of cells d) ≡ Some d.entry
-    d_number = subst (λ o. write_numbered (lists o) (number_of cells d) ≡ Some d.entry) (sym owners) (candidate-number d in_d).1
+    pub d_number : write_numbered (lists c.owner) (item_number cells d) ≡ Some d.entry
+    d_number = subst (λ o. write_numbered (lists o) (item_number cells d) ≡ Some d.entry) (sym owners) (candidate-number d in_d).1
 
     pub alike : c.entry.generation ≡ d.entry.generation
     alike =
@@ -131,16 +131,16 @@ module _ (mode : Mode) (from to : Table) (proper : IsProper from) (lists : ℕ �
         ∙ ap (generation_held from) owners
         ∙ sym (proper.copies d.owner d.entry.key d.entry (candidate-held d in_d).0)
 
-    one_item : number_of cells c ≡ number_of cells d → c ≡ d
+    one_item : item_number cells c ≡ item_number cells d → c ≡ d
     one_item same =
         let entries : c.entry ≡ d.entry = same_Some c.entry d.entry (sym (candidate-number c in_c).1 ∙ ap (write_numbered (lists c.owner)) same ∙ d_number) in
         λ i. record { owner = owners i; entry = entries i }
 
-  numbered : (x y : Item) → Contains cs x → Contains cs y → x.owner ≡ y.owner → number_of cells x < number_of cells y → (x.entry.version < y.entry.version) × (x.entry.born ≤ y.entry.born)
+  numbered : (x y : Item) → Contains cs x → Contains cs y → x.owner ≡ y.owner → item_number cells x < item_number cells y → (x.entry.version < y.entry.version) × (x.entry.born ≤ y.entry.born)
   numbered x y in_x in_y owners lt =
       let y_number = d_number 0 0 x y in_x in_y owners in (
-        versions-rise (lists x.owner) (histories x.owner) (number_of cells x) (number_of cells y) x.entry y.entry (candidate-number x in_x).1 y_number (alike 0 0 x y in_x in_y owners) lt,
-        numbers-born (lists x.owner) (histories x.owner) (number_of cells x) (number_of cells y) x.entry y.entry (candidate-number x in_x).1 y_number (omega (arith, lt)),
+        versions-rise (lists x.owner) (histories x.owner) (item_number cells x) (item_number cells y) x.entry y.entry (candidate-number x in_x).1 y_number (alike 0 0 x y in_x in_y owners) lt,
+        numbers-born (lists x.owner) (histories x.owner) (item_number cells x) (item_number cells y) x.entry y.entry (candidate-number x in_x).1 y_number (omega (arith, lt)),
       )
 
   -- the one with the lower number comes first, or in the last mode the other
@@ -150,7 +150,7 @@ module _ (mode : Mode) (from to : Table) (proper : IsProper from) (lists : ℕ �
   ahead PreciseOldest = Less
   ahead PreciseNewest = Greater
 
-  rises : (nodes rotation : ℕ) (x y : Item) → Contains cs x → Contains cs y → x.owner ≡ y.owner → number_of cells x < number_of cells y → sending_order mode nodes rotation cs x y ≡ ahead mode
+  rises : (nodes rotation : ℕ) (x y : Item) → Contains cs x → Contains cs y → x.owner ≡ y.owner → item_number cells x < item_number cells y → sending_order mode nodes rotation cs x y ≡ ahead mode
   rises nodes rotation x y in_x in_y owners lt = by_mode mode
     where
       older : (x.entry.version < y.entry.version) × (x.entry.born ≤ y.entry.born)
@@ -162,18 +162,18 @@ module _ (mode : Mode) (from to : Table) (proper : IsProper from) (lists : ℕ �
       by_mode PreciseOldest = oldest-first nodes rotation cs x y owners older.0 older.1
       by_mode PreciseNewest = newest-last nodes rotation cs x y owners older.0 older.1
 
-  pub order-own : (nodes rotation : ℕ) (x y : Item) → Contains cs x → Contains cs y → x.owner ≡ y.owner → is_lt (sending_order mode nodes rotation cs x y) ≡ comes_first mode (number_of cells x) (number_of cells y)
-  order-own nodes rotation x y in_x in_y owners = elim (cases_lt (number_of cells x) (number_of cells y)) [
-    | inl below ↦ ap is_lt (rises nodes rotation x y in_x in_y owners below) ∙ first mode (number_of cells x) (number_of cells y) below
-    | inr not_below ↦ elim (cases_lt (number_of cells y) (number_of cells x)) [
+  pub order-own : (nodes rotation : ℕ) (x y : Item) → Contains cs x → Contains cs y → x.owner ≡ y.owner → is_lt (sending_order mode nodes rotation cs x y) ≡ comes_first mode (item_number cells x) (item_number cells y)
+  order-own nodes rotation x y in_x in_y owners = elim (cases_lt (item_number cells x) (item_number cells y)) [
+    | inl below ↦ ap is_lt (rises nodes rotation x y in_x in_y owners below) ∙ first mode (item_number cells x) (item_number cells y) below
+    | inr not_below ↦ elim (cases_lt (item_number cells y) (item_number cells x)) [
       | inl above ↦
           ap is_lt ((sending_order-total mode nodes rotation cs).antisymm x y ∙ ap ordering_reverse (rises nodes rotation y x in_y in_x (sym owners) above))
-          ∙ last mode (number_of cells x) (number_of cells y) above
+          ∙ last mode (item_number cells x) (item_number cells y) above
       | inr not_above ↦
           let same = one_item nodes rotation x y in_x in_y owners (omega (arith, not_below, not_above)) in
           ap (λ z. is_lt (sending_order mode nodes rotation cs x z)) (sym same)
           ∙ ap is_lt (tied_itself (sending_order-total mode nodes rotation cs) x)
-          ∙ sym (neither mode (number_of cells x) (number_of cells y) (omega (arith, not_below, not_above)))
+          ∙ sym (neither mode (item_number cells x) (item_number cells y) (omega (arith, not_below, not_above)))
     ]
   ]
     where
@@ -198,7 +198,7 @@ module _ (mode : Mode) (from to : Table) (proper : IsProper from) (lists : ℕ �
   -- a set that has of the next one's owner what comes first by number, and of the others what comes first by level and
   -- turn, is what comes before it
   pub comes-before : (rotation : ℕ) (in_nodes : rotation < from.nodes) (is_in : Item → Bool) (next : Item) → Contains cs next
-      → ((c : Item) → Contains cs c → c.owner ≡ next.owner → is_in c ≡ comes_first mode (number_of cells c) (number_of cells next))
+      → ((c : Item) → Contains cs c → c.owner ≡ next.owner → is_in c ≡ comes_first mode (item_number cells c) (item_number cells next))
       → ((c : Item) → Contains cs c → c.owner ≢ next.owner → is_in c ≡ is_lt (turn_cmp mode from.nodes rotation cs c next))
       → (c : Item) → Contains cs c → is_in c ≡ is_lt (sending_order mode from.nodes rotation cs c next)
   comes-before rotation in_nodes is_in next in_next own others c in_c = elim (cases_eq c.owner next.owner) [

@@ -22,7 +22,7 @@ use Rattle.owner_lists.specs.Numbers.{write_numbered}
 use Rattle.planes.specs.Planes.{Cells, count_above, HasNoneAbove}
 use Rattle.planes.proofs.Sums.{sum_below-same}
 use Rattle.version_tables.specs.SentSets.{HasSet}
-use Rattle.version_tables.specs.inner.Levels.{comes_first, number_of}
+use Rattle.version_tables.specs.inner.Levels.{comes_first, item_number}
 use Rattle.version_tables.specs.inner.Marked.{HasShape, KeepsLow}
 use Rattle.version_tables.specs.inner.Offers.{IsHistory, Offers, is_lacked}
 use Rattle.version_tables.specs.inner.Shares.{lets_through, AreLevelMarks, StopAt, IsRunMark, size_through_marks}
@@ -93,10 +93,10 @@ module _ (from to : Table) (proper : IsProper from) (lists : ℕ → List Entry)
 
   -- near and far marks of a mode's level, by a candidate of the level
   level-marks : (mode : Mode) (offers : Offers mode from to lists cells low) (near far : ℕ → ℕ) → HasShape mode lists cells from.nodes from.keys low near far
-      → (next : Item) → Contains (candidates mode from to) next → lets_through mode (near next.owner) (number_of cells next) ≡ false → lets_through mode (far next.owner) (number_of cells next) ≡ true
+      → (next : Item) → Contains (candidates mode from to) next → lets_through mode (near next.owner) (item_number cells next) ≡ false → lets_through mode (far next.owner) (item_number cells next) ≡ true
       → AreLevelMarks mode (candidates mode from to) cells next near far
   level-marks ScuttleBreadth offers near far shape next in_next outside inside =
-      breadth-marks from to proper lists histories cells low near far offers shape.0 shape.1.0 shape.1.1 next in_next (lets-fails (near next.owner) (number_of cells next) outside) (lets-holds (far next.owner) (number_of cells next) inside)
+      breadth-marks from to proper lists histories cells low near far offers shape.0 shape.1.0 shape.1.1 next in_next (lets-fails (near next.owner) (item_number cells next) outside) (lets-holds (far next.owner) (item_number cells next) inside)
   level-marks ScuttleDepth offers near far shape next in_next outside inside =
       depth-marks from to proper lists histories cells low near far offers shape.0 shape.1.0 shape.1.1 next in_next
       (run-size (count_above cells from.keys next.owner (low next.owner)) shape.0 (shape.1.0 next.owner below) (shape.1.1 next.owner below))
@@ -110,34 +110,34 @@ module _ (from to : Table) (proper : IsProper from) (lists : ℕ → List Entry)
       run-size : (count size : ℕ) → IsRunMark cells from.keys next.owner (low next.owner) (size + 1) (near next.owner) → IsRunMark cells from.keys next.owner (low next.owner) size (far next.owner)
           → count_above cells from.keys next.owner (low next.owner) ≡ size + 1
       run-size count size near_is far_is = elim (cases_lt (size + 1) (count_above cells from.keys next.owner (low next.owner))) [
-        | inl longer ↦ absurd (omega (arith, near_is.all longer next.entry.key key_below, lets-fails (near next.owner) (number_of cells next) outside))
+        | inl longer ↦ absurd (omega (arith, near_is.all longer next.entry.key key_below, lets-fails (near next.owner) (item_number cells next) outside))
         | inr not_longer ↦ elim (cases_lt size (count_above cells from.keys next.owner (low next.owner))) [
           | inl enough ↦ omega (arith, not_longer, enough)
           | inr shorter ↦
-              absurd (omega (arith, far_is.none (omega (arith, shorter)), lets-holds (far next.owner) (number_of cells next) inside, (candidate-number ScuttleDepth from to proper lists histories cells low offers next in_next).0))
+              absurd (omega (arith, far_is.none (omega (arith, shorter)), lets-holds (far next.owner) (item_number cells next) inside, (candidate-number ScuttleDepth from to proper lists histories cells low offers next in_next).0))
         ]
       ]
   level-marks PreciseOldest offers near far shape next in_next outside inside =
       let below = candidate-below PreciseOldest from to proper next in_next in
       let at = candidate-number PreciseOldest from to proper lists histories cells low offers next in_next in
-      let over = lets-fails (near next.owner) (number_of cells next) outside in
-      let upto = lets-holds (far next.owner) (number_of cells next) inside in
+      let over = lets-fails (near next.owner) (item_number cells next) outside in
+      let upto = lets-holds (far next.owner) (item_number cells next) inside in
       oldest-marks from to proper lists histories cells low near far offers shape.0 shape.1.0 shape.1.1 next in_next
-      (omega (arith, (shape.1.0 next.owner below).above (number_of cells next) next.entry at.0 at.1 over, (shape.1.1 next.owner below).upto (number_of cells next) next.entry at.0 at.1 upto))
+      (omega (arith, (shape.1.0 next.owner below).above (item_number cells next) next.entry at.0 at.1 over, (shape.1.1 next.owner below).upto (item_number cells next) next.entry at.0 at.1 upto))
   level-marks PreciseNewest offers near far shape next in_next outside inside =
       let below = candidate-below PreciseNewest from to proper next in_next in
       let at = candidate-number PreciseNewest from to proper lists histories cells low offers next in_next in
-      let upto = above-fails (near next.owner) (number_of cells next) outside in
-      let over = above-holds (far next.owner) (number_of cells next) inside in
+      let upto = above-fails (near next.owner) (item_number cells next) outside in
+      let over = above-holds (far next.owner) (item_number cells next) inside in
       newest-marks from to proper lists histories cells low near far offers shape.0 shape.1.0 shape.1.1 next in_next
-      (omega (arith, (shape.1.0 next.owner below).upto (number_of cells next) next.entry at.0 at.1 upto, (shape.1.1 next.owner below).above (number_of cells next) next.entry at.0 at.1 over))
+      (omega (arith, (shape.1.0 next.owner below).upto (item_number cells next) next.entry at.0 at.1 upto, (shape.1.1 next.owner below).above (item_number cells next) next.entry at.0 at.1 over))
 
   module _ (mode : Mode) (offers : Offers mode from to lists cells low) where
     abbrev cs : List Item
     cs = candidates mode from to
 
     abbrev pub lets : (ℕ → ℕ) → Item → Bool
-    lets mark c = lets_through mode (mark c.owner) (number_of cells c)
+    lets mark c = lets_through mode (mark c.owner) (item_number cells c)
 
     -- how many marks let through
     counted-by : (mark : ℕ → ℕ) → KeepsLow mode from.nodes low mark → count_by (lets mark) cs ≡ weight_by mode one_each cells from.nodes from.keys low high mark
@@ -157,7 +157,7 @@ module _ (from to : Table) (proper : IsProper from) (lists : ℕ → List Entry)
         let found = offers.above owner key in_nodes in_keys lt in
         (found.0, found.1, Contains-filter (is_lacked mode to) (items_of from) (record { owner = owner; entry = found.0 }) (Contains-items_of from owner key found.0 found.1) found.3)
 
-    number-is : (c : Item) → Contains cs c → (low c.owner < number_of cells c) × (write_numbered (lists c.owner) (number_of cells c) ≡ Some c.entry)
+    number-is : (c : Item) → Contains cs c → (low c.owner < item_number cells c) × (write_numbered (lists c.owner) (item_number cells c) ≡ Some c.entry)
     number-is c in_c = candidate-number mode from to proper lists histories cells low offers c in_c
 
     -- the delta that marks let through, as it is taken

@@ -7,9 +7,10 @@ use Rattle.bench_types.specs.declared.exchanges.Budget.{Budget}
 use Rattle.bench_types.specs.declared.exchanges.Budget.TheVariants.{Entries, Bytes}
 use Rattle.bench_types.specs.declared.limits.TheConstants.{MOST_NODES, MOST_KEYS, MOST_ENTRY_SIZE}
 use Rattle.owner_lists.specs.Numbers.{write_numbered}
+use Rattle.owner_lists.specs.OwnerListView.{all_writes}
 use Rattle.version_tables.specs.declared.weights.Offer.{Offer}
 use Rattle.version_tables.specs.inner.Offered.{cells_in, weights_in, weight_in, count_in, IsOffer}
-use Rattle.version_tables.specs.inner.Weights.{share_or_none, writes_in, one_each}
+use Rattle.version_tables.specs.inner.Weights.{share_or_none, one_each}
 use Rattle.version_tables.proofs.WeightLaws.{weight_between-same, weight_between-most, number_share-one, count_all_between-most}
 
 -- no write takes more than the largest share
@@ -22,7 +23,7 @@ module _ {N : Type 0} (number : N → ℕ) (most : ℕ) (offer : Offer N) (is : 
   pub offer-most : weight_in number offer low high ≤ count_in number offer low high * MOST_ENTRY_SIZE
   offer-most =
       weight_between-most (weights_in offer) MOST_ENTRY_SIZE (cells_in number offer) offer.nodes offer.keys low high
-      (λ owner n. share-most offer.budget (write_numbered (writes_in offer.lists.now owner) n))
+      (λ owner n. share-most offer.budget (write_numbered (all_writes offer.lists.now owner) n))
 
   pub offer-few : count_in number offer low high ≤ MOST_NODES * MOST_KEYS
   offer-few =
@@ -34,4 +35,4 @@ module _ {N : Type 0} (number : N → ℕ) (most : ℕ) (offer : Offer N) (is : 
   offer-entries n counted =
       weight_between-same (weights_in offer) one_each (cells_in number offer) offer.nodes offer.keys low high
       (λ owner key in_nodes in_keys above upto.
-      number_share-one offer.budget n (writes_in offer.lists.now owner) (cells_in number offer owner key) counted (omega (arith, above)) (is.written owner key in_nodes in_keys))
+      number_share-one offer.budget n (all_writes offer.lists.now owner) (cells_in number offer owner key) counted (omega (arith, above)) (is.written owner key in_nodes in_keys))

@@ -13,7 +13,7 @@ use Rattle.node_table.specs.Table.{Table, entry_at, items_of, IsProper}
 use Rattle.node_table.proofs.Items.{Contains-items_of}
 use Rattle.reconcile.proofs.Members.{Contains-filter}
 use Rattle.reconcile.specs.Candidates.{candidates}
-use Rattle.version_tables.specs.inner.Grids.{number_here, number_at}
+use Rattle.version_tables.specs.inner.Grids.{number_here, number_there}
 use Rattle.version_tables.specs.inner.Offers.{Offers, is_lacked, offered_sum, IsHistory}
 use Rattle.owner_lists.specs.Numbers.{write_from, write_numbered}
 use Rattle.planes.specs.Planes.{Cells}
@@ -27,7 +27,7 @@ module _ (mode : Mode) (from to : Table) (proper : IsProper from) (lists : ℕ �
       candidates_sum mode from to proper f
       ∙ sum_below-same from.nodes _ _ (λ owner in_nodes. sum_below-same from.keys _ _ (λ key in_keys. at owner key in_nodes in_keys))
     where
-      at : (owner key : ℕ) → owner < from.nodes → key < from.keys → number_at (λ i. cond (is_lacked mode to i) (f i) 0) from owner key ≡ cond (ltb (low owner) (cells owner key)) (g owner key) 0
+      at : (owner key : ℕ) → owner < from.nodes → key < from.keys → number_there (λ i. cond (is_lacked mode to i) (f i) 0) from owner key ≡ cond (ltb (low owner) (cells owner key)) (g owner key) 0
       at owner key in_nodes in_keys = elim (cases_lt (low owner) (cells owner key)) [
         | inl above ↦
             let there = offers.above owner key in_nodes in_keys above in

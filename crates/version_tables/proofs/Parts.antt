@@ -23,7 +23,7 @@ use Rattle.staleness.proofs.Places.{one_more}
 use Rattle.staleness.proofs.Sums.{sum_below-le}
 use Rattle.version_tables.specs.Views.{VersionTableView, IsKept}
 use Rattle.version_tables.specs.inner.Missed.{base_of, IsNumberAt}
-use Rattle.version_tables.specs.inner.Pieces.{tables_in, keys_in, AreLaid, AreLastNumbers, IsPieceOf, numbers_at, AreGrids, AreNumbersOf, CountsPiece, view_at, numbers_in, AreCellsUpto, AreCellsOf}
+use Rattle.version_tables.specs.inner.Pieces.{tables_of_views, keys_in, AreLaidAsNumbers, AreLastNumbers, IsPieceOf, numbers_at, AreGrids, AreNumbersOf, CountsPiece, view_at, numbers_in, AreCellsUpto, AreCellsOf}
 use Rattle.version_tables.proofs.Pieces.{piece-none, piece-more, piece-joined}
 use Rattle.version_tables.proofs.Standing.{count-tables_in, one-list-each, cells-count, numbers-at}
 
@@ -31,9 +31,9 @@ pub total_le : (nodes keys : ℕ) (test : ℕ → ℕ → Bool) → nodes ≤ MO
 total_le nodes keys test few_nodes few_keys =
     omega (arith, few_nodes, sum_below-le (λ r. sum_below keys (λ k. cond (test r k) 1 0)) nodes MOST_KEYS (λ r lt. omega (arith, few_keys, count_le keys (test r))))
 
-module _ (written : ℕ → List Entry) (views : List VersionTableView) (lists : List OwnerListView) (laid : AreLaid written views lists) where
+module _ (written : ℕ → List Entry) (views : List VersionTableView) (lists : List OwnerListView) (laid : AreLaidAsNumbers written views lists) where
   abbrev tables : List Table
-  tables = tables_in written views
+  tables = tables_of_views written views
 
   abbrev nodes : ℕ
   nodes = length views
@@ -113,7 +113,7 @@ module _ (written : ℕ → List Entry) (views : List VersionTableView) (lists :
 pub grids-of : (written : ℕ → List Entry) (views : List VersionTableView) (lists : List OwnerListView) (nodes keys : ℕ) (cells : List (List ℕ)) (bases last : List ℕ) → AreNumbersOf written views lists nodes keys cells bases last → length bases ≡ nodes → AreGrids nodes keys cells bases last
 grids-of written views lists nodes keys cells bases last are based = record {
   grid = record {
-    whole = are.lasts.size ∙ ap (λ k. k * length (tables_in written views)) (sym are.keys_are) ∙ ap (λ m. keys * m) (count-tables_in written views ∙ sym are.nodes_are);
+    whole = are.lasts.size ∙ ap (λ k. k * length (tables_of_views written views)) (sym are.keys_are) ∙ ap (λ m. keys * m) (count-tables_in written views ∙ sym are.nodes_are);
     few_nodes = omega (arith, are.laid.together.few_nodes, count-tables_in written views, are.nodes_are);
     few_keys = omega (arith, are.laid.together.few_keys, are.keys_are);
   };
@@ -205,8 +205,8 @@ cells-read number cells p x lt is =
     ap (λ y. map number y.now) is
     ∙ sym (get_or-map (λ y. map number y.now) cells p x [] (omega (arith, lt, length-map cells (λ y. map number y.now))))
 
-pub numbers-of : {N : Type 0} (written : ℕ → List Entry) (views : List VersionTableView) (lists : List OwnerListView) (number : N → ℕ) (keys : ℕ) (cells items : List (Bor (List N))) (bases last : List ℕ) → AreLaid written views lists → keys ≡ keys_in (tables_in written views)
-    → cells ≡ items → AreCellsOf written views (numbers_in number items) → HasEach (length lists) (λ r n. n ≡ base_of (list_of_owner lists r)) bases → AreLastNumbers (tables_in written views) lists last
+pub numbers-of : {N : Type 0} (written : ℕ → List Entry) (views : List VersionTableView) (lists : List OwnerListView) (number : N → ℕ) (keys : ℕ) (cells items : List (Bor (List N))) (bases last : List ℕ) → AreLaidAsNumbers written views lists → keys ≡ keys_in (tables_of_views written views)
+    → cells ≡ items → AreCellsOf written views (numbers_in number items) → HasEach (length lists) (λ r n. n ≡ base_of (list_of_owner lists r)) bases → AreLastNumbers (tables_of_views written views) lists last
     → AreNumbersOf written views lists (length views) keys (numbers_in number cells) bases last
 numbers-of written views lists number keys cells items bases last laid keys_are same of_views based lasts = record {
   laid = laid;

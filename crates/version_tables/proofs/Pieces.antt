@@ -16,7 +16,7 @@ use Rattle.planes.proofs.Sums.{sum_below-same}
 use Rattle.round_tables.specs.Histories.{BirthsRise, StandsBeside}
 use Rattle.staleness.specs.Figures.{most_below, writes_of_owner, generation_at, staleness_of, staleness_at, is_left_over, leftover_at, stale_count, rounds_behind, node_figures}
 use Rattle.version_tables.specs.inner.Missed.{base_of, IsNumberAt, number_staleness, IsLastNumber}
-use Rattle.version_tables.specs.inner.Pieces.{keys_in, StandTogether, AreCountable, AreLastNumbers, IsLeastHeld, IsPiece}
+use Rattle.version_tables.specs.inner.Pieces.{keys_in, StandTogether, MayBeCounted, AreLastNumbers, IsLeastHeld, IsPiece}
 use Rattle.version_tables.proofs.Lagging.{last_fresh, stale_by_number, lag-least, left_over-by_number, own_is_last, key_held}
 
 module _ (tables : List Table) (lists : List OwnerListView) (are : StandTogether tables lists) where
@@ -40,7 +40,7 @@ module _ (tables : List Table) (lists : List OwnerListView) (are : StandTogether
   key_within r m e lt is current =
       omega (arith, key_held 0 (list_of_owner lists r) (are.writes r) (table_of_node tables r) (proper-is r lt) (beside r lt) m e is current, (are.cluster.tables r lt).keys)
 
-module _ (round : ℕ) (tables : List Table) (lists : List OwnerListView) (are : AreCountable round tables lists) where
+module _ (round : ℕ) (tables : List Table) (lists : List OwnerListView) (are : MayBeCounted round tables lists) where
   abbrev n : ℕ
   n = length tables
 

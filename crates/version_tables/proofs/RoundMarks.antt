@@ -7,6 +7,7 @@ use Rattle.std.proofs.lemmas.List.{length-map}
 use Rattle.std.proofs.lemmas.Bool.{cases_lt, lt-ltb, le-ltb, le-leb, lt-leb}
 use Rattle.bench_types.specs.declared.entries.Entry.{Entry}
 use Rattle.bench_types.specs.Budget.{amount_of}
+use Rattle.owner_lists.specs.OwnerListView.{all_writes}
 use Rattle.planes.specs.Planes.{Cells, cell, total_of, count_between, HasNoneAbove, HasEach}
 use Rattle.planes.specs.Sums.{sum_below}
 use Rattle.planes.proofs.Sums.{sum_below-same, sum_below-plus}
@@ -18,7 +19,7 @@ use Rattle.version_tables.specs.inner.Plans.{weight_on, count_on, AreFarther, Is
 use Rattle.version_tables.specs.inner.RoundLevels.{round_mode, round_at, end_mark, round_mark, AreFewAndEnough, AreRounds}
 use Rattle.version_tables.specs.inner.Rounds.{AreEnds}
 use Rattle.version_tables.specs.inner.Shares.{IsRoundMark}
-use Rattle.version_tables.specs.inner.Weights.{weight_of, weight_between, count_all_between, writes_in}
+use Rattle.version_tables.specs.inner.Weights.{weight_of, weight_between, count_all_between}
 use Rattle.version_tables.proofs.Columns.{where_true, sum_below-none}
 use Rattle.version_tables.proofs.Numbers.{numbered-some}
 
@@ -152,7 +153,7 @@ module _ {N : Type 0} (number : N → ℕ) (most : ℕ) (offer : Offer N) (is : 
       → count_in number offer low high ≡ count_in number offer low mark + total_of offer.nodes offer.keys (λ r k. nat_lt (mark r) (cells_in number offer r k))
   count-oldest mark above = count-parts (cells_in number offer) offer.nodes offer.keys low high is.covered mark above
 
-  module _ (rounds : ℕ) (ends : List ℕ) (are : AreEnds (writes_in offer.lists.now) offer.nodes rounds ends) (made : (owner : ℕ) → AreMadeBy rounds (writes_in offer.lists.now owner)) where
+  module _ (rounds : ℕ) (ends : List ℕ) (are : AreEnds (all_writes offer.lists.now) offer.nodes rounds ends) (made : (owner : ℕ) → AreMadeBy rounds (all_writes offer.lists.now owner)) where
     abbrev end : ℕ → ℕ → ℕ
     end round owner = end_mark ends offer.nodes low round owner
 
@@ -161,7 +162,7 @@ module _ {N : Type 0} (number : N → ℕ) (most : ℕ) (offer : Offer N) (is : 
 
     all-made : (owner : ℕ) → owner < offer.nodes → HasNoneAbove (cells_in number offer) offer.keys owner (end rounds owner)
     all-made owner in_nodes key in_keys =
-        omega (arith, none-later (writes_in offer.lists.now owner) rounds (cell ends offer.nodes owner rounds) (cells_in number offer owner key) (are.parts owner rounds in_nodes (omega arith)) (made owner) (is.written owner key in_nodes in_keys))
+        omega (arith, none-later (all_writes offer.lists.now owner) rounds (cell ends offer.nodes owner rounds) (cells_in number offer owner key) (are.parts owner rounds in_nodes (omega arith)) (made owner) (is.written owner key in_nodes in_keys))
 
     none-made : (owner : ℕ) → owner < offer.nodes → end 0 owner ≡ low owner
     none-made owner in_nodes = omega (arith, are.none owner in_nodes)
@@ -202,8 +203,8 @@ module _ {N : Type 0} (number : N → ℕ) (most : ℕ) (offer : Offer N) (is : 
       beyond = omega (arith, too_many, all_rounds newest);
     }
 
-    end-parts : (owner round : ℕ) → owner < offer.nodes → round ≤ rounds → IsRoundMark (writes_in offer.lists.now owner) (low owner) round (end round owner)
-    end-parts owner round in_nodes le = raised-mark (writes_in offer.lists.now owner) (low owner) round (cell ends offer.nodes owner round) (are.parts owner round in_nodes le)
+    end-parts : (owner round : ℕ) → owner < offer.nodes → round ≤ rounds → IsRoundMark (all_writes offer.lists.now owner) (low owner) round (end round owner)
+    end-parts owner round in_nodes le = raised-mark (all_writes offer.lists.now owner) (low owner) round (cell ends offer.nodes owner round) (are.parts owner round in_nodes le)
 
     end-rises : (owner round next : ℕ) → owner < offer.nodes → round < rounds → next ≡ round + 1 → (low owner ≤ end round owner) × (end round owner ≤ end next owner)
     end-rises owner round next in_nodes lt is_next =
@@ -258,26 +259,26 @@ module _ {N : Type 0} (number : N → ℕ) (most : ℕ) (offer : Offer N) (is : 
         beyond = omega (arith, found.beyond, weight_on-same newest (marks number level.far.items) (mark newest (few + 1)) far.each);
       }
 
-      parts : (round owner n : ℕ) → owner < offer.nodes → round ≤ rounds → n ≡ end round owner → IsRoundMark (writes_in offer.lists.now owner) (low owner) round n
-      parts round owner n in_nodes le is_end = subst (IsRoundMark (writes_in offer.lists.now owner) (low owner) round) (sym is_end) (end-parts owner round in_nodes le)
+      parts : (round owner n : ℕ) → owner < offer.nodes → round ≤ rounds → n ≡ end round owner → IsRoundMark (all_writes offer.lists.now owner) (low owner) round n
+      parts round owner n in_nodes le is_end = subst (IsRoundMark (all_writes offer.lists.now owner) (low owner) round) (sym is_end) (end-parts owner round in_nodes le)
 
       abbrev near_parts : Bool → ℕ → Type 0
-      near_parts b round = (owner : ℕ) → owner < offer.nodes → IsRoundMark (writes_in offer.lists.now owner) (low owner) (cond b (round + 1) round) (marks number level.near.items owner)
+      near_parts b round = (owner : ℕ) → owner < offer.nodes → IsRoundMark (all_writes offer.lists.now owner) (low owner) (cond b (round + 1) round) (marks number level.near.items owner)
 
       abbrev far_parts : Bool → ℕ → Type 0
-      far_parts b round = (owner : ℕ) → owner < offer.nodes → IsRoundMark (writes_in offer.lists.now owner) (low owner) (cond b round (round + 1)) (marks number level.far.items owner)
+      far_parts b round = (owner : ℕ) → owner < offer.nodes → IsRoundMark (all_writes offer.lists.now owner) (low owner) (cond b round (round + 1)) (marks number level.far.items owner)
 
       parts-of : (b : Bool) → b ≡ newest → near_parts b (round_at b rounds (few + 1 - cond b 0 1)) × far_parts b (round_at b rounds (few + 1 - cond b 0 1))
       parts-of true is_newest = (
-        λ owner in_nodes. subst (λ round. IsRoundMark (writes_in offer.lists.now owner) (low owner) round (marks number level.near.items owner)) {x = rounds - few} {y = rounds - (few + 1 - 0) + 1} (omega (arith, found.below, found.bound))
+        λ owner in_nodes. subst (λ round. IsRoundMark (all_writes offer.lists.now owner) (low owner) round (marks number level.near.items owner)) {x = rounds - few} {y = rounds - (few + 1 - 0) + 1} (omega (arith, found.below, found.bound))
             (parts (rounds - few) owner (marks number level.near.items owner) in_nodes (omega arith) (near.each owner in_nodes ∙ ap (λ b. mark b few owner) (sym is_newest))),
-        λ owner in_nodes. subst (λ round. IsRoundMark (writes_in offer.lists.now owner) (low owner) round (marks number level.far.items owner)) {x = rounds - (few + 1)} {y = rounds - (few + 1 - 0)} (omega (arith, found.below, found.bound))
+        λ owner in_nodes. subst (λ round. IsRoundMark (all_writes offer.lists.now owner) (low owner) round (marks number level.far.items owner)) {x = rounds - (few + 1)} {y = rounds - (few + 1 - 0)} (omega (arith, found.below, found.bound))
             (parts (rounds - (few + 1)) owner (marks number level.far.items owner) in_nodes (omega arith) (far.each owner in_nodes ∙ ap (λ b. mark b (few + 1) owner) (sym is_newest))),
       )
       parts-of false is_newest = (
-        λ owner in_nodes. subst (λ round. IsRoundMark (writes_in offer.lists.now owner) (low owner) round (marks number level.near.items owner)) {x = few} {y = few + 1 - 1} (omega arith)
+        λ owner in_nodes. subst (λ round. IsRoundMark (all_writes offer.lists.now owner) (low owner) round (marks number level.near.items owner)) {x = few} {y = few + 1 - 1} (omega arith)
             (parts few owner (marks number level.near.items owner) in_nodes (omega (arith, found.below, found.bound)) (near.each owner in_nodes ∙ ap (λ b. mark b few owner) (sym is_newest))),
-        λ owner in_nodes. subst (λ round. IsRoundMark (writes_in offer.lists.now owner) (low owner) round (marks number level.far.items owner)) {x = few + 1} {y = few + 1 - 1 + 1} (omega arith)
+        λ owner in_nodes. subst (λ round. IsRoundMark (all_writes offer.lists.now owner) (low owner) round (marks number level.far.items owner)) {x = few + 1} {y = few + 1 - 1 + 1} (omega arith)
             (parts (few + 1) owner (marks number level.far.items owner) in_nodes (omega (arith, found.bound)) (far.each owner in_nodes ∙ ap (λ b. mark b (few + 1) owner) (sym is_newest))),
       )
 

@@ -28,7 +28,7 @@ use Rattle.reconcile.proofs.DeltaLaws.{sending_order-total, sending_order-strict
 use Rattle.reconcile.proofs.Members.{Contains-filter, Contains-kept, same_members}
 use Rattle.reconcile.specs.Picks.{before_count, first_places, size_through, fits, sent, cut_count}
 use Rattle.reconcile.proofs.Places.{before_count-places, Contains-first_places, first_places-Contains}
-use Rattle.version_tables.specs.SentSets.{size_in, IsKeptOut, IsSentSet, StopsAt, AllFit, DeltasHaveTheirSets}
+use Rattle.version_tables.specs.SentSets.{size_in, IsKeptOut, IsSentSet, EndsBefore, HasAll, DeltasHaveTheirSets}
 
 -- a sum over a list whose terms are no greater, for the elements of the list
 sum_by-le : {X : Type 0} (f g : X → ℕ) (xs : List X) → ((x : X) → Contains xs x → f x ≤ g x) → sum_by f xs ≤ sum_by g xs
@@ -168,7 +168,7 @@ module _ {X : Type 0} (order : X → X → Ordering) (total : IsTotalOrder order
 
 module _ {X : Type 0} (order : X → X → Ordering) (total : IsTotalOrder order) (cs : List X) (size : X → ℕ) (is_in : X → Bool) (budget : ℕ) where
   -- what comes before a candidate that doesn't fit beside it
-  pub stops_sent : (next : X) → StopsAt order cs size is_in budget next → IsSentSet order cs size is_in budget
+  pub stops_sent : (next : X) → EndsBefore order cs size is_in budget next → IsSentSet order cs size is_in budget
   stops_sent next is = record {
     closed = λ c d at_c at_d before yes'. is.set c at_c ∙ ap is_lt (total.trans c d next before (is_less' (order d next) (sym (is.set d at_d) ∙ yes')));
     within = is.within;
@@ -187,7 +187,7 @@ module _ {X : Type 0} (order : X → X → Ordering) (total : IsTotalOrder order
       is_less' Greater e = cc
 
   -- all, where they fit
-  pub all_sent : AllFit order cs size is_in budget → IsSentSet order cs size is_in budget
+  pub all_sent : HasAll order cs size is_in budget → IsSentSet order cs size is_in budget
   all_sent is = record {
     closed = λ c d at_c at_d before yes'. is.all c at_c;
     within = is.within;

@@ -16,7 +16,7 @@ use Rattle.reconcile.specs.Order.{rotated, sending_order}
 use Rattle.reconcile.proofs.Apart.{rotated-injective}
 use Rattle.version_tables.specs.inner.Offers.{Offers, IsHistory}
 use Rattle.planes.specs.Planes.{Cells}
-use Rattle.version_tables.specs.inner.Levels.{level_cmp, turn_cmp, number_of}
+use Rattle.version_tables.specs.inner.Levels.{level_cmp, turn_cmp, item_number}
 use Rattle.version_tables.specs.inner.Shares.{lets_through, AreLevelMarks, StopAt}
 use Rattle.version_tables.proofs.Levels.{comes-before, candidate-below}
 
@@ -33,19 +33,19 @@ module _ (mode : Mode) (from to : Table) (proper : IsProper from) (lists : ℕ �
   cs = candidates mode from to
 
   pub marks-stop : (next : Item) (near far mark : ℕ → ℕ) → Contains cs next → AreLevelMarks mode cs cells next near far → StopAt mode from.nodes rotation cs cells next near far mark
-      → (c : Item) → Contains cs c → lets_through mode (mark c.owner) (number_of cells c) ≡ is_lt (sending_order mode from.nodes rotation cs c next)
+      → (c : Item) → Contains cs c → lets_through mode (mark c.owner) (item_number cells c) ≡ is_lt (sending_order mode from.nodes rotation cs c next)
   marks-stop next near far mark in_next levels stops =
-      comes-before mode from to proper lists histories cells low offers rotation in_nodes (λ c. lets_through mode (mark c.owner) (number_of cells c)) next in_next stops.own others
+      comes-before mode from to proper lists histories cells low offers rotation in_nodes (λ c. lets_through mode (mark c.owner) (item_number cells c)) next in_next stops.own others
     where
-      others : (c : Item) → Contains cs c → c.owner ≢ next.owner → lets_through mode (mark c.owner) (number_of cells c) ≡ is_lt (turn_cmp mode from.nodes rotation cs c next)
+      others : (c : Item) → Contains cs c → c.owner ≢ next.owner → lets_through mode (mark c.owner) (item_number cells c) ≡ is_lt (turn_cmp mode from.nodes rotation cs c next)
       others c in_c other = elim (cases_lt (rotated from.nodes rotation c.owner) (rotated from.nodes rotation next.owner)) [
         | inl before ↦
-            ap (λ m. lets_through mode m (number_of cells c)) (stops.passed c.owner before)
+            ap (λ m. lets_through mode m (item_number cells c)) (stops.passed c.owner before)
             ∙ levels.upto c in_c
             ∙ sym (then_less (level_cmp mode cs c next) _ (nat_cmp-less (rotated from.nodes rotation c.owner) (rotated from.nodes rotation next.owner) before))
         | inr not_before ↦ elim (cases_lt (rotated from.nodes rotation next.owner) (rotated from.nodes rotation c.owner)) [
           | inl behind ↦
-              ap (λ m. lets_through mode m (number_of cells c)) (stops.waiting c.owner behind)
+              ap (λ m. lets_through mode m (item_number cells c)) (stops.waiting c.owner behind)
               ∙ levels.before c in_c
               ∙ sym (then_greater (level_cmp mode cs c next) _ (nat_cmp-greater (rotated from.nodes rotation c.owner) (rotated from.nodes rotation next.owner) behind))
           | inr same ↦ absurd (other (rotated-injective from.nodes rotation c.owner next.owner in_nodes (candidate-below mode from to proper c in_c) (candidate-below mode from to proper next in_next) (omega (arith, not_before, same))))

@@ -13,14 +13,14 @@ use Rattle.owner_lists.specs.Numbers.{write_numbered}
 use Rattle.planes.specs.Planes.{cell, HasEachPlace, IsGrid}
 use Rattle.version_tables.specs.Views.{VersionTableView, table_in, IsKept}
 use Rattle.version_tables.specs.inner.Missed.{IsNumberAt}
-use Rattle.version_tables.specs.inner.Pieces.{tables_in, keys_in, StandTogether, AreLaid}
+use Rattle.version_tables.specs.inner.Pieces.{tables_of_views, keys_in, StandTogether, AreLaidAsNumbers}
 use Rattle.version_tables.proofs.Fitting.{write_from-contains}
 use Rattle.version_tables.proofs.Numbers.{numbered-some}
 use Rattle.version_tables.proofs.Laid.{has_cells}
 
 module _ (written : ℕ → List Entry) (views : List VersionTableView) where
   abbrev tables : List Table
-  tables = tables_in written views
+  tables = tables_of_views written views
 
   pub count-tables_in : length tables ≡ length views
   count-tables_in = length-map views (table_in written)
@@ -29,7 +29,7 @@ module _ (written : ℕ → List Entry) (views : List VersionTableView) where
   pub table-read : (p : ℕ) (v : VersionTableView) → p < length views → v ≡ get_or views p v → table_of_node tables p ≡ table_in written v
   table-read p v lt is = get_or-map (table_in written) views p v (empty_table 0 0 0) lt ∙ ap (table_in written) (sym is)
 
-  module _ (lists : List OwnerListView) (laid : AreLaid written views lists) where
+  module _ (lists : List OwnerListView) (laid : AreLaidAsNumbers written views lists) where
     abbrev together : StandTogether tables lists
     together = laid.together
 

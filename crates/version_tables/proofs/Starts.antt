@@ -1,30 +1,24 @@
 -- Where generations start in an owner's list.
--- Serves the functions of `carrying`, `taking` and `told_marks`, `HistoryCalls` and `TakenViews`.
+-- Serves `drop_each`, `put_each_start`, `put_earlier_starts`, `put_starts` and `put_told`.
 use Rattle.std.proofs.Common.{◌≡◌, ℕ, zero, suc, ◌+◌, ◌-◌, ◌*◌, ◌<◌, ◌≤◌, min, Bool, true, false, cond, List, [], ◌∷◌, ◌++◌, length, get_or, set, Some, None, inl, inr, refl, sym, ap, ◌∙◌, arith}
 use Rattle.std.specs.Prelude.{nat_lt, nat_le, ◌&&◌}
 use Rattle.std.proofs.lemmas.Bool.{cases_lt, cases_eq, lt-ltb, le-leb, eq-eqb, ne_eqb}
-use Rattle.std.proofs.lemmas.List.{get_or-map, get_or-set_same, get_or-set_other, length-set, length-append}
+use Rattle.std.proofs.lemmas.List.{get_or_default, get_or-set_same, get_or-set_other, length-set, length-append}
 use Rattle.bench_types.specs.declared.entries.Entry.{Entry}
 use Rattle.bench_types.specs.declared.exchanges.DigestKind.{DigestKind}
 use Rattle.owner_lists.specs.Numbers.{write_from, write_numbered}
-use Rattle.owner_lists.specs.OwnerListView.{OwnerListView, entries_of, list_of_owner, AreWrites}
+use Rattle.owner_lists.specs.OwnerListView.{OwnerListView, all_writes, entries_of, no_writes, AreWrites}
 use Rattle.planes.specs.Planes.{cell, total_of}
 use Rattle.planes.specs.Sums.{sum_below}
 use Rattle.planes.specs.inner.Elementwise.{AreChanged}
-use Rattle.version_tables.specs.inner.Offers.{start_before, start_of, told_by, told_mark}
+use Rattle.version_tables.specs.inner.Offers.{start_before, start_of, told_by, told_number}
 use Rattle.version_tables.specs.inner.Told.{IsEarlierStart}
-use Rattle.version_tables.specs.inner.Weights.{writes_in}
 use Rattle.version_tables.proofs.Numbers.{numbered-some}
 use Rattle.version_tables.proofs.Offers.{write_from-at}
 
 -- an owner's writes are those of its list
-pub writes_in-is : (lists : List OwnerListView) (owner : ℕ) → writes_in lists owner ≡ entries_of (list_of_owner lists owner)
-writes_in-is [] owner = refl
-writes_in-is (x ∷ xs) zero = refl
-writes_in-is (x ∷ xs) (suc owner) = writes_in-is xs owner
-
-pub writes_in-here : (lists : List OwnerListView) (owner : ℕ) (x : OwnerListView) → owner < length lists → x ≡ get_or lists owner x → writes_in lists owner ≡ entries_of x
-writes_in-here lists owner x lt is = get_or-map entries_of lists owner x [] lt ∙ sym (ap entries_of is)
+pub all_writes-here : (lists : List OwnerListView) (owner : ℕ) (x : OwnerListView) → owner < length lists → x ≡ get_or lists owner x → all_writes lists owner ≡ entries_of x
+all_writes-here lists owner x lt is = ap entries_of (get_or_default lists owner no_writes x lt ∙ sym is)
 
 pub start-upto : (writes : List Entry) (number : ℕ) → start_of writes number ≤ number
 start-upto writes number = elim (write_numbered writes number) as (λ o. start_before number o ≤ number) [
@@ -88,7 +82,7 @@ none-upto xs nodes high none r lt some upto =
 
 -- the receiver's own mark is put
 pub told-set : (kind : DigestKind) (most node : ℕ) (lists : ℕ → List Entry) (old new : List ℕ) → AreChanged (λ r x y. y ≡ told_by kind (lists r) x) old new → node < length old
-    → AreChanged (λ r x y. y ≡ told_mark kind most node lists (λ _. x) r) old (set new node most)
+    → AreChanged (λ r x y. y ≡ told_number kind most node lists (λ _. x) r) old (set new node most)
 told-set kind most node lists old new is lt = record {
   size = length-set new node most ∙ is.size;
   each = λ r below. elim (cases_eq r node) [

@@ -9,7 +9,7 @@ use Rattle.node_table.specs.Table.{Table, applied, IsProper}
 use Rattle.node_table.proofs.Laws.{KeepsFrame, frame-applied}
 use Rattle.exchange.proofs.Received.{received-proper}
 use Rattle.owner_lists.specs.Numbers.{write_numbered}
-use Rattle.owner_lists.specs.OwnerListView.{OwnerListView, list_of_owner, AreWrites}
+use Rattle.owner_lists.specs.OwnerListView.{OwnerListView, all_writes, list_of_owner, AreWrites}
 use Rattle.planes.specs.Planes.{Cells, cell, number_taken}
 use Rattle.version_tables.specs.Views.{VersionTableView, HistoriesView, table_in, IsKept}
 use Rattle.version_tables.specs.inner.Deltas.{delta_of_views, is_taken_at}
@@ -17,10 +17,8 @@ use Rattle.version_tables.specs.inner.Histories.{bases_in, IsWrittenSoFar, FitsH
 use Rattle.version_tables.specs.inner.Laid.{table_of_cells, AreNumbers, IsFirst, IsGreatest, IsVersionTable}
 use Rattle.version_tables.specs.inner.Offers.{HasCells}
 use Rattle.version_tables.specs.inner.Taken.{is_taken, numbers_taken, drop_start, number_kept, AreSent, SendsNoNewer, SendsNewer, AreTakenCells, IsTaken}
-use Rattle.version_tables.specs.inner.Weights.{writes_in}
 use Rattle.version_tables.proofs.Fitting.{fits-upto, fits-cells}
 use Rattle.version_tables.proofs.Laid.{cells_table}
-use Rattle.version_tables.proofs.Starts.{writes_in-is}
 use Rattle.version_tables.proofs.TakenCells.{taken_cells}
 use Rattle.version_tables.proofs.TakenNumbers.{taken-number, stays-number}
 use Rattle.version_tables.proofs.TakenSets.{came-lacked}
@@ -30,16 +28,16 @@ nothing : (e : Entry) → None ≡ Some e → ⊥
 nothing e h = cc
 
 -- numbers above those of earlier generations are of the newest one
-newest_in : (lists : List OwnerListView) (owner : ℕ) → AreWrites (list_of_owner lists owner) → (m n : ℕ) (d e : Entry) → write_numbered (writes_in lists owner) m ≡ Some d → write_numbered (writes_in lists owner) n ≡ Some e → bases_in lists owner < n → d.generation ≤ e.generation
+newest_in : (lists : List OwnerListView) (owner : ℕ) → AreWrites (list_of_owner lists owner) → (m n : ℕ) (d e : Entry) → write_numbered (all_writes lists owner) m ≡ Some d → write_numbered (all_writes lists owner) n ≡ Some e → bases_in lists owner < n → d.generation ≤ e.generation
 newest_in lists owner are m n d e is_d is_e lt =
-    let upto = generation-upto (list_of_owner lists owner) are m d (subst (λ ws. write_numbered ws m ≡ Some d) (writes_in-is lists owner) is_d) in
-    elim (generation-of (list_of_owner lists owner) are n e (subst (λ ws. write_numbered ws n ≡ Some e) (writes_in-is lists owner) is_e)) [
+    let upto = generation-upto (list_of_owner lists owner) are m d is_d in
+    elim (generation-of (list_of_owner lists owner) are n e is_e) [
       | inl before ↦ absurd (omega (arith, before.0, lt))
       | inr own ↦ omega (arith, upto, own)
     ]
 
 module _ (rules : Rules) (rotation : ℕ) (written : ℕ → List Entry) (most : ℕ) (h : HistoriesView)
-    (so_far : (owner : ℕ) → IsWrittenSoFar (written owner) most h.rounds (writes_in h.lists owner)) (are : (owner : ℕ) → AreWrites (list_of_owner h.lists owner))
+    (so_far : (owner : ℕ) → IsWrittenSoFar (written owner) most h.rounds (all_writes h.lists owner)) (are : (owner : ℕ) → AreWrites (list_of_owner h.lists owner))
     (from to : VersionTableView) (from_kept : IsKept written from) (to_kept : IsKept written to) (from_fits : FitsHistories h (table_in written from)) (to_fits : FitsHistories h (table_in written to))
     (nodes : from.nodes ≡ to.nodes) (keys : from.keys ≡ to.keys) (low high : List ℕ)
     (marks : AreSent (table_in written from) (delta_of_views rules rotation written from to).items (is_taken_at from to low high)) where
@@ -77,25 +75,25 @@ module _ (rules : Rules) (rotation : ℕ) (written : ℕ → List Entry) (most :
   y_stays : (owner key : ℕ) → sent owner key ≡ false → y owner key ≡ receiver owner key
   y_stays owner key no' = stays-number (receiver owner key) (cell from.cells to.nodes owner key) (slice_index low owner) (slice_index high owner) (same_test owner key ∙ no')
 
-  has_sender : HasCells (writes_in h.lists) sender (table_in written from)
+  has_sender : HasCells (all_writes h.lists) sender (table_in written from)
   has_sender = fits-cells written from from_kept most h so_far from_fits
 
-  has_receiver : HasCells (writes_in h.lists) receiver (table_in written to)
+  has_receiver : HasCells (all_writes h.lists) receiver (table_in written to)
   has_receiver = fits-cells written to to_kept most h so_far to_fits
 
-  sender_upto : (owner key : ℕ) → owner < to.nodes → key < to.keys → sender owner key ≤ length (writes_in h.lists owner)
+  sender_upto : (owner key : ℕ) → owner < to.nodes → key < to.keys → sender owner key ≤ length (all_writes h.lists owner)
   sender_upto owner key in_nodes in_keys = fits-upto written from from_kept most h so_far from_fits owner key (in_sender owner in_nodes) (in_sender_keys key in_keys)
 
-  receiver_upto : (owner key : ℕ) → owner < to.nodes → key < to.keys → receiver owner key ≤ length (writes_in h.lists owner)
+  receiver_upto : (owner key : ℕ) → owner < to.nodes → key < to.keys → receiver owner key ≤ length (all_writes h.lists owner)
   receiver_upto owner key in_nodes in_keys = fits-upto written to to_kept most h so_far to_fits owner key in_nodes in_keys
 
   -- by numbers that are taken from the sender as it was, or as it is now
   module _ (now cells greatest : List ℕ)
       (same : (owner key : ℕ) → owner < to.nodes → key < to.keys → numbers_taken to.nodes to.cells now low high owner key ≡ y owner key)
-      (taken : IsTaken (writes_in h.lists) (bases_in h.lists) to.nodes to.keys to.cells to.greatest now low high cells greatest) where
+      (taken : IsTaken (all_writes h.lists) (bases_in h.lists) to.nodes to.keys to.cells to.greatest now low high cells greatest) where
     module _ (owner : ℕ) (in_nodes : owner < to.nodes) where
       abbrev start : ℕ
-      start = drop_start (writes_in h.lists owner) (slice_index to.greatest owner) (bases_in h.lists owner) (slice_index greatest owner)
+      start = drop_start (all_writes h.lists owner) (slice_index to.greatest owner) (bases_in h.lists owner) (slice_index greatest owner)
 
       new_upto : (key : ℕ) → key < to.keys → y owner key ≤ slice_index greatest owner
       new_upto key lt = omega (arith, same owner key in_nodes lt, (taken.raised owner in_nodes).upto key lt)
@@ -112,7 +110,7 @@ module _ (rules : Rules) (rotation : ℕ) (written : ℕ → List Entry) (most :
       came_here : (key : ℕ) → key < to.keys → sent owner key ≡ true → cell cells to.nodes owner key ≡ sender owner key
       came_here key lt yes' =
           kept_is key lt
-          ∙ came_number (table_in written from) (table_in written to) from_kept.proper to_kept.proper keys owner (writes_in h.lists owner) (so_far owner).history (so_far owner).numbered (bases_in h.lists owner)
+          ∙ came_number (table_in written from) (table_in written to) from_kept.proper to_kept.proper keys owner (all_writes h.lists owner) (so_far owner).history (so_far owner).numbered (bases_in h.lists owner)
           (newest_in h.lists owner (are owner)) sent (sender owner) (receiver owner) (y owner)
           (λ k k_lt. has_sender owner k (in_sender owner in_nodes) (in_sender_keys k k_lt)) (λ k k_lt. has_receiver owner k in_nodes k_lt)
           (λ k k_lt. sender_upto owner k in_nodes k_lt) (λ k k_lt. receiver_upto owner k in_nodes k_lt)
@@ -123,7 +121,7 @@ module _ (rules : Rules) (rotation : ℕ) (written : ℕ → List Entry) (most :
       other_here : (key : ℕ) → key < to.keys → sent owner key ≡ false
           → (SendsNoNewer (table_in written from) (table_in written to) sent owner × (cell cells to.nodes owner key ≡ receiver owner key)) ⊎ (SendsNewer (table_in written from) (table_in written to) sent owner × (cell cells to.nodes owner key ≡ 0))
       other_here key lt no' = elim
-          (other_number (table_in written from) (table_in written to) from_kept.proper to_kept.proper keys owner (writes_in h.lists owner) (so_far owner).history (so_far owner).numbered (bases_in h.lists owner)
+          (other_number (table_in written from) (table_in written to) from_kept.proper to_kept.proper keys owner (all_writes h.lists owner) (so_far owner).history (so_far owner).numbered (bases_in h.lists owner)
           (newest_in h.lists owner (are owner)) sent (sender owner) (receiver owner) (y owner)
           (λ k k_lt. has_sender owner k (in_sender owner in_nodes) (in_sender_keys k k_lt)) (λ k k_lt. has_receiver owner k in_nodes k_lt)
           (λ k k_lt. sender_upto owner k in_nodes k_lt) (λ k k_lt. receiver_upto owner k in_nodes k_lt)
@@ -139,7 +137,7 @@ module _ (rules : Rules) (rotation : ℕ) (written : ℕ → List Entry) (most :
         upto = λ key lt. omega (
           arith,
           kept_is key lt,
-          greatest_upto (table_in written from) (table_in written to) from_kept.proper to_kept.proper keys owner (writes_in h.lists owner) (so_far owner).history (so_far owner).numbered (bases_in h.lists owner)
+          greatest_upto (table_in written from) (table_in written to) from_kept.proper to_kept.proper keys owner (all_writes h.lists owner) (so_far owner).history (so_far owner).numbered (bases_in h.lists owner)
               (newest_in h.lists owner (are owner)) sent (sender owner) (receiver owner) (y owner)
               (λ k k_lt. has_sender owner k (in_sender owner in_nodes) (in_sender_keys k k_lt)) (λ k k_lt. has_receiver owner k in_nodes k_lt)
               (λ k k_lt. sender_upto owner k in_nodes k_lt) (λ k k_lt. receiver_upto owner k in_nodes k_lt)
@@ -148,7 +146,7 @@ module _ (rules : Rules) (rotation : ℕ) (written : ℕ → List Entry) (most :
               (taken.raised owner in_nodes).rises new_upto new_from key lt,
         );
         held = elim
-            (greatest_from (table_in written from) (table_in written to) from_kept.proper to_kept.proper keys owner (writes_in h.lists owner) (so_far owner).history (so_far owner).numbered (bases_in h.lists owner)
+            (greatest_from (table_in written from) (table_in written to) from_kept.proper to_kept.proper keys owner (all_writes h.lists owner) (so_far owner).history (so_far owner).numbered (bases_in h.lists owner)
             (newest_in h.lists owner (are owner)) sent (sender owner) (receiver owner) (y owner)
             (λ k k_lt. has_sender owner k (in_sender owner in_nodes) (in_sender_keys k k_lt)) (λ k k_lt. has_receiver owner k in_nodes k_lt)
             (λ k k_lt. sender_upto owner k in_nodes k_lt) (λ k k_lt. receiver_upto owner k in_nodes k_lt)
@@ -197,9 +195,9 @@ module _ (rules : Rules) (rotation : ℕ) (written : ℕ → List Entry) (most :
     has_after owner key in_nodes in_keys =
         let in_node : owner < to.nodes = omega (arith, in_nodes, frame.nodes) in
         let in_key : key < to.keys = omega (arith, in_keys, frame.keys) in
-        taken_cells rules rotation (table_in written from) (table_in written to) from_kept.proper to_kept.proper nodes keys (writes_in h.lists) sender receiver (cell cells to.nodes) has_sender has_receiver sent marks are_taken owner key in_nodes in_keys
+        taken_cells rules rotation (table_in written from) (table_in written to) from_kept.proper to_kept.proper nodes keys (all_writes h.lists) sender receiver (cell cells to.nodes) has_sender has_receiver sent marks are_taken owner key in_nodes in_keys
         ∙ (so_far owner).begins (cell cells to.nodes owner key)
-        (by_number (λ n. n ≤ length (writes_in h.lists owner)) owner key in_node in_key (omega arith) (receiver_upto owner key in_node in_key) (sender_upto owner key in_node in_key))
+        (by_number (λ n. n ≤ length (all_writes h.lists owner)) owner key in_node in_key (omega arith) (receiver_upto owner key in_node in_key) (sender_upto owner key in_node in_key))
 
     -- the table is the model's
     pub becomes_applied : table_of_cells written to.node to.nodes to.keys to.generation (cell cells to.nodes) ≡ after

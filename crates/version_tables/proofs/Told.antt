@@ -17,7 +17,7 @@ use Rattle.node_table.proofs.Greatest.{greatest_mark-unique}
 use Rattle.reconcile.specs.Candidates.{known_mark}
 use Rattle.owner_lists.specs.Numbers.{write_numbered}
 use Rattle.planes.specs.Planes.{Cells, number_ahead}
-use Rattle.version_tables.specs.inner.Offers.{IsHistory, IsNumberedHistory, HasCells, Offers, is_lacked, start_before, start_of, told_by, told_mark, offered_by}
+use Rattle.version_tables.specs.inner.Offers.{IsHistory, IsNumberedHistory, HasCells, Offers, is_lacked, start_before, start_of, told_by, told_number, offered_by}
 use Rattle.version_tables.specs.inner.Laid.{AreNumbers, IsGreatest}
 use Rattle.version_tables.proofs.Offers.{numbers-before}
 use Rattle.version_tables.proofs.Numbers.{numbered-none, numbered-some, numbered-within, numbers-up_to, numbers-compare}
@@ -160,7 +160,7 @@ module _ (from to : Table) (proper_from : IsProper from) (proper_to : IsProper t
     (are_from : AreNumbers lists from.nodes from.keys sender) (are_to : AreNumbers lists to.nodes to.keys receiver)
     (greatest : ℕ → ℕ) (most_to : (owner : ℕ) → owner < to.nodes → IsGreatest receiver to.keys owner (greatest owner))
     (most : ℕ) (below_most : (owner key : ℕ) → owner < from.nodes → key < from.keys → sender owner key ≤ most)
-    (mode : Mode) (low : ℕ → ℕ) (told : (owner : ℕ) → owner < from.nodes → low owner ≡ told_mark (digest_kind mode) most to.node lists greatest owner)
+    (mode : Mode) (low : ℕ → ℕ) (told : (owner : ℕ) → owner < from.nodes → low owner ≡ told_number (digest_kind mode) most to.node lists greatest owner)
     (cells : Cells) (offered : (owner key : ℕ) → owner < from.nodes → key < from.keys → cells owner key ≡ offered_by (digest_kind mode) sender receiver low owner key) where
   abbrev kind : DigestKind
   kind = digest_kind mode

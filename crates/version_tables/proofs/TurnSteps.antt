@@ -8,6 +8,7 @@ use Rattle.std.proofs.lemmas.Bool.{cases_lt, cases_eq, lt-ltb, le-ltb, le-leb, l
 use Rattle.bench_types.specs.declared.exchanges.Mode.{Mode}
 use Rattle.bench_types.specs.declared.exchanges.Mode.TheVariants.{ScuttleBreadth, ScuttleDepth, PreciseOldest, PreciseNewest}
 use Rattle.bench_types.specs.Budget.{amount_of}
+use Rattle.owner_lists.specs.OwnerListView.{all_writes}
 use Rattle.planes.specs.Planes.{Cells, HasNoneAbove}
 use Rattle.planes.specs.Sums.{sum_below}
 use Rattle.planes.proofs.Sums.{sum_below-same, sum_below-plus}
@@ -20,7 +21,7 @@ use Rattle.version_tables.specs.inner.Shares.{lets_through}
 use Rattle.version_tables.specs.inner.Sharing.{AreShared}
 use Rattle.version_tables.specs.inner.Stops.{IsStopUp, IsStopDown}
 use Rattle.version_tables.specs.inner.Turns.{part_between, AreTurnsPassed, IsStop}
-use Rattle.version_tables.specs.inner.Weights.{weight_of, weight_between, one_each, writes_in}
+use Rattle.version_tables.specs.inner.Weights.{weight_of, weight_between, one_each}
 use Rattle.version_tables.proofs.WeightLaws.{part, part-in, part-low, part-high, weight_of-split, weight_of-same, weight_of-most, number_share-one, count_between-most}
 use Rattle.version_tables.proofs.OfferWeights.{offer-few, share-most}
 use Rattle.owner_lists.specs.Numbers.{write_numbered}
@@ -294,7 +295,7 @@ module _ {N : Type 0} (number : N → ℕ) (most : ℕ) (offer : Offer N) (is : 
   counted-one : (low high : ℕ) → weight_of (weights_in offer owner) (cells_in number offer) offer.keys owner low high ≡ weight_of (λ _. 1) (cells_in number offer) offer.keys owner low high
   counted-one low high =
       weight_of-same (weights_in offer owner) (λ _. 1) (cells_in number offer) offer.keys owner low high
-      (λ key in_keys above upto. number_share-one offer.budget n (writes_in offer.lists.now owner) (cells_in number offer owner key) counted (omega (arith, above)) (is.written owner key in_nodes in_keys))
+      (λ key in_keys above upto. number_share-one offer.budget n (all_writes offer.lists.now owner) (cells_in number offer owner key) counted (omega (arith, above)) (is.written owner key in_nodes in_keys))
 
   pub part-entries : (mode : Mode) (near far : ℕ) → part_between mode (λ _. 1) (cells_in number offer) offer.keys owner near far ≡ part_between mode (weights_in offer owner) (cells_in number offer) offer.keys owner near far
   part-entries ScuttleBreadth near far = sym (counted-one near far)
@@ -333,7 +334,7 @@ part-none offer mode cells keys owner near far none = by_mode mode none
     nothing low high empty =
         omega (
           arith,
-          weight_of-most (weights_in offer owner) MOST_ENTRY_SIZE cells keys owner low high (λ n. share-most offer.budget (write_numbered (writes_in offer.lists.now owner) n)),
+          weight_of-most (weights_in offer owner) MOST_ENTRY_SIZE cells keys owner low high (λ n. share-most offer.budget (write_numbered (all_writes offer.lists.now owner) n)),
           ap (λ n. n * MOST_ENTRY_SIZE) empty,
         )
 

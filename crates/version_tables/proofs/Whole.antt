@@ -1,14 +1,13 @@
 -- What is counted of all tables comes to the figures of a round.
 -- Serves `figures`.
-use Rattle.std.proofs.Common.{◌≡◌, ℕ, ◌+◌, ◌<◌, ◌≤◌, List, [], ◌∷◌, length, get_or, map, inl, inr, refl, sym, ap, ◌∙◌, subst, arith}
-use Rattle.std.proofs.lemmas.Bool.{cases_lt}
-use Rattle.std.proofs.lemmas.List.{get_or-map, get_or_default, get_or_past, length-map}
+use Rattle.std.proofs.Common.{◌≡◌, ℕ, ◌+◌, ◌<◌, ◌≤◌, List, [], ◌∷◌, length, get_or, refl, sym, ap, ◌∙◌, subst, arith}
+use Rattle.std.proofs.lemmas.List.{get_or_default}
 use Rattle.bench_types.specs.declared.entries.Entry.{Entry}
 use Rattle.bench_types.specs.declared.rows.Figures.{Figures}
 use Rattle.bench_types.specs.declared.limits.TheConstants.{MOST_NODES, MOST_KEYS, MOST_ROUNDS}
 use Rattle.node_table.specs.Table.{Table}
 use Rattle.cluster.specs.Tables.{IsCluster, HoldsOfEach}
-use Rattle.owner_lists.specs.OwnerListView.{OwnerListView, entries_of, list_of_owner, lists_in, no_writes, AreWrites}
+use Rattle.owner_lists.specs.OwnerListView.{OwnerListView, all_writes, list_of_owner, lists_in, AreWrites}
 use Rattle.planes.specs.Sums.{sum_below}
 use Rattle.planes.specs.Planes.{cell, HasEachPlace}
 use Rattle.planes.proofs.Sums.{sum_below-same}
@@ -18,19 +17,11 @@ use Rattle.staleness.specs.inner.Copies.{owner_staleness}
 use Rattle.staleness.proofs.Counting.{most_by_owner}
 use Rattle.staleness.proofs.Sums.{most_below-same}
 use Rattle.version_tables.specs.Views.{VersionTableView}
-use Rattle.version_tables.specs.inner.Histories.{IsBeginning, IsWrittenSoFar}
-use Rattle.version_tables.specs.inner.Weights.{writes_in}
+use Rattle.version_tables.specs.inner.Histories.{IsWrittenSoFar}
 use Rattle.version_tables.specs.inner.Missed.{IsLastNumber}
-use Rattle.version_tables.specs.inner.Pieces.{tables_in, keys_in, view_at, AreAlike, StandTogether, AreLaid, AreLastNumbers, IsOwnNumber, IsPiece, IsPieceOf, IsLeastHeld, MayWalk, most_lag}
+use Rattle.version_tables.specs.inner.Pieces.{tables_of_views, keys_in, view_at, AreAlike, StandTogether, AreLaidAsNumbers, AreLastNumbers, IsOwnNumber, IsPiece, IsPieceOf, IsLeastHeld, MayWalk, most_lag}
 use Rattle.version_tables.proofs.Pieces.{own_last, key_within}
 use Rattle.version_tables.proofs.Standing.{count-tables_in, table-read, numbers-at}
-
--- an owner's writes in two spellings
-pub writes-same : (lists : List OwnerListView) (r : ℕ) → writes_in lists r ≡ entries_of (list_of_owner lists r)
-writes-same lists r = elim (cases_lt r (length lists)) [
-  | inl lt ↦ get_or-map entries_of lists r no_writes [] lt
-  | inr past ↦ get_or_past (map entries_of lists) r [] (omega (arith, past, length-map lists entries_of)) ∙ ap entries_of (sym (get_or_past lists r no_writes past))
-]
 
 few-standing : (ts : List Table) (lists : List OwnerListView) → length lists ≡ length ts → HoldsOfEach (StandsAmong lists) ts → (length ts ≤ MOST_NODES) × (keys_in ts ≤ MOST_KEYS)
 few-standing [] lists one_each standing = (omega arith, omega arith)
@@ -40,7 +31,7 @@ few-standing (t ∷ ts) lists one_each standing =
 
 module _ (written : ℕ → List Entry) (views : List VersionTableView) (lists : List OwnerListView) where
   abbrev tables : List Table
-  tables = tables_in written views
+  tables = tables_of_views written views
 
   same : length tables ≡ length views
   same = count-tables_in written views
@@ -52,7 +43,7 @@ module _ (written : ℕ → List Entry) (views : List VersionTableView) (lists :
       (ap (λ (t : Table). t.nodes) (sym read) ∙ here.nodes, ap (λ (t : Table). t.keys) (sym read) ∙ here.keys)
 
   pub laid-is : (most rounds : ℕ) → IsCluster (length views) tables → length lists ≡ length views → HoldsOfEach (StandsAmong lists) tables → ((r : ℕ) → AreWrites (list_of_owner lists r))
-      → ((r : ℕ) → IsWrittenSoFar (written r) most rounds (writes_in lists r)) → AreLaid written views lists
+      → ((r : ℕ) → IsWrittenSoFar (written r) most rounds (all_writes lists r)) → AreLaidAsNumbers written views lists
   laid-is most rounds cluster one_each standing writes so_far =
       let each = one_each ∙ sym same in
       let few = few-standing tables lists each standing in
@@ -65,10 +56,10 @@ module _ (written : ℕ → List Entry) (views : List VersionTableView) (lists :
           writes = writes;
           standing = standing;
         };
-        begins = λ r. subst (λ es. IsBeginning es (written r)) (writes-same lists r) (so_far r).begins;
+        begins = λ r. (so_far r).begins;
       }
 
-  module _ (laid : AreLaid written views lists) where
+  module _ (laid : AreLaidAsNumbers written views lists) where
     abbrev together : StandTogether tables lists
     together = laid.together
 
@@ -99,14 +90,14 @@ module _ (written : ℕ → List Entry) (views : List VersionTableView) (lists :
       held : HasEachPlace (length lists) (keys_in tables) (IsLeastHeld round tables lists 0 (length views)) least
       held = subst (λ m. HasEachPlace m (keys_in tables) (IsLeastHeld round tables lists 0 (length views)) least) (sym together.one_list_each) whole.least_is
 
-      pub may-walk : (most : ℕ) → ((r : ℕ) → length (writes_in lists r) < most) → (r : ℕ) → r < length lists → MayWalk round most (length lists) keys r (list_of_owner lists r) least
+      pub may-walk : (most : ℕ) → ((r : ℕ) → length (all_writes lists r) < most) → (r : ℕ) → r < length lists → MayWalk round most (length lists) keys r (list_of_owner lists r) least
       may-walk most few r lt = subst (λ ks. MayWalk round most (length lists) ks r (list_of_owner lists r) least) (sym keys_are) (record {
         among = lt;
         few_nodes = omega (arith, together.few_nodes, together.one_list_each);
         few_keys = together.few_keys;
         round_limit = round_limit;
         writes = together.writes r;
-        few_writes = subst (λ es. length es < most) (writes-same lists r) (few r);
+        few_writes = few r;
         born = by.born r;
         in_order = by.in_order r;
         keyed = λ m e is current. key_within tables lists together r m e (omega (arith, lt, together.one_list_each)) is current;

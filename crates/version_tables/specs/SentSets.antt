@@ -28,19 +28,20 @@ module _ {X : Type 0} (order : X → X → Ordering) (candidates : List X) (size
 
   -- the set is closed downwards in the order, fits into the budget, and nothing more does
   pub record IsSentSet (budget : ℕ) : Type 0 where
-    pub closed : (c d : X) → Contains candidates c → Contains candidates d → order c d ≡ Less → is_in d ≡ true → is_in c ≡ true
+    pub closed : (c d : X) → Contains candidates c → Contains candidates d
+        → order c d ≡ Less → is_in d ≡ true → is_in c ≡ true
     pub within : size_in ≤ budget
     pub tight : (c : X) → Contains candidates c → is_in c ≡ false → IsKeptOut budget c
 
   -- the set is what comes before one candidate, which doesn't fit beside it
-  pub record StopsAt (budget : ℕ) (next : X) : Type 0 where
+  pub record EndsBefore (budget : ℕ) (next : X) : Type 0 where
     pub candidate : Contains candidates next
     pub set : (c : X) → Contains candidates c → is_in c ≡ is_lt (order c next)
     pub within : size_in ≤ budget
     pub beyond : budget < size_in + size next
 
   -- the set is all, and fits
-  pub record AllFit (budget : ℕ) : Type 0 where
+  pub record HasAll (budget : ℕ) : Type 0 where
     pub all : (c : X) → Contains candidates c → is_in c ≡ true
     pub within : size_in ≤ budget
 
@@ -53,6 +54,8 @@ pub record HasSet (candidates : List Item) (is_in : Item → Bool) (delta : Delt
 -- between proper tables a delta has every such set
 abbrev pub DeltasHaveTheirSets : Type 0
 DeltasHaveTheirSets =
-    (mode : Mode) (rotation : ℕ) (budget : Budget) (from to : Table) (is_in : Item → Bool) → IsProper from → rotation < from.nodes
-    → IsSentSet (sending_order mode from.nodes rotation (candidates mode from to)) (candidates mode from to) (item_share budget) is_in (amount_of budget)
+    (mode : Mode) (rotation : ℕ) (budget : Budget) (from to : Table) (is_in : Item → Bool)
+    → IsProper from → rotation < from.nodes
+    → IsSentSet (sending_order mode from.nodes rotation (candidates mode from to)) (candidates mode from to)
+    (item_share budget) is_in (amount_of budget)
     → HasSet (candidates mode from to) is_in (delta_between mode rotation budget from to)

@@ -42,7 +42,8 @@ fn write<N: Number, H: Written>(
     born: u32,
 ) -> Result<(), Fault>
     requires next { born ≡ histories.old.rounds + 1 }
-    requires may { MayWrite (IsWriteUnder H.lists N.most) (table_in H.lists table.old) histories.old.lists key value born }
+    requires may { MayWrite (IsWriteUnder H.lists N.most) (table_in H.lists table.old)
+        histories.old.lists key value born }
     ensures table { OnOk result
         (table_in H.lists table.new ≡ with_own_write (table_in H.lists table.old) key value born) }
     ensures lists { OnOk result

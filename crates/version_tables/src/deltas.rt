@@ -5,13 +5,13 @@ ghost use Rattle.bench_types.specs.declared.exchanges.DigestKind.TheVariants.{Pr
 ghost use Rattle.bench_types.specs.declared.faults.Fault.TheVariants.{OutOfMemory};
 ghost use Rattle.bench_types.specs.Budget.{IsLawfulBudget};
 ghost use Rattle.bench_types.specs.Mode.{digest_kind};
+ghost use Rattle.owner_lists.specs.OwnerListView.{all_writes};
 ghost use Rattle.planes.specs.Planes.{cell, number_ahead, HasEach, HasEachPlace};
 ghost use Rattle.version_tables.specs.Views.{table_in, IsKept};
 ghost use Rattle.version_tables.specs.inner.Deltas.{AreMarksOf};
 ghost use Rattle.version_tables.specs.inner.Histories.{FitsHistories};
 ghost use Rattle.version_tables.specs.inner.Marked.{high_list, low_list, AreOffered};
-ghost use Rattle.version_tables.specs.inner.Offers.{told_mark};
-ghost use Rattle.version_tables.specs.inner.Weights.{writes_in};
+ghost use Rattle.version_tables.specs.inner.Offers.{told_number};
 
 use crate::histories::Histories;
 use crate::marked::{Marked, planned};
@@ -79,7 +79,7 @@ fn marks_sent<N: Number, H: Written>(
     requires receiver { FitsHistories histories.now (table_in H.lists receiver.now) }
     requires kept { IsKept H.lists receiver.now }
     requires low { HasEach (length histories.now.lists)
-        (λ r n. n ≡ told_mark (digest_kind rules.now.mode) N.most receiver.now.node (writes_in histories.now.lists)
+        (λ r n. n ≡ told_number (digest_kind rules.now.mode) N.most receiver.now.node (all_writes histories.now.lists)
         (slice_index receiver.now.greatest) r) (map N.number low.now) }
     requires cells { AreOffered (digest_kind rules.now.mode) sender.now receiver.now (map N.number low.now)
         (map N.number cells.now) }
@@ -115,7 +115,8 @@ fn told_to<N: Number, H: Written>(
     requires receiver { FitsHistories histories.now (table_in H.lists receiver.now) }
     ensures told { IfOk result (λ v. HasEach (length histories.now.lists)
         (λ r n. n
-        ≡ told_mark kind N.most receiver.now.node (writes_in histories.now.lists) (slice_index receiver.now.greatest) r)
+        ≡ told_number kind N.most receiver.now.node (all_writes histories.now.lists)
+        (slice_index receiver.now.greatest) r)
         (map N.number v.items)) }
     ensures kept { IfOk result (λ _. IsKept H.lists receiver.now) }
     ensures only { IsOkUnless result OutOfMemory }

@@ -7,6 +7,7 @@ ghost use Rattle.bench_types.specs.Budget.{IsLawfulBudget};
 ghost use Rattle.bench_types.specs.Mode.{digest_kind};
 ghost use Rattle.exchange.specs.Exchanged.{exchanged, last_fate, sent_until};
 ghost use Rattle.exchange.specs.Exchanging.{MayBeExchanged, MakesOf};
+ghost use Rattle.owner_lists.specs.OwnerListView.{all_writes};
 ghost use Rattle.planes.specs.Planes.{HasEach};
 ghost use Rattle.reconcile.specs.Deltas.{DeltaView};
 ghost use Rattle.reconcile.specs.Digests.{digest_size};
@@ -15,7 +16,6 @@ ghost use Rattle.version_tables.specs.inner.Deltas.{AreMarksOf};
 ghost use Rattle.version_tables.specs.inner.Histories.{bases_in, FitsHistories};
 ghost use Rattle.version_tables.specs.inner.Offers.{IsNumberedHistory};
 ghost use Rattle.version_tables.specs.inner.Taken.{HasTaken, HasTakenUnless, StaysOne};
-ghost use Rattle.version_tables.specs.inner.Weights.{writes_in};
 
 use crate::deltas::{DeltaMarks, delta};
 use crate::digests::digest_size;
@@ -125,17 +125,18 @@ fn take_both<N: Number, H: Written>(
     requires forth_high { length (map N.number forth.now.high.items) ≡ initiator.old.nodes }
     requires bases { HasEach initiator.old.nodes (λ r n. n ≡ bases_in lists.now r) (map N.number bases.now) }
     requires lists { length lists.now ≡ initiator.old.nodes }
-    requires numbered { (owner : ℕ) → IsNumberedHistory (writes_in lists.now owner) }
-    requires initiator { StaysOne H.lists (writes_in lists.now) (bases_in lists.now) initiator.old responder.old.cells
+    requires numbered { (owner : ℕ) → IsNumberedHistory (all_writes lists.now owner) }
+    requires initiator { StaysOne H.lists (all_writes lists.now) (bases_in lists.now) initiator.old responder.old.cells
         (map N.number back.now.low.items) (map N.number back.now.high.items) }
     requires responder { (after : VersionTableView)
-        → HasTakenUnless nothing_back (writes_in lists.now) (bases_in lists.now) initiator.old responder.old.cells
+        → HasTakenUnless nothing_back (all_writes lists.now) (bases_in lists.now) initiator.old responder.old.cells
         (map N.number back.now.low.items) (map N.number back.now.high.items) after
-        → StaysOne H.lists (writes_in lists.now) (bases_in lists.now) responder.old after.cells
+        → StaysOne H.lists (all_writes lists.now) (bases_in lists.now) responder.old after.cells
         (map N.number forth.now.low.items) (map N.number forth.now.high.items) }
-    ensures initiator { OnOk result (HasTakenUnless nothing_back (writes_in lists.now) (bases_in lists.now)
-        initiator.old responder.old.cells (map N.number back.now.low.items) (map N.number back.now.high.items) initiator.new) }
-    ensures responder { OnOk result (HasTakenUnless nothing_forth (writes_in lists.now) (bases_in lists.now)
+    ensures initiator { OnOk result (HasTakenUnless nothing_back (all_writes lists.now) (bases_in lists.now)
+        initiator.old responder.old.cells (map N.number back.now.low.items) (map N.number back.now.high.items)
+        initiator.new) }
+    ensures responder { OnOk result (HasTakenUnless nothing_forth (all_writes lists.now) (bases_in lists.now)
         responder.old initiator.new.cells (map N.number forth.now.low.items) (map N.number forth.now.high.items)
         responder.new) }
     ensures initiator_stays { OnErr result (initiator.new ≡ initiator.old) }
@@ -209,7 +210,8 @@ fn sent_both<N: Number>(
     lost3: bool,
 ) -> Record
     ensures { (b f : DeltaView) → back.now.sent ≡ length b.items → back.now.cut ≡ b.cut
-        → forth.now.sent ≡ length f.items → forth.now.cut ≡ f.cut → result ≡ sent_until (last_fate lost3) digest1 digest2 b f }
+        → forth.now.sent ≡ length f.items → forth.now.cut ≡ f.cut
+        → result ≡ sent_until (last_fate lost3) digest1 digest2 b f }
 {
     Record {
         digest1,

@@ -45,14 +45,14 @@ impl<N: Number, H: Written> Histories<N, H> {
     ghost use Rattle.std.specs.Prelude.{ℕ, ◌+◌, ◌^◌, ◌<◌, ◌≤◌, map, length, IfOk, OnOk, OnErr, IsOkUnless};
     ghost use Rattle.bench_types.specs.declared.faults.Fault.TheVariants.{OutOfMemory};
     ghost use Rattle.bench_types.specs.declared.limits.TheConstants.{MOST_NODES};
-    ghost use Rattle.owner_lists.specs.OwnerListView.{list_of_owner, no_writes, next_entry, with_write, begun_generation, AreWrites};
+    ghost use Rattle.owner_lists.specs.OwnerListView.{all_writes, list_of_owner, no_writes, next_entry, with_write, begun_generation, AreWrites};
     ghost use Rattle.planes.specs.Planes.{HasEach};
     ghost use Rattle.version_tables.specs.ListChanges.{ListChanges};
     ghost use Rattle.version_tables.specs.inner.Histories.{IsWrittenSoFar, IsWriteUnder};
     ghost use Rattle.version_tables.specs.inner.Rounds.{AreEnds};
-    ghost use Rattle.version_tables.specs.inner.Weights.{writes_in};
 
-    /// Where so many owners have written nothing, before the first round.
+    /// Where so many owners have written nothing, before the first round. An error is lack of memory
+    /// (`OutOfMemory`).
     pub fn new(alloc: Global, nodes: u32) -> Result<Self, Fault>
         requires { nodes ≤ MOST_NODES }
         ensures count { IfOk result (λ h. length h.lists ≡ nodes) }
@@ -72,14 +72,14 @@ impl<N: Number, H: Written> Histories<N, H> {
     }
 
     /// An owner writes one of its keys in the round that comes next, and the number of the write is answered. An
-    /// error is lack of memory, and then nothing was added.
+    /// error is lack of memory (`OutOfMemory`), and then nothing was added.
     pub fn write(&mut self, owner: u32, key: u32, value: u32, born: u32) -> Result<N, Fault>
         requires owner { owner < length self.old.lists }
         requires few { length (list_of_owner self.old.lists owner).current + 1 < 2 ^ 32 }
         requires born { born ≡ self.old.rounds + 1 }
-        requires under { IsWriteUnder H.lists N.most owner (length (writes_in self.old.lists owner) + 1)
+        requires under { IsWriteUnder H.lists N.most owner (length (all_writes self.old.lists owner) + 1)
             (next_entry (list_of_owner self.old.lists owner) key value born) }
-        ensures number { IfOk result (λ n. N.number n ≡ length (writes_in self.old.lists owner) + 1) }
+        ensures number { IfOk result (λ n. N.number n ≡ length (all_writes self.old.lists owner) + 1) }
         ensures lists { OnOk result (ListChanges owner
             (with_write (list_of_owner self.old.lists owner) key value born) self.old.lists self.new.lists) }
         ensures err { OnErr result (self.new ≡ self.old) }
@@ -106,7 +106,8 @@ impl<N: Number, H: Written> Histories<N, H> {
         self.bases[owner] = self.counts[owner];
     }
 
-    /// The writes of the next round are made. An error is lack of memory, and then the round has not ended.
+    /// The writes of the next round are made. An error is lack of memory (`OutOfMemory`), and then the round has
+    /// not ended.
     pub fn end_round(&mut self) -> Result<(), Fault>
         requires { self.old.rounds + 1 < 2 ^ 32 }
         ensures lists { self.new.lists ≡ self.old.lists }
@@ -122,7 +123,8 @@ impl<N: Number, H: Written> Histories<N, H> {
     /// The owners' lists.
     pub fn lists(&self) -> &[OwnerList]
         ensures value { result.now ≡ self.now.lists }
-        ensures so_far { (owner : ℕ) → IsWrittenSoFar (H.lists owner) N.most self.now.rounds (writes_in self.now.lists owner) }
+        ensures so_far { (owner : ℕ)
+            → IsWrittenSoFar (H.lists owner) N.most self.now.rounds (all_writes self.now.lists owner) }
         ensures writes { (owner : ℕ) → AreWrites (list_of_owner self.now.lists owner) }
     {
         &self.lists
@@ -137,7 +139,8 @@ impl<N: Number, H: Written> Histories<N, H> {
 
     // How many writes each owner has made.
     pub(crate) fn counts(&self) -> &[N]
-        ensures { HasEach (length self.now.lists) (λ r n. n ≡ length (writes_in self.now.lists r)) (map N.number result.now) }
+        ensures { HasEach (length self.now.lists) (λ r n. n ≡ length (all_writes self.now.lists r))
+            (map N.number result.now) }
     {
         &self.counts
     }
@@ -153,7 +156,8 @@ impl<N: Number, H: Written> Histories<N, H> {
 
     // Row by row, how many writes each owner has made up to a round.
     pub(crate) fn ends(&self) -> &[N]
-        ensures { AreEnds (writes_in self.now.lists) (length self.now.lists) self.now.rounds (map N.number result.now) }
+        ensures { AreEnds (all_writes self.now.lists) (length self.now.lists) self.now.rounds
+            (map N.number result.now) }
     {
         &self.ends
     }

@@ -13,7 +13,7 @@ ghost use Rattle.planes.specs.Planes.{cell, total_of, ArePlanesChanged, HasEach,
 ghost use Rattle.round_tables.specs.Histories.{BirthsRise, AreWrittenBy, StandsAmong};
 ghost use Rattle.staleness.specs.Figures.{most_below, rounds_behind, figures_of};
 ghost use Rattle.version_tables.specs.inner.Missed.{IsLastNumber};
-ghost use Rattle.version_tables.specs.inner.Pieces.{keys_in, tables_in, AreAlike, AreCountable, AreLaid, AreLastNumbers, AreCellsOf, AreGrids, AreZero, CountsPiece, CountsPart, numbers_in, IsOwnNumber, IsPieceOf, MayWalk, WalksFrom, most_lag};
+ghost use Rattle.version_tables.specs.inner.Pieces.{keys_in, tables_of_views, AreAlike, MayBeCounted, AreLaidAsNumbers, AreLastNumbers, AreCellsOf, AreGrids, AreZero, CountsPiece, CountsPart, numbers_in, IsOwnNumber, IsPieceOf, MayWalk, WalksFrom, most_lag};
 
 use crate::histories::Histories;
 use crate::tables::{VersionTable, Written};
@@ -35,7 +35,7 @@ struct Piece<N: Number> {
 }
 
 fn keys_of<N: Number, H: Written>(tables: &[VersionTable<N, H>]) -> usize
-    ensures { result ≡ keys_in (tables_in H.lists tables.now) }
+    ensures { result ≡ keys_in (tables_of_views H.lists tables.now) }
 {
     match tables.first() {
         Some(table) => table.keys() as usize,
@@ -342,9 +342,10 @@ fn counted<N: Number, H: Written>(
     histories: &Histories<N, H>,
     last: &[N],
 ) -> Result<Piece<N>, Fault>
-    requires laid { AreLaid H.lists tables.now histories.now.lists }
-    requires last { AreLastNumbers (tables_in H.lists tables.now) histories.now.lists (map N.number last.now) }
-    ensures piece { IfOk result (λ p. IsPieceOf (tables_in H.lists tables.now) histories.now.lists 0 (length tables.now)
+    requires laid { AreLaidAsNumbers H.lists tables.now histories.now.lists }
+    requires last { AreLastNumbers (tables_of_views H.lists tables.now) histories.now.lists (map N.number last.now) }
+    ensures piece { IfOk result
+        (λ p. IsPieceOf (tables_of_views H.lists tables.now) histories.now.lists 0 (length tables.now)
         p.stale p.leftover (map N.number p.least.items)) }
     ensures only { IsOkUnless result OutOfMemory }
 {
@@ -383,7 +384,7 @@ fn counted<N: Number, H: Written>(
 /// It works in threads, where there are enough nodes, and what it answers does not depend on how. Each
 /// goes once over the numbers of some of the tables. Then each owner's list is walked over from the first
 /// write that some copy misses, if any, to the next one. It takes memory for the numbers of a table for
-/// each part of the tables and twice more, and an error is want of that.
+/// each part of the tables and twice more. An error is lack of that memory (`OutOfMemory`).
 pub fn figures<N: Number, H: Written>(
     rt: &(impl Threads + Sync),
     alloc: Global,
@@ -391,13 +392,13 @@ pub fn figures<N: Number, H: Written>(
     histories: &Histories<N, H>,
     round: u32,
 ) -> Result<Figures, Fault>
-    requires cluster { IsCluster (length tables.now) (tables_in H.lists tables.now) }
+    requires cluster { IsCluster (length tables.now) (tables_of_views H.lists tables.now) }
     requires one_list_each { length histories.now.lists ≡ length tables.now }
     requires round { round ≤ MOST_ROUNDS }
     requires written { AreWrittenBy round histories.now.lists }
-    requires standing { HoldsOfEach (StandsAmong histories.now.lists) (tables_in H.lists tables.now) }
+    requires standing { HoldsOfEach (StandsAmong histories.now.lists) (tables_of_views H.lists tables.now) }
     ensures figures { IfOk result
-        (λ f. f ≡ figures_of round (tables_in H.lists tables.now) (lists_in histories.now.lists)) }
+        (λ f. f ≡ figures_of round (tables_of_views H.lists tables.now) (lists_in histories.now.lists)) }
     ensures only { IsOkUnless result OutOfMemory }
 {
     let keys = keys_of(tables);

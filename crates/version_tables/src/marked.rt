@@ -3,12 +3,12 @@
 ghost use Rattle.std.specs.Prelude.{◌≡◌, ℕ, ◌<◌, ◌≤◌, length, map, IfOk, IsOkUnless};
 ghost use Rattle.bench_types.specs.Budget.{amount_of};
 ghost use Rattle.bench_types.specs.declared.faults.Fault.TheVariants.{OutOfMemory};
+ghost use Rattle.owner_lists.specs.OwnerListView.{all_writes};
 ghost use Rattle.version_tables.specs.inner.Histories.{AreMadeBy};
 ghost use Rattle.version_tables.specs.inner.Marked.{HasShapeIn, AreMarked, whole_marks};
 ghost use Rattle.version_tables.specs.inner.Offered.{marks, weight_in, count_in, IsOffer};
 ghost use Rattle.version_tables.specs.inner.Plans.{IsLevel};
 ghost use Rattle.version_tables.specs.inner.Rounds.{AreEnds};
-ghost use Rattle.version_tables.specs.inner.Weights.{writes_in};
 
 use crate::breadths::breadth;
 use crate::depths::depth;
@@ -38,8 +38,8 @@ pub(crate) fn planned<N: Number>(
 ) -> Result<Marked<N>, Fault>
     requires offer { IsOffer N.number N.most offer.now }
     requires rotation { rotation < offer.now.nodes }
-    requires ends { AreEnds (writes_in offer.now.lists.now) offer.now.nodes last (map N.number ends.now) }
-    requires made { (owner : ℕ) → AreMadeBy last (writes_in offer.now.lists.now owner) }
+    requires ends { AreEnds (all_writes offer.now.lists.now) offer.now.nodes last (map N.number ends.now) }
+    requires made { (owner : ℕ) → AreMadeBy last (all_writes offer.now.lists.now owner) }
     ensures size { IfOk result (λ m. length m.mark.items ≡ offer.now.nodes) }
     ensures marked { IfOk result
         (λ m. AreMarked mode rotation N.number offer.now (marks N.number m.mark.items) m.sent m.cut) }
@@ -87,8 +87,8 @@ fn level_of<N: Number>(
     found: u32,
 ) -> Result<Level<N>, Fault>
     requires offer { IsOffer N.number N.most offer.now }
-    requires ends { AreEnds (writes_in offer.now.lists.now) offer.now.nodes last (map N.number ends.now) }
-    requires made { (owner : ℕ) → AreMadeBy last (writes_in offer.now.lists.now owner) }
+    requires ends { AreEnds (all_writes offer.now.lists.now) offer.now.nodes last (map N.number ends.now) }
+    requires made { (owner : ℕ) → AreMadeBy last (all_writes offer.now.lists.now owner) }
     requires found { found
         ≡ count_in N.number offer.now (marks N.number offer.now.low.now) (marks N.number offer.now.high.now) }
     requires beyond { amount_of offer.now.budget

@@ -4,6 +4,7 @@ ghost use Rattle.std.specs.Prelude.{◌≡◌, ℕ, ◌+◌, ◌*◌, ◌<◌, �
 ghost use Rattle.bench_types.specs.Budget.{amount_of};
 ghost use Rattle.bench_types.specs.declared.faults.Fault.TheVariants.{OutOfMemory};
 ghost use Rattle.bench_types.specs.declared.limits.TheConstants.{MOST_NODES};
+ghost use Rattle.owner_lists.specs.OwnerListView.{all_writes};
 ghost use Rattle.planes.specs.Planes.{cell, HasEach};
 ghost use Rattle.planes.specs.inner.Elementwise.{AreChanged};
 ghost use Rattle.version_tables.specs.inner.Histories.{AreMadeBy};
@@ -11,7 +12,6 @@ ghost use Rattle.version_tables.specs.inner.Offered.{marks, weight_in, count_in,
 ghost use Rattle.version_tables.specs.inner.Plans.{weight_on, count_on, IsLevel};
 ghost use Rattle.version_tables.specs.inner.RoundLevels.{round_mode, round_at, end_mark, round_mark, AreFewAndEnough, AreRounds};
 ghost use Rattle.version_tables.specs.inner.Rounds.{AreEnds};
-ghost use Rattle.version_tables.specs.inner.Weights.{writes_in};
 
 use crate::weights::{Level, Offer};
 use bench_types::Fault;
@@ -42,8 +42,8 @@ pub(crate) fn rounds<N: Number>(
     newest: bool,
 ) -> Result<Level<N>, Fault>
     requires offer { IsOffer N.number N.most offer.now }
-    requires ends { AreEnds (writes_in offer.now.lists.now) offer.now.nodes rounds (map N.number ends.now) }
-    requires made { (owner : ℕ) → AreMadeBy rounds (writes_in offer.now.lists.now owner) }
+    requires ends { AreEnds (all_writes offer.now.lists.now) offer.now.nodes rounds (map N.number ends.now) }
+    requires made { (owner : ℕ) → AreMadeBy rounds (all_writes offer.now.lists.now owner) }
     requires found { found
         ≡ count_in N.number offer.now (marks N.number offer.now.low.now) (marks N.number offer.now.high.now) }
     requires beyond { amount_of offer.now.budget
@@ -72,8 +72,8 @@ fn few_rounds<N: Number>(
     newest: bool,
 ) -> Result<Few, Fault>
     requires offer { IsOffer N.number N.most offer.now }
-    requires ends { AreEnds (writes_in offer.now.lists.now) offer.now.nodes rounds (map N.number ends.now) }
-    requires made { (owner : ℕ) → AreMadeBy rounds (writes_in offer.now.lists.now owner) }
+    requires ends { AreEnds (all_writes offer.now.lists.now) offer.now.nodes rounds (map N.number ends.now) }
+    requires made { (owner : ℕ) → AreMadeBy rounds (all_writes offer.now.lists.now owner) }
     requires found { found
         ≡ count_in N.number offer.now (marks N.number offer.now.low.now) (marks N.number offer.now.high.now) }
     requires beyond { amount_of offer.now.budget

@@ -2,13 +2,12 @@
 
 ghost use Rattle.std.specs.Prelude.{◌≡◌, ◌==◌, ℕ, ◌<◌, ◌≤◌, ◌&&◌, List, length, map, nat_lt, nat_le, slice_index, if◌then◌else◌, None, Some};
 ghost use Rattle.bench_types.specs.declared.entries.Entry.{Entry};
-ghost use Rattle.owner_lists.specs.OwnerListView.{OwnerListView, entries_of};
+ghost use Rattle.owner_lists.specs.OwnerListView.{OwnerListView, all_writes, entries_of};
 ghost use Rattle.owner_lists.specs.Numbers.{write_numbered};
 ghost use Rattle.planes.specs.Planes.{cell, ArePlanesChanged, HasEach, IsGrid};
 ghost use Rattle.version_tables.specs.inner.Offers.{start_of, IsNumberedHistory};
 ghost use Rattle.version_tables.specs.inner.Histories.{bases_in};
 ghost use Rattle.version_tables.specs.inner.Taken.{drop_start, number_kept, HasTaken, HasTakenUnless, IsTaken, StaysOne};
-ghost use Rattle.version_tables.specs.inner.Weights.{writes_in};
 
 use crate::tables::{VersionTable, Written};
 use owner_lists::OwnerList;
@@ -88,8 +87,8 @@ fn drop_each<N: Number>(
     requires greatest { length greatest.now ≡ nodes }
     requires bases { length bases.now ≡ nodes }
     requires lists { length lists.now ≡ nodes }
-    requires numbered { (owner : ℕ) → IsNumberedHistory (writes_in lists.now owner) }
-    ensures { ArePlanesChanged (λ r k x y. y ≡ number_kept (drop_start (writes_in lists.now r)
+    requires numbered { (owner : ℕ) → IsNumberedHistory (all_writes lists.now owner) }
+    ensures { ArePlanesChanged (λ r k x y. y ≡ number_kept (drop_start (all_writes lists.now r)
         (slice_index (map N.number before.now) r) (slice_index (map N.number bases.now) r)
         (slice_index (map N.number greatest.now) r)) x) nodes keys (map N.number cells.old) (map N.number cells.new) }
 {
@@ -114,8 +113,8 @@ fn drop_older<N: Number>(
     requires greatest { length greatest.now ≡ nodes }
     requires bases { length bases.now ≡ nodes }
     requires lists { length lists.now ≡ nodes }
-    requires numbered { (owner : ℕ) → IsNumberedHistory (writes_in lists.now owner) }
-    ensures { ArePlanesChanged (λ r k x y. y ≡ number_kept (drop_start (writes_in lists.now r)
+    requires numbered { (owner : ℕ) → IsNumberedHistory (all_writes lists.now owner) }
+    ensures { ArePlanesChanged (λ r k x y. y ≡ number_kept (drop_start (all_writes lists.now r)
         (slice_index (map N.number before.now) r) (slice_index (map N.number bases.now) r)
         (slice_index (map N.number greatest.now) r)) x) nodes keys (map N.number cells.old) (map N.number cells.new) }
 {
@@ -146,8 +145,8 @@ fn take_numbers<N: Number>(
     requires before { map N.number before.now ≡ map N.number greatest.old }
     requires bases { HasEach nodes (λ r n. n ≡ bases_in lists.now r) (map N.number bases.now) }
     requires lists { length lists.now ≡ nodes }
-    requires numbered { (owner : ℕ) → IsNumberedHistory (writes_in lists.now owner) }
-    ensures { IsTaken (writes_in lists.now) (bases_in lists.now) nodes keys (map N.number cells.old)
+    requires numbered { (owner : ℕ) → IsNumberedHistory (all_writes lists.now owner) }
+    ensures { IsTaken (all_writes lists.now) (bases_in lists.now) nodes keys (map N.number cells.old)
         (map N.number greatest.old) (map N.number sent.now) (map N.number low.now) (map N.number high.now)
         (map N.number cells.new) (map N.number greatest.new) }
 {
@@ -173,10 +172,10 @@ fn take<N: Number, H: Written>(
     requires before { map N.number before.now ≡ table.old.greatest }
     requires bases { HasEach table.old.nodes (λ r n. n ≡ bases_in lists.now r) (map N.number bases.now) }
     requires lists { length lists.now ≡ table.old.nodes }
-    requires numbered { (owner : ℕ) → IsNumberedHistory (writes_in lists.now owner) }
-    requires stays { StaysOne H.lists (writes_in lists.now) (bases_in lists.now) table.old (map N.number sent.now)
+    requires numbered { (owner : ℕ) → IsNumberedHistory (all_writes lists.now owner) }
+    requires stays { StaysOne H.lists (all_writes lists.now) (bases_in lists.now) table.old (map N.number sent.now)
         (map N.number low.now) (map N.number high.now) }
-    ensures { HasTaken (writes_in lists.now) (bases_in lists.now) table.old (map N.number sent.now)
+    ensures { HasTaken (all_writes lists.now) (bases_in lists.now) table.old (map N.number sent.now)
         (map N.number low.now) (map N.number high.now) table.new }
 {
     let nodes = table.nodes as usize;
@@ -213,10 +212,10 @@ pub(crate) fn take_unless<N: Number, H: Written>(
     requires before { map N.number before.now ≡ table.old.greatest }
     requires bases { HasEach table.old.nodes (λ r n. n ≡ bases_in lists.now r) (map N.number bases.now) }
     requires lists { length lists.now ≡ table.old.nodes }
-    requires numbered { (owner : ℕ) → IsNumberedHistory (writes_in lists.now owner) }
-    requires stays { StaysOne H.lists (writes_in lists.now) (bases_in lists.now) table.old (map N.number sent.now)
+    requires numbered { (owner : ℕ) → IsNumberedHistory (all_writes lists.now owner) }
+    requires stays { StaysOne H.lists (all_writes lists.now) (bases_in lists.now) table.old (map N.number sent.now)
         (map N.number low.now) (map N.number high.now) }
-    ensures { HasTakenUnless nothing (writes_in lists.now) (bases_in lists.now) table.old (map N.number sent.now)
+    ensures { HasTakenUnless nothing (all_writes lists.now) (bases_in lists.now) table.old (map N.number sent.now)
         (map N.number low.now) (map N.number high.now) table.new }
 {
     if !nothing {

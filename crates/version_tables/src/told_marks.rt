@@ -3,12 +3,11 @@
 ghost use Rattle.std.specs.Prelude.{◌≡◌, ℕ, ◌<◌, ◌≤◌, length, map, min, slice_index, IfOk, IsOkUnless};
 ghost use Rattle.bench_types.specs.declared.faults.Fault.TheVariants.{OutOfMemory};
 ghost use Rattle.bench_types.specs.declared.exchanges.DigestKind.TheVariants.{Precise};
-ghost use Rattle.owner_lists.specs.OwnerListView.{entries_of};
+ghost use Rattle.owner_lists.specs.OwnerListView.{all_writes, entries_of};
 ghost use Rattle.planes.specs.Planes.{HasEach};
 ghost use Rattle.planes.specs.inner.Elementwise.{AreChanged};
-ghost use Rattle.version_tables.specs.inner.Offers.{start_of, told_by, told_mark, IsNumberedHistory};
+ghost use Rattle.version_tables.specs.inner.Offers.{start_of, told_by, told_number, IsNumberedHistory};
 ghost use Rattle.version_tables.specs.inner.Told.{AreKnown, IsEarlierStart};
-ghost use Rattle.version_tables.specs.inner.Weights.{writes_in};
 
 use bench_types::{DigestKind, Fault};
 use owner_lists::OwnerList;
@@ -28,7 +27,7 @@ pub(crate) fn told<N: Number>(
     requires node { node < length lists.now }
     requires known { AreKnown N.most lists.now (map N.number greatest.now) (map N.number bases.now) }
     ensures told { IfOk result (λ v. HasEach (length lists.now)
-        (λ r n. n ≡ told_mark kind N.most node (writes_in lists.now) (slice_index (map N.number greatest.now)) r)
+        (λ r n. n ≡ told_number kind N.most node (all_writes lists.now) (slice_index (map N.number greatest.now)) r)
         (map N.number v.items)) }
     ensures only { IsOkUnless result OutOfMemory }
 {
@@ -47,7 +46,7 @@ fn put_told<N: Number>(
 )
     requires node { node < length lists.now }
     requires known { AreKnown N.most lists.now (map N.number numbers.old) (map N.number bases.now) }
-    ensures { AreChanged (λ r x y. y ≡ told_mark kind N.most node (writes_in lists.now) (λ _. x) r)
+    ensures { AreChanged (λ r x y. y ≡ told_number kind N.most node (all_writes lists.now) (λ _. x) r)
         (map N.number numbers.old) (map N.number numbers.new) }
 {
     put_marks(numbers, kind, lists, bases);
@@ -57,7 +56,7 @@ fn put_told<N: Number>(
 // The same, but for the receiver itself.
 fn put_marks<N: Number>(numbers: &mut [N], kind: DigestKind, lists: &[OwnerList], bases: &[N])
     requires { AreKnown N.most lists.now (map N.number numbers.old) (map N.number bases.now) }
-    ensures { AreChanged (λ r x y. y ≡ told_by kind (writes_in lists.now r) x)
+    ensures { AreChanged (λ r x y. y ≡ told_by kind (all_writes lists.now r) x)
         (map N.number numbers.old) (map N.number numbers.new) }
 {
     match kind {
@@ -69,7 +68,7 @@ fn put_marks<N: Number>(numbers: &mut [N], kind: DigestKind, lists: &[OwnerList]
 // Puts in place of each number where the generation of that write starts.
 fn put_starts<N: Number>(numbers: &mut [N], lists: &[OwnerList], bases: &[N])
     requires { AreKnown N.most lists.now (map N.number numbers.old) (map N.number bases.now) }
-    ensures { AreChanged (λ r x y. y ≡ start_of (writes_in lists.now r) x)
+    ensures { AreChanged (λ r x y. y ≡ start_of (all_writes lists.now r) x)
         (map N.number numbers.old) (map N.number numbers.new) }
 {
     put_earlier_starts(numbers, lists, bases);
@@ -90,7 +89,7 @@ fn lower<N: Number>(numbers: &mut [N], bounds: &[N])
 // Puts the starts of earlier generations. Most often there are none, which one fast loop tells.
 fn put_earlier_starts<N: Number>(numbers: &mut [N], lists: &[OwnerList], bases: &[N])
     requires { AreKnown N.most lists.now (map N.number numbers.old) (map N.number bases.now) }
-    ensures { AreChanged (λ r x y. IsEarlierStart (writes_in lists.now r) (slice_index (map N.number bases.now) r) x y)
+    ensures { AreChanged (λ r x y. IsEarlierStart (all_writes lists.now r) (slice_index (map N.number bases.now) r) x y)
         (map N.number numbers.old) (map N.number numbers.new) }
 {
     if planes::total_upto(numbers, numbers.len(), 1, bases) > 0 {
@@ -100,7 +99,7 @@ fn put_earlier_starts<N: Number>(numbers: &mut [N], lists: &[OwnerList], bases: 
 
 fn put_each_start<N: Number>(numbers: &mut [N], lists: &[OwnerList], bases: &[N])
     requires { AreKnown N.most lists.now (map N.number numbers.old) (map N.number bases.now) }
-    ensures { AreChanged (λ r x y. IsEarlierStart (writes_in lists.now r) (slice_index (map N.number bases.now) r) x y)
+    ensures { AreChanged (λ r x y. IsEarlierStart (all_writes lists.now r) (slice_index (map N.number bases.now) r) x y)
         (map N.number numbers.old) (map N.number numbers.new) }
 {
     for r in 0..numbers.len() {

@@ -24,9 +24,9 @@ abbrev pub number_here : (Item → ℕ) → ℕ → Option Entry → ℕ
 number_here f owner None = 0
 number_here f owner (Some e) = f (record { owner = owner; entry = e })
 
-abbrev pub number_at : (Item → ℕ) → Table → ℕ → ℕ → ℕ
-number_at f t owner key = number_here f owner (entry_at t owner key)
+abbrev pub number_there : (Item → ℕ) → Table → ℕ → ℕ → ℕ
+number_there f t owner key = number_here f owner (entry_at t owner key)
 
 -- the sum over all places
 abbrev pub sum_over : (Item → ℕ) → Table → ℕ
-sum_over f t = sum_below t.nodes (λ owner. sum_below t.keys (number_at f t owner))
+sum_over f t = sum_below t.nodes (λ owner. sum_below t.keys (number_there f t owner))

@@ -4,13 +4,12 @@ use Rattle.bench_types.specs.declared.entries.Entry.{Entry}
 use Rattle.bench_types.specs.declared.limits.TheConstants.{MOST_NODES}
 use Rattle.bench_types.specs.Mark.{mark_of}
 use Rattle.node_table.specs.Table.{Table, entry_at, IsProper}
-use Rattle.owner_lists.specs.OwnerListView.{OwnerListView, AreWrites, list_of_owner}
+use Rattle.owner_lists.specs.OwnerListView.{OwnerListView, all_writes, AreWrites, list_of_owner}
 use Rattle.owner_lists.specs.Numbers.{write_numbered}
 use Rattle.planes.specs.Planes.{HasEach, cell}
 use Rattle.version_tables.specs.Views.{HistoriesView}
 use Rattle.version_tables.specs.inner.Offers.{IsHistory, IsNumberedHistory}
 use Rattle.version_tables.specs.inner.Rounds.{AreEnds}
-use Rattle.version_tables.specs.inner.Weights.{writes_in}
 
 -- some writes are the first of all
 abbrev pub IsBeginning : List Entry → List Entry → Type 0
@@ -36,19 +35,19 @@ pub record IsWrittenSoFar (all : List Entry) (most rounds : ℕ) (so_far : List 
 -- what is kept of all owners' writes: counts of all and of those of earlier generations, and where the rounds end
 pub record AreHistories (written : ℕ → List Entry) (most : ℕ) (lists : List OwnerListView) (counts bases ends : List ℕ) (rounds : ℕ) : Type 0 where
   pub few_nodes : length lists ≤ MOST_NODES
-  pub counted : HasEach (length lists) (λ r n. n ≡ length (writes_in lists r)) counts
+  pub counted : HasEach (length lists) (λ r n. n ≡ length (all_writes lists r)) counts
   pub based : HasEach (length lists) (λ r n. n ≡ length (list_of_owner lists r).earlier) bases
   pub are : (owner : ℕ) → AreWrites (list_of_owner lists owner)
-  pub so_far : (owner : ℕ) → IsWrittenSoFar (written owner) most rounds (writes_in lists owner)
-  pub ended : AreEnds (writes_in lists) (length lists) rounds ends
-  pub reached : (owner round : ℕ) → owner < length lists → round ≤ rounds → cell ends (length lists) owner round ≤ length (writes_in lists owner)
+  pub so_far : (owner : ℕ) → IsWrittenSoFar (written owner) most rounds (all_writes lists owner)
+  pub ended : AreEnds (all_writes lists) (length lists) rounds ends
+  pub reached : (owner round : ℕ) → owner < length lists → round ≤ rounds → cell ends (length lists) owner round ≤ length (all_writes lists owner)
 
 -- what a table owes to the histories: its entries were written, and no later than in the last round
 pub record FitsHistories (h : HistoriesView) (t : Table) : Type 0 where
   pub proper : IsProper t
   pub nodes : t.nodes ≡ length h.lists
-  pub holds : (owner key : ℕ) (e : Entry) → entry_at t owner key ≡ Some e → Contains (writes_in h.lists owner) e
-  pub made : (owner : ℕ) → AreMadeBy h.rounds (writes_in h.lists owner)
+  pub holds : (owner key : ℕ) (e : Entry) → entry_at t owner key ≡ Some e → Contains (all_writes h.lists owner) e
+  pub made : (owner : ℕ) → AreMadeBy h.rounds (all_writes h.lists owner)
 
 -- an entry is what an owner writes under a number, which is below a bound, and no two of its writes have one mark
 pub record IsWriteUnder (written : ℕ → List Entry) (most owner number : ℕ) (e : Entry) : Type 0 where

@@ -22,8 +22,8 @@ turn_cmp mode nodes rotation cs c d =
     ordering_then (level_cmp mode cs c d) (nat_cmp (rotated nodes rotation c.owner) (rotated nodes rotation d.owner))
 
 -- the number of an item
-abbrev pub number_of : Cells → Item → ℕ
-number_of cells i = cells i.owner i.entry.key
+abbrev pub item_number : Cells → Item → ℕ
+item_number cells i = cells i.owner i.entry.key
 
 -- the modes but the last send each owner's candidates from the least number on
 abbrev pub comes_first : Mode → ℕ → ℕ → Bool

@@ -5,6 +5,7 @@ use Rattle.bench_types.specs.declared.exchanges.Mode.{Mode}
 use Rattle.bench_types.specs.declared.exchanges.Mode.TheVariants.{ScuttleBreadth, ScuttleDepth, PreciseOldest, PreciseNewest}
 use Rattle.bench_types.specs.declared.exchanges.DigestKind.{DigestKind}
 use Rattle.bench_types.specs.Budget.{amount_of}
+use Rattle.owner_lists.specs.OwnerListView.{all_writes}
 use Rattle.planes.specs.Planes.{Cells, cell}
 use Rattle.version_tables.specs.Views.{VersionTableView}
 use Rattle.version_tables.specs.declared.weights.Offer.{Offer}
@@ -13,7 +14,6 @@ use Rattle.version_tables.specs.inner.Offers.{offered_by}
 use Rattle.version_tables.specs.inner.Plans.{weight_on, count_on}
 use Rattle.version_tables.specs.inner.Shares.{lets_through, IsLayerMark, IsRunMark, IsRoundMark}
 use Rattle.version_tables.specs.inner.Sharing.{AreShared}
-use Rattle.version_tables.specs.inner.Weights.{writes_in}
 
 -- the marks of a level, as its mode has them
 abbrev pub HasShape : Mode → (ℕ → List Entry) → Cells → ℕ → ℕ → (ℕ → ℕ) → (ℕ → ℕ) → (ℕ → ℕ) → Type 0
@@ -36,7 +36,7 @@ HasShape PreciseNewest lists cells nodes keys low near far =
 
 abbrev pub HasShapeIn : {N : Type 0} → Mode → (N → ℕ) → Offer N → (ℕ → ℕ) → (ℕ → ℕ) → Type 0
 HasShapeIn mode number offer near far =
-    HasShape mode (writes_in offer.lists.now) (cells_in number offer) offer.nodes offer.keys
+    HasShape mode (all_writes offer.lists.now) (cells_in number offer) offer.nodes offer.keys
     (marks number offer.low.now) near far
 
 -- marks that let all through, which fits

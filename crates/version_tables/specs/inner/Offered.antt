@@ -1,9 +1,10 @@
 -- What is offered in memory: cells with marks for each owner, and the owners' lists. Source: this project.
 use Rattle.std.specs.Prelude.{◌≡◌, ℕ, ◌<◌, ◌≤◌, List, length, map, slice_index}
+use Rattle.owner_lists.specs.OwnerListView.{all_writes}
 use Rattle.planes.specs.Planes.{Cells, cell, count_above, IsGrid, HasNoneAbove}
 use Rattle.version_tables.specs.declared.weights.Offer.{Offer}
 use Rattle.version_tables.specs.inner.Shares.{NumbersDiffer}
-use Rattle.version_tables.specs.inner.Weights.{number_shares, weight_between, count_all_between, writes_in}
+use Rattle.version_tables.specs.inner.Weights.{number_shares, weight_between, count_all_between}
 
 -- a number for each owner
 abbrev pub marks : {N : Type 0} → (N → ℕ) → List N → ℕ → ℕ
@@ -14,7 +15,7 @@ cells_in number offer = cell (map number offer.cells.now) offer.nodes
 
 -- what each owner's numbers take of the budget
 abbrev pub weights_in : {N : Type 0} → Offer N → ℕ → ℕ → ℕ
-weights_in offer = number_shares offer.budget (writes_in offer.lists.now)
+weights_in offer = number_shares offer.budget (all_writes offer.lists.now)
 
 -- what the numbers above marks and up to others take of it, and how many these are
 abbrev pub weight_in : {N : Type 0} → (N → ℕ) → Offer N → (ℕ → ℕ) → (ℕ → ℕ) → ℕ
@@ -35,7 +36,7 @@ pub record IsOffer {N : Type 0} (number : N → ℕ) (most : ℕ) (offer : Offer
   pub high : length offer.high.now ≡ offer.nodes
   pub lists : length offer.lists.now ≡ offer.nodes
   pub written : (owner key : ℕ) → owner < offer.nodes → key < offer.keys
-      → cells_in number offer owner key ≤ length (writes_in offer.lists.now owner)
+      → cells_in number offer owner key ≤ length (all_writes offer.lists.now owner)
   pub below : (owner key : ℕ) → owner < offer.nodes → key < offer.keys → cells_in number offer owner key < most
   pub differ : (owner : ℕ) → owner < offer.nodes → NumbersDiffer (cells_in number offer) offer.keys owner
   pub covered : (owner : ℕ) → owner < offer.nodes

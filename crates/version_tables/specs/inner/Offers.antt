@@ -74,8 +74,8 @@ abbrev pub told_by : DigestKind → List Entry → ℕ → ℕ
 told_by Scuttle writes greatest = greatest
 told_by Precise writes greatest = start_of writes greatest
 
-abbrev pub told_mark : DigestKind → ℕ → ℕ → (ℕ → List Entry) → (ℕ → ℕ) → ℕ → ℕ
-told_mark kind most node lists greatest owner =
+abbrev pub told_number : DigestKind → ℕ → ℕ → (ℕ → List Entry) → (ℕ → ℕ) → ℕ → ℕ
+told_number kind most node lists greatest owner =
     if owner == node then most else told_by kind (lists owner) (greatest owner)
 
 -- the numbers offered: in a precise digest's modes those ahead of the receiver's, and 0 in place of the others

@@ -20,8 +20,8 @@ abbrev pub view_at : List VersionTableView → ℕ → VersionTableView
 view_at views node = slice_index_or views node (record { node = 0; nodes = 0; keys = 0; generation = 0; cells = []; greatest = [] })
 
 -- the tables of all nodes, where this is what the owners write
-abbrev pub tables_in : (ℕ → List Entry) → List VersionTableView → List Table
-tables_in written views = map (table_in written) views
+abbrev pub tables_of_views : (ℕ → List Entry) → List VersionTableView → List Table
+tables_of_views written views = map (table_in written) views
 
 -- how many keys each node has
 abbrev pub keys_in : List Table → ℕ
@@ -37,14 +37,14 @@ pub record StandTogether (tables : List Table) (lists : List OwnerListView) : Ty
   pub standing : HoldsOfEach (StandsAmong lists) tables
 
 -- what the figures of a round are counted from
-pub record AreCountable (round : ℕ) (tables : List Table) (lists : List OwnerListView) : Type 0 where
+pub record MayBeCounted (round : ℕ) (tables : List Table) (lists : List OwnerListView) : Type 0 where
   pub together : StandTogether tables lists
   pub round_limit : round ≤ MOST_ROUNDS
   pub written : AreWrittenBy round lists
 
 -- the tables lie as numbers of what the owners wrote so far, of all that they write
-pub record AreLaid (written : ℕ → List Entry) (views : List VersionTableView) (lists : List OwnerListView) : Type 0 where
-  pub together : StandTogether (tables_in written views) lists
+pub record AreLaidAsNumbers (written : ℕ → List Entry) (views : List VersionTableView) (lists : List OwnerListView) : Type 0 where
+  pub together : StandTogether (tables_of_views written views) lists
   pub begins : (owner : ℕ) → IsBeginning (entries_of (list_of_owner lists owner)) (written owner)
 
 -- the last numbers of all owners' keys
@@ -68,7 +68,7 @@ pub record IsPieceOf (tables : List Table) (lists : List OwnerListView) (from co
   pub few_stale : stale ≤ count * (MOST_NODES * MOST_KEYS)
   pub few_leftover : leftover ≤ count * (MOST_NODES * MOST_KEYS)
   pub size : length least ≡ keys_in tables * length tables
-  pub counted : (round : ℕ) → AreCountable round tables lists → IsPiece round tables lists from count stale leftover least
+  pub counted : (round : ℕ) → MayBeCounted round tables lists → IsPiece round tables lists from count stale leftover least
 
 -- the numbers of tables, as code has them
 abbrev pub numbers_in : {N : Type 0} → (N → ℕ) → List (Bor (List N)) → List (List ℕ)
@@ -96,12 +96,12 @@ pub record AreCellsUpto (written : ℕ → List Entry) (views : List VersionTabl
 
 -- and beside them the last numbers, and how many writes are of earlier generations
 pub record AreNumbersOf (written : ℕ → List Entry) (views : List VersionTableView) (lists : List OwnerListView) (nodes keys : ℕ) (cells : List (List ℕ)) (bases last : List ℕ) : Type 0 where
-  pub laid : AreLaid written views lists
+  pub laid : AreLaidAsNumbers written views lists
   pub nodes_are : nodes ≡ length views
-  pub keys_are : keys ≡ keys_in (tables_in written views)
+  pub keys_are : keys ≡ keys_in (tables_of_views written views)
   pub cells_are : AreCellsOf written views cells
   pub bases_are : (r : ℕ) → r < nodes → slice_index bases r ≡ base_of (list_of_owner lists r)
-  pub lasts : AreLastNumbers (tables_in written views) lists last
+  pub lasts : AreLastNumbers (tables_of_views written views) lists last
 
 -- a piece of all tables that have these numbers
 pub record CountsPiece (nodes keys : ℕ) (cells : List (List ℕ)) (bases last : List ℕ) (from count stale leftover : ℕ) (least : List ℕ) : Type 0 where
@@ -109,7 +109,7 @@ pub record CountsPiece (nodes keys : ℕ) (cells : List (List ℕ)) (bases last 
   pub few_leftover : leftover ≤ count * (MOST_NODES * MOST_KEYS)
   pub size : length least ≡ length last
   pub pieces : (written : ℕ → List Entry) (views : List VersionTableView) (lists : List OwnerListView)
-      → AreNumbersOf written views lists nodes keys cells bases last → IsPieceOf (tables_in written views) lists from count stale leftover least
+      → AreNumbersOf written views lists nodes keys cells bases last → IsPieceOf (tables_of_views written views) lists from count stale leftover least
 
 -- and so of the part of so many tables, the last one of fewer
 abbrev pub CountsPart : ℕ → ℕ → List (List ℕ) → List ℕ → List ℕ → ℕ → ℕ → ℕ → ℕ → List ℕ → Type 0

@@ -3,13 +3,13 @@ use Rattle.std.specs.Prelude.{◌≡◌, ℕ, ◌+◌, ◌-◌, ◌<◌, ◌≤�
 use Rattle.bench_types.specs.declared.exchanges.Mode.{Mode}
 use Rattle.bench_types.specs.declared.exchanges.Mode.TheVariants.{PreciseOldest, PreciseNewest}
 use Rattle.bench_types.specs.Budget.{amount_of}
+use Rattle.owner_lists.specs.OwnerListView.{all_writes}
 use Rattle.planes.specs.Planes.{cell}
 use Rattle.version_tables.specs.declared.weights.Offer.{Offer}
 use Rattle.version_tables.specs.declared.weights.Level.{Level}
 use Rattle.version_tables.specs.inner.Offered.{marks}
 use Rattle.version_tables.specs.inner.Plans.{weight_on, count_on}
 use Rattle.version_tables.specs.inner.Shares.{IsRoundMark}
-use Rattle.version_tables.specs.inner.Weights.{writes_in}
 
 abbrev pub round_mode : Bool → Mode
 round_mode true = PreciseNewest
@@ -39,8 +39,8 @@ pub record AreFewAndEnough {N : Type 0} (newest : Bool) (number : N → ℕ) (of
 pub record AreRounds {N : Type 0} (newest : Bool) (number : N → ℕ) (offer : Offer N) (level : Level N) : Type 0 where
   pub round : ℕ
   pub near : (owner : ℕ) → owner < offer.nodes
-      → IsRoundMark (writes_in offer.lists.now owner) (marks number offer.low.now owner)
+      → IsRoundMark (all_writes offer.lists.now owner) (marks number offer.low.now owner)
       (if newest then round + 1 else round) (marks number level.near.items owner)
   pub far : (owner : ℕ) → owner < offer.nodes
-      → IsRoundMark (writes_in offer.lists.now owner) (marks number offer.low.now owner)
+      → IsRoundMark (all_writes offer.lists.now owner) (marks number offer.low.now owner)
       (if newest then round else round + 1) (marks number level.far.items owner)

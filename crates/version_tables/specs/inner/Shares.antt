@@ -12,7 +12,7 @@ use Rattle.node_table.specs.Table.{Table}
 use Rattle.version_tables.specs.inner.Offers.{offered_sum}
 use Rattle.owner_lists.specs.Numbers.{write_numbered}
 use Rattle.planes.specs.Planes.{Cells, count_above, count_between, HasNoneAbove}
-use Rattle.version_tables.specs.inner.Levels.{level_cmp, number_of, comes_first}
+use Rattle.version_tables.specs.inner.Levels.{level_cmp, item_number, comes_first}
 
 -- a mark lets a number through that is up to it, or in the last mode above it
 abbrev pub lets_through : Mode → ℕ → ℕ → Bool
@@ -24,9 +24,9 @@ lets_through PreciseNewest mark number = nat_lt mark number
 -- near marks let through what is of a level before that of one candidate, and far marks also what is of its level
 pub record AreLevelMarks (mode : Mode) (cs : List Item) (cells : Cells) (next : Item) (near far : ℕ → ℕ) : Type 0 where
   pub before : (c : Item) → Contains cs c
-      → lets_through mode (near c.owner) (number_of cells c) ≡ is_lt (level_cmp mode cs c next)
+      → lets_through mode (near c.owner) (item_number cells c) ≡ is_lt (level_cmp mode cs c next)
   pub upto : (c : Item) → Contains cs c
-      → lets_through mode (far c.owner) (number_of cells c) ≡ is_lt (ordering_then (level_cmp mode cs c next) Less)
+      → lets_through mode (far c.owner) (item_number cells c) ≡ is_lt (ordering_then (level_cmp mode cs c next) Less)
 
 -- marks that stop at a candidate: owners whose turn is before that of its owner have the far mark, those whose turn is
 -- behind the near one, and its owner's lets through what comes before it
@@ -34,7 +34,7 @@ pub record StopAt (mode : Mode) (nodes rotation : ℕ) (cs : List Item) (cells :
   pub passed : (r : ℕ) → rotated nodes rotation r < rotated nodes rotation next.owner → mark r ≡ far r
   pub waiting : (r : ℕ) → rotated nodes rotation next.owner < rotated nodes rotation r → mark r ≡ near r
   pub own : (c : Item) → Contains cs c → c.owner ≡ next.owner
-      → lets_through mode (mark c.owner) (number_of cells c) ≡ comes_first mode (number_of cells c) (number_of cells next)
+      → lets_through mode (mark c.owner) (item_number cells c) ≡ comes_first mode (item_number cells c) (item_number cells next)
 
 -- a mark that lets through an owner's first so many numbers above another, or all where there are no more
 pub record IsLayerMark (cells : Cells) (keys owner low layers mark : ℕ) : Type 0 where

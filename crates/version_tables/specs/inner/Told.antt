@@ -2,21 +2,20 @@
 use Rattle.std.specs.Prelude.{◌≡◌, ℕ, ◌<◌, ◌≤◌, List, length, slice_index}
 use Rattle.bench_types.specs.declared.entries.Entry.{Entry}
 use Rattle.bench_types.specs.declared.limits.TheConstants.{MOST_NODES}
-use Rattle.owner_lists.specs.OwnerListView.{OwnerListView, AreWrites, list_of_owner}
+use Rattle.owner_lists.specs.OwnerListView.{OwnerListView, all_writes, AreWrites, list_of_owner}
 use Rattle.planes.specs.Planes.{HasEach}
 use Rattle.version_tables.specs.inner.Offers.{IsNumberedHistory, start_of}
-use Rattle.version_tables.specs.inner.Weights.{writes_in}
 
 -- a number of a write, or 0, of each owner's list, which has fewer than the most, and how many writes it has of earlier
 -- generations
 pub record AreKnown (most : ℕ) (lists : List OwnerListView) (numbers bases : List ℕ) : Type 0 where
   pub count : length numbers ≡ length lists
   pub few_nodes : length lists ≤ MOST_NODES
-  pub few : (owner : ℕ) → length (writes_in lists owner) < most
-  pub within : (owner : ℕ) → owner < length lists → slice_index numbers owner ≤ length (writes_in lists owner)
+  pub few : (owner : ℕ) → length (all_writes lists owner) < most
+  pub within : (owner : ℕ) → owner < length lists → slice_index numbers owner ≤ length (all_writes lists owner)
   pub based : HasEach (length lists) (λ r n. n ≡ length (list_of_owner lists r).earlier) bases
   pub writes : (owner : ℕ) → AreWrites (list_of_owner lists owner)
-  pub numbered : (owner : ℕ) → IsNumberedHistory (writes_in lists owner)
+  pub numbered : (owner : ℕ) → IsNumberedHistory (all_writes lists owner)
 
 -- y is where the generation of write x starts, if that is an earlier one, and else x
 pub record IsEarlierStart (writes : List Entry) (base x y : ℕ) : Type 0 where

@@ -1,10 +1,9 @@
 -- What numbers of writes weigh: each counts for 1, or for what the write takes of a budget. Source: this project.
-use Rattle.std.specs.Prelude.{ℕ, nat_lt, nat_le, List, [], map, slice_index_or, Option, Some, None, if◌then◌else◌}
+use Rattle.std.specs.Prelude.{ℕ, nat_lt, nat_le, List, Option, Some, None, if◌then◌else◌}
 use Rattle.bench_types.specs.declared.entries.Entry.{Entry}
 use Rattle.bench_types.specs.declared.exchanges.Budget.{Budget}
 use Rattle.bench_types.specs.Budget.{share_of}
 use Rattle.owner_lists.specs.Numbers.{write_numbered}
-use Rattle.owner_lists.specs.OwnerListView.{OwnerListView, entries_of}
 use Rattle.planes.specs.Planes.{Cells, count_between}
 use Rattle.planes.specs.Sums.{sum_below}
 
@@ -20,10 +19,6 @@ number_share budget writes number = share_or_none budget (write_numbered writes 
 -- and so for each owner's numbers
 abbrev pub number_shares : Budget → (ℕ → List Entry) → ℕ → ℕ → ℕ
 number_shares budget lists owner number = number_share budget (lists owner) number
-
--- what each owner wrote, by the lists of all
-abbrev pub writes_in : List OwnerListView → ℕ → List Entry
-writes_in lists owner = slice_index_or (map entries_of lists) owner []
 
 -- each number weighs 1
 abbrev pub one_each : ℕ → ℕ → ℕ

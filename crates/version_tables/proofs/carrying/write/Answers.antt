@@ -1,12 +1,8 @@
-use Rattle.std.proofs.Common.{◌+◌, List, length, sym, ap, ◌∙◌, subst}
-use Rattle.bench_types.specs.declared.entries.Entry.{Entry}
+use Rattle.std.proofs.Common.{◌+◌, length, sym, ap, ◌∙◌, subst}
 use Rattle.owner_lists.specs.Numbers.{write_numbered}
-use Rattle.owner_lists.specs.OwnerListView.{next_entry, list_of_owner}
+use Rattle.owner_lists.specs.OwnerListView.{all_writes, next_entry, list_of_owner}
 use Rattle.version_tables.specs.Writes.{IsNextWrite}
-use Rattle.version_tables.specs.inner.Histories.{IsBeginning}
-use Rattle.version_tables.specs.inner.Weights.{writes_in}
 use Rattle.version_tables.proofs.NextWrites.{next-write}
-use Rattle.version_tables.proofs.Starts.{writes_in-is}
 use Rattle.version_tables.proofs.carrying.write.Goals as goal
 
 pub write_own-requires-clause-next : goal.write_own-requires-clause-next
@@ -15,9 +11,8 @@ write_own-requires-clause-next g c lives within =
     let lists = c.args.histories.now.lists in
     let list = list_of_owner lists table.node in
     let number = c.in_ok-number.ensures.number
-    ∙ ap (λ owner. length (writes_in lists owner) + 1) c.node-node.ensures.value
-    ∙ ap (λ (es : List Entry). length es + 1) (writes_in-is lists table.node) in
-    let begins = subst (λ (es : List Entry). IsBeginning es (g.H.Written.lists table.node)) (writes_in-is lists table.node) (c.lists-lists.ensures.so_far table.node).begins in
+    ∙ ap (λ owner. length (all_writes lists owner) + 1) c.node-node.ensures.value in
+    let begins = (c.lists-lists.ensures.so_far table.node).begins in
     subst (IsNextWrite g.H.Written.lists table c.args.key) (sym number)
     (next-write g.H.Written.lists table c.node-node.ensures.kept list (c.lists-lists.ensures.writes table.node) begins
     c.requires.may.beside.generation c.requires.may.beside.greatest g.N.Number.most c.args.key c.args.value c.args.born c.requires.may.may)
@@ -28,7 +23,6 @@ returns-clause-table g c =
     let lists = c.args.histories.now.lists in
     let list = list_of_owner lists table.node in
     let number = c.in_ok-number.ensures.number
-    ∙ ap (λ owner. length (writes_in lists owner) + 1) c.node-node.ensures.value
-    ∙ ap (λ (es : List Entry). length es + 1) (writes_in-is lists table.node) in
+    ∙ ap (λ owner. length (all_writes lists owner) + 1) c.node-node.ensures.value in
     c.write_own.ensures (next_entry list c.args.key c.args.value c.args.born)
     (ap (write_numbered (g.H.Written.lists table.node)) number ∙ c.requires.may.may.is)

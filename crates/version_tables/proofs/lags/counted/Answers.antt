@@ -4,7 +4,7 @@ use Rattle.planes.specs.Planes.{cell, ArePlanesChanged}
 use Rattle.staleness.proofs.Counting.{enough}
 use Rattle.staleness.proofs.Merging.{part_within}
 use Rattle.version_tables.specs.declared.lags.Piece.{Piece}
-use Rattle.version_tables.specs.inner.Pieces.{tables_in, numbers_in, AreLastNumbers, IsPieceOf, CountsPart}
+use Rattle.version_tables.specs.inner.Pieces.{tables_of_views, numbers_in, AreLastNumbers, IsPieceOf, CountsPart}
 use Rattle.version_tables.proofs.Standing.{one-list-each}
 use Rattle.version_tables.proofs.Parts.{grids-of, numbers-of, part-none, part-next, part-found, many-parts, piece-size, all_written}
 use Rattle.version_tables.proofs.lags.counted.Goals as goal
@@ -22,7 +22,7 @@ parts_of-requires-clause-forgot g c κs within off r lt =
 
 pub loop-part-init : goal.loop-part-init
 loop-part-init g c =
-    let tables = tables_in g.H.Written.lists c.args.tables.now in
+    let tables = tables_of_views g.H.Written.lists c.args.tables.now in
     let lists = c.args.histories.now.lists in
     let least = map g.N.Number.number c.in_ok-least.least.items in
     let none : 0 ≡ min (0 * c.tables_of_a_thread-size.result) (length c.args.tables.now) = omega arith in
@@ -32,7 +32,7 @@ loop-part-init g c =
 
 pub overflow_add-stale : goal.overflow_add-stale
 overflow_add-stale g c =
-    let tables = tables_in g.H.Written.lists c.args.tables.now in
+    let tables = tables_of_views g.H.Written.lists c.args.tables.now in
     let lists = c.args.histories.now.lists in
     let size = c.tables_of_a_thread-size.result in
     let found = part-found (λ part (p : Piece _). CountsPart (length c.args.tables.now) c.keys_of-keys.result (numbers_in g.N.Number.number c.deref.result.now) (map g.N.Number.number c.bases-bases.result.now) (map g.N.Number.number c.args.last.now) size part p.stale p.leftover (map g.N.Number.number p.least.items)) (length c.args.tables.now / size + 1) c.deref-part-items.result.now c.in_ok-parts.parts.items
@@ -41,7 +41,7 @@ overflow_add-stale g c =
 
 pub overflow_add-leftover : goal.overflow_add-leftover
 overflow_add-leftover g c =
-    let tables = tables_in g.H.Written.lists c.args.tables.now in
+    let tables = tables_of_views g.H.Written.lists c.args.tables.now in
     let lists = c.args.histories.now.lists in
     let size = c.tables_of_a_thread-size.result in
     let found = part-found (λ part (p : Piece _). CountsPart (length c.args.tables.now) c.keys_of-keys.result (numbers_in g.N.Number.number c.deref.result.now) (map g.N.Number.number c.bases-bases.result.now) (map g.N.Number.number c.args.last.now) size part p.stale p.leftover (map g.N.Number.number p.least.items)) (length c.args.tables.now / size + 1) c.deref-part-items.result.now c.in_ok-parts.parts.items
@@ -51,7 +51,7 @@ overflow_add-leftover g c =
 pub lower_all-requires-clause-cells : goal.lower_all-requires-clause-cells
 lower_all-requires-clause-cells g c κs within =
     let views = c.args.tables.now in
-    let tables = tables_in g.H.Written.lists views in
+    let tables = tables_of_views g.H.Written.lists views in
     let lists = c.args.histories.now.lists in
     let size = c.tables_of_a_thread-size.result in
     let number = g.N.Number.number in
@@ -66,7 +66,7 @@ lower_all-requires-clause-cells g c κs within =
 pub loop-part-preserved : goal.loop-part-preserved
 loop-part-preserved g c =
     let views = c.args.tables.now in
-    let tables = tables_in g.H.Written.lists views in
+    let tables = tables_of_views g.H.Written.lists views in
     let lists = c.args.histories.now.lists in
     let size = c.tables_of_a_thread-size.result in
     let number = g.N.Number.number in
@@ -87,7 +87,7 @@ loop-part-preserved g c =
 pub returns-clause-piece : goal.returns-clause-piece
 returns-clause-piece g c =
     let views = c.args.tables.now in
-    let tables = tables_in g.H.Written.lists views in
+    let tables = tables_of_views g.H.Written.lists views in
     let lists = c.args.histories.now.lists in
     let size = c.tables_of_a_thread-size.result in
     let n = length views in

@@ -3,7 +3,7 @@ use Rattle.owner_lists.specs.OwnerListView.{list_of_owner}
 use Rattle.planes.specs.Planes.{HasEachPlace}
 use Rattle.staleness.specs.Figures.{most_below}
 use Rattle.version_tables.specs.inner.Missed.{IsLastNumber}
-use Rattle.version_tables.specs.inner.Pieces.{tables_in, AreAlike, AreLastNumbers, MayWalk, most_lag}
+use Rattle.version_tables.specs.inner.Pieces.{tables_of_views, AreAlike, AreLastNumbers, MayWalk, most_lag}
 use Rattle.version_tables.proofs.Whole.{alike-is, laid-is, lasts-are, lasts-by_list, may-walk, figures-are}
 use Rattle.version_tables.proofs.lags.figures.Goals as goal
 
@@ -21,7 +21,7 @@ counted-requires-clause-last g c κs within =
     let views = c.args.tables.now in
     let lists = c.args.histories.now.lists in
     let laid = laid-is g.H.Written.lists views lists g.N.Number.most c.args.histories.now.rounds c.requires.cluster c.requires.one_list_each c.requires.standing c.lists-lists.ensures.writes c.lists-lists.ensures.so_far in
-    subst (λ xs. AreLastNumbers (tables_in g.H.Written.lists views) lists (map g.N.Number.number xs)) (sym c.deref.ensures.value)
+    subst (λ xs. AreLastNumbers (tables_of_views g.H.Written.lists views) lists (map g.N.Number.number xs)) (sym c.deref.ensures.value)
     (lasts-are g.H.Written.lists views lists laid c.keys_of-keys.result c.keys_of-keys.ensures (map g.N.Number.number c.in_ok-last.last.items) c.in_ok-last.ensures.own)
 
 pub greatest_lag-requires-clause-walk : goal.greatest_lag-requires-clause-walk

@@ -1,12 +1,12 @@
 use Rattle.std.proofs.Common.{slice_index, map}
+use Rattle.owner_lists.specs.OwnerListView.{all_writes}
 use Rattle.planes.specs.Planes.{ArePlanesChanged}
 use Rattle.version_tables.specs.inner.Taken.{drop_start}
-use Rattle.version_tables.specs.inner.Weights.{writes_in}
 use Rattle.version_tables.proofs.Clearing.{columns_kept}
 use Rattle.version_tables.proofs.taking.drop_each.Given as goal
 
 abbrev pub invariant-loop-owner : goal.invariant-loop-owner
 invariant-loop-owner g l =
     ArePlanesChanged
-    (columns_kept (λ r. drop_start (writes_in l.lists r) (slice_index (map g.N.Number.number l.before) r) (slice_index (map g.N.Number.number l.bases) r) (slice_index (map g.N.Number.number l.greatest) r)) l.owner)
+    (columns_kept (λ r. drop_start (all_writes l.lists r) (slice_index (map g.N.Number.number l.before) r) (slice_index (map g.N.Number.number l.bases) r) (slice_index (map g.N.Number.number l.greatest) r)) l.owner)
     l.nodes l.keys (map g.N.Number.number l.initial.cells) (map g.N.Number.number l.cells)

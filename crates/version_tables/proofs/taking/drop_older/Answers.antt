@@ -1,15 +1,15 @@
 use Rattle.std.proofs.Common.{ℕ, ◌≡◌, false, subst, ◌+◌, ◌*◌, ◌<◌, arith, map, slice_index, sym, ap, ◌∙◌, nat_lt, nat_le}
 use Rattle.std.specs.Prelude.{◌&&◌}
+use Rattle.owner_lists.specs.OwnerListView.{all_writes}
 use Rattle.planes.specs.Planes.{cell}
 use Rattle.version_tables.specs.inner.Taken.{number_kept}
-use Rattle.version_tables.specs.inner.Weights.{writes_in}
 use Rattle.version_tables.proofs.Clearing.{planes-stay, no_start, kept-all, total-none}
 use Rattle.version_tables.proofs.taking.drop_older.Goals as goal
 
 pub returns-else-total_upto-gt0 : goal.returns-else-total_upto-gt0
 returns-else-total_upto-gt0 g c =
     planes-stay _ c.args.nodes c.args.keys (map g.N.Number.number c.args.cells.now)
-    (λ r k x lt. sym (kept-all x) ∙ ap (λ n. number_kept n x) (sym (no_start (writes_in c.args.lists.now r) (slice_index (map g.N.Number.number c.args.before.now) r) (slice_index (map g.N.Number.number c.args.bases.now) r) (slice_index (map g.N.Number.number c.args.greatest.now) r)
+    (λ r k x lt. sym (kept-all x) ∙ ap (λ n. number_kept n x) (sym (no_start (all_writes c.args.lists.now r) (slice_index (map g.N.Number.number c.args.before.now) r) (slice_index (map g.N.Number.number c.args.bases.now) r) (slice_index (map g.N.Number.number c.args.greatest.now) r)
     (none r lt))))
   where
     none : (r : ℕ) → r < c.args.nodes → (nat_lt 0 (slice_index (map g.N.Number.number c.args.before.now) r) && nat_le (slice_index (map g.N.Number.number c.args.before.now) r) (slice_index (map g.N.Number.number c.args.bases.now) r)) ≡ false

@@ -4,13 +4,13 @@ use Rattle.owner_lists.specs.OwnerListView.{entries_of}
 use Rattle.planes.proofs.Elementwise.{number-at, written_next}
 use Rattle.version_tables.specs.inner.Offers.{IsNumberedHistory}
 use Rattle.version_tables.specs.inner.Told.{IsEarlierStart}
-use Rattle.version_tables.proofs.Starts.{writes_in-here}
+use Rattle.version_tables.proofs.Starts.{all_writes-here}
 use Rattle.version_tables.proofs.told_marks.put_each_start.Goals as goal
 
 pub earlier_start-requires-clause-numbered : goal.earlier_start-requires-clause-numbered
 earlier_start-requires-clause-numbered g c κs within =
     let lt : c.loop-r.r < length c.args.lists.now = omega (arith, c.loop-r-test.true, c.requires.count, length-map c.args.numbers.now g.N.Number.number) in
-    subst IsNumberedHistory (writes_in-here c.args.lists.now c.loop-r.r c.index-lists-r.result lt c.index-lists-r.is) (c.requires.numbered c.loop-r.r)
+    subst IsNumberedHistory (all_writes-here c.args.lists.now c.loop-r.r c.index-lists-r.result lt c.index-lists-r.is) (c.requires.numbered c.loop-r.r)
 
 pub earlier_start-requires-clause-fits : goal.earlier_start-requires-clause-fits
 earlier_start-requires-clause-fits g c κs within =
@@ -25,7 +25,7 @@ loop-r-preserved g c =
     let number = number-at g.N.Number.number c.loop-r.numbers c.loop-r.r c.index-numbers-r.result (omega (arith, c.loop-r-test.true, c.loop-r.auto.numbers)) c.index-numbers-r.is
     ∙ c.loop-r.invariant.from c.loop-r.r (omega arith) in
     let base = number-at g.N.Number.number c.args.bases.now c.loop-r.r c.index-bases-r.result (omega (arith, lt, c.requires.based.size, length-map c.args.bases.now g.N.Number.number)) c.index-bases-r.is in
-    let writes = sym (writes_in-here c.args.lists.now c.loop-r.r c.index-lists-r.result lt c.index-lists-r.is) in
+    let writes = sym (all_writes-here c.args.lists.now c.loop-r.r c.index-lists-r.result lt c.index-lists-r.is) in
     written_next _ (map g.N.Number.number c.args.numbers.now) g.N.Number.number c.loop-r.numbers c.loop-r.r c.earlier_start.result c.loop-r.invariant
     (omega (arith, c.loop-r-test.true, length-map c.args.numbers.now g.N.Number.number))
     (subst (λ w. IsEarlierStart w (get_or (map g.N.Number.number c.args.bases.now) c.loop-r.r 0) (get_or (map g.N.Number.number c.args.numbers.now) c.loop-r.r 0) (g.N.Number.number c.earlier_start.result)) writes

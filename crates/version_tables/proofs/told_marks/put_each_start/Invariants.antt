@@ -1,10 +1,10 @@
 use Rattle.std.proofs.Common.{slice_index, map}
+use Rattle.owner_lists.specs.OwnerListView.{all_writes}
 use Rattle.planes.specs.inner.Elementwise.{AreChangedUpto}
 use Rattle.version_tables.specs.inner.Told.{IsEarlierStart}
-use Rattle.version_tables.specs.inner.Weights.{writes_in}
 use Rattle.version_tables.proofs.told_marks.put_each_start.Given as goal
 
 abbrev pub invariant-loop-r : goal.invariant-loop-r
 invariant-loop-r g l =
-    AreChangedUpto (λ r x y. IsEarlierStart (writes_in l.lists r) (slice_index (map g.N.Number.number l.bases) r) x y)
+    AreChangedUpto (λ r x y. IsEarlierStart (all_writes l.lists r) (slice_index (map g.N.Number.number l.bases) r) x y)
     (map g.N.Number.number l.initial.numbers) (map g.N.Number.number l.numbers) l.r

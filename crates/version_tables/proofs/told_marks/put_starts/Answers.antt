@@ -1,7 +1,6 @@
-use Rattle.std.proofs.Common.{◌<◌, length, get_or, sym, ◌∙◌, ap, arith, map}
+use Rattle.std.proofs.Common.{◌<◌, length, get_or, sym, ◌∙◌, arith, map}
 use Rattle.owner_lists.specs.OwnerListView.{list_of_owner}
-use Rattle.version_tables.specs.inner.Offers.{start_of}
-use Rattle.version_tables.proofs.Starts.{writes_in-is, start-own, start-lowered}
+use Rattle.version_tables.proofs.Starts.{start-own, start-lowered}
 use Rattle.version_tables.proofs.told_marks.put_starts.Goals as goal
 
 pub returns : goal.returns
@@ -9,13 +8,11 @@ returns g c = record {
   size = c.lower.ensures.size ∙ c.put_earlier_starts.ensures.size;
   each = λ r lt.
       let within : r < length c.args.lists.now = omega (arith, lt, c.requires.count) in
-      let writes = writes_in-is c.args.lists.now r in
       let base = c.requires.based.each r within in
       start-lowered _ (get_or (map g.N.Number.number c.args.bases.now) r 0) (get_or (map g.N.Number.number c.args.numbers.now) r 0) (get_or (map g.N.Number.number c.put_earlier_starts.new.numbers) r 0) _
       (c.put_earlier_starts.ensures.each r lt)
       (λ behind.
-      ap (λ w. start_of w (get_or (map g.N.Number.number c.args.numbers.now) r 0)) writes
-      ∙ start-own (list_of_owner c.args.lists.now r) (get_or (map g.N.Number.number c.args.numbers.now) r 0) (c.requires.writes r) (omega (arith, behind, base)) (omega (arith, c.requires.within r within, ap length writes))
+      start-own (list_of_owner c.args.lists.now r) (get_or (map g.N.Number.number c.args.numbers.now) r 0) (c.requires.writes r) (omega (arith, behind, base)) (c.requires.within r within)
       ∙ sym base)
       (c.lower.ensures.each r (omega (arith, lt, c.put_earlier_starts.ensures.size)));
 }

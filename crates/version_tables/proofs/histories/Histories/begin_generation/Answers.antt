@@ -1,7 +1,6 @@
 use Rattle.std.proofs.Common.{◌≡◌, ◌<◌, length, set, map, subst, sym}
-use Rattle.owner_lists.specs.OwnerListView.{begun_generation}
+use Rattle.owner_lists.specs.OwnerListView.{all_writes, begun_generation}
 use Rattle.version_tables.specs.Views.{HistoriesView}
-use Rattle.version_tables.specs.inner.Weights.{writes_in}
 use Rattle.version_tables.proofs.HistoryCalls.{histories-begun, list-changes, number-here, numbers-set}
 use Rattle.version_tables.proofs.histories.Histories.begin_generation.Goals as goal
 
@@ -15,5 +14,5 @@ invariant_of-self g c =
     (map g.N.Number.number c.self.inside.ends.items) c.self.inside.rounds c.self.invariant owner
     (list-changes lists owner c.index_mut.result.now c.begin_generation.new.self begun_generation in_range c.index_mut.ensures.value c.begin_generation.ensures)
     (map g.N.Number.number (set c.self.inside.bases.items owner c.index.result.now))
-    (numbers-set g.N.Number.number c.self.inside.bases.items owner c.index.result.now (length (writes_in lists owner))
-    (number-here g.N.Number.number counts (length lists) owner c.index.result.now (λ r n. n ≡ length (writes_in lists r)) c.self.invariant.counted in_range c.index.ensures))
+    (numbers-set g.N.Number.number c.self.inside.bases.items owner c.index.result.now (length (all_writes lists owner))
+    (number-here g.N.Number.number counts (length lists) owner c.index.result.now (λ r n. n ≡ length (all_writes lists r)) c.self.invariant.counted in_range c.index.ensures))

@@ -1,9 +1,8 @@
 use Rattle.std.proofs.Common.{◌≡◌, ◌+◌, ◌<◌, length, set, map, subst, sym}
-use Rattle.owner_lists.specs.OwnerListView.{list_of_owner, next_entry, with_write}
+use Rattle.owner_lists.specs.OwnerListView.{all_writes, list_of_owner, next_entry, with_write}
 use Rattle.version_tables.specs.ListChanges.{ListChanges}
 use Rattle.version_tables.specs.Views.{HistoriesView}
 use Rattle.version_tables.specs.inner.Histories.{IsWriteUnder}
-use Rattle.version_tables.specs.inner.Weights.{writes_in}
 use Rattle.version_tables.proofs.HistoryCalls.{histories-written, list-changes, number-here, numbers-set}
 use Rattle.version_tables.proofs.histories.Histories.write.Goals as goal
 
@@ -18,13 +17,13 @@ invariant_of-self-2 g c =
     (map g.N.Number.number c.self.inside.ends.items) c.self.inside.rounds c.self.invariant owner c.args.key c.args.value
     (list-changes lists owner c.index_mut.result.now c.write.new.self (λ v. with_write v c.args.key c.args.value (c.self.inside.rounds + 1)) in_range c.index_mut.ensures.value
     (subst (λ b. c.write.new.self ≡ with_write c.index_mut.result.now c.args.key c.args.value b) born c.in_ok-write.ensures.ok))
-    (subst (λ b. IsWriteUnder g.H.Written.lists g.N.Number.most owner (length (writes_in lists owner) + 1) (next_entry (list_of_owner lists owner) c.args.key c.args.value b)) born
-    (subst (λ (h : HistoriesView). IsWriteUnder g.H.Written.lists g.N.Number.most owner (length (writes_in h.lists owner) + 1) (next_entry (list_of_owner h.lists owner) c.args.key c.args.value c.args.born))
+    (subst (λ b. IsWriteUnder g.H.Written.lists g.N.Number.most owner (length (all_writes lists owner) + 1) (next_entry (list_of_owner lists owner) c.args.key c.args.value b)) born
+    (subst (λ (h : HistoriesView). IsWriteUnder g.H.Written.lists g.N.Number.most owner (length (all_writes h.lists owner) + 1) (next_entry (list_of_owner h.lists owner) c.args.key c.args.value c.args.born))
     (sym c.self.view_is) c.requires.under))
     (map g.N.Number.number (set counts owner c.plus-number.result))
-    (numbers-set g.N.Number.number counts owner c.plus-number.result (length (writes_in lists owner) + 1)
+    (numbers-set g.N.Number.number counts owner c.plus-number.result (length (all_writes lists owner) + 1)
     (subst (λ n. g.N.Number.number c.plus-number.result ≡ n + 1)
-    (number-here g.N.Number.number counts (length lists) owner c.index.result.now (λ r n. n ≡ length (writes_in lists r)) c.self.invariant.counted in_range c.index.ensures)
+    (number-here g.N.Number.number counts (length lists) owner c.index.result.now (λ r n. n ≡ length (all_writes lists r)) c.self.invariant.counted in_range c.index.ensures)
     c.plus-number.ensures))
 
 pub returns-clause-number : goal.returns-clause-number
@@ -32,9 +31,9 @@ returns-clause-number g c =
     let lists = c.self.inside.lists.items in
     let owner = c.args.owner in
     let in_range : owner < length lists = subst (λ (h : HistoriesView). owner < length h.lists) (sym c.self.view_is) c.requires.owner in
-    subst (λ (h : HistoriesView). g.N.Number.number c.plus-number.result ≡ length (writes_in h.lists owner) + 1) c.self.view_is
+    subst (λ (h : HistoriesView). g.N.Number.number c.plus-number.result ≡ length (all_writes h.lists owner) + 1) c.self.view_is
     (subst (λ n. g.N.Number.number c.plus-number.result ≡ n + 1)
-    (number-here g.N.Number.number c.self.inside.counts.items (length lists) owner c.index.result.now (λ r n. n ≡ length (writes_in lists r)) c.self.invariant.counted in_range c.index.ensures)
+    (number-here g.N.Number.number c.self.inside.counts.items (length lists) owner c.index.result.now (λ r n. n ≡ length (all_writes lists r)) c.self.invariant.counted in_range c.index.ensures)
     c.plus-number.ensures)
 
 pub returns-clause-lists : goal.returns-clause-lists

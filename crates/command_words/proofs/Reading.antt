@@ -66,17 +66,8 @@ command_met m name options = go (out-ArgMatches m).subcommand
     go None is rows = cc
     go (Some b) is rows = cc
 
--- without workers two of the commands ask for nothing
-pub run_asks_for_none : (name : Text) (options : List Row) → name ≡ codes "run" → HasNoWorkers options
-    → AsksForNone (Some (name, options))
-run_asks_for_none name options is none Check asked =
-    let bad : codes "run" ≡ codes "check" = sym is ∙ asked.0 in cc
-run_asks_for_none name options is none (Run trace workers) asked = none workers asked.0.2 asked.1
-run_asks_for_none name options is none (Compare workers) asked = none workers asked.0.1 asked.1
-
-pub compare_asks_for_none : (name : Text) (options : List Row) → name ≡ codes "compare" → HasNoWorkers options
-    → AsksForNone (Some (name, options))
-compare_asks_for_none name options is none Check asked =
-    let bad : codes "compare" ≡ codes "check" = sym is ∙ asked.0 in cc
-compare_asks_for_none name options is none (Run trace workers) asked = none workers asked.0.2 asked.1
-compare_asks_for_none name options is none (Compare workers) asked = none workers asked.0.1 asked.1
+-- without workers a command that may have them asks for nothing
+pub asks_for_none : (name : Text) (options : List Row) → (name ≡ codes "check" → ⊥) → HasNoWorkers options → AsksForNone (Some (name, options))
+asks_for_none name options other none Check asked = absurd (other asked.0)
+asks_for_none name options other none (Run trace workers) asked = none workers asked.0.2 asked.1
+asks_for_none name options other none (Compare workers) asked = none workers asked.0.1 asked.1

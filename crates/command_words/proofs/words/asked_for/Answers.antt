@@ -1,20 +1,20 @@
-use Rattle.std.proofs.Common.{codes, ◌∙◌}
+use Rattle.std.proofs.Common.{◌≡◌, codes, sym, ◌∙◌}
 use Rattle.clap.specs.Words.{found_of}
 use Rattle.clap.proofs.WalkLemmas.{first_value-rows}
-use Rattle.command_words.proofs.Reading.{command_met, compare_asks_for_none, run_asks_for_none}
+use Rattle.command_words.proofs.Reading.{command_met, asks_for_none}
 use Rattle.command_words.proofs.words.asked_for.Goals as goal
 
 pub returns-in_err-workers_of-in-run-default : goal.returns-in_err-workers_of-in-run-default
 returns-in_err-workers_of-in-run-default c =
     let met = command_met c.args.matches.now _ _ c.in_ok-subcommand.ensures.name c.in_ok-subcommand.ensures.rows in
     rw (c.from_residual-in_err-workers_of-in-run-default.ensures, met)
-    (run_asks_for_none _ _ c.in-run-default.is-run-0 c.in_err-workers_of-in-run-default.ensures)
+    (asks_for_none _ _ (λ check. let bad : codes "run" ≡ codes "check" = sym c.in-run-default.is-run-0 ∙ check in cc) c.in_err-workers_of-in-run-default.ensures)
 
 pub returns-in_err-workers_of-in-compare-default : goal.returns-in_err-workers_of-in-compare-default
 returns-in_err-workers_of-in-compare-default c =
     let met = command_met c.args.matches.now _ _ c.in_ok-subcommand.ensures.name c.in_ok-subcommand.ensures.rows in
     rw (c.from_residual-in_err-workers_of-in-compare-default.ensures, met)
-    (compare_asks_for_none _ _ c.in-compare-default.is-compare-0 c.in_err-workers_of-in-compare-default.ensures)
+    (asks_for_none _ _ (λ check. let bad : codes "compare" ≡ codes "check" = sym c.in-compare-default.is-compare-0 ∙ check in cc) c.in_err-workers_of-in-compare-default.ensures)
 
 pub returns-in_ok-workers_of-in-run-default : goal.returns-in_ok-workers_of-in-run-default
 returns-in_ok-workers_of-in-run-default c =

@@ -1,5 +1,5 @@
 -- What the owners of a scenario write may stand under numbers below a bound.
--- Serves `write_long_modes`, `write_long_run`, `write_short_modes` and `write_short_run`.
+-- Serves `write_long_modes`, `write_long_run`, `write_short_modes`, `write_short_run` and `tests_of_runs`.
 use Rattle.std.proofs.Common.{◌≡◌, ℕ, zero, suc, ◌+◌, ◌*◌, ◌<◌, ◌≤◌, Bool, true, false, cond, List, [], ◌∷◌, ◌++◌, length, get_or, refl, sym, ap, ◌∙◌, arith, length-append}
 use Rattle.std.specs.Prelude.{Some, Contains}
 use Rattle.std.proofs.lemmas.Option.{same_Some}

@@ -1,9 +1,12 @@
 //! Scenarios, and what must come of them.
 
 use bench_types::{Budget, Record, Row};
-use fixtures::{A_NODE_DOWN, A_NODE_FORGETS, RING_OF_FOUR, TWO_NODES_CUT, Texts, Writers, sent};
+use fixtures::{
+    A_NODE_DOWN, A_NODE_FORGETS, RING_OF_FOUR, TWO_NODES_CUT, Texts, Writers, row, sent,
+};
 
 /// A scenario, its texts, its rows, and the exchanges of its first round.
+#[derive(Drop)]
 pub(crate) struct Case {
     pub(crate) name: &'static str,
     pub(crate) texts: Texts,
@@ -12,40 +15,60 @@ pub(crate) struct Case {
 }
 
 /// The nodes that write in the first round, and what is exchanged then.
+#[derive(Drop)]
 pub(crate) struct FirstRound {
     pub(crate) writers: Writers,
     pub(crate) budget: Budget,
     pub(crate) pairs: &'static [(u32, u32)],
     pub(crate) records: &'static [Record],
-    /// How many entries each node then holds.
-    pub(crate) counts: &'static [u32],
-}
-
-// The row of a round, by its columns.
-macro_rules! row {
-    (
-        $round:expr, $exchanges:expr, $unreached:expr, $lost:expr, $entries:expr, $cut:expr, $stale:expr,
-        $greatest:expr, $leftover:expr
-    ) => {
-        bench_types::Row {
-            round: $round,
-            exchanges: $exchanges,
-            unreached: $unreached,
-            lost: $lost,
-            entries: $entries,
-            cut: $cut,
-            stale: $stale,
-            greatest: $greatest,
-            leftover: $leftover,
-        }
-    };
+    /// By node, the owners of whom it then holds all keys.
+    pub(crate) held: &'static [&'static [u32]],
 }
 
 /// The four modes come to the same rows in each of them: of one owner there is one entry to send at most, or two
 /// that were written in one round.
 pub(crate) const CASES: [Case; 4] = [DOWN, CUT, RING, FORGETFUL];
 
-// A node is down for two rounds.
+/// Eight pairs of nodes that share none.
+pub(crate) const EIGHT_PAIRS: FirstRound = FirstRound {
+    writers: Writers {
+        nodes: 16,
+        keys: 1,
+        writers: 16,
+    },
+    budget: Budget::Entries(1),
+    pairs: &[
+        (0, 1),
+        (2, 3),
+        (4, 5),
+        (6, 7),
+        (8, 9),
+        (10, 11),
+        (12, 13),
+        (14, 15),
+    ],
+    records: &[sent!(1, 1, 1, 1, 0, 0); 8],
+    held: &[
+        &[0, 1],
+        &[0, 1],
+        &[2, 3],
+        &[2, 3],
+        &[4, 5],
+        &[4, 5],
+        &[6, 7],
+        &[6, 7],
+        &[8, 9],
+        &[8, 9],
+        &[10, 11],
+        &[10, 11],
+        &[12, 13],
+        &[12, 13],
+        &[14, 15],
+        &[14, 15],
+    ],
+};
+
+// A node is down for two rounds, and apart from the others.
 const DOWN: Case = Case {
     name: "a node that is down",
     texts: A_NODE_DOWN,
@@ -62,7 +85,7 @@ const DOWN: Case = Case {
         budget: Budget::Entries(10),
         pairs: &[(0, 1)],
         records: &[sent!(1, 1, 1, 1, 0, 0)],
-        counts: &[2, 2, 0],
+        held: &[&[0, 1], &[0, 1], &[]],
     },
 };
 
@@ -80,7 +103,7 @@ const CUT: Case = Case {
         budget: Budget::Entries(1),
         pairs: &[(0, 1), (1, 0)],
         records: &[sent!(1, 1, 1, 1, 1, 1), sent!(2, 2, 1, 1, 0, 0)],
-        counts: &[4, 4],
+        held: &[&[0, 1], &[0, 1]],
     },
 };
 
@@ -103,7 +126,7 @@ const RING: Case = Case {
             sent!(2, 1, 1, 1, 0, 1),
             sent!(2, 2, 1, 1, 0, 0),
         ],
-        counts: &[3, 3, 3, 3],
+        held: &[&[0, 1, 3], &[0, 1, 2], &[0, 2, 3], &[0, 1, 3]],
     },
 };
 
@@ -125,6 +148,6 @@ const FORGETFUL: Case = Case {
         budget: Budget::Bytes(1023),
         pairs: &[(0, 1), (1, 0)],
         records: &[sent!(1, 1, 1, 1, 0, 0), sent!(2, 2, 0, 0, 0, 0)],
-        counts: &[2, 2],
+        held: &[&[0, 1], &[0, 1]],
     },
 };

@@ -1,15 +1,14 @@
 //! The list of a first round, carried out by workers.
 
 ghost use Rattle.std.specs.Prelude.{◌≡◌, ◌≤◌, IfOk};
-ghost use Rattle.bench_types.specs.declared.limits.TheConstants.{MOST_WORKERS};
 ghost use Rattle.cluster.specs.Tables.{tables_in, IsCluster};
 
-use crate::cases::{Case, FirstRound};
+use crate::cases::{Case, EIGHT_PAIRS, FirstRound};
 use crate::counting::Counter;
 use crate::trials::Trial;
-use bench_types::limits::{MOST_KEYS, MOST_NODES, MOST_WORKERS};
-use bench_types::{Fault, Mode, Record, Rules};
-use fixtures::{Writers, list_of, tables_of};
+use bench_types::limits::{MOST_KEYS, MOST_NODES};
+use bench_types::{Entry, Fault, Mode, Record, Rules};
+use fixtures::{Team, WRITTEN, Writers, list_of, tables_of};
 use node_table::NodeTable;
 use pool::run_list;
 use refusals::{Failure, check, check_budget, pass, refused_with, retried};
@@ -39,12 +38,9 @@ fn exchanged<R: Eprint + AllocGlobal + Threads + Wait + Sync>(
     rt: &R,
     list: &RoundList,
     first: &FirstRound,
-    workers: u32,
+    team: Team,
     gate: &Counter,
-) -> Result<Result<Exchanged, Fault>, Failure>
-    requires few { 1 ≤ workers }
-    requires many { workers ≤ MOST_WORKERS }
-{
+) -> Result<Result<Exchanged, Fault>, Failure> {
     check(list.nodes() == first.writers.nodes, "RoundList::nodes")?;
     check_budget(first.budget)?;
     let rules = Rules {
@@ -52,7 +48,7 @@ fn exchanged<R: Eprint + AllocGlobal + Threads + Wait + Sync>(
         budget: first.budget,
     };
     let tables = fresh_tables(rt, first.writers)?;
-    Ok(run_list(rt, rt.alloc(), list, tables, workers, gate, &rules))
+    Ok(run_list(rt, rt.alloc(), list, tables, team.workers(), gate, &rules))
 }
 
 fn check_exchanged(
@@ -62,42 +58,76 @@ fn check_exchanged(
 ) -> Result<(), Failure> {
     check(records.as_slice() == first.records, CALL)?;
     check(gate.counts().are_whole(first.records.len()), CALL)?;
-    check(tables.len() == first.counts.len(), CALL)?;
-    let mut counts = first.counts.iter();
+    check(tables.len() == first.held.len(), CALL)?;
+    let keys = first.writers.keys;
     check(
         tables
             .iter()
-            .all(|table| counts.next() == Some(&table.count())),
+            .zip(first.held)
+            .all(|(table, owners)| holds_all_of(table, owners, keys)),
         CALL,
     )
+}
+
+// Whether a table holds each key of these owners, who wrote it once, and nothing else.
+fn holds_all_of(table: &NodeTable, owners: &[u32], keys: u32) -> bool {
+    table.count() as usize == owners.len().saturating_mul(keys as usize)
+        && owners.iter().all(|owner| (0..keys).all(|key| table.get(*owner, key)
+            == Some(written(key))))
+}
+
+// The one write of a key, which comes behind those of the keys before it.
+fn written(key: u32) -> Entry {
+    Entry {
+        key,
+        version: key.saturating_add(1),
+        ..WRITTEN
+    }
 }
 
 /// The answer is the fold's or one fault, and after that the gate hears nothing.
 pub(crate) fn try_list<R: Print + Eprint + AllocGlobal + Threads + Wait + Sync>(
     rt: &R,
     case: &Case,
-    workers: u32,
-) -> Result<(), Failure>
-    requires few { 1 ≤ workers }
-    requires many { workers ≤ MOST_WORKERS }
-{
+    team: Team,
+) -> Result<(), Failure> {
+    try_exchanges(rt, case.name, &case.first, team, &Counter::new())
+}
+
+/// The same of eight pairs, where the workers wait for each other in their first exchanges: where one can't be started,
+/// none begins a second.
+pub(crate) fn try_starts<R: Print + Eprint + AllocGlobal + Threads + Wait + Sync>(
+    rt: &R,
+    team: Team,
+) -> Result<(), Failure> {
+    let gate = Counter::gathering(team.workers());
+    try_exchanges(rt, "eight pairs", &EIGHT_PAIRS, team, &gate)
+}
+
+fn try_exchanges<R: Print + Eprint + AllocGlobal + Threads + Wait + Sync>(
+    rt: &R,
+    case: &'static str,
+    first: &FirstRound,
+    team: Team,
+    gate: &Counter,
+) -> Result<(), Failure> {
     let trial = Trial {
         call: CALL,
-        case: case.name,
-        workers,
+        case,
+        team,
     };
-    let (alloc, first) = (rt.alloc(), &case.first);
+    let alloc = rt.alloc();
     let list = retried!(
         rt,
         "RoundList::of",
         list_of(alloc, first.writers.nodes, first.pairs)
     );
-    let gate = Counter::new();
-    match exchanged(rt, &list, first, workers, &gate)? {
-        Ok(exchanged) => check_exchanged(first, exchanged, &gate)?,
+    match exchanged(rt, &list, first, team, gate)? {
+        Ok(exchanged) => check_exchanged(first, exchanged, gate)?,
         Err(fault) => {
-            refused_with(rt, trial, workers, fault)?;
-            try_list_again(rt, &list, first, workers, &gate)?;
+            check(fault != Fault::NoThread || !gate.has_gathered(), CALL)?;
+            refused_with(rt, trial, team.workers(), fault)?;
+            try_list_again(rt, &list, first, team, gate)?;
         }
     }
     pass(rt, trial)
@@ -108,18 +138,15 @@ fn try_list_again<R: Eprint + AllocGlobal + Threads + Wait + Sync>(
     rt: &R,
     list: &RoundList,
     first: &FirstRound,
-    workers: u32,
+    team: Team,
     gate: &Counter,
-) -> Result<(), Failure>
-    requires few { 1 ≤ workers }
-    requires many { workers ≤ MOST_WORKERS }
-{
+) -> Result<(), Failure> {
     let counts = gate.counts();
     let second = Counter::new();
-    let exchanged = exchanged(rt, list, first, workers, &second)??;
+    let exchanged = exchanged(rt, list, first, team, &second)??;
     check_exchanged(first, exchanged, &second)?;
     check(
-        counts.are_broken_off(workers) && gate.counts() == counts,
+        counts.are_broken_off(team.workers()) && gate.counts() == counts,
         CALL,
     )
 }

@@ -1,8 +1,8 @@
 //! Goes through four scenarios with 1, 2 and 4 workers, step by step, list by list and text by text, and where memory
 //! or a thread is refused goes through them again: what stands after the refusal is what is promised, and the second
-//! answer is right. It prints the calls whose answers were right, and so the same whichever growth is refused.
-//! `scripts/try_refusals` refuses each in turn, of one scenario and one number of workers at a time: standard input
-//! then names both by two digits, the scenario's place and the workers.
+//! answer is right. So it does with a list of eight pairs. It prints the calls whose answers were right, and so the
+//! same whichever growth is refused. `scripts/try_refusals` refuses each in turn, of one line that is printed at a
+//! time: standard input then names the line by three digits, its call, the place of its case and the workers.
 #![tactic(auto)]
 
 mod cases;
@@ -12,45 +12,63 @@ mod steps;
 mod texts;
 mod trials;
 
-ghost use Rattle.std.specs.Prelude.{◌≤◌};
-ghost use Rattle.bench_types.specs.declared.limits.TheConstants.{MOST_WORKERS};
-
-use bench_types::limits::MOST_WORKERS;
 use bench_types::{Failed, Pull, Source};
 use cases::{CASES, Case};
+use fixtures::Team;
 use refusals::{Failure, end, pass};
 use std::process::ExitCode;
 use std::sync::Wait;
 use std::thread::Threads;
+use texts::Job;
 
 fn main(rt: HostRuntime) -> ExitCode {
     end(&rt, try_all(&rt))
 }
 
-// A case, by its place, and how many workers it is tried with, in digits.
+// What is tried of a case.
 #[derive(Clone, Copy)]
-struct Choice {
-    case: u8,
-    workers: u8,
+enum Call {
+    Step,
+    RunList,
+    Run,
+    Compare,
 }
+
+impl Call {
+    const ALL: [Call; 4] = [Call::Step, Call::RunList, Call::Run, Call::Compare];
+
+    fn digit(self) -> u8 {
+        match self {
+            Call::Step => b'0',
+            Call::RunList => b'1',
+            Call::Run => b'2',
+            Call::Compare => b'3',
+        }
+    }
+}
+
+// The digits of a call, of a case by its place, and of how many workers there are. Where there are none all is tried.
+#[derive(Clone, Copy)]
+struct Choice(Option<[u8; 3]>);
 
 impl Choice {
     // What standard input names, if anything.
-    fn from_input(rt: &impl Input) -> Result<Option<Choice>, Failure> {
-        let mut digits = [0u8; 2];
+    fn from_input(rt: &impl Input) -> Result<Choice, Failure> {
+        let mut digits = [0u8; 3];
         match Pull::new(rt.reader()).pull(&mut digits) {
-            Ok(0) => Ok(None),
-            Ok(_) => {
-                let [case, workers] = digits;
-                Ok(Some(Choice { case, workers }))
-            }
+            Ok(0) => Ok(Choice(None)),
+            Ok(_) => Ok(Choice(Some(digits))),
             Err(Failed) => Err(Failure::Wrong("input")),
         }
     }
 
-    fn is(self, case: usize, workers: u32) -> bool {
-        usize::from(self.case.wrapping_sub(b'0')) == case
-            && u32::from(self.workers.wrapping_sub(b'0')) == workers
+    fn has(self, call: Call, place: usize, team: Team) -> bool {
+        let Choice(Some([first, second, third])) = self else {
+            return true;
+        };
+        first == call.digit()
+            && usize::from(second.wrapping_sub(b'0')) == place
+            && u32::from(third.wrapping_sub(b'0')) == team.workers()
     }
 }
 
@@ -59,10 +77,17 @@ fn try_all<R: Print + Eprint + Input + AllocGlobal + Threads + Wait + Sync>(
 ) -> Result<(), Failure> {
     let choice = Choice::from_input(rt)?;
     for (place, case) in CASES.iter().enumerate() {
-        for workers in [1, 2, 4] {
-            if choice.is_none_or(|choice| choice.is(place, workers)) {
-                try_case(rt, case, workers)?;
+        for team in Team::ALL {
+            for call in Call::ALL {
+                if choice.has(call, place, team) {
+                    try_call(rt, call, case, team)?;
+                }
             }
+        }
+    }
+    for team in Team::ALL {
+        if choice.has(Call::RunList, CASES.len(), team) {
+            lists::try_starts(rt, team)?;
         }
     }
     for call in ["read_all", "check_input", "Sim::new"] {
@@ -71,16 +96,19 @@ fn try_all<R: Print + Eprint + Input + AllocGlobal + Threads + Wait + Sync>(
     Ok(())
 }
 
-fn try_case<R: Print + Eprint + AllocGlobal + Threads + Wait + Sync>(
+fn try_call<R: Print + Eprint + AllocGlobal + Threads + Wait + Sync>(
     rt: &R,
+    call: Call,
     case: &Case,
-    workers: u32,
-) -> Result<(), Failure>
-    requires few { 1 ≤ workers }
-    requires many { workers ≤ MOST_WORKERS }
-{
-    texts::try_input(rt, case)?;
-    steps::try_steps(rt, case, workers)?;
-    lists::try_list(rt, case, workers)?;
-    texts::try_texts(rt, case, workers)
+    team: Team,
+) -> Result<(), Failure> {
+    match call {
+        Call::Step => {
+            texts::try_input(rt, case)?;
+            steps::try_steps(rt, case, team)
+        }
+        Call::RunList => lists::try_list(rt, case, team),
+        Call::Run => texts::try_job(rt, Job::Run, case, team),
+        Call::Compare => texts::try_job(rt, Job::Compare, case, team),
+    }
 }

@@ -1,16 +1,13 @@
 //! Simulations, step by step.
 
-ghost use Rattle.std.specs.Prelude.{◌≤◌};
-ghost use Rattle.bench_types.specs.declared.limits.TheConstants.{MOST_WORKERS};
-
 use crate::cases::Case;
 use crate::counting::Counter;
 use crate::trials::Trial;
 use bench::Sim;
 use bench_types::Fault;
-use bench_types::limits::MOST_WORKERS;
+use fixtures::Team;
 use refusals::{Failure, check, pass, refused, refused_with, retried};
-use scenario::{Scenario, read};
+use scenario::{Partition, Scenario, read};
 use std::sync::Wait;
 use std::thread::Threads;
 
@@ -28,7 +25,7 @@ fn is_of_case<R: Eprint + AllocGlobal>(
     let wanted = scenario_of(rt, case)?;
     Ok(
         are_alike(scenario, &wanted)
-            && scenario.partitions().len() == wanted.partitions().len()
+            && are_same_partitions(scenario.partitions(), wanted.partitions())
             && scenario.restarts() == wanted.restarts()
             && scenario.loads() == wanted.loads(),
     )
@@ -42,6 +39,14 @@ fn are_alike(one: &Scenario, other: &Scenario) -> bool {
         && (one.peers(), one.rotation(), one.choice())
             == (other.peers(), other.rotation(), other.choice())
         && (one.loss_ppm(), one.writes()) == (other.loss_ppm(), other.writes())
+}
+
+fn are_same_partitions(some: &[Partition], others: &[Partition]) -> bool {
+    some.len() == others.len()
+        && some.iter().zip(others).all(|(one, other)| {
+            (one.from, one.to) == (other.from, other.to)
+                && one.apart.as_slice() == other.apart.as_slice()
+        })
 }
 
 // The simulation of a scenario, which comes back where memory is refused.
@@ -61,20 +66,17 @@ fn play<R: Threads + Wait + Sync>(
     rt: &R,
     sim: &mut Sim,
     case: &Case,
-    workers: u32,
+    team: Team,
     gate: &Counter,
-) -> Result<(), Failure>
-    requires few { 1 ≤ workers }
-    requires many { workers ≤ MOST_WORKERS }
-{
+) -> Result<(), Failure> {
     for row in case.rows {
-        let round = sim.step(rt, workers, gate)?;
+        let round = sim.step(rt, team.workers(), gate)?;
         check(
             round.row() == *row && round.records().len() == row.exchanges as usize,
             "step",
         )?;
     }
-    let behind = sim.step(rt, workers, gate).err();
+    let behind = sim.step(rt, team.workers(), gate).err();
     check(behind == Some(Fault::Finished) && !sim.is_broken(), "step")
 }
 
@@ -82,18 +84,15 @@ fn play<R: Threads + Wait + Sync>(
 fn check_broken<R: Threads + Wait + Sync>(
     rt: &R,
     sim: &mut Sim,
-    workers: u32,
+    team: Team,
     gate: &Counter,
-) -> Result<(), Failure>
-    requires few { 1 ≤ workers }
-    requires many { workers ≤ MOST_WORKERS }
-{
+) -> Result<(), Failure> {
     let done = sim.rounds_done();
     check(done < sim.rounds(), "rounds_done")?;
     for _ in 0..3 {
         check(sim.is_broken() && sim.tables().is_empty(), "is_broken")?;
         check(sim.rounds_done() == done, "rounds_done")?;
-        let answer = sim.step(rt, workers, gate).err();
+        let answer = sim.step(rt, team.workers(), gate).err();
         check(answer == Some(Fault::Broken), "step")?;
     }
     Ok(())
@@ -105,37 +104,31 @@ fn play_at_last<R: Eprint + AllocGlobal + Threads + Wait + Sync>(
     mut sim: Sim,
     case: &Case,
     trial: Trial,
-) -> Result<(), Failure>
-    requires few { 1 ≤ trial.workers }
-    requires many { trial.workers ≤ MOST_WORKERS }
-{
-    let workers = trial.workers;
+) -> Result<(), Failure> {
+    let team = trial.team;
     let gate = Counter::new();
-    let Err(failure) = play(rt, &mut sim, case, workers, &gate) else {
+    let Err(failure) = play(rt, &mut sim, case, team, &gate) else {
         return Ok(());
     };
-    refused_with(rt, trial, workers, failure)?;
+    refused_with(rt, trial, team.workers(), failure)?;
     let counts = gate.counts();
-    check_broken(rt, &mut sim, workers, &gate)?;
+    check_broken(rt, &mut sim, team, &gate)?;
     let scenario = sim.into_scenario();
     check(is_of_case(rt, &scenario, case)?, "into_scenario")?;
     let mut sim = open(rt, case, scenario)?;
-    play(rt, &mut sim, case, workers, &Counter::new())?;
+    play(rt, &mut sim, case, team, &Counter::new())?;
     check(gate.counts() == counts, "step")
 }
 
 pub(crate) fn try_steps<R: Print + Eprint + AllocGlobal + Threads + Wait + Sync>(
     rt: &R,
     case: &Case,
-    workers: u32,
-) -> Result<(), Failure>
-    requires few { 1 ≤ workers }
-    requires many { workers ≤ MOST_WORKERS }
-{
+    team: Team,
+) -> Result<(), Failure> {
     let trial = Trial {
         call: "step",
         case: case.name,
-        workers,
+        team,
     };
     let sim = open(rt, case, scenario_of(rt, case)?)?;
     play_at_last(rt, sim, case, trial)?;

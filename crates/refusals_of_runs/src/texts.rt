@@ -1,13 +1,10 @@
 //! From a text to texts.
 
-ghost use Rattle.std.specs.Prelude.{◌≤◌};
-ghost use Rattle.bench_types.specs.declared.limits.TheConstants.{MOST_WORKERS};
-
 use crate::cases::Case;
 use crate::trials::Trial;
 use bench::{check_input, compare, read_all, run};
-use bench_types::limits::MOST_WORKERS;
 use bench_types::{Fault, Pull, Push};
+use fixtures::Team;
 use refusals::{Failure, check, pass, refused_with, retried};
 use std::alloc::Global;
 use std::sync::Wait;
@@ -36,7 +33,7 @@ struct Outcome {
 
 /// Which texts are asked for.
 #[derive(Clone, Copy)]
-enum Job {
+pub(crate) enum Job {
     Run,
     Compare,
 }
@@ -61,18 +58,15 @@ impl Job {
         self,
         rt: &R,
         case: &Case,
-        workers: u32,
-    ) -> Result<Outcome, Failure>
-        requires few { 1 ≤ workers }
-        requires many { workers ≤ MOST_WORKERS }
-    {
+        team: Team,
+    ) -> Result<Outcome, Failure> {
         let alloc = rt.alloc();
         let mut report = retried!(rt, "room", writer(alloc));
         let mut trace = retried!(rt, "room", writer(alloc));
         let reader = &mut Pull::new(case.texts.scenario.as_bytes());
         let answer = match self {
-            Job::Run => run(rt, alloc, reader, &mut report, &mut trace, workers),
-            Job::Compare => compare(rt, alloc, reader, &mut report, workers),
+            Job::Run => run(rt, alloc, reader, &mut report, &mut trace, team.workers()),
+            Job::Compare => compare(rt, alloc, reader, &mut report, team.workers()),
         };
         Ok(Outcome {
             answer,
@@ -94,49 +88,34 @@ fn check_beginnings(job: Job, case: &Case, report: &[u8], trace: &[u8]) -> Resul
     check(is_beginning(trace, whole_trace), job.name())
 }
 
-fn try_job<R: Print + Eprint + AllocGlobal + Threads + Wait + Sync>(
+/// The report and the trace of a run are those of the case, and so is its comparison.
+pub(crate) fn try_job<R: Print + Eprint + AllocGlobal + Threads + Wait + Sync>(
     rt: &R,
     job: Job,
     case: &Case,
-    workers: u32,
-) -> Result<(), Failure>
-    requires few { 1 ≤ workers }
-    requires many { workers ≤ MOST_WORKERS }
-{
+    team: Team,
+) -> Result<(), Failure> {
     let trial = Trial {
         call: job.name(),
         case: case.name,
-        workers,
+        team,
     };
     let Outcome {
         answer,
         report,
         trace,
-    } = job.carry_out(rt, case, workers)?;
+    } = job.carry_out(rt, case, team)?;
     match answer {
         Ok(()) => check_whole(job, case, &report, &trace)?,
         Err(fault) => {
             check_beginnings(job, case, &report, &trace)?;
-            refused_with(rt, trial, workers, fault)?;
-            let second = job.carry_out(rt, case, workers)?;
+            refused_with(rt, trial, team.workers(), fault)?;
+            let second = job.carry_out(rt, case, team)?;
             second.answer?;
             check_whole(job, case, &second.report, &second.trace)?;
         }
     }
     pass(rt, trial)
-}
-
-/// The report and the trace of a run are those of the case, and so is its comparison.
-pub(crate) fn try_texts<R: Print + Eprint + AllocGlobal + Threads + Wait + Sync>(
-    rt: &R,
-    case: &Case,
-    workers: u32,
-) -> Result<(), Failure>
-    requires few { 1 ≤ workers }
-    requires many { workers ≤ MOST_WORKERS }
-{
-    try_job(rt, Job::Run, case, workers)?;
-    try_job(rt, Job::Compare, case, workers)
 }
 
 /// A text is read whole, and checked.

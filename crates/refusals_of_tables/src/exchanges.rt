@@ -1,4 +1,4 @@
-//! Exchanges of two nodes that have written their one key.
+//! Exchanges of two nodes that have written one of their keys.
 
 use crate::tables::written;
 use bench_types::{Budget, Exchange, Fate, Item, Mode, Record, Rules};

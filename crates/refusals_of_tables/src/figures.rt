@@ -12,10 +12,14 @@ use refusals::{Failure, check, pass, retried};
 use staleness::{OwnerList, figures};
 use std::thread::Threads;
 
-const WRITTEN: [Item; 3] = [
+// What it writes, of which the last three are in the long list alone.
+const WRITTEN: [Item; 6] = [
     item!(0, 0, 1, 0, 1),
     item!(0, 0, 2, 0, 2),
     item!(0, 0, 3, 0, 3),
+    item!(0, 0, 4, 0, 3),
+    item!(0, 0, 5, 0, 3),
+    item!(0, 0, 6, 0, 3),
 ];
 
 // One key is stale, since the write of round 2.
@@ -24,6 +28,13 @@ const STALE: Figures = Figures {
     greatest: 2,
     leftover: 0,
 };
+
+// Whether a list has the first so many of them, and no other.
+fn has_written(list: &OwnerList, count: u32) -> bool {
+    list.len() == count
+        && WRITTEN.iter().take(count as usize).all(|written| list.entry(written.entry.mark())
+            == Some(written.entry))
+}
 
 // The owner writes its key in a round.
 fn push(rt: &impl Eprint, list: &mut OwnerList, born: u32) -> Result<(), Failure>
@@ -37,9 +48,9 @@ fn push(rt: &impl Eprint, list: &mut OwnerList, born: u32) -> Result<(), Failure
         rt,
         "OwnerList::push",
         list.push(0, born),
-        list.len() == before
+        has_written(list, before)
     );
-    check(list.len() == before + 1, "OwnerList::push")
+    check(has_written(list, before + 1), "OwnerList::push")
 }
 
 fn owner_list<R: Eprint + AllocGlobal>(rt: &R) -> Result<OwnerList, Failure>

@@ -3,7 +3,7 @@
 ghost use Rattle.std.specs.Prelude.{◌≡◌, IfOk};
 
 use bench_types::{Fault, Mode, Push, Record, Row};
-use fixtures::{list_of, sent};
+use fixtures::{list_of, row, sent};
 use refusals::{Failure, check, pass, refused, retried};
 use report::{
     compare_header, report_header, trace_header, write_compare_row, write_report_row,
@@ -18,17 +18,7 @@ const HELD: &[u8] = b"held\n";
 const ROOM: usize = 200;
 
 // The row and the records of two nodes that write one key once.
-const ROW: Row = Row {
-    round: 1,
-    exchanges: 2,
-    unreached: 0,
-    lost: 0,
-    entries: 2,
-    cut: 0,
-    stale: 0,
-    greatest: 0,
-    leftover: 0,
-};
+const ROW: Row = row!(1, 2, 0, 0, 2, 0, 0, 0, 0);
 
 const RECORDS: [Record; 2] = [sent!(1, 1, 1, 1, 0, 0), sent!(2, 2, 0, 0, 0, 0)];
 

@@ -8,7 +8,7 @@ use fixtures::{holds, item};
 use node_table::NodeTable;
 use refusals::{Failure, check, pass, retried};
 
-// What each of two nodes writes of its one key, and what the first writes then.
+// What each of two nodes writes of its first key, and what the first writes then.
 const OWN: Item = item!(0, 0, 1, 0, 1);
 
 const OTHER: Item = item!(1, 0, 1, 0, 1);
@@ -81,11 +81,12 @@ pub(crate) fn take(
     Ok(())
 }
 
-/// The table of one of two nodes, which has written its one key in round 1.
+/// The table of one of two nodes, which has written the first of its four keys in round 1. It has room for no other
+/// owner's keys.
 pub(crate) fn written<R: Eprint + AllocGlobal>(rt: &R, node: u32) -> Result<NodeTable, Failure>
     requires { node < 2 }
 {
-    let mut table = new_table(rt, node, 2, 1)?;
+    let mut table = new_table(rt, node, 2, 4)?;
     write(rt, &mut table, &[], item!(node, 0, 1, 0, 1))?;
     Ok(table)
 }
@@ -105,7 +106,7 @@ fn is_first_of_two(table: &NodeTable) -> bool {
         table.nodes(),
         table.keys(),
         table.generation(),
-    ) == (0, 2, 1, 0)
+    ) == (0, 2, 4, 0)
 }
 
 pub(crate) fn try_tables<R: Print + Eprint + AllocGlobal>(rt: &R) -> Result<(), Failure> {

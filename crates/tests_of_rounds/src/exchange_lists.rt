@@ -1,6 +1,6 @@
 //! Lists of exchanges that lose nothing and turn no order.
 
-use bench_types::Exchange;
+pub(crate) use fixtures::between;
 use round_plan::RoundList;
 use std::alloc::AllocGlobal;
 use std::process::Abort;
@@ -13,17 +13,6 @@ pub(crate) const TWICE: &[(u32, u32)] = &[(0, 2), (1, 3), (2, 0), (3, 1)];
 
 /// Two nodes that meet twice.
 pub(crate) const PAIR: &[(u32, u32)] = &[(0, 1), (1, 0)];
-
-pub(crate) fn between(initiator: u32, responder: u32) -> Exchange {
-    Exchange {
-        initiator,
-        responder,
-        lost1: false,
-        lost2: false,
-        lost3: false,
-        rotation: 0,
-    }
-}
 
 /// The list of exchanges between these initiators and responders, where a round may have it.
 pub(crate) fn try_list_of(

@@ -3,6 +3,7 @@
 use crate::comparing::{expect, expect_at};
 use crate::exchange_lists::{PAIR, list_of};
 use bench_types::{Fate, Mode, Push, Record, Row};
+use fixtures::row;
 use report::{
     compare_header, report_header, trace_header, write_compare_row, write_report_row,
     write_trace_rows,
@@ -17,17 +18,7 @@ pub(crate) const TRACE_HEADER: &[u8] =
     b"round,index,initiator,responder,fate,digest1,digest2,back,forth,back_cut,forth_cut\n";
 
 /// The row of a run of two nodes with one key and one write each.
-pub(crate) const TWO_NODES: Row = Row {
-    round: 1,
-    exchanges: 2,
-    unreached: 0,
-    lost: 0,
-    entries: 2,
-    cut: 0,
-    stale: 0,
-    greatest: 0,
-    leftover: 7,
-};
+pub(crate) const TWO_NODES: Row = row!(1, 2, 0, 0, 2, 0, 0, 0, 7);
 
 pub(crate) const TWO_NODES_LINE: &[u8] = b"1,2,0,0,2,0,0,0\n";
 

@@ -4,6 +4,8 @@
 #![tactic(auto)]
 
 #[cfg(test)]
+mod both_tables;
+#[cfg(test)]
 mod failing_ends;
 #[cfg(test)]
 mod forgetting;

@@ -1,8 +1,8 @@
 //! Simulations, step by step.
 
 use bench::{FreeGate, Round, Sim};
-use bench_types::{Fault, Figures, Mark, Row};
-use fixtures::{RING_OF_FOUR, TWO_NODES, between, sent};
+use bench_types::{Fault, Figures, Mark};
+use fixtures::{RING_OF_FOUR, TWO_NODES, between, row, sent};
 use node_table::NodeTable;
 use scenario::read;
 use std::alloc::Global;
@@ -33,18 +33,7 @@ fn expect_exchanges(rt: &impl Abort, round: &Round) {
 }
 
 fn expect_row(rt: &impl Abort, round: &Round) {
-    let row = Row {
-        round: 1,
-        exchanges: 2,
-        unreached: 0,
-        lost: 0,
-        entries: 2,
-        cut: 0,
-        stale: 0,
-        greatest: 0,
-        leftover: 0,
-    };
-    assert_eq!(rt; round.row(), row);
+    assert_eq!(rt; round.row(), row!(1, 2, 0, 0, 2, 0, 0, 0, 0));
     let figures = Figures {
         stale: 0,
         greatest: 0,

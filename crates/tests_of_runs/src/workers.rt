@@ -5,10 +5,10 @@ ghost use Rattle.bench_types.specs.declared.limits.TheConstants.{MOST_WORKERS};
 
 use crate::steps::sim_of;
 use bench::{FreeGate, Round, Sim};
+use bench_types::Fault;
 use bench_types::limits::MOST_WORKERS;
-use bench_types::{Fault, Row};
 use fixtures::{
-    A_NODE_DOWN, RESTART_WITHOUT_DOWNTIME, RING_OF_FOUR, TWO_NODES, TWO_NODES_CUT, changed,
+    A_NODE_DOWN, RESTART_WITHOUT_DOWNTIME, RING_OF_FOUR, TWO_NODES, TWO_NODES_CUT, changed, row,
 };
 use node_table::NodeTable;
 use std::alloc::AllocGlobal;
@@ -16,7 +16,7 @@ use std::process::Abort;
 use std::sync::Wait;
 use std::thread::Threads;
 
-fn expect_same_round(rt: &impl Abort, round: &Round, alone: &Round) {
+pub(crate) fn expect_same_round(rt: &impl Abort, round: &Round, alone: &Round) {
     assert_eq!(rt; round.row(), alone.row());
     assert_eq!(rt; round.list().exchanges(), alone.list().exchanges());
     assert_eq!(rt; round.records(), alone.records());
@@ -116,17 +116,7 @@ const BOTH_DOWN: &str =
 fn all_nodes_down_with_workers(rt: HostRuntime) -> Result<(), Fault> {
     let text = changed(rt.alloc(), &[], BOTH_DOWN)?;
     let mut sim = sim_of(rt.alloc(), text.as_str())?;
-    let row = Row {
-        round: 1,
-        exchanges: 0,
-        unreached: 0,
-        lost: 0,
-        entries: 0,
-        cut: 0,
-        stale: 0,
-        greatest: 0,
-        leftover: 0,
-    };
-    assert_eq!(rt; sim.step(&rt, MOST_WORKERS, &FreeGate)?.row(), row);
+    let round = sim.step(&rt, MOST_WORKERS, &FreeGate)?;
+    assert_eq!(rt; round.row(), row!(1, 0, 0, 0, 0, 0, 0, 0, 0));
     expect_same(&rt, text.as_str(), MOST_WORKERS)
 }

@@ -1,4 +1,4 @@
-use Rattle.std.proofs.Common.{sym, ap, subst, ◌∙◌, arith, All}
+use Rattle.std.proofs.Common.{◌≡◌, length, vec_len, refl, sym, ap, subst, ◌∙◌, arith, All}
 use Rattle.std.proofs.lemmas.List.Elements.{All-push}
 use Rattle.pool.specs.inner.Joined.{IsOfBoard}
 use Rattle.pool.proofs.threads.start_all.Goals as goal
@@ -21,4 +21,15 @@ loop-own-preserved g c =
       room = pushed.capacity ∙ so_far.room;
       promised = subst (All (IsOfBoard board)) (sym pushed.items)
           (All-push (IsOfBoard board) c.loop-own.handles.items c.in-Ok.handle so_far.promised (ap (λ p. p.0.value) c.in-Ok.ensures.ok ∙ c.of.ensures));
+    }
+
+pub loop-own-init : goal.loop-own-init
+loop-own-init g c =
+    let empty : vec_len c.args.handles.now ≡ 0 = omega (arith, ap length c.requires.none, c.args.handles.now.ok.0) in
+    record {
+      seat = c.requires.seat;
+      parts = omega (arith, empty);
+      count = omega (arith, empty);
+      room = refl;
+      promised = λ k d lt. absurd (omega (arith, lt, ap length c.requires.none));
     }

@@ -1,7 +1,6 @@
 -- Sums that a loop counts.
--- Serves `how_many_above`, `how_many_held`, `how_many_upto`, `Places` and `version_tables`.
+-- Serves `how_many_above`, `how_many_held`, `how_many_upto`, `lower_counting`, `Places` and `version_tables`.
 use Rattle.std.proofs.Common.{◌≡◌, ℕ, zero, suc, ◌+◌, ◌<◌, ◌≤◌, Bool, true, false, cond, ap, ◌∙◌, arith}
-use Rattle.std.proofs.Common.{Fits, w32}
 use Rattle.bench_types.specs.declared.limits.TheConstants.{MOST_NODES}
 use Rattle.planes.specs.Sums.{sum_below}
 
@@ -13,11 +12,14 @@ pub count_le : (n : ℕ) (test : ℕ → Bool) → sum_below n (λ r. cond (test
 count_le zero test = omega arith
 count_le (suc n) test = omega (arith, count_le n test, one_le (test n))
 
-pub count_fits : (test : ℕ → Bool) (r n count x : ℕ) (b : Bool) → count ≡ sum_below r (λ k. cond (test k) 1 0) → x ≡ cond b 1 0 → r < n → n ≤ MOST_NODES → Fits w32 (count + x)
-count_fits test r n count x b is now lt most = omega (arith, is, now, lt, most, count_le r test, one_le b)
+pub count_below : (test : ℕ → Bool) (r n count most : ℕ) → count ≡ sum_below r (λ k. cond (test k) 1 0) → r < n → n ≤ MOST_NODES → MOST_NODES ≤ most → count < most
+count_below test r n count most is lt few fits = omega (arith, is, lt, few, fits, count_le r test)
 
 pub sum_next : (f : ℕ → ℕ) (r count x : ℕ) → count ≡ sum_below r f → x ≡ f r → count + x ≡ sum_below (r + 1) f
 sum_next f r count x is now = (λ i. is i + now i) ∙ ap (λ n. sum_below n f) {x = suc r} {y = r + 1} (omega arith)
+
+pub number_next : (f : ℕ → ℕ) (r count x : ℕ) {y : ℕ} → count ≡ sum_below r f → x ≡ count + y → y ≡ f r → x ≡ sum_below (r + 1) f
+number_next f r count x {y} is plus now = plus ∙ sum_next f r count y is now
 
 pub sum_whole : (f : ℕ → ℕ) (r n count : ℕ) → count ≡ sum_below r f → n ≤ r → r ≤ n → count ≡ sum_below n f
 sum_whole f r n count is le ge = is ∙ ap (λ m. sum_below m f) {x = r} {y = n} (omega (arith, le, ge))

@@ -1,13 +1,30 @@
 -- Lists that are changed element by element.
--- Serves the functions of `lags` and `planes` and `version_tables`.
-use Rattle.std.proofs.Common.{◌≡◌, ℕ, ◌+◌, ◌<◌, ◌≤◌, List, length, get_or, set, map, inl, inr, refl, sym, ap, ◌∙◌, subst, arith}
+-- Serves the functions of `grids`, `lags` and `planes` and `version_tables`.
+use Rattle.std.proofs.Common.{◌≡◌, ℕ, ◌+◌, ◌<◌, ◌≤◌, List, length, [], ◌++◌, ◌-◌, get_or, set, map, take, replicate, inl, inr, refl, sym, ap, ◌∙◌, subst, arith}
+use Rattle.std.proofs.Math.Seq.{take-nil}
 use Rattle.std.proofs.lemmas.Bool.{cases_eq}
-use Rattle.std.proofs.lemmas.List.{get_or-set_same, get_or-set_other, length-set, get_or-map, map-set}
+use Rattle.std.proofs.lemmas.List.{get_or-set_same, get_or-set_other, length-set, get_or-map, get_or-replicate, length-map, length-replicate, map-set}
+use Rattle.planes.specs.Planes.{HasEach}
 use Rattle.planes.specs.inner.Elementwise.{AreChangedUpto, AreChanged}
 
 -- what is read at an index, as a number
 pub number-at : {N : Type 0} (number : N → ℕ) (xs : List N) (r : ℕ) (x : N) → r < length xs → x ≡ get_or xs r x → number x ≡ get_or (map number xs) r 0
 number-at number xs r x lt is = ap number is ∙ sym (get_or-map number xs r x 0 lt)
+
+-- an empty vector that is filled up
+pub filled : {N : Type 0} (count : ℕ) (x : N) (old new : List N) (len : ℕ) → old ≡ [] → len ≡ 0 → new ≡ take count old ++ replicate (count - len) x → new ≡ replicate count x
+filled count x old new len none empty is =
+    is ∙ ap (λ xs. take count xs ++ replicate (count - len) x) none ∙ ap (λ xs. xs ++ replicate (count - len) x) (take-nil count)
+    ∙ ap (λ n. replicate n x) {x = count - len} {y = count} (omega (arith, empty))
+
+-- the same number again and again
+pub all-same : {N : Type 0} (number : N → ℕ) (count : ℕ) (x : N) (xs : List N) → xs ≡ replicate count x → HasEach count (λ r n. n ≡ number x) (map number xs)
+all-same number count x xs is = record {
+  size = length-map xs number ∙ ap length is ∙ length-replicate count x;
+  each = λ r lt.
+      get_or-map number xs r x 0 (omega (arith, lt, ap length is, length-replicate count x))
+      ∙ ap number (ap (λ ys. get_or ys r x) is ∙ get_or-replicate count r x x lt);
+}
 
 module _ (changed : ℕ → ℕ → ℕ → Type 0) (old : List ℕ) where
   pub changed_none : AreChangedUpto changed old old 0

@@ -233,6 +233,13 @@ pub plane-cells : {N : Type 0} (number : N → ℕ) (nodes key n : ℕ) (xs : Li
 plane-cells number nodes key n xs is within =
     subst (λ k. HasEach nodes (λ r m. m ≡ cell (map number xs) nodes r key) (map number (take k (drop (key * nodes) xs)))) (sym is) (plane_cells number nodes key xs within)
 
+-- the numbers of a block before it is changed
+pub block-cells : (changed : ℕ → ℕ → ℕ → ℕ → Type 0) (nodes : ℕ) (old : List ℕ) {N : Type 0} (number : N → ℕ) (xs : List N) (key n : ℕ)
+    → n ≡ nodes → ArePlanesChangedUpto changed nodes old (map number xs) key → key * nodes + nodes ≤ length old
+    → (r : ℕ) → r < nodes → get_or (map number (take n (drop (key * nodes) xs))) r 0 ≡ cell old nodes r key
+block-cells changed nodes old number xs key n is before within r lt =
+    (plane-cells number nodes key n xs is (omega (arith, within, before.size, length-map xs number))).each r lt ∙ before.from (key * nodes + r) (omega arith)
+
 -- a block of planes is changed number by number
 pub planes-written : (changed : ℕ → ℕ → ℕ → ℕ → Type 0) (nodes : ℕ) (old : List ℕ) {N : Type 0} (number : N → ℕ) (xs ys : List N) (key n : ℕ) (in_block : ℕ → ℕ → ℕ → Type 0)
     → n ≡ nodes → ArePlanesChangedUpto changed nodes old (map number xs) key → key * nodes + nodes ≤ length old

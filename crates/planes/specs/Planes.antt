@@ -48,6 +48,11 @@ number_taken number sent low high = max number (if nat_lt low sent && nat_le sen
 abbrev pub cell : List ℕ → ℕ → Cells
 cell xs nodes owner key = slice_index xs (key * nodes + owner)
 
+-- numbers raised to those sent that are above one mark of their owner and up to another
+abbrev pub numbers_taken : ℕ → List ℕ → List ℕ → List ℕ → List ℕ → Cells
+numbers_taken nodes cells sent low high owner key =
+    number_taken (cell cells nodes owner key) (cell sent nodes owner key) (slice_index low owner) (slice_index high owner)
+
 -- planes of so many nodes, one for each key
 pub record IsGrid (nodes keys size : ℕ) : Type 0 where
   pub whole : size ≡ keys * nodes

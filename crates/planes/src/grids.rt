@@ -5,7 +5,7 @@ ghost use Rattle.std.specs.Prelude.{◌≡◌, ℕ, ◌+◌, ◌*◌, ◌<◌, �
 ghost use Rattle.bench_types.specs.declared.faults.Fault.TheVariants.{OutOfMemory};
 ghost use Rattle.bench_types.specs.declared.limits.TheConstants.{MOST_NODES, MOST_KEYS};
 ghost use Rattle.planes.specs.Planes.{count_above};
-ghost use Rattle.planes.specs.Planes.{cell, number_ahead, number_taken, total_of, ArePlanesChanged, HasEach, HasEachPlace, IsGrid, IsNextAbove, IsRaised};
+ghost use Rattle.planes.specs.Planes.{cell, numbers_taken, number_ahead, number_taken, total_of, ArePlanesChanged, HasEach, HasEachPlace, IsGrid, IsNextAbove, IsRaised};
 ghost use Rattle.planes.specs.Planes.{count_between};
 
 use crate::numbers::Number;
@@ -29,10 +29,16 @@ pub(crate) fn all_of<N: Number>(alloc: Global, count: usize, number: N) -> Resul
     ensures only { IsOkUnless result OutOfMemory }
 {
     let mut numbers = Vec::with_capacity(alloc, count)?;
-    for done in 0..count {
-        numbers.push(number)?;
-    }
+    numbers.resize(count, number)?;
     Ok(numbers)
+}
+
+/// So many times 0.
+pub fn zeros<N: Number>(alloc: Global, count: usize) -> Result<Vec<N>, Fault>
+    ensures zeros { IfOk result (λ v. HasEach count (λ r n. n ≡ 0) (map N.number v.items)) }
+    ensures only { IsOkUnless result OutOfMemory }
+{
+    all_of(alloc, count, N::zero())
 }
 
 // Counts for each owner how many of its numbers are above a mark.
@@ -156,30 +162,19 @@ pub fn least_above<N: Number>(
     Ok(least)
 }
 
-// Puts the numbers that are above both the peer's and their owner's mark, and 0 in place of the others.
-fn put_planes_ahead<N: Number>(
-    ahead: &mut [N],
-    cells: &[N],
-    peer: &[N],
-    nodes: usize,
-    keys: usize,
-    low: &[N],
-)
-    requires grid { IsGrid nodes keys (length ahead.old) }
-    requires cells { length cells.now ≡ length ahead.old }
-    requires peer { length peer.now ≡ length ahead.old }
+// Keeps the numbers that are above both the peer's and their owner's mark, and puts 0 in place of the others.
+fn keep_planes_ahead<N: Number>(numbers: &mut [N], peer: &[N], nodes: usize, keys: usize, low: &[N])
+    requires grid { IsGrid nodes keys (length numbers.old) }
+    requires peer { length peer.now ≡ length numbers.old }
     requires low { length low.now ≡ nodes }
-    ensures ahead { ArePlanesChanged
-        (λ r k x y. y ≡ number_ahead (cell (map N.number cells.now) nodes r k) (cell (map N.number peer.now) nodes r k)
-        (slice_index (map N.number low.now) r)) nodes keys
-        (map N.number ahead.old) (map N.number ahead.new) }
+    ensures { ArePlanesChanged (λ r k x y. y ≡ number_ahead x (cell (map N.number peer.now) nodes r k)
+        (slice_index (map N.number low.now) r)) nodes keys (map N.number numbers.old) (map N.number numbers.new) }
 {
     for key in 0..keys {
-        let plane = plane_of(cells, nodes, key);
         let of_peer = plane_of(peer, nodes, key);
         let start = key * nodes;
-        let block = &mut ahead[start..start + nodes];
-        planes::put_ahead(block, plane, of_peer, low);
+        let block = &mut numbers[start..start + nodes];
+        planes::keep_ahead(block, of_peer, low);
     }
 }
 
@@ -200,8 +195,8 @@ pub fn ahead<N: Number>(
         (slice_index (map N.number low.now) r)) (map N.number v.items)) }
     ensures only { IsOkUnless result OutOfMemory }
 {
-    let mut ahead = all_of(alloc, cells.len(), N::zero())?;
-    put_planes_ahead(&mut ahead, cells, peer, nodes, keys, low);
+    let mut ahead = Vec::from_slice(alloc, cells)?;
+    keep_planes_ahead(&mut ahead, peer, nodes, keys, low);
     Ok(ahead)
 }
 
@@ -248,9 +243,11 @@ pub fn total_upto<N: Number>(cells: &[N], nodes: usize, keys: usize, high: &[N])
     total
 }
 
-/// Raises each number to the one sent, where that is above its owner's one mark and up to the other.
+/// Raises each number to the one sent, where that is above its owner's one mark and up to the other, and each owner's
+/// greatest number to the greatest of its numbers then.
 pub fn take<N: Number>(
     cells: &mut [N],
+    greatest: &mut [N],
     sent: &[N],
     nodes: usize,
     keys: usize,
@@ -258,6 +255,7 @@ pub fn take<N: Number>(
     high: &[N],
 )
     requires grid { IsGrid nodes keys (length cells.old) }
+    requires greatest { length greatest.old ≡ nodes }
     requires sent { length sent.now ≡ length cells.old }
     requires low { length low.now ≡ nodes }
     requires high { length high.now ≡ nodes }
@@ -265,25 +263,14 @@ pub fn take<N: Number>(
         (λ r k x y. y ≡ number_taken x (cell (map N.number sent.now) nodes r k) (slice_index (map N.number low.now) r)
         (slice_index (map N.number high.now) r)) nodes keys
         (map N.number cells.old) (map N.number cells.new) }
+    ensures greatest { HasEach nodes (λ r y. IsRaised (numbers_taken nodes (map N.number cells.old) (map N.number sent.now)
+        (map N.number low.now) (map N.number high.now)) keys r (slice_index (map N.number greatest.old) r) y)
+        (map N.number greatest.new) }
 {
     for key in 0..keys {
         let plane = plane_of(sent, nodes, key);
         let start = key * nodes;
         let block = &mut cells[start..start + nodes];
-        planes::take_plane(block, plane, low, high);
-    }
-}
-
-/// Raises each owner's mark to the greatest of its numbers.
-pub fn raise<N: Number>(marks: &mut [N], cells: &[N], nodes: usize, keys: usize)
-    requires grid { IsGrid nodes keys (length cells.now) }
-    requires marks { length marks.old ≡ nodes }
-    ensures marks { HasEach nodes
-        (λ r y. IsRaised (cell (map N.number cells.now) nodes) keys r (slice_index (map N.number marks.old) r) y)
-        (map N.number marks.new) }
-{
-    for key in 0..keys {
-        let plane = plane_of(cells, nodes, key);
-        planes::raise(marks, plane);
+        planes::take_plane(block, greatest, plane, low, high);
     }
 }

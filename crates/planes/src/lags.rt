@@ -1,9 +1,11 @@
 //! Loops over all planes of a table that compare its numbers with the last ones.
 
-ghost use Rattle.std.specs.Prelude.{◌≡◌, ℕ, length, map, min, nat_lt, slice_index, IfOk, IsOkUnless};
+ghost use Rattle.std.specs.Prelude.{◌≡◌, ℕ, ◌≤◌, length, map, min, nat_lt, slice_index, IfOk, IsOkUnless, if◌then◌else◌};
 ghost use Rattle.bench_types.specs.declared.faults.Fault.TheVariants.{OutOfMemory};
+ghost use Rattle.bench_types.specs.declared.limits.TheConstants.{MOST_NODES};
 ghost use Rattle.planes.specs.inner.Elementwise.{AreChanged};
 ghost use Rattle.planes.specs.Lags.{IsLeastBehind, IsLoweredBehind};
+ghost use Rattle.planes.specs.Sums.{sum_below};
 ghost use Rattle.planes.specs.Planes.{cell, total_of, ArePlanesChanged, HasEach, IsGrid};
 
 use crate::grids::{all_of, plane_of};
@@ -21,6 +23,25 @@ fn lower<N: Number>(least: &mut [N], plane: &[N])
     for r in 0..least.len() {
         least[r] = least[r].min_with(plane[r]);
     }
+}
+
+// How many numbers of a plane are below the last ones. Lowers each owner's number to the one in the plane.
+fn lower_counting<N: Number>(least: &mut [N], plane: &[N], last: &[N]) -> u32
+    requires plane { length plane.now ≡ length least.old }
+    requires last { length last.now ≡ length least.old }
+    requires room { length least.old ≤ MOST_NODES }
+    ensures count { result ≡ sum_below (length least.old)
+        (λ r. if nat_lt (slice_index (map N.number plane.now) r) (slice_index (map N.number last.now) r) then 1 else 0) }
+    ensures least { AreChanged (λ r x y. y ≡ min x (slice_index (map N.number plane.now) r))
+        (map N.number least.old) (map N.number least.new) }
+{
+    let mut count = N::zero();
+    for r in 0..least.len() {
+        let number = plane[r];
+        count = count.plus(last[r].is_above(number));
+        least[r] = least[r].min_with(number);
+    }
+    count.widen()
 }
 
 // Lowers each owner's number to the one in a plane, where that is below the last one.
@@ -74,10 +95,9 @@ pub fn count_behind<N: Number>(
     for key in 0..keys {
         let plane = plane_of(cells, nodes, key);
         let of_last = plane_of(last, nodes, key);
-        count += planes::how_many_above(of_last, plane);
         let start = key * nodes;
         let block = &mut least[start..start + nodes];
-        lower(block, plane);
+        count += lower_counting(block, plane, of_last);
     }
     count
 }

@@ -7,8 +7,8 @@ mod numbers;
 mod planes;
 
 pub use grids::{
-    ahead, counts_above, counts_between, least_above, raise, take, total_above, total_held,
-    total_upto,
+    ahead, counts_above, counts_between, least_above, take, total_above, total_held, total_upto,
+    zeros,
 };
 pub use lags::{count_behind, least_behind, lower_all};
 pub use numbers::Number;

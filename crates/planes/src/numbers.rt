@@ -3,7 +3,7 @@
 /// The number of a write: its place, from 1, among all writes of its owner; 0 for none.
 pub trait Number: Copy + Send + Sync {
     ghost use Rattle.std.specs.Prelude.{◌≡◌, ℕ, ◌+◌, ◌-◌, ◌<◌, ◌≤◌, Bool, nat_lt, nat_le, max, min, if◌then◌else◌};
-    ghost use Rattle.bench_types.specs.declared.limits.TheConstants.{MOST_KEYS};
+    ghost use Rattle.bench_types.specs.declared.limits.TheConstants.{MOST_NODES, MOST_KEYS};
 
     // The number that it is.
     ghost number: { Self → ℕ };
@@ -42,8 +42,10 @@ pub trait Number: Copy + Send + Sync {
         requires { number self < most }
         ensures { number result ≡ number self + (if more then 1 else 0) };
 
-    // An owner's keys can be counted.
+    // An owner's keys can be counted, and so can nodes.
     ghost counts_keys: { MOST_KEYS ≤ most };
+
+    ghost counts_nodes: { MOST_NODES ≤ most };
 }
 
 impl Number for u16 {
@@ -55,6 +57,8 @@ impl Number for u16 {
     ghost most = { 65535 };
 
     ghost counts_keys = { Prim.search rules };
+
+    ghost counts_nodes = { Prim.search rules };
 
     fn zero() -> u16 {
         0
@@ -102,6 +106,8 @@ impl Number for u32 {
     ghost most = { 4294967295 };
 
     ghost counts_keys = { Prim.search rules };
+
+    ghost counts_nodes = { Prim.search rules };
 
     fn zero() -> u32 {
         0

@@ -20,12 +20,6 @@ pub(crate) fn pick<N: Number>(test: bool, number: N, other: N) -> N
     if test { number } else { other }
 }
 
-fn one_if(test: bool) -> u32
-    ensures { result ≡ (if test then 1 else 0) }
-{
-    u32::from(test)
-}
-
 /// Counts for each owner whether its number in a plane is above a mark.
 pub fn count_above<N: Number>(counts: &mut [N], plane: &[N], marks: &[N])
     requires plane { length plane.now ≡ length counts.old }
@@ -70,27 +64,26 @@ pub fn lower_to_next<N: Number>(least: &mut [N], plane: &[N], low: &[N])
     }
 }
 
-/// Puts the numbers of a plane that are above both the peer's and a mark, and 0 in place of the others.
-pub fn put_ahead<N: Number>(ahead: &mut [N], plane: &[N], peer: &[N], low: &[N])
-    requires plane { length plane.now ≡ length ahead.old }
-    requires peer { length peer.now ≡ length ahead.old }
-    requires low { length low.now ≡ length ahead.old }
-    ensures ahead { AreChanged
-        (λ r x y. y ≡ number_ahead (slice_index (map N.number plane.now) r) (slice_index (map N.number peer.now) r)
-        (slice_index (map N.number low.now) r))
-        (map N.number ahead.old) (map N.number ahead.new) }
+/// Keeps the numbers that are above both the peer's and a mark, and puts 0 in place of the others.
+pub fn keep_ahead<N: Number>(numbers: &mut [N], peer: &[N], low: &[N])
+    requires peer { length peer.now ≡ length numbers.old }
+    requires low { length low.now ≡ length numbers.old }
+    ensures { AreChanged (λ r x y. y ≡ number_ahead x (slice_index (map N.number peer.now) r)
+        (slice_index (map N.number low.now) r)) (map N.number numbers.old) (map N.number numbers.new) }
 {
-    for r in 0..ahead.len() {
-        ahead[r] = pick(
-            plane[r].is_above(peer[r].max_with(low[r])),
-            plane[r],
+    for r in 0..numbers.len() {
+        numbers[r] = pick(
+            numbers[r].is_above(peer[r].max_with(low[r])),
+            numbers[r],
             N::zero(),
         );
     }
 }
 
-/// Raises the numbers of a plane to those sent that are above one mark and up to another.
-pub fn take_plane<N: Number>(plane: &mut [N], sent: &[N], low: &[N], high: &[N])
+/// Raises the numbers of a plane to those sent that are above one mark and up to another, and each owner's greatest
+/// number to its number then.
+pub fn take_plane<N: Number>(plane: &mut [N], greatest: &mut [N], sent: &[N], low: &[N], high: &[N])
+    requires greatest { length greatest.old ≡ length plane.old }
     requires sent { length sent.now ≡ length plane.old }
     requires low { length low.now ≡ length plane.old }
     requires high { length high.now ≡ length plane.old }
@@ -98,24 +91,18 @@ pub fn take_plane<N: Number>(plane: &mut [N], sent: &[N], low: &[N], high: &[N])
         (λ r x y. y ≡ number_taken x (slice_index (map N.number sent.now) r) (slice_index (map N.number low.now) r)
         (slice_index (map N.number high.now) r))
         (map N.number plane.old) (map N.number plane.new) }
+    ensures greatest { AreChanged (λ r x y. y ≡ max x (number_taken (slice_index (map N.number plane.old) r)
+        (slice_index (map N.number sent.now) r) (slice_index (map N.number low.now) r)
+        (slice_index (map N.number high.now) r))) (map N.number greatest.old) (map N.number greatest.new) }
 {
     for r in 0..plane.len() {
-        plane[r] = plane[r].max_with(pick(
+        let kept = plane[r].max_with(pick(
             is_between(sent[r], low[r], high[r]),
             sent[r],
             N::zero(),
         ));
-    }
-}
-
-/// Raises each owner's mark to its number in a plane.
-pub fn raise<N: Number>(marks: &mut [N], plane: &[N])
-    requires plane { length plane.now ≡ length marks.old }
-    ensures marks { AreChanged (λ r x y. y ≡ max x (slice_index (map N.number plane.now) r))
-        (map N.number marks.old) (map N.number marks.new) }
-{
-    for r in 0..marks.len() {
-        marks[r] = marks[r].max_with(plane[r]);
+        plane[r] = kept;
+        greatest[r] = greatest[r].max_with(kept);
     }
 }
 
@@ -126,11 +113,11 @@ pub fn how_many_above<N: Number>(plane: &[N], low: &[N]) -> u32
     ensures { result ≡ sum_below (length plane.now)
         (λ r. if nat_lt (slice_index (map N.number low.now) r) (slice_index (map N.number plane.now) r) then 1 else 0) }
 {
-    let mut count = 0;
+    let mut count = N::zero();
     for r in 0..plane.len() {
-        count += one_if(plane[r].is_above(low[r]));
+        count = count.plus(plane[r].is_above(low[r]));
     }
-    count
+    count.widen()
 }
 
 /// How many numbers of a plane are not 0.
@@ -139,11 +126,11 @@ pub fn how_many_held<N: Number>(plane: &[N]) -> u32
     ensures { result ≡ sum_below (length plane.now)
         (λ r. if nat_lt 0 (slice_index (map N.number plane.now) r) then 1 else 0) }
 {
-    let mut count = 0;
+    let mut count = N::zero();
     for r in 0..plane.len() {
-        count += one_if(plane[r].is_above(N::zero()));
+        count = count.plus(plane[r].is_above(N::zero()));
     }
-    count
+    count.widen()
 }
 
 /// How many numbers of a plane are not 0 and up to their owners' marks.
@@ -153,9 +140,9 @@ pub fn how_many_upto<N: Number>(plane: &[N], high: &[N]) -> u32
     ensures { result ≡ sum_below (length plane.now) (λ r. if nat_lt 0 (slice_index (map N.number plane.now) r)
         && nat_le (slice_index (map N.number plane.now) r) (slice_index (map N.number high.now) r) then 1 else 0) }
 {
-    let mut count = 0;
+    let mut count = N::zero();
     for r in 0..plane.len() {
-        count += one_if(is_between(plane[r], N::zero(), high[r]));
+        count = count.plus(is_between(plane[r], N::zero(), high[r]));
     }
-    count
+    count.widen()
 }

@@ -20,7 +20,8 @@ use Rattle.reconcile.specs.Digests.{digest_size}
 use Rattle.version_tables.specs.Views.{VersionTableView, HistoriesView, table_in, IsKept}
 use Rattle.version_tables.specs.inner.Deltas.{delta_of_views, is_taken_at, AreMarksOf}
 use Rattle.version_tables.specs.inner.Histories.{bases_in, IsWrittenSoFar, FitsHistories}
-use Rattle.version_tables.specs.inner.Taken.{numbers_taken, HasTakenUnless, StaysOne}
+use Rattle.planes.specs.Planes.{numbers_taken}
+use Rattle.version_tables.specs.inner.Taken.{HasTakenUnless, StaysOne}
 use Rattle.version_tables.proofs.TakenViews.{are_taken, becomes_applied, becomes_one, same_taken, sent_above}
 
 module _ (written : ℕ → List Entry) (rules : Rules) (e : Exchange) (p q : VersionTableView) where

@@ -10,13 +10,13 @@ use Rattle.node_table.proofs.Laws.{KeepsFrame, frame-applied}
 use Rattle.exchange.proofs.Received.{received-proper}
 use Rattle.owner_lists.specs.Numbers.{write_numbered}
 use Rattle.owner_lists.specs.OwnerListView.{OwnerListView, all_writes, list_of_owner, AreWrites}
-use Rattle.planes.specs.Planes.{Cells, cell, number_taken}
+use Rattle.planes.specs.Planes.{Cells, cell, number_taken, numbers_taken}
 use Rattle.version_tables.specs.Views.{VersionTableView, HistoriesView, table_in, IsKept}
 use Rattle.version_tables.specs.inner.Deltas.{delta_of_views, is_taken_at}
 use Rattle.version_tables.specs.inner.Histories.{bases_in, IsWrittenSoFar, FitsHistories}
 use Rattle.version_tables.specs.inner.Laid.{table_of_cells, AreNumbers, IsFirst, IsGreatest, IsVersionTable}
 use Rattle.version_tables.specs.inner.Offers.{HasCells}
-use Rattle.version_tables.specs.inner.Taken.{is_taken, numbers_taken, drop_start, number_kept, AreSent, SendsNoNewer, SendsNewer, AreTakenCells, IsTaken}
+use Rattle.version_tables.specs.inner.Taken.{is_taken, drop_start, number_kept, AreSent, SendsNoNewer, SendsNewer, AreTakenCells, IsTaken}
 use Rattle.version_tables.proofs.Fitting.{fits-upto, fits-cells}
 use Rattle.version_tables.proofs.Laid.{cells_table}
 use Rattle.version_tables.proofs.TakenCells.{taken_cells}

@@ -8,7 +8,7 @@ ghost use Rattle.planes.specs.Planes.{HasEach};
 use crate::tables::Written;
 use bench_types::Fault;
 use owner_lists::OwnerList;
-use planes::Number;
+use planes::{Number, zeros};
 use std::alloc::Global;
 use std::marker::{Model, PhantomData};
 
@@ -174,16 +174,4 @@ fn no_lists(alloc: Global, nodes: usize) -> Result<Vec<OwnerList>, Fault>
         lists.push(OwnerList::new(alloc))?;
     }
     Ok(lists)
-}
-
-// A 0 for each of them.
-fn zeros<N: Number>(alloc: Global, nodes: usize) -> Result<Vec<N>, Fault>
-    ensures numbers { IfOk result (λ v. HasEach nodes (λ r n. n ≡ 0) (map N.number v.items)) }
-    ensures only { IsOkUnless result OutOfMemory }
-{
-    let mut numbers = Vec::with_capacity(alloc, nodes)?;
-    for done in 0..nodes {
-        numbers.push(N::zero())?;
-    }
-    Ok(numbers)
 }

@@ -19,7 +19,7 @@ use crate::histories::Histories;
 use crate::tables::{VersionTable, Written};
 use bench_types::{Fault, Figures};
 use owner_lists::OwnerList;
-use planes::{Number, count_behind, least_behind, lower_all, total_upto};
+use planes::{Number, count_behind, least_behind, lower_all, total_upto, zeros};
 use rayon::current_num_threads;
 use rayon::prelude::*;
 use std::alloc::{AllocError, Global};
@@ -43,26 +43,11 @@ fn keys_of<N: Number, H: Written>(tables: &[VersionTable<N, H>]) -> usize
     }
 }
 
-fn zeros<N: Number>(alloc: Global, count: usize) -> Result<Vec<N>, Fault>
-    ensures count { IfOk result (λ v. length v.items ≡ count) }
-    ensures only { IsOkUnless result OutOfMemory }
-{
-    let mut numbers = Vec::with_capacity(alloc, count)?;
-    for done in 0..count {
-        numbers.push(N::zero())?;
-    }
-    Ok(numbers)
-}
-
 fn copied<N: Number>(alloc: Global, numbers: &[N]) -> Result<Vec<N>, Fault>
     ensures same { IfOk result (λ v. v.items ≡ numbers.now) }
     ensures only { IsOkUnless result OutOfMemory }
 {
-    let mut copy = Vec::with_capacity(alloc, numbers.len())?;
-    for number in numbers {
-        copy.push(*number)?;
-    }
-    Ok(copy)
+    Ok(Vec::from_slice(alloc, numbers)?)
 }
 
 // Puts the numbers of a key that the owners' own tables hold.

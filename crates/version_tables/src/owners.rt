@@ -7,21 +7,9 @@ ghost use Rattle.planes.specs.inner.Elementwise.{AreChanged};
 
 use crate::tables::{VersionTable, Written};
 use bench_types::Fault;
-use planes::Number;
+use planes::{Number, zeros};
 use std::alloc::Global;
 use std::marker::PhantomData;
-
-// So many times 0.
-fn zeros<N: Number>(alloc: Global, count: usize) -> Result<Vec<N>, Fault>
-    ensures zeros { IfOk result (λ v. HasEach count (λ r n. n ≡ 0) (map N.number v.items)) }
-    ensures only { IsOkUnless result OutOfMemory }
-{
-    let mut zeros = Vec::with_capacity(alloc, count)?;
-    for done in 0..count {
-        zeros.push(N::zero())?;
-    }
-    Ok(zeros)
-}
 
 // Puts 0 in place of each number.
 fn clear<N: Number>(numbers: &mut [N])

@@ -150,8 +150,7 @@ fn take_numbers<N: Number>(
         (map N.number greatest.old) (map N.number sent.now) (map N.number low.now) (map N.number high.now)
         (map N.number cells.new) (map N.number greatest.new) }
 {
-    planes::take(cells, sent, nodes, keys, low, high);
-    planes::raise(greatest, cells, nodes, keys);
+    planes::take(cells, greatest, sent, nodes, keys, low, high);
     drop_older(cells, nodes, keys, before, greatest, bases, lists);
 }
 

@@ -3,7 +3,7 @@ use Rattle.std.specs.Prelude.{◌≡◌, ℕ, ◌<◌, ◌≤◌, ◌↔◌, ◌
 use Rattle.bench_types.specs.declared.entries.Entry.{Entry}
 use Rattle.bench_types.specs.declared.entries.Item.{Item}
 use Rattle.node_table.specs.Table.{Table, entry_at, generation_held}
-use Rattle.planes.specs.Planes.{Cells, cell, number_taken, IsRaised}
+use Rattle.planes.specs.Planes.{Cells, cell, numbers_taken, IsRaised}
 use Rattle.version_tables.specs.Views.{VersionTableView}
 use Rattle.version_tables.specs.inner.Laid.{IsVersionTable}
 use Rattle.version_tables.specs.inner.Offers.{start_of}
@@ -46,11 +46,6 @@ drop_start writes old base new =
 -- a number that is above a mark, else 0
 abbrev pub number_kept : ℕ → ℕ → ℕ
 number_kept start number = if nat_le number start then 0 else number
-
--- numbers with those of a sender that marks let through
-abbrev pub numbers_taken : ℕ → List ℕ → List ℕ → List ℕ → List ℕ → Cells
-numbers_taken nodes cells sent low high owner key =
-    number_taken (cell cells nodes owner key) (cell sent nodes owner key) (slice_index low owner) (slice_index high owner)
 
 -- a receiver's numbers and greatest ones once it took them, and dropped what is of older generations
 pub record IsTaken (lists : ℕ → List Entry) (bases : ℕ → ℕ) (nodes keys : ℕ) (cells greatest sent low high new_cells new_greatest : List ℕ) : Type 0 where

@@ -1,9 +1,0 @@
-use Rattle.std.proofs.Common.{◌≡◌, slice_index, map}
-use Rattle.planes.specs.inner.Elementwise.{AreChangedUpto}
-use Rattle.planes.specs.Planes.{number_ahead}
-use Rattle.planes.proofs.planes.put_ahead.Given as goal
-
-abbrev pub invariant-loop-r : goal.invariant-loop-r
-invariant-loop-r g l =
-    AreChangedUpto (λ r x y. y ≡ number_ahead (slice_index (map g.N.Number.number l.plane) r) (slice_index (map g.N.Number.number l.peer) r) (slice_index (map g.N.Number.number l.low) r))
-    (map g.N.Number.number l.initial.ahead) (map g.N.Number.number l.ahead) l.r

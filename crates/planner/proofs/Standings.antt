@@ -1,6 +1,7 @@
 -- A list of exchanges and their stages, as the schedules keep them.
 -- Serves the functions of `plays` and `schedules`.
 use Rattle.std.proofs.Common.{◌≡◌, ◌≢◌, ℕ, ◌<◌, Bool, true, false, ◌&&◌, ◌||◌, if◌then◌else◌, List, [], ◌∷◌, ◌++◌, length, slice_get, Option, None, Some, inl, inr, All, refl, sym, ap, ◌∙◌, subst, arith}
+use Rattle.std.specs.Prelude.{IsTrue, ◌↔◌}
 use Rattle.std.specs.Option.{option_eq}
 use Rattle.std.proofs.lemmas.Bool.{cases_eq, cases_lt, lt-ltb, false≢true}
 use Rattle.std.proofs.lemmas.List.{get_or_past, get_or-set_other, length-set}
@@ -109,6 +110,15 @@ begun_within stages i begun = elim (cases_lt i (length stages)) [
   | inl within ↦ within
   | inr past ↦ absurd (begun (get_or_past stages i Waiting past))
 ]
+
+-- what the comparison of what was read with a stage says, of a stage that is past waiting
+pub stage_asked : (stages : List Stage) (i : ℕ) (stage : Stage) (o : Option Stage) (b : Bool) → stage ≢ Waiting → o ≡ slice_get stages i → b ≡ option_eq eq-value.it o (Some stage) → IsTrue b ↔ (stage_in stages i ≡ stage)
+stage_asked stages i stage o b begun read told = (
+  λ yes. stage_read stages i stage (sym read ∙ told_stage stage o (sym told ∙ yes)),
+  λ is. told
+      ∙ ap (λ x. option_eq eq-value.it x (Some stage)) (read ∙ stage_there stages i stage (begun_within stages i (λ waits. begun (sym is ∙ waits))) is)
+      ∙ stage_told stage,
+)
 
 -- those that an exchange waits for tell of all earlier ones that share a node with it
 abbrev IsOverIn : List Stage → ℕ → Type 0

@@ -53,19 +53,19 @@ pub returns-clause-standing : goal.returns-clause-standing
 returns-clause-standing g c = (left g c).standing
 
 pub begin-requires-clause-first : goal.begin-requires-clause-first
-begin-requires-clause-first g c = c.requires.first
+begin-requires-clause-first g c = λ κs out. c.requires.first
 
 pub begin-requires-clause-within : goal.begin-requires-clause-within
-begin-requires-clause-within g c = c.requires.within
+begin-requires-clause-within g c = λ κs out. c.requires.within
 
 pub begin-requires-clause-may_write : goal.begin-requires-clause-may_write
-begin-requires-clause-may_write g c = c.requires.may_write
+begin-requires-clause-may_write g c = λ κs out. c.requires.may_write
 
 pub begin-requires-clause-ended : goal.begin-requires-clause-ended
-begin-requires-clause-ended g c = c.requires.ended
+begin-requires-clause-ended g c = λ κs out. c.requires.ended
 
 pub begin-requires-clause-standing : goal.begin-requires-clause-standing
-begin-requires-clause-standing g c = c.requires.standing
+begin-requires-clause-standing g c = λ κs out. c.requires.standing
 
 pub run_list_with-requires-clause-few : goal.run_list_with-requires-clause-few
 run_list_with-requires-clause-few g c = λ κs out. c.requires.few

@@ -1,6 +1,9 @@
-use Rattle.std.proofs.Common.{subst, sym, arith}
-use Rattle.round_plan.specs.Plan.{IsRoundPlan}
-use Rattle.simulation.proofs.Playing.{IsLeft, is_left, each_begun, standing_cluster, one_list_each, one_record_each}
+use Rattle.std.proofs.Common.{map, subst, sym, ap, ◌∙◌, arith}
+use Rattle.cluster.specs.Tables.{IsCluster}
+use Rattle.owner_lists.specs.OwnerListView.{lists_in}
+use Rattle.staleness.specs.Figures.{figures_of}
+use Rattle.round_plan.specs.Plan.{RoundListView, IsRoundPlan}
+use Rattle.simulation.proofs.Playing.{IsLeft, is_left, each_begun, nodes_cluster, standing_cluster, one_list_each, one_record_each, round_is, played_is}
 use Rattle.simulation.proofs.Standing.{written_by}
 use Rattle.simulation.proofs.sims.Cluster.play.Given as given
 use Rattle.simulation.proofs.sims.Cluster.play.Goals as goal
@@ -48,3 +51,46 @@ returns-clause-tables g c = (left g c).after
 
 pub returns-clause-standing : goal.returns-clause-standing
 returns-clause-standing g c = (left g c).standing
+
+pub begin-requires-clause-first : goal.begin-requires-clause-first
+begin-requires-clause-first g c = λ κs out. c.requires.first
+
+pub begin-requires-clause-within : goal.begin-requires-clause-within
+begin-requires-clause-within g c = λ κs out. c.requires.within
+
+pub begin-requires-clause-may_write : goal.begin-requires-clause-may_write
+begin-requires-clause-may_write g c = λ κs out. c.requires.may_write
+
+pub begin-requires-clause-ended : goal.begin-requires-clause-ended
+begin-requires-clause-ended g c = λ κs out. c.requires.ended
+
+pub begin-requires-clause-standing : goal.begin-requires-clause-standing
+begin-requires-clause-standing g c = λ κs out. c.requires.standing
+
+pub run_list_with-requires-clause-few : goal.run_list_with-requires-clause-few
+run_list_with-requires-clause-few g c = λ κs out. c.requires.few
+
+pub run_list_with-requires-clause-many : goal.run_list_with-requires-clause-many
+run_list_with-requires-clause-many g c = λ κs out. c.requires.many
+
+pub run_list_with-requires-clause-cluster : goal.run_list_with-requires-clause-cluster
+run_list_with-requires-clause-cluster g c = λ κs out.
+    subst (λ n. IsCluster n (map g.T.MemoryTable.table c.begin.new.self.tables.items)) (sym (ap (λ (l : RoundListView). l.nodes) c.in_ok-list.ensures.plan))
+    (nodes_cluster g.T.MemoryTable.table c.args.scenario.now c.args.round c.begin.new.self.tables.items (g.T.RoundTable.lists c.begin.new.self.histories) c.in_ok-begin.ensures.standing)
+
+pub shared-shared-requires-clause-ended : goal.shared-shared-requires-clause-ended
+shared-shared-requires-clause-ended g c = c.in_ok-begin.ensures.ended
+
+pub figures-requires-clause-ended : goal.figures-requires-clause-ended
+figures-requires-clause-ended g c = c.in_ok-begin.ensures.ended
+
+pub returns-clause-ended : goal.returns-clause-ended
+returns-clause-ended g c = c.in_ok-begin.ensures.ended
+
+pub returns-clause-played : goal.returns-clause-played
+returns-clause-played g c =
+    let lists = g.T.RoundTable.lists c.begin.new.self.histories in
+    played_is c.args.scenario.now c.args.round (map g.T.MemoryTable.table c.args.self.tables.items) (map g.T.MemoryTable.table c.in_ok-tables.tables.items) lists c.in_ok-list.list c.in_ok-tables.records.items c.in_ok-lag.lag c.of-played.result c.in_ok-list.ensures.plan
+    (round_is c.args.scenario.now c.args.round c.in_ok-list.list (subst IsRoundPlan c.list.view_is c.list.invariant) c.in_ok-list.ensures.plan _ _ _ c.in_ok-tables.records.items c.in_ok-tables.ensures.exchanged (map g.T.MemoryTable.table c.args.self.tables.items) c.in_ok-begin.ensures.tables c.requires.rules)
+    (c.in_ok-lag.ensures.figures ∙ ap (λ ts. figures_of c.args.round (map g.T.MemoryTable.table ts) (lists_in lists)) c.deref.ensures.value)
+    c.of-played.ensures

@@ -42,3 +42,4 @@ pub mod ExchangedViews
 pub mod DigestSizes
 pub mod HistoryCalls
 pub mod Carried
+pub mod Nodes

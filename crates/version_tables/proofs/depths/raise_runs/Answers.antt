@@ -1,7 +1,8 @@
 use Rattle.std.proofs.Common.{length, eqb, get_or, ◌∙◌, refl, arith, map, if◌then◌else◌}
 use Rattle.std.proofs.lemmas.List.{length-map}
 use Rattle.planes.proofs.Elementwise.{number-at, changed_none, changed_all, written_next}
-use Rattle.planes.proofs.Counts.{count_fits, sum_next, sum_whole}
+use Rattle.planes.proofs.Counts.{sum_next, sum_whole}
+use Rattle.version_tables.proofs.Nodes.{count_fits}
 use Rattle.version_tables.proofs.depths.raise_runs.Goals as goal
 
 pub loop-r-init : goal.loop-r-init

@@ -47,28 +47,36 @@ impl Call {
     }
 }
 
-// The digits of a call, of a case by its place, and of how many workers there are. Where there are none all is tried.
+// The digits of a call, of a case by its place, and of how many workers there are.
 #[derive(Clone, Copy)]
-struct Choice(Option<[u8; 3]>);
+struct Choice {
+    call: u8,
+    case: u8,
+    workers: u8,
+}
 
 impl Choice {
     // What standard input names, if anything.
-    fn from_input(rt: &impl Input) -> Result<Choice, Failure> {
+    fn from_input(rt: &impl Input) -> Result<Option<Choice>, Failure> {
         let mut digits = [0u8; 3];
         match Pull::new(rt.reader()).pull(&mut digits) {
-            Ok(0) => Ok(Choice(None)),
-            Ok(_) => Ok(Choice(Some(digits))),
+            Ok(0) => Ok(None),
+            Ok(_) => {
+                let [call, case, workers] = digits;
+                Ok(Some(Choice {
+                    call,
+                    case,
+                    workers,
+                }))
+            }
             Err(Failed) => Err(Failure::Wrong("input")),
         }
     }
 
-    fn has(self, call: Call, place: usize, team: Team) -> bool {
-        let Choice(Some([first, second, third])) = self else {
-            return true;
-        };
-        first == call.digit()
-            && usize::from(second.wrapping_sub(b'0')) == place
-            && u32::from(third.wrapping_sub(b'0')) == team.workers()
+    fn is(self, call: Call, place: usize, team: Team) -> bool {
+        self.call == call.digit()
+            && usize::from(self.case.wrapping_sub(b'0')) == place
+            && u32::from(self.workers.wrapping_sub(b'0')) == team.workers()
     }
 }
 
@@ -79,14 +87,14 @@ fn try_all<R: Print + Eprint + Input + AllocGlobal + Threads + Wait + Sync>(
     for (place, case) in CASES.iter().enumerate() {
         for team in Team::ALL {
             for call in Call::ALL {
-                if choice.has(call, place, team) {
+                if choice.is_none_or(|choice| choice.is(call, place, team)) {
                     try_call(rt, call, case, team)?;
                 }
             }
         }
     }
     for team in Team::ALL {
-        if choice.has(Call::RunList, CASES.len(), team) {
+        if choice.is_none_or(|choice| choice.is(Call::RunList, CASES.len(), team)) {
             lists::try_starts(rt, team)?;
         }
     }

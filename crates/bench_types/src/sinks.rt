@@ -1,6 +1,6 @@
 //! Where bytes go to.
 
-ghost use Rattle.std.specs.Prelude.{◌≡◌, ℕ, ◌<◌, ◌≤◌, Bool, true, false, List, Option, None, Ok, length, take, is_err, IfOk, OnOk, OnErr};
+ghost use Rattle.std.specs.Prelude.{◌≡◌, ℕ, ◌<◌, ◌≤◌, Bool, true, false, IsTrue, List, Option, None, Ok, length, take, is_err, IfOk, OnOk, OnErr};
 ghost use Rattle.std.specs.Io.KnownBytes.{Appends, Keeps};
 
 use crate::sources::Failed;
@@ -15,6 +15,14 @@ pub trait Sink {
 
     // Whether what was taken has been passed on. A flush makes it so.
     ghost flushed: { Self → Bool };
+
+    /// Whether it takes each byte and keeps none, so that no text has to be made for it. Most sinks keep what they
+    /// take, or may fail: `false`, which a sink need not write.
+    fn drops_all(&self) -> bool
+        ensures { IsTrue result → (taken self.now ≡ None) × (failed self.now ≡ false) × (flushed self.now ≡ true) }
+    {
+        false
+    }
 
     /// Takes some bytes from the front and answers how many: at least one of some bytes.
     fn push(&mut self, bytes: &[u8]) -> Result<usize, Failed>
@@ -113,6 +121,12 @@ impl Sink for Discard {
     ghost failed = { λ _. false };
 
     ghost flushed = { λ _. true };
+
+    fn drops_all(&self) -> bool
+        ensures { result ≡ true }
+    {
+        true
+    }
 
     fn push(&mut self, bytes: &[u8]) -> Result<usize, Failed>
         ensures all { result ≡ Ok (length bytes.now) }

@@ -1,4 +1,5 @@
-//! Simulations by tables with entries and by tables that keep versions alone come to the same, round by round.
+//! Simulations by tables with entries and by tables that keep versions alone come to the same, round by round: lists,
+//! records, figures, and each table entry by entry.
 
 ghost use Rattle.simulation.specs.Simulation.{MayWriteAll};
 ghost use Rattle.bench.specs.inner.Writes.{AreWrittenIn, HasWritesBelow};
@@ -6,7 +7,7 @@ ghost use Rattle.bench.specs.inner.Writes.{AreWrittenIn, HasWritesBelow};
 use crate::workers::expect_same_round;
 use bench::{FreeGate, Sim};
 use bench_types::limits::MOST_WRITES;
-use bench_types::{Fault, Mode};
+use bench_types::{Entry, Fault, Mode};
 use fixtures::changed;
 use node_table::NodeTable;
 use round_tables::RoundTable;
@@ -18,24 +19,95 @@ use std::sync::Wait;
 use std::thread::Threads;
 use version_tables::{VersionTable, Written};
 
-// What can be read of a table of either kind: its node, how many nodes and keys there are, and its generation.
-trait Headed: RoundTable {
+// What can be read of a table that keeps versions alone.
+trait Versions: RoundTable {
+    // Its node, how many nodes and keys there are, and its generation.
     fn head(&self) -> [u32; 4];
+
+    // The number of the write that is held, 0 for none: of all owners for key 0, then for key 1, and so on.
+    fn numbers(&self, alloc: Global) -> Result<Vec<u32>, AllocError>;
 }
 
-impl<L: Written + Send + Sync> Headed for VersionTable<u16, L> {
+impl<L: Written + Send + Sync> Versions for VersionTable<u16, L> {
     fn head(&self) -> [u32; 4] {
         [self.node(), self.nodes(), self.keys(), self.generation()]
     }
-}
 
-impl<L: Written + Send + Sync> Headed for VersionTable<u32, L> {
-    fn head(&self) -> [u32; 4] {
-        [self.node(), self.nodes(), self.keys(), self.generation()]
+    fn numbers(&self, alloc: Global) -> Result<Vec<u32>, AllocError> {
+        self.cells()
+            .iter()
+            .map(|number: &u16| u32::from(*number))
+            .collect(alloc)
     }
 }
 
-fn expect_heads<T: Headed>(rt: &impl Abort, tables: &[T], wanted: &[NodeTable]) {
+impl<L: Written + Send + Sync> Versions for VersionTable<u32, L> {
+    fn head(&self) -> [u32; 4] {
+        [self.node(), self.nodes(), self.keys(), self.generation()]
+    }
+
+    fn numbers(&self, alloc: Global) -> Result<Vec<u32>, AllocError> {
+        Vec::from_slice(alloc, self.cells())
+    }
+}
+
+// How many writes each node has made in each of its generations.
+type Counts = Vec<Vec<u32>>;
+
+// Takes down what a node has written in its generation, as its own table tells after a round.
+fn count_writes(
+    alloc: Global,
+    counts: &mut Counts,
+    tables: &[NodeTable],
+) -> Result<(), AllocError> {
+    for (node, table) in tables.iter().enumerate() {
+        let generation = table.generation() as usize;
+        if node == counts.len() {
+            counts.push(Vec::new(alloc))?;
+        }
+        if let Some(of_node) = counts.get_mut(node) {
+            while of_node.len() <= generation {
+                of_node.push(0)?;
+            }
+            of_node[generation] = table.greatest(table.node()).version;
+        }
+    }
+    Ok(())
+}
+
+// The number of an entry among all writes of its owner, from 1.
+fn number_of(counts: &Counts, owner: u32, entry: &Entry) -> Option<u32> {
+    let earlier = counts
+        .get(owner as usize)?
+        .get(..entry.generation as usize)?;
+    earlier.iter().try_fold(
+        entry.version,
+        |number: u32, count: &u32| number.checked_add(*count),
+    )
+}
+
+// The numbers of the entries that a table holds, as `numbers` of a table that keeps versions alone.
+fn numbers_of(alloc: Global, counts: &Counts, table: &NodeTable) -> Result<Vec<u32>, AllocError> {
+    let mut numbers = Vec::new(alloc);
+    for key in 0..table.keys() {
+        for owner in 0..table.nodes() {
+            let number = match table.get(owner, key) {
+                Some(entry) => number_of(counts, owner, &entry),
+                None => Some(0),
+            };
+            numbers.push(number.unwrap_or(u32::MAX))?;
+        }
+    }
+    Ok(numbers)
+}
+
+// Tables with entries and tables with versions hold the same.
+fn expect_same_tables<T: Versions>(
+    rt: &(impl Abort + AllocGlobal),
+    counts: &Counts,
+    tables: &[T],
+    wanted: &[NodeTable],
+) -> Result<(), AllocError> {
     assert_eq!(rt; tables.len(), wanted.len());
     for (table, wanted) in tables.iter().zip(wanted) {
         let head = [
@@ -45,7 +117,12 @@ fn expect_heads<T: Headed>(rt: &impl Abort, tables: &[T], wanted: &[NodeTable]) 
             wanted.generation(),
         ];
         assert_eq!(rt; table.head(), head);
+        assert_eq!(rt;
+            table.numbers(rt.alloc())?,
+            numbers_of(rt.alloc(), counts, wanted)?
+        );
     }
+    Ok(())
 }
 
 // The scenario of a text under a mode.
@@ -61,7 +138,7 @@ fn opened<T: RoundTable>(answer: Result<Sim<T>, (Fault, Scenario)>) -> Result<Si
 }
 
 // All rounds of a scenario, by two workers and by one.
-fn expect_same_rounds<T: Headed>(
+fn expect_same_rounds<T: Versions>(
     rt: &(impl Threads + Wait + Abort + AllocGlobal + Sync),
     scenario: Scenario,
     twin: Scenario,
@@ -70,10 +147,12 @@ fn expect_same_rounds<T: Headed>(
 {
     let mut sim = opened(Sim::<T>::of(rt.alloc(), scenario))?;
     let mut wanted = opened(Sim::new(rt.alloc(), twin))?;
+    let mut counts = Vec::new(rt.alloc());
     for _ in 0..wanted.rounds() {
         let round = sim.step(rt, 2, &FreeGate)?;
         expect_same_round(rt, &round, &wanted.step(rt, 1, &FreeGate)?);
-        expect_heads(rt, sim.tables(), wanted.tables());
+        count_writes(rt.alloc(), &mut counts, wanted.tables())?;
+        expect_same_tables(rt, &counts, sim.tables(), wanted.tables())?;
     }
     Ok(())
 }

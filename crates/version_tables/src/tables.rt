@@ -86,8 +86,9 @@ impl<N: Number, H: Written> VersionTable<N, H> {
         self.generation
     }
 
-    // The numbers, plane by plane.
-    pub(crate) fn cells(&self) -> &[N]
+    /// The number of the write that is held of each owner's key, 0 for none: `cells[key * nodes + owner]`. It counts
+    /// all writes of the owner from 1, those of earlier generations too.
+    pub fn cells(&self) -> &[N]
         ensures value { map N.number result.now ≡ self.now.cells }
         ensures kept { IsKept H.lists self.now }
     {

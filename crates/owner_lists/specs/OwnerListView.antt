@@ -1,6 +1,6 @@
 -- What contracts see of an owner's list: all that it wrote, in order. A write is known by its mark, and what stands
 -- under a mark never changes. Source: the LADIS 2008 paper for versions that rise; generations are this project's.
-use Rattle.std.specs.Prelude.{ℕ, ◌+◌, ◌<◌, ◌==◌, ◌&&◌, List, [], ◌∷◌, ◌++◌, length, map, find, slice_index_or, All, Bool, Option}
+use Rattle.std.specs.Prelude.{◌≡◌, ◌≢◌, ℕ, ◌+◌, ◌<◌, ◌==◌, ◌&&◌, List, [], ◌∷◌, ◌++◌, length, map, find, slice_index_or, All, Bool, Option}
 use Rattle.bench_types.specs.declared.entries.Entry.{Entry}
 use Rattle.bench_types.specs.declared.entries.Mark.{Mark}
 use Rattle.bench_types.specs.Entry.{next_version, AreNextAfter}
@@ -75,3 +75,9 @@ all_writes lists owner = entries_of (list_of_owner lists owner)
 -- what each owner wrote in its generation
 abbrev pub lists_in : List OwnerListView → List (List Write)
 lists_in lists = map written lists
+
+-- an owner's list has become this one, and the others stay
+pub record ListBecomes (owner : ℕ) (list : OwnerListView) (old new : List OwnerListView) : Type 0 where
+  pub count : length new ≡ length old
+  pub changed : list_of_owner new owner ≡ list
+  pub others : (other : ℕ) → other ≢ owner → list_of_owner new other ≡ list_of_owner old other

@@ -1,9 +1,9 @@
 -- What the owners have written, beside a node's table, and what a table may ask where it stands in a round.
 -- Source: this project.
-use Rattle.std.specs.Prelude.{◌≡◌, ◌≢◌, ℕ, ◌+◌, ◌^◌, ◌<◌, ◌≤◌, List, length, slice_index_or, All}
+use Rattle.std.specs.Prelude.{◌≡◌, ℕ, ◌+◌, ◌^◌, ◌<◌, ◌≤◌, List, length, slice_index_or, All}
 use Rattle.bench_types.specs.declared.entries.Entry.{Entry}
 use Rattle.node_table.specs.Table.{Table, greatest_version, IsProper}
-use Rattle.owner_lists.specs.OwnerListView.{OwnerListView, all_writes, written, next_entry, with_write, begun_generation, list_of_owner}
+use Rattle.owner_lists.specs.OwnerListView.{OwnerListView, all_writes, written, next_entry, with_write, begun_generation, list_of_owner, ListBecomes}
 use Rattle.exchange.specs.Copies.{HoldsWrites}
 use Rattle.staleness.specs.OwnParts.{OwnPartIsLastWrites}
 
@@ -49,12 +49,6 @@ pub record MayWrite (May : ℕ → ℕ → Entry → Type 0) (t : Table) (lists 
   pub few : length (own_list t lists).current + 1 < 2 ^ 32
   pub beside : StandsBeside t (own_list t lists)
   pub may : May t.node (length (all_writes lists t.node) + 1) (next_entry (own_list t lists) key value born)
-
--- an owner's list has become this one, and the others stay
-pub record ListBecomes (owner : ℕ) (list : OwnerListView) (old new : List OwnerListView) : Type 0 where
-  pub count : length new ≡ length old
-  pub changed : list_of_owner new owner ≡ list
-  pub others : (other : ℕ) → other ≢ owner → list_of_owner new other ≡ list_of_owner old other
 
 abbrev pub AddsWrite : Table → ℕ → ℕ → ℕ → List OwnerListView → List OwnerListView → Type 0
 AddsWrite t key value born old new = ListBecomes t.node (with_write (own_list t old) key value born) old new

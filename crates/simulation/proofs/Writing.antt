@@ -10,12 +10,12 @@ use Rattle.node_table.specs.Table.{Table, greatest_version, with_own_write, with
 use Rattle.node_table.proofs.ProperLaws.{proper-with_own_write}
 use Rattle.cluster.proofs.BeginLaws.{counted_write}
 use Rattle.owner_lists.specs.declared.lists.Write.{Write}
-use Rattle.owner_lists.specs.OwnerListView.{OwnerListView, all_writes, written, next_entry, with_write, list_of_owner}
+use Rattle.owner_lists.specs.OwnerListView.{OwnerListView, all_writes, written, next_entry, with_write, list_of_owner, ListBecomes}
 use Rattle.owner_lists.specs.Writes.{write_of_entry, AreBornBy, next_write}
 use Rattle.owner_lists.proofs.Owners.{written_more}
 use Rattle.staleness.specs.OwnParts.{OwnPartIsLastWrites}
 use Rattle.staleness.proofs.OwnParts.{own_part-written}
-use Rattle.round_tables.specs.Histories.{own_list, StandsBeside, MayWrite, AddsWrite, ListBecomes}
+use Rattle.round_tables.specs.Histories.{own_list, StandsBeside, MayWrite, AddsWrite}
 use Rattle.simulation.specs.inner.Steps.{OthersStay}
 
 -- these entries are written

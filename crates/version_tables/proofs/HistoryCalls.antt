@@ -8,10 +8,9 @@ use Rattle.std.proofs.lemmas.Option.{same_Some}
 use Rattle.bench_types.specs.declared.entries.Entry.{Entry}
 use Rattle.bench_types.specs.declared.limits.TheConstants.{MOST_NODES}
 use Rattle.owner_lists.specs.Numbers.{write_from, write_numbered}
-use Rattle.owner_lists.specs.OwnerListView.{OwnerListView, all_writes, entries_of, list_of_owner, no_writes, next_entry, with_write, begun_generation, MarksRise, AreWrites}
+use Rattle.owner_lists.specs.OwnerListView.{OwnerListView, all_writes, entries_of, list_of_owner, no_writes, next_entry, with_write, begun_generation, MarksRise, AreWrites, ListBecomes}
 use Rattle.owner_lists.proofs.Keeping.{writes_more, writes_begun}
 use Rattle.planes.specs.Planes.{HasEach, cell}
-use Rattle.version_tables.specs.ListChanges.{ListChanges}
 use Rattle.version_tables.specs.inner.Histories.{AreHistories, AreMadeBy, IsBeginning, IsWrittenSoFar, IsWriteUnder}
 use Rattle.version_tables.specs.inner.Offers.{IsHistory, IsNumberedHistory}
 use Rattle.version_tables.specs.inner.Rounds.{AreEnds}
@@ -167,7 +166,7 @@ module _ (all : List Entry) (most rounds : ℕ) (v : OwnerListView) (key value :
   }
 
 -- a call that changes one owner's list
-module _ (lists new : List OwnerListView) (owner : ℕ) (list : OwnerListView) (changes : ListChanges owner list lists new) where
+module _ (lists new : List OwnerListView) (owner : ℕ) (list : OwnerListView) (changes : ListBecomes owner list lists new) where
   writes-changed : all_writes new owner ≡ entries_of list
   writes-changed = ap entries_of changes.changed
 
@@ -205,7 +204,7 @@ module _ (written : ℕ → List Entry) (most : ℕ) (lists new : List OwnerList
   so_far-own : IsWrittenSoFar (written owner) most rounds (entries_of list)
   so_far-own = kept.so_far owner
 
-  module _ (key value : ℕ) (changes : ListChanges owner (with_write list key value (rounds + 1)) lists new)
+  module _ (key value : ℕ) (changes : ListBecomes owner (with_write list key value (rounds + 1)) lists new)
       (under : IsWriteUnder written most owner (length (all_writes lists owner) + 1) (next_entry list key value (rounds + 1))) where
     abbrev added : Entry
     added = next_entry list key value (rounds + 1)
@@ -257,7 +256,7 @@ module _ (written : ℕ → List Entry) (most : ℕ) (lists new : List OwnerList
           r (omega (arith, lt, changes.count)));
     })
 
-  module _ (changes : ListChanges owner (begun_generation list) lists new) where
+  module _ (changes : ListBecomes owner (begun_generation list) lists new) where
     same_writes : all_writes new owner ≡ all_writes lists owner
     same_writes = writes-changed lists new owner _ changes ∙ append-nil (entries_of list)
 
@@ -429,7 +428,7 @@ module _ (written : ℕ → List Entry) (most nodes : ℕ) (lists : List OwnerLi
           ∙ no_ends.each r (omega (arith, lt, count))
 
 -- to set an owner's list changes it alone
-list-set : (lists : List OwnerListView) (owner : ℕ) (list : OwnerListView) → owner < length lists → ListChanges owner list lists (set lists owner list)
+list-set : (lists : List OwnerListView) (owner : ℕ) (list : OwnerListView) → owner < length lists → ListBecomes owner list lists (set lists owner list)
 list-set lists owner list lt = record {
   count = length-set lists owner list;
   changed = get_or-set_same lists owner list no_writes lt;
@@ -437,10 +436,10 @@ list-set lists owner list lt = record {
 }
 
 -- what is read at an owner's place is its list
-pub list-changes : (lists : List OwnerListView) (owner : ℕ) (held list : OwnerListView) (f : OwnerListView → OwnerListView) → owner < length lists → held ≡ get_or lists owner held → list ≡ f held
-    → ListChanges owner (f (list_of_owner lists owner)) lists (set lists owner list)
-list-changes lists owner held list f lt here is =
-    subst (λ v. ListChanges owner v lists (set lists owner list)) (is ∙ ap f (here ∙ get_or_default lists owner held no_writes lt)) (list-set lists owner list lt)
+pub list-becomes : (lists : List OwnerListView) (owner : ℕ) (held list : OwnerListView) (f : OwnerListView → OwnerListView) → owner < length lists → held ≡ get_or lists owner held → list ≡ f held
+    → ListBecomes owner (f (list_of_owner lists owner)) lists (set lists owner list)
+list-becomes lists owner held list f lt here is =
+    subst (λ v. ListBecomes owner v lists (set lists owner list)) (is ∙ ap f (here ∙ get_or_default lists owner held no_writes lt)) (list-set lists owner list lt)
 
 -- and what is read of one number each is the owner's
 pub number-here : {A : Type 0} (number : A → ℕ) (xs : List A) (nodes owner : ℕ) (x : A) (P : ℕ → ℕ → Type 0) → HasEach nodes P (map number xs) → owner < nodes → x ≡ get_or xs owner x → P owner (number x)

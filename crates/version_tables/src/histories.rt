@@ -45,9 +45,8 @@ impl<N: Number, H: Written> Histories<N, H> {
     ghost use Rattle.std.specs.Prelude.{ℕ, ◌+◌, ◌^◌, ◌<◌, ◌≤◌, map, length, IfOk, OnOk, OnErr, IsOkUnless};
     ghost use Rattle.bench_types.specs.declared.faults.Fault.TheVariants.{OutOfMemory};
     ghost use Rattle.bench_types.specs.declared.limits.TheConstants.{MOST_NODES};
-    ghost use Rattle.owner_lists.specs.OwnerListView.{all_writes, list_of_owner, no_writes, next_entry, with_write, begun_generation, AreWrites};
+    ghost use Rattle.owner_lists.specs.OwnerListView.{all_writes, list_of_owner, no_writes, next_entry, with_write, begun_generation, AreWrites, ListBecomes};
     ghost use Rattle.planes.specs.Planes.{HasEach};
-    ghost use Rattle.version_tables.specs.ListChanges.{ListChanges};
     ghost use Rattle.version_tables.specs.inner.Histories.{IsWrittenSoFar, IsWriteUnder};
     ghost use Rattle.version_tables.specs.inner.Rounds.{AreEnds};
 
@@ -80,7 +79,7 @@ impl<N: Number, H: Written> Histories<N, H> {
         requires under { IsWriteUnder H.lists N.most owner (length (all_writes self.old.lists owner) + 1)
             (next_entry (list_of_owner self.old.lists owner) key value born) }
         ensures number { IfOk result (λ n. N.number n ≡ length (all_writes self.old.lists owner) + 1) }
-        ensures lists { OnOk result (ListChanges owner
+        ensures lists { OnOk result (ListBecomes owner
             (with_write (list_of_owner self.old.lists owner) key value born) self.old.lists self.new.lists) }
         ensures err { OnErr result (self.new ≡ self.old) }
         ensures rounds { self.new.rounds ≡ self.old.rounds }
@@ -97,7 +96,7 @@ impl<N: Number, H: Written> Histories<N, H> {
     pub fn begin_generation(&mut self, owner: u32)
         requires owner { owner < length self.old.lists }
         requires few { (list_of_owner self.old.lists owner).generation + 1 < 2 ^ 32 }
-        ensures lists { ListChanges owner (begun_generation (list_of_owner self.old.lists owner))
+        ensures lists { ListBecomes owner (begun_generation (list_of_owner self.old.lists owner))
             self.old.lists self.new.lists }
         ensures rounds { self.new.rounds ≡ self.old.rounds }
     {

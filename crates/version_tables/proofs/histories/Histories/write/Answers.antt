@@ -1,9 +1,8 @@
 use Rattle.std.proofs.Common.{◌≡◌, ◌+◌, ◌<◌, length, set, map, subst, sym}
-use Rattle.owner_lists.specs.OwnerListView.{all_writes, list_of_owner, next_entry, with_write}
-use Rattle.version_tables.specs.ListChanges.{ListChanges}
+use Rattle.owner_lists.specs.OwnerListView.{all_writes, list_of_owner, next_entry, with_write, ListBecomes}
 use Rattle.version_tables.specs.Views.{HistoriesView}
 use Rattle.version_tables.specs.inner.Histories.{IsWriteUnder}
-use Rattle.version_tables.proofs.HistoryCalls.{histories-written, list-changes, number-here, numbers-set}
+use Rattle.version_tables.proofs.HistoryCalls.{histories-written, list-becomes, number-here, numbers-set}
 use Rattle.version_tables.proofs.histories.Histories.write.Goals as goal
 
 pub invariant_of-self-2 : goal.invariant_of-self-2
@@ -15,7 +14,7 @@ invariant_of-self-2 g c =
     let born : c.args.born ≡ c.self.inside.rounds + 1 = subst (λ (h : HistoriesView). c.args.born ≡ h.rounds + 1) (sym c.self.view_is) c.requires.born in
     histories-written g.H.Written.lists g.N.Number.most lists (set lists owner c.write.new.self) (map g.N.Number.number counts) (map g.N.Number.number c.self.inside.bases.items)
     (map g.N.Number.number c.self.inside.ends.items) c.self.inside.rounds c.self.invariant owner c.args.key c.args.value
-    (list-changes lists owner c.index_mut.result.now c.write.new.self (λ v. with_write v c.args.key c.args.value (c.self.inside.rounds + 1)) in_range c.index_mut.ensures.value
+    (list-becomes lists owner c.index_mut.result.now c.write.new.self (λ v. with_write v c.args.key c.args.value (c.self.inside.rounds + 1)) in_range c.index_mut.ensures.value
     (subst (λ b. c.write.new.self ≡ with_write c.index_mut.result.now c.args.key c.args.value b) born c.in_ok-write.ensures.ok))
     (subst (λ b. IsWriteUnder g.H.Written.lists g.N.Number.most owner (length (all_writes lists owner) + 1) (next_entry (list_of_owner lists owner) c.args.key c.args.value b)) born
     (subst (λ (h : HistoriesView). IsWriteUnder g.H.Written.lists g.N.Number.most owner (length (all_writes h.lists owner) + 1) (next_entry (list_of_owner h.lists owner) c.args.key c.args.value c.args.born))
@@ -41,5 +40,5 @@ returns-clause-lists g c =
     let lists = c.self.inside.lists.items in
     let owner = c.args.owner in
     let in_range : owner < length lists = subst (λ (h : HistoriesView). owner < length h.lists) (sym c.self.view_is) c.requires.owner in
-    subst (λ (h : HistoriesView). ListChanges owner (with_write (list_of_owner h.lists owner) c.args.key c.args.value c.args.born) h.lists (set lists owner c.write.new.self)) c.self.view_is
-    (list-changes lists owner c.index_mut.result.now c.write.new.self (λ v. with_write v c.args.key c.args.value c.args.born) in_range c.index_mut.ensures.value c.in_ok-write.ensures.ok)
+    subst (λ (h : HistoriesView). ListBecomes owner (with_write (list_of_owner h.lists owner) c.args.key c.args.value c.args.born) h.lists (set lists owner c.write.new.self)) c.self.view_is
+    (list-becomes lists owner c.index_mut.result.now c.write.new.self (λ v. with_write v c.args.key c.args.value c.args.born) in_range c.index_mut.ensures.value c.in_ok-write.ensures.ok)

@@ -3,4 +3,5 @@ pub mod Growth
 pub mod Listed
 pub mod Others
 pub mod Planned
+pub mod Streams
 pub mod Written

@@ -1,5 +1,5 @@
 -- The list of a round, node by node.
--- Serves `round_list`.
+-- Serves `round_list` and `round_list_by`.
 use Rattle.std.proofs.Common.{◌≡◌, ℕ, ◌+◌, ◌<◌, ◌≤◌, true, false, not, ◌&&◌, List, [], ◌∷◌, ◌++◌, cond, map, take, length, get_or, All, count_by, sym, ap, ◌∙◌, arith, append-nil, length-append}
 use Rattle.std.specs.List.{range_with_len, filter}
 use Rattle.std.proofs.lemmas.List.{map-append, take_all}

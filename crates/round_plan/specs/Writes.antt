@@ -4,7 +4,7 @@
 -- Each write is born in the round in which it is made. Where the node forgets, all that it had written is gone, and
 -- then come the writes of the round. Source: the LADIS 2008 paper for versions that rise; numbers, rounds and
 -- generations are this project's.
-use Rattle.std.specs.Prelude.{ℕ, zero, suc, ◌+◌, ◌-◌, ◌/◌, ◌%◌, Bool, if◌then◌else◌, List, [], ◌++◌, map, reverse, unwrap_or}
+use Rattle.std.specs.Prelude.{◌≡◌, ℕ, zero, suc, ◌+◌, ◌-◌, ◌/◌, ◌%◌, ◌<◌, Bool, if◌then◌else◌, List, [], ◌++◌, length, map, reverse, All, unwrap_or}
 use Rattle.std.specs.Option.{option_map}
 use Rattle.std.specs.List.{range_with_len, find}
 use Rattle.bench_types.specs.declared.entries.Entry.{Entry}
@@ -94,3 +94,12 @@ written_upto s owner (suc round) =
 abbrev pub born_in : ℕ → ℕ → OwnWrite → Entry
 born_in round generation w =
     record { key = w.key; generation = generation; version = w.version; value = w.value; born = round }
+
+-- what a node writes in a round, before which it had made so many of its generation: put behind the earlier writes of
+-- the generation it makes those up to the round
+pub record AreWritesOf (s : Settings) (node round count_before : ℕ) (writes : List OwnWrite) : Type 0 where
+  pub value : map (born_in round (generation_upto s node round)) writes ≡ own_writes s node round count_before
+  pub keys : All (λ write. write.key < s.keys) writes
+  pub grows : length (writes_before s node round) ≡ count_before
+      → writes_upto s node round
+      ≡ writes_before s node round ++ map (born_in round (generation_upto s node round)) writes

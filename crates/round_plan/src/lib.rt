@@ -8,11 +8,13 @@ mod outages;
 mod owners;
 mod peers;
 mod rounds;
+mod run_words;
 mod words;
 
 pub use lists::{MOST_EXCHANGES, RoundList};
 pub use outages::{forgets_now, is_up, restarts_now, separated};
-pub use owners::{OwnWrite, Writes, writes_in, writes_of};
+pub use owners::{OwnWrite, Writes, writes_by, writes_in, writes_of};
 pub use peers::peer;
-pub use rounds::round_list;
+pub use rounds::{round_list, round_list_by};
+pub use run_words::RunWords;
 pub use words::{ROUND_WORDS, draw};

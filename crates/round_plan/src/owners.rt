@@ -1,12 +1,13 @@
 //! What a node writes of its own state.
 
-ghost use Rattle.std.specs.Prelude.{◌≡◌, ℕ, ◌+◌, ◌-◌, ◌^◌, ◌<◌, ◌≤◌, ◌==◌, ◌++◌, All, length, map, slice_get};
-ghost use Rattle.round_plan.specs.Generations.{generation_upto};
-ghost use Rattle.round_plan.specs.Writes.{writes_in, numbered_write, own_writes, writes_before, writes_upto, born_in};
+ghost use Rattle.std.specs.Prelude.{◌≡◌, ℕ, ◌+◌, ◌^◌, ◌<◌, ◌≤◌, ◌==◌, length, slice_get};
+ghost use Rattle.scenario.specs.declared.choices.Choice.TheVariants.{Random};
+ghost use Rattle.round_plan.specs.Words.{AreWordsOf};
+ghost use Rattle.round_plan.specs.Writes.{writes_in, numbered_write, born_in, AreWritesOf};
 ghost use Rattle.round_plan.specs.inner.Rounds.{AreWriteNumbers};
 
 use crate::outages::{is_between, is_up};
-use crate::words::{WRITE_PLACE, words_of};
+use crate::words::{ROUND_WORDS, WRITE_PLACE, words_of};
 use bench_types::limits::{MOST_ROUNDS, MOST_WRITES};
 use scenario::{Choice, Scenario};
 use std::marker::Model;
@@ -98,15 +99,40 @@ pub fn writes_of(scenario: &Scenario, node: u32, round: u32, count_before: u32) 
     requires first { 1 ≤ round }
     requires last { round ≤ MOST_ROUNDS }
     requires fits { count_before + MOST_WRITES < 2 ^ 32 }
-    ensures value { map (born_in round (generation_upto scenario.now node round)) result
-        ≡ own_writes scenario.now node round count_before }
-    ensures keys { All (λ write. write.key < scenario.now.keys) result }
+    ensures { AreWritesOf scenario.now node round count_before result }
+{
+    let words = write_words(scenario, node, round);
+    writes_by(scenario, node, round, count_before, &words)
+}
 
-    // Put behind the earlier writes of the node's generation they make its writes up to the round.
-    ensures grows { length (writes_before scenario.now node round) ≡ count_before →
-        writes_upto scenario.now node round
-        ≡ writes_before scenario.now node round
-        ++ map (born_in round (generation_upto scenario.now node round)) result }
+// The words of a node's round where writes are random, and else none.
+fn write_words(scenario: &Scenario, node: u32, round: u32) -> [u32; ROUND_WORDS as usize]
+    requires node { node < scenario.now.nodes }
+    requires first { 1 ≤ round }
+    requires last { round ≤ MOST_ROUNDS }
+    ensures { scenario.now.choice ≡ Random → AreWordsOf scenario.now.seed node round result }
+{
+    match scenario.choice() {
+        Choice::Random => words_of(scenario, node, round),
+        Choice::Cycle => [0; ROUND_WORDS as usize],
+    }
+}
+
+/// As `writes_of`, by the node's words of the round, which matter only where writes are random. Costs
+/// a step for each restart and load.
+pub fn writes_by(
+    scenario: &Scenario,
+    node: u32,
+    round: u32,
+    count_before: u32,
+    words: &[u32; ROUND_WORDS as usize],
+) -> Writes
+    requires node { node < scenario.now.nodes }
+    requires first { 1 ≤ round }
+    requires last { round ≤ MOST_ROUNDS }
+    requires fits { count_before + MOST_WRITES < 2 ^ 32 }
+    requires words { scenario.now.choice ≡ Random → AreWordsOf scenario.now.seed node round words.now }
+    ensures { AreWritesOf scenario.now node round count_before result }
 {
     let mut items = [BLANK; MOST_WRITES as usize];
     if !is_up(scenario, node, round) {
@@ -114,7 +140,7 @@ pub fn writes_of(scenario: &Scenario, node: u32, round: u32, count_before: u32) 
     }
     let keys = scenario.keys();
     let count = writes_in(scenario, round);
-    let numbers = numbers_of(scenario, node, round, count_before);
+    let numbers = numbers_by(scenario, node, round, count_before, words);
     for place in 0..count {
         let number = numbers[place as usize];
         items[place as usize] = numbered_write(keys, number, count_before + place);
@@ -122,25 +148,25 @@ pub fn writes_of(scenario: &Scenario, node: u32, round: u32, count_before: u32) 
     Writes { items, count }
 }
 
-// The numbers of the most writes of a node in a round, before which it had made `count_before` of its generation.
-fn numbers_of(
+// The numbers of the most writes of a node in a round, before which it had made `count_before` of its
+// generation.
+fn numbers_by(
     scenario: &Scenario,
     node: u32,
     round: u32,
     count_before: u32,
+    words: &[u32; ROUND_WORDS as usize],
 ) -> [u32; MOST_WRITES as usize]
     requires node { node < scenario.now.nodes }
     requires first { 1 ≤ round }
     requires last { round ≤ MOST_ROUNDS }
     requires fits { count_before + MOST_WRITES < 2 ^ 32 }
+    requires words { scenario.now.choice ≡ Random → AreWordsOf scenario.now.seed node round words.now }
     ensures { AreWriteNumbers scenario.now node round count_before result }
 {
     let mut numbers = [0; MOST_WRITES as usize];
     match scenario.choice() {
-        Choice::Random => {
-            let words = words_of(scenario, node, round);
-            numbers.copy_from_slice(&words[WRITE_PLACE as usize..]);
-        }
+        Choice::Random => numbers.copy_from_slice(&words[WRITE_PLACE as usize..]),
         Choice::Cycle => {
             for place in 0..MOST_WRITES {
                 numbers[place as usize] = count_before + place;

@@ -3,13 +3,15 @@
 ghost use Rattle.std.specs.Prelude.{◌≡◌, ◌<◌, ◌≤◌, IfOk, IsOkUnless};
 ghost use Rattle.bench_types.specs.Exchange.{IsPlanned};
 ghost use Rattle.round_plan.specs.Plan.{exchange_of, is_lost, reaches, round_list_of};
+ghost use Rattle.round_plan.specs.Words.{run_words_of, AreWordsOf};
 ghost use Rattle.round_plan.specs.inner.Rounds.{AreChosen};
 ghost use Rattle.bench_types.specs.declared.faults.Fault.TheVariants.{OutOfMemory};
 
 use crate::lists::RoundList;
 use crate::outages::{is_up, separated};
 use crate::peers::peer_by;
-use crate::words::words_of;
+use crate::run_words::RunWords;
+use crate::words::{ROUND_WORDS, words_of};
 use bench_types::limits::{MOST_LOSS, MOST_ROUNDS};
 use bench_types::{Exchange, Fault};
 use rayon::prelude::*;
@@ -40,6 +42,36 @@ pub fn round_list(
         if is_up(scenario, exchange.initiator, round) {
             if reaches(scenario, exchange, round) {
                 exchanges.push(*exchange)?;
+            } else {
+                unreached += 1;
+            }
+        }
+    }
+    Ok(RoundList::planned(nodes, unreached, exchanges))
+}
+
+/// As `round_list`, by the words of the round, with no thread. Costs a step for each restart and each
+/// partition for each node. An error is lack of memory (`OutOfMemory`).
+pub fn round_list_by(
+    alloc: Global,
+    scenario: &Scenario,
+    round: u32,
+    words: &RunWords,
+) -> Result<RoundList, Fault>
+    requires first { 1 ≤ round }
+    requires last { round ≤ MOST_ROUNDS }
+    requires words { words.now ≡ run_words_of scenario.now round }
+    ensures plan { IfOk result (λ list. list ≡ round_list_of scenario.now round) }
+    ensures only { IsOkUnless result OutOfMemory }
+{
+    let nodes = scenario.nodes();
+    let mut exchanges = Vec::with_capacity(alloc, nodes as usize)?;
+    let mut unreached = 0;
+    for node in 0..nodes {
+        if is_up(scenario, node, round) {
+            let exchange = exchange_by(scenario, node, round, words.of_node(node));
+            if reaches(scenario, &exchange, round) {
+                exchanges.push(exchange)?;
             } else {
                 unreached += 1;
             }
@@ -79,7 +111,24 @@ fn exchange_of(scenario: &Scenario, node: u32, round: u32) -> Exchange
     ensures value { result ≡ exchange_of scenario.now round node }
     ensures planned { IsPlanned scenario.now.nodes result }
 {
-    let [peer, loss1, loss2, loss3, turn, ..] = words_of(scenario, node, round);
+    exchange_by(scenario, node, round, &words_of(scenario, node, round))
+}
+
+// As `exchange_of`, by the node's words of the round.
+fn exchange_by(
+    scenario: &Scenario,
+    node: u32,
+    round: u32,
+    words: &[u32; ROUND_WORDS as usize],
+) -> Exchange
+    requires node { node < scenario.now.nodes }
+    requires first { 1 ≤ round }
+    requires last { round ≤ MOST_ROUNDS }
+    requires words { AreWordsOf scenario.now.seed node round words.now }
+    ensures value { result ≡ exchange_of scenario.now round node }
+    ensures planned { IsPlanned scenario.now.nodes result }
+{
+    let [peer, loss1, loss2, loss3, turn, ..] = *words;
     Exchange {
         initiator: node,
         responder: peer_by(scenario, node, round, peer),

@@ -1,8 +1,8 @@
 //! The random words of a node, each drawn by its place.
 
-ghost use Rattle.std.specs.Prelude.{◌≡◌, ◌<◌, ◌≤◌, ℕ, slice_index};
-ghost use Rattle.rand_chacha.specs.ChaCha.{key_of};
-ghost use Rattle.round_plan.specs.Words.{position, seed_bytes, word_of};
+ghost use Rattle.std.specs.Prelude.{◌≡◌, ◌+◌, ◌^◌, ◌<◌, ◌≤◌};
+ghost use Rattle.round_plan.specs.Words.{word_of, AreWordsOf};
+ghost use Rattle.round_plan.specs.inner.Streams.{stream_of, AreNextWords};
 
 use bench_types::limits::MOST_ROUNDS;
 use rand_chacha::ChaCha20Rng;
@@ -36,10 +36,17 @@ pub(crate) fn words_of(scenario: &Scenario, node: u32, round: u32) -> [u32; ROUN
     requires node { node < scenario.now.nodes }
     requires first { 1 ≤ round }
     requires last { round ≤ MOST_ROUNDS }
-    ensures { (place : ℕ) → place < ROUND_WORDS
-        → slice_index result place ≡ word_of scenario.now node round place }
+    ensures { AreWordsOf scenario.now.seed node round result }
 {
-    let mut stream = stream_at(scenario, node, round, 0);
+    next_words(&mut stream_at(scenario, node, round, 0))
+}
+
+// The words that a stream has next, as many as a round has.
+pub(crate) fn next_words(stream: &mut ChaCha20Rng) -> [u32; ROUND_WORDS as usize]
+    requires fits { stream.old.word_pos + ROUND_WORDS < 2 ^ 68 }
+    ensures words { AreNextWords stream.old result }
+    ensures stream { stream.new ≡ record stream.old { word_pos = stream.old.word_pos + ROUND_WORDS } }
+{
     let mut words = [0; ROUND_WORDS as usize];
     for place in 0..ROUND_WORDS as usize {
         words[place] = stream.next_word();
@@ -48,15 +55,11 @@ pub(crate) fn words_of(scenario: &Scenario, node: u32, round: u32) -> [u32; ROUN
 }
 
 // A node's stream, where the word at a place of a round comes next.
-fn stream_at(scenario: &Scenario, node: u32, round: u32, place: u32) -> ChaCha20Rng
+pub(crate) fn stream_at(scenario: &Scenario, node: u32, round: u32, place: u32) -> ChaCha20Rng
     requires first { 1 ≤ round }
     requires last { round ≤ MOST_ROUNDS }
     requires place { place < ROUND_WORDS }
-    ensures { result ≡ record {
-      key = key_of (seed_bytes scenario.now.seed);
-      stream = node;
-      word_pos = position round place;
-    } }
+    ensures { result ≡ stream_of scenario.now.seed node round place }
 {
     let mut seed = [0; 32];
     seed[..8].copy_from_slice(&scenario.seed().to_le_bytes());

@@ -1,14 +1,16 @@
-use Rattle.std.proofs.Common.{arith, ◌≡◌, ◌+◌, ◌≤◌, ◌<◌, ◌++◌, ◌∷◌, [], All, length, take, map, if◌then◌else◌, true, subst, sym, ap, ◌∙◌}
+use Rattle.std.proofs.Common.{arith, ◌≡◌, ℕ, ◌+◌, ◌≤◌, ◌<◌, ◌++◌, ◌∷◌, [], List, All, length, take, map, if◌then◌else◌, true, subst, sym, ap, ◌∙◌}
 use Rattle.std.specs.List.{range_with_len}
 use Rattle.std.proofs.Math.ListN.{length-set}
 use Rattle.std.proofs.lemmas.List.{take_more_set, map-append}
 use Rattle.std.proofs.lemmas.List.FromFn.{map-range_with_len_more}
 use Rattle.bench_types.specs.declared.entries.Entry.{Entry}
+use Rattle.scenario.specs.Settings.{Settings}
+use Rattle.round_plan.specs.declared.owners.OwnWrite.{OwnWrite}
 use Rattle.round_plan.specs.Outages.{is_up}
 use Rattle.round_plan.specs.Generations.{generation_upto}
-use Rattle.round_plan.specs.Writes.{writes_in, own_write_at, numbered_write, writes_before, born_in}
+use Rattle.round_plan.specs.Writes.{writes_in, own_write_at, own_writes, numbered_write, writes_before, born_in, AreWritesOf}
 use Rattle.round_plan.proofs.Growth.{writes_upto-grown, keys-own_writes, keys-born_in}
-use Rattle.round_plan.proofs.owners.writes_of.Goals as goal
+use Rattle.round_plan.proofs.owners.writes_by.Goals as goal
 
 pub loop-place-preserved : goal.loop-place-preserved
 loop-place-preserved c =
@@ -22,7 +24,7 @@ loop-place-preserved c =
     let generation = generation_upto s c.args.node round in
     let born = born_in round generation in
     let lt : place < length items = omega (arith, c.loop-place.invariant.0) in
-    let number = c.numbers_of-numbers.ensures.1 place (omega arith) in
+    let number = c.numbers_by-numbers.ensures.1 place (omega arith) in
     let write : born made ≡ ours place = c.numbered_write.ensures.value round generation ∙ (λ i. numbered_write (c.keys-keys.ensures.value i) round generation (number i) (before + place)) in (
       length-set items place made ∙ c.loop-place.invariant.0,
       ap (map born) (take_more_set items place made lt)
@@ -31,24 +33,24 @@ loop-place-preserved c =
           ∙ sym (map-range_with_len_more ours 0 place place (omega arith)),
     )
 
-pub returns-clause-value : goal.returns-clause-value
-returns-clause-value c =
+-- what is left of these writes without their round and generation
+are_writes : (s : Settings) (node round before : ℕ) (ws : List OwnWrite) → 1 ≤ s.keys → 1 ≤ round → map (born_in round (generation_upto s node round)) ws ≡ own_writes s node round before → AreWritesOf s node round before ws
+are_writes s node round before ws some first value = record {
+  value = value;
+  keys =
+      keys-born_in s.keys round (generation_upto s node round) ws
+      (subst (All (λ (e : Entry). e.key < s.keys)) (sym value) (keys-own_writes s node round before some));
+  grows = λ is. writes_upto-grown s node round before first is ∙ ap (λ es. writes_before s node round ++ es) (sym value);
+}
+
+pub returns : goal.returns
+returns c =
     let s = c.args.scenario.now in
     let ours = own_write_at s c.args.node c.args.round c.args.count_before in
     let all : c.loop-place.place ≡ c.writes_in-count.result = omega arith in
     let up : is_up s c.args.node c.args.round ≡ true = sym c.is_up.ensures ∙ c.if-not-is_up.false in
-    subst (λ n. map (born_in c.args.round (generation_upto s c.args.node c.args.round)) (take n c.loop-place.items) ≡ map ours (range_with_len 0 n)) all c.loop-place.invariant.1
-    ∙ ap (λ n. map ours (range_with_len 0 n)) c.writes_in-count.ensures.value
-    ∙ ap (λ b. if b then map ours (range_with_len 0 (writes_in s c.args.round)) else []) (sym up)
-
-pub returns-clause-keys : goal.returns-clause-keys
-returns-clause-keys c =
-    let s = c.args.scenario.now in
     let some : 1 ≤ s.keys = subst (λ k. 1 ≤ k) c.keys-keys.ensures.value c.keys-keys.ensures.limits.0 in
-    keys-born_in s.keys c.args.round (generation_upto s c.args.node c.args.round) _ (subst (All (λ (e : Entry). e.key < s.keys)) (sym (returns-clause-value c)) (keys-own_writes s c.args.node c.args.round c.args.count_before some))
-
-pub returns-clause-grows : goal.returns-clause-grows
-returns-clause-grows c = λ is.
-    let s = c.args.scenario.now in
-    writes_upto-grown s c.args.node c.args.round c.args.count_before c.requires.first is
-    ∙ ap (λ ws. writes_before s c.args.node c.args.round ++ ws) (sym (returns-clause-value c))
+    are_writes s c.args.node c.args.round c.args.count_before _ some c.requires.first
+    (subst (λ n. map (born_in c.args.round (generation_upto s c.args.node c.args.round)) (take n c.loop-place.items) ≡ map ours (range_with_len 0 n)) all c.loop-place.invariant.1
+    ∙ ap (λ n. map ours (range_with_len 0 n)) c.writes_in-count.ensures.value
+    ∙ ap (λ b. if b then map ours (range_with_len 0 (writes_in s c.args.round)) else []) (sym up))

@@ -3,7 +3,7 @@ use Rattle.std.specs.List.{range_with_len}
 use Rattle.bench_types.specs.declared.limits.TheConstants.{MOST_WRITES}
 use Rattle.round_plan.specs.Generations.{generation_upto}
 use Rattle.round_plan.specs.Writes.{own_write_at, born_in}
-use Rattle.round_plan.proofs.owners.writes_of.Given as goal
+use Rattle.round_plan.proofs.owners.writes_by.Given as goal
 
 abbrev pub invariant-loop-place : goal.invariant-loop-place
 invariant-loop-place l =

@@ -1,0 +1,104 @@
+//! The words of all nodes in a round of a run.
+
+ghost use Rattle.std.specs.Prelude.{◌≡◌, ◌+◌, ◌^◌, ◌<◌, ◌≤◌, All, length, IfOk, IsOkUnless};
+ghost use Rattle.bench_types.specs.declared.faults.Fault.TheVariants.{OutOfMemory};
+ghost use Rattle.round_plan.specs.Words.{run_words_of, AreWordsOf};
+ghost use Rattle.round_plan.specs.inner.Streams.{ArePartsOf, HaveDrawn};
+
+use crate::words::{ROUND_WORDS, next_words, stream_at};
+use bench_types::Fault;
+use bench_types::limits::MOST_ROUNDS;
+use rand_chacha::ChaCha20Rng;
+use scenario::Scenario;
+use std::alloc::Global;
+use std::marker::Model;
+
+/// The random words of all nodes in one round of a run, each node's from a stream of its own. Round
+/// by round each stream goes on where it stands, so a round costs one block of words for each node,
+/// and no stream is begun anew.
+#[derive(Drop)]
+pub struct RunWords {
+    seed: u64,
+    round: u32,
+    parts: Vec<NodeWords>,
+}
+
+// A node's stream, and its words of the round.
+#[derive(Drop)]
+struct NodeWords {
+    stream: ChaCha20Rng,
+    words: [u32; ROUND_WORDS as usize],
+}
+
+impl Model for RunWords {
+    ghost use Rattle.std.specs.Prelude.{length};
+    ghost use Rattle.round_plan.specs.Words.{RunWordsView};
+
+    ghost Value = { RunWordsView };
+
+    ghost use Rattle.round_plan.specs.inner.Streams.{ArePartsOf};
+
+    ghost view = { λ w. record { seed = w.seed; nodes = length w.parts.items; round = w.round } };
+
+    ghost invariant = { λ w. ArePartsOf w.seed w.round w.parts.items };
+}
+
+impl RunWords {
+    /// The words before the first round of a scenario's run, where none was drawn. It takes memory for
+    /// the nodes, and costs the begin of a stream for each. An error is lack of memory (`OutOfMemory`).
+    pub fn new(alloc: Global, scenario: &Scenario) -> Result<RunWords, Fault>
+        ensures before { IfOk result (λ words. words ≡ run_words_of scenario.now 0) }
+        ensures only { IsOkUnless result OutOfMemory }
+    {
+        Ok(RunWords {
+            seed: scenario.seed(),
+            round: 0,
+            parts: first_parts(alloc, scenario)?,
+        })
+    }
+
+    /// Goes on to the next round: it draws the words of every node. Costs one block of words for each.
+    pub fn next_round(&mut self)
+        requires { self.old.round < MOST_ROUNDS }
+        ensures { self.new ≡ record self.old { round = self.old.round + 1 } }
+    {
+        draw_next(&mut self.parts);
+        self.round += 1;
+    }
+
+    /// A node's words of the round, by place. Costs nothing: they were drawn at the begin of the round.
+    pub fn of_node(&self, node: u32) -> &[u32; ROUND_WORDS as usize]
+        requires node { node < self.now.nodes }
+        requires begun { 1 ≤ self.now.round }
+        ensures { AreWordsOf self.now.seed node self.now.round result.now }
+    {
+        &self.parts[node as usize].words
+    }
+}
+
+// The parts of all nodes before the first round.
+fn first_parts(alloc: Global, scenario: &Scenario) -> Result<Vec<NodeWords>, Fault>
+    ensures count { IfOk result (λ parts. length parts.items ≡ scenario.now.nodes) }
+    ensures parts { IfOk result (λ parts. ArePartsOf scenario.now.seed 0 parts.items) }
+    ensures only { IsOkUnless result OutOfMemory }
+{
+    let nodes = scenario.nodes();
+    let mut parts = Vec::with_capacity(alloc, nodes as usize)?;
+    for node in 0..nodes {
+        parts.push(NodeWords {
+            stream: stream_at(scenario, node, 1, 0),
+            words: [0; ROUND_WORDS as usize],
+        })?;
+    }
+    Ok(parts)
+}
+
+// The next words of each node.
+fn draw_next(parts: &mut [NodeWords])
+    requires fit { All (λ p. p.stream.word_pos + ROUND_WORDS < 2 ^ 68) parts.old }
+    ensures { HaveDrawn parts.old parts.new }
+{
+    for part in parts {
+        part.words = next_words(&mut part.stream);
+    }
+}

@@ -52,8 +52,9 @@ pub(crate) fn total_owners_above<N: Number>(
 {
     let mut total = 0;
     for owner in 0..nodes {
-        if high[owner].is_above(low[owner]) {
-            total += owner_above(cells, nodes, keys, owner, low[owner]);
+        let mark = low[owner];
+        if high[owner].is_above(mark) {
+            total += owner_above(cells, nodes, keys, owner, mark);
         }
     }
     total

@@ -15,13 +15,12 @@ pub loop-owner-preserved : goal.loop-owner-preserved
 loop-owner-preserved g c =
     let cells = cell (map g.N.Number.number c.args.cells.now) c.args.nodes in
     let low = slice_index (map g.N.Number.number c.args.low.now) in
+    let at_low = number-at g.N.Number.number c.args.low.now c.loop-owner.owner c.index-low-owner.result (omega (arith, c.loop-owner-test.true, c.requires.low)) c.index-low-owner.is in
     elim c.if-is_above.branch [
       | then-is_above w ↦
           w.total-is
-          ∙ owner_counted cells c.args.keys low c.loop-owner.owner c.loop-owner.total w.owner_above-total.result _ c.loop-owner.invariant w.owner_above-total.ensures
-          (number-at g.N.Number.number c.args.low.now c.loop-owner.owner w.index-low-owner-then-is_above.result (omega (arith, c.loop-owner-test.true, c.requires.low)) w.index-low-owner-then-is_above.is)
+          ∙ owner_counted cells c.args.keys low c.loop-owner.owner c.loop-owner.total w.owner_above-total.result _ c.loop-owner.invariant w.owner_above-total.ensures at_low
       | else-is_above w ↦
-          let at_low = number-at g.N.Number.number c.args.low.now c.loop-owner.owner c.index-low-owner.result (omega (arith, c.loop-owner-test.true, c.requires.low)) c.index-low-owner.is in
           let at_high = number-at g.N.Number.number c.args.high.now c.loop-owner.owner c.index-high-owner.result (omega (arith, c.loop-owner-test.true, c.requires.high)) c.index-high-owner.is in
           let le = ltb-false (g.N.Number.number c.index-low-owner.result) (g.N.Number.number c.index-high-owner.result) (sym c.is_above.ensures ∙ w.if-is_above.false) in
           w.total-is

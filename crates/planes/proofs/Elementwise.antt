@@ -1,8 +1,8 @@
 -- Lists that are changed element by element.
--- Serves the functions of `grids`, `lags` and `planes` and `version_tables`.
+-- Serves the functions of `grids`, `lags`, `owners` and `planes` and `version_tables`.
 use Rattle.std.proofs.Common.{◌≡◌, ℕ, ◌+◌, ◌<◌, ◌≤◌, List, length, [], ◌++◌, ◌-◌, get_or, set, map, take, replicate, inl, inr, refl, sym, ap, ◌∙◌, subst, arith}
 use Rattle.std.proofs.Math.Seq.{take-nil}
-use Rattle.std.proofs.lemmas.Bool.{cases_eq}
+use Rattle.std.proofs.lemmas.Bool.{cases_eq, cases_lt}
 use Rattle.std.proofs.lemmas.List.{get_or-set_same, get_or-set_other, length-set, get_or-map, get_or-replicate, length-map, length-replicate, map-set}
 use Rattle.planes.specs.Planes.{HasEach}
 use Rattle.planes.specs.inner.Elementwise.{AreChangedUpto, AreChanged}
@@ -43,6 +43,18 @@ module _ (changed : ℕ → ℕ → ℕ → Type 0) (old : List ℕ) where
 
   pub changed_all : (new : List ℕ) (bound : ℕ) → AreChangedUpto changed old new bound → length old ≤ bound → AreChanged changed old new
   changed_all new bound is le = record { size = is.size; each = λ r lt. is.below r (omega (arith, lt, le)) }
+
+  -- one more number is left as it was
+  pub left_next : (new : List ℕ) (bound : ℕ) → AreChangedUpto changed old new bound → changed bound (get_or old bound 0) (get_or old bound 0) → AreChangedUpto changed old new (bound + 1)
+  left_next new bound is same = record {
+    size = is.size;
+    below = λ r lt. elim (cases_lt r bound) [
+      | inl earlier ↦ is.below r earlier
+      | inr not_earlier ↦ subst (λ k. changed k (get_or old k 0) (get_or new k 0)) {x = bound} {y = r} (omega (arith, lt, not_earlier))
+          (subst (changed bound (get_or old bound 0)) (sym (is.from bound (omega arith))) same)
+    ];
+    from = λ r le. is.from r (omega (arith, le));
+  }
 
   -- one more number is written
   pub written_next : {N : Type 0} (number : N → ℕ) (new : List N) (bound : ℕ) (x : N) → AreChangedUpto changed old (map number new) bound → bound < length old → changed bound (get_or old bound 0) (number x) → AreChangedUpto changed old (map number (set new bound x)) (bound + 1)

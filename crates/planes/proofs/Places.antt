@@ -1,5 +1,5 @@
 -- The numbers of a table's planes, one after another.
--- Serves the functions of `grids` and `lags`, `Behind` and `version_tables`.
+-- Serves the functions of `grids`, `lags` and `owners`, `Behind` and `version_tables`.
 use Rattle.std.proofs.Common.{◌≡◌, ℕ, zero, suc, Fits, w32, ◌+◌, ◌*◌, ◌-◌, ◌<◌, ◌≤◌, ◌&&◌, Bool, true, false, cond, List, [], ◌∷◌, ◌++◌, length, get_or, map, take, drop, nat_lt, nat_le, max, inl, inr, refl, sym, ap, ◌∙◌, subst, arith}
 use Rattle.std.proofs.Math.Nat.{mul-le-mul_right}
 use Rattle.std.proofs.lemmas.Bool.{cases_lt, lt-ltb, le-ltb}
@@ -11,7 +11,7 @@ use Rattle.planes.specs.inner.Elementwise.{AreChanged}
 use Rattle.planes.specs.Sums.{sum_below}
 use Rattle.planes.specs.Planes.{Cells}
 use Rattle.planes.specs.Planes.{IsLeastAbove, IsRaised, HasNoneAbove, count_between}
-use Rattle.planes.specs.Planes.{cell, next_above, total_of, IsLowered, IsGrid, HasEach, IsNextAbove, ArePlanesChangedUpto, ArePlanesChanged}
+use Rattle.planes.specs.Planes.{cell, next_above, number_ahead, total_above, total_of, IsLowered, IsGrid, HasEach, IsNextAbove, ArePlanesChangedUpto, ArePlanesChanged}
 use Rattle.planes.proofs.Counts.{count_le}
 use Rattle.planes.proofs.Sums.{sum_below-same, sum_below-turned}
 
@@ -154,6 +154,26 @@ total_whole nodes keys key test x is le ge =
     is
     ∙ ap (λ m. sum_below m (λ k. sum_below nodes (λ r. cond (test r k) 1 0))) {x = key} {y = keys} (omega (arith, le, ge))
     ∙ sum_below-turned keys nodes (λ k r. cond (test r k) 1 0)
+
+pub total-same : (nodes keys : ℕ) (one other : ℕ → ℕ → Bool) → ((r k : ℕ) → r < nodes → k < keys → one r k ≡ other r k) → total_of nodes keys one ≡ total_of nodes keys other
+total-same nodes keys one other same = sum_below-same nodes _ _ (λ r in_nodes. sum_below-same keys _ _ (λ k in_keys. ap (λ b. cond b 1 0) (same r k in_nodes in_keys)))
+
+-- a number that is kept is above the mark, and 0 isn't
+pub kept-above : (number peer low : ℕ) → nat_lt (max peer low) number ≡ nat_lt low (number_ahead number peer low)
+kept-above number peer low = elim (cases_lt (max peer low) number) [
+  | inl ahead ↦
+      lt-ltb (max peer low) number ahead ∙ sym (lt-ltb low number (omega (arith, ahead)))
+      ∙ ap (nat_lt low) (sym (ap (λ b. cond b number 0) (lt-ltb (max peer low) number ahead)))
+  | inr not_ahead ↦
+      le-ltb (max peer low) number (omega (arith, not_ahead)) ∙ sym (le-ltb low 0 (omega arith))
+      ∙ ap (nat_lt low) (sym (ap (λ b. cond b number 0) (le-ltb (max peer low) number (omega (arith, not_ahead)))))
+]
+
+-- how many are kept
+pub total-kept : (nodes keys : ℕ) (peer : ℕ → ℕ → ℕ) (low old new : List ℕ) (count : ℕ) → count ≡ total_of nodes keys (λ r k. nat_lt (max (peer r k) (get_or low r 0)) (cell old nodes r k))
+    → ArePlanesChanged (λ r k x y. y ≡ number_ahead x (peer r k) (get_or low r 0)) nodes keys old new → count ≡ total_above nodes keys new low
+total-kept nodes keys peer low old new count is kept =
+    is ∙ total-same nodes keys _ _ (λ r k in_nodes in_keys. kept-above (cell old nodes r k) (peer r k) (get_or low r 0) ∙ ap (nat_lt (get_or low r 0)) (sym (kept.each r k in_nodes in_keys)))
 
 -- a block that is written among planes
 module _ (start nodes : ℕ) (xs ys : List ℕ) (within : start + nodes ≤ length xs) (size : length ys ≡ nodes) where

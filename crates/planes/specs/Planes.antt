@@ -51,7 +51,8 @@ cell xs nodes owner key = slice_index xs (key * nodes + owner)
 -- numbers raised to those sent that are above one mark of their owner and up to another
 abbrev pub numbers_taken : ℕ → List ℕ → List ℕ → List ℕ → List ℕ → Cells
 numbers_taken nodes cells sent low high owner key =
-    number_taken (cell cells nodes owner key) (cell sent nodes owner key) (slice_index low owner) (slice_index high owner)
+    number_taken (cell cells nodes owner key) (cell sent nodes owner key)
+    (slice_index low owner) (slice_index high owner)
 
 -- planes of so many nodes, one for each key
 pub record IsGrid (nodes keys size : ℕ) : Type 0 where
@@ -72,6 +73,15 @@ IsNextAbove most cells keys owner mark least =
 -- how many places pass a test of owner and key
 abbrev pub total_of : ℕ → ℕ → (ℕ → ℕ → Bool) → ℕ
 total_of nodes keys test = sum_below nodes (λ owner. sum_below keys (λ key. if test owner key then 1 else 0))
+
+-- how many numbers are above their owners' marks
+abbrev pub total_above : ℕ → ℕ → List ℕ → List ℕ → ℕ
+total_above nodes keys cells low = total_of nodes keys (λ r k. nat_lt (slice_index low r) (cell cells nodes r k))
+
+-- no number is above its owner's mark
+abbrev pub AreCovered : ℕ → ℕ → List ℕ → List ℕ → Type 0
+AreCovered nodes keys cells high =
+    (owner : ℕ) → owner < nodes → HasNoneAbove (cell cells nodes) keys owner (slice_index high owner)
 
 -- the planes of the keys below a bound are changed as a relation of owner, key, old and new number says, and the others
 -- aren't
@@ -98,3 +108,14 @@ pub record IsRaised (cells : Cells) (keys owner x y : ℕ) : Type 0 where
   pub rises : x ≤ y
   pub upto : (key : ℕ) → key < keys → cells owner key ≤ y
   pub from : (y ≡ x) ⊎ ((key : ℕ) × (key < keys) × (cells owner key ≡ y))
+
+-- numbers are raised to those sent that are above one mark of their owner and up to another
+abbrev pub AreTaken : ℕ → ℕ → List ℕ → List ℕ → List ℕ → List ℕ → List ℕ → Type 0
+AreTaken nodes keys sent low high old new =
+    ArePlanesChanged (λ r k x y. y ≡ number_taken x (cell sent nodes r k) (slice_index low r) (slice_index high r))
+    nodes keys old new
+
+-- and each owner's greatest number is raised to the greatest of its numbers then
+abbrev pub AreRaised : ℕ → ℕ → List ℕ → List ℕ → List ℕ → List ℕ → List ℕ → List ℕ → Type 0
+AreRaised nodes keys cells sent low high old new =
+    HasEach nodes (λ r y. IsRaised (numbers_taken nodes cells sent low high) keys r (slice_index old r) y) new

@@ -1,17 +1,24 @@
 //! Loops over all planes of a table: `cells[key * nodes + owner]`. Where one answers an error, it is lack of memory
 //! (`OutOfMemory`).
 
-ghost use Rattle.std.specs.Prelude.{◌≡◌, ℕ, ◌+◌, ◌*◌, ◌<◌, ◌≤◌, ◌&&◌, length, map, nat_le, nat_lt, slice_index, IfOk, IsOkUnless};
+ghost use Rattle.std.specs.Prelude.{◌≡◌, ℕ, ◌+◌, ◌*◌, ◌<◌, ◌≤◌, ◌&&◌, length, map, max, nat_le, nat_lt, slice_index, IfOk, IsOkUnless};
 ghost use Rattle.bench_types.specs.declared.faults.Fault.TheVariants.{OutOfMemory};
 ghost use Rattle.bench_types.specs.declared.limits.TheConstants.{MOST_NODES, MOST_KEYS};
 ghost use Rattle.planes.specs.Planes.{count_above};
-ghost use Rattle.planes.specs.Planes.{cell, numbers_taken, number_ahead, number_taken, total_of, ArePlanesChanged, HasEach, HasEachPlace, IsGrid, IsNextAbove, IsRaised};
+ghost use Rattle.planes.specs.Planes.{cell, number_ahead, total_above, total_of, AreCovered, ArePlanesChanged, AreRaised, AreTaken, HasEach, HasEachPlace, IsGrid, IsNextAbove};
 ghost use Rattle.planes.specs.Planes.{count_between};
 
 use crate::numbers::Number;
-use crate::planes;
+use crate::{owners, planes};
 use bench_types::Fault;
 use std::alloc::Global;
+
+/// Numbers of which some are kept, with 0 in place of the others, and how many are kept.
+#[derive(Drop)]
+pub struct Masked<N: Number> {
+    pub numbers: Vec<N>,
+    pub count: u32,
+}
 
 // The plane of a key.
 pub(crate) fn plane_of<N: Number>(cells: &[N], nodes: usize, key: usize) -> &[N]
@@ -162,23 +169,35 @@ pub fn least_above<N: Number>(
     Ok(least)
 }
 
-// Keeps the numbers that are above both the peer's and their owner's mark, and puts 0 in place of the others.
-fn keep_planes_ahead<N: Number>(numbers: &mut [N], peer: &[N], nodes: usize, keys: usize, low: &[N])
+// Keeps the numbers that are above both the peer's and their owner's mark, and puts 0 in place of the others. It
+// answers how many it keeps.
+fn keep_planes_ahead<N: Number>(
+    numbers: &mut [N],
+    peer: &[N],
+    nodes: usize,
+    keys: usize,
+    low: &[N],
+) -> u32
     requires grid { IsGrid nodes keys (length numbers.old) }
     requires peer { length peer.now ≡ length numbers.old }
     requires low { length low.now ≡ nodes }
-    ensures { ArePlanesChanged (λ r k x y. y ≡ number_ahead x (cell (map N.number peer.now) nodes r k)
+    ensures numbers { ArePlanesChanged (λ r k x y. y ≡ number_ahead x (cell (map N.number peer.now) nodes r k)
         (slice_index (map N.number low.now) r)) nodes keys (map N.number numbers.old) (map N.number numbers.new) }
+    ensures count { result ≡ total_of nodes keys (λ r k. nat_lt (max (cell (map N.number peer.now) nodes r k)
+        (slice_index (map N.number low.now) r)) (cell (map N.number numbers.old) nodes r k)) }
 {
+    let mut count = 0;
     for key in 0..keys {
         let of_peer = plane_of(peer, nodes, key);
         let start = key * nodes;
         let block = &mut numbers[start..start + nodes];
-        planes::keep_ahead(block, of_peer, low);
+        count += planes::keep_ahead(block, of_peer, low);
     }
+    count
 }
 
-/// The numbers that are above both the peer's and their owner's mark, and 0 in place of the others.
+/// The numbers that are above both the peer's and their owner's mark, and 0 in place of the others. One pass masks them
+/// and counts those that it keeps.
 pub fn ahead<N: Number>(
     alloc: Global,
     cells: &[N],
@@ -186,26 +205,27 @@ pub fn ahead<N: Number>(
     nodes: usize,
     keys: usize,
     low: &[N],
-) -> Result<Vec<N>, Fault>
+) -> Result<Masked<N>, Fault>
     requires grid { IsGrid nodes keys (length cells.now) }
     requires peer { length peer.now ≡ length cells.now }
     requires low { length low.now ≡ nodes }
-    ensures ahead { IfOk result (λ v. HasEachPlace nodes keys
+    ensures ahead { IfOk result (λ m. HasEachPlace nodes keys
         (λ r k n. n ≡ number_ahead (cell (map N.number cells.now) nodes r k) (cell (map N.number peer.now) nodes r k)
-        (slice_index (map N.number low.now) r)) (map N.number v.items)) }
+        (slice_index (map N.number low.now) r)) (map N.number m.numbers.items)) }
+    ensures count { IfOk result
+        (λ m. m.count ≡ total_above nodes keys (map N.number m.numbers.items) (map N.number low.now)) }
     ensures only { IsOkUnless result OutOfMemory }
 {
-    let mut ahead = Vec::from_slice(alloc, cells)?;
-    keep_planes_ahead(&mut ahead, peer, nodes, keys, low);
-    Ok(ahead)
+    let mut numbers = Vec::from_slice(alloc, cells)?;
+    let count = keep_planes_ahead(&mut numbers, peer, nodes, keys, low);
+    Ok(Masked { numbers, count })
 }
 
-/// How many numbers are above their owners' marks.
-pub fn total_above<N: Number>(cells: &[N], nodes: usize, keys: usize, low: &[N]) -> u32
+// How many numbers are above their owners' marks, plane by plane.
+fn total_planes_above<N: Number>(cells: &[N], nodes: usize, keys: usize, low: &[N]) -> u32
     requires grid { IsGrid nodes keys (length cells.now) }
     requires low { length low.now ≡ nodes }
-    ensures { result ≡ total_of nodes keys
-        (λ r k. nat_lt (slice_index (map N.number low.now) r) (cell (map N.number cells.now) nodes r k)) }
+    ensures { result ≡ total_above nodes keys (map N.number cells.now) (map N.number low.now) }
 {
     let mut total = 0;
     for key in 0..keys {
@@ -213,6 +233,22 @@ pub fn total_above<N: Number>(cells: &[N], nodes: usize, keys: usize, low: &[N])
         total += planes::how_many_above(plane, low);
     }
     total
+}
+
+/// How many numbers are above their owners' marks, where none is above its owner's high mark. It goes over all planes,
+/// or where only few owners' marks differ and there are many keys, over the keys of these owners.
+pub fn total_above<N: Number>(cells: &[N], nodes: usize, keys: usize, low: &[N], high: &[N]) -> u32
+    requires grid { IsGrid nodes keys (length cells.now) }
+    requires low { length low.now ≡ nodes }
+    requires high { length high.now ≡ nodes }
+    requires covered { AreCovered nodes keys (map N.number cells.now) (map N.number high.now) }
+    ensures { result ≡ total_above nodes keys (map N.number cells.now) (map N.number low.now) }
+{
+    if owners::are_few(keys, low, high) {
+        owners::total_owners_above(cells, nodes, keys, low, high)
+    } else {
+        total_planes_above(cells, nodes, keys, low)
+    }
 }
 
 /// How many numbers are not 0.
@@ -243,8 +279,37 @@ pub fn total_upto<N: Number>(cells: &[N], nodes: usize, keys: usize, high: &[N])
     total
 }
 
+// Takes what is sent, plane by plane.
+fn take_planes<N: Number>(
+    cells: &mut [N],
+    greatest: &mut [N],
+    sent: &[N],
+    nodes: usize,
+    keys: usize,
+    low: &[N],
+    high: &[N],
+)
+    requires grid { IsGrid nodes keys (length cells.old) }
+    requires greatest { length greatest.old ≡ nodes }
+    requires sent { length sent.now ≡ length cells.old }
+    requires low { length low.now ≡ nodes }
+    requires high { length high.now ≡ nodes }
+    ensures cells { AreTaken nodes keys (map N.number sent.now) (map N.number low.now) (map N.number high.now)
+        (map N.number cells.old) (map N.number cells.new) }
+    ensures greatest { AreRaised nodes keys (map N.number cells.old) (map N.number sent.now) (map N.number low.now)
+        (map N.number high.now) (map N.number greatest.old) (map N.number greatest.new) }
+{
+    for key in 0..keys {
+        let plane = plane_of(sent, nodes, key);
+        let start = key * nodes;
+        let block = &mut cells[start..start + nodes];
+        planes::take_plane(block, greatest, plane, low, high);
+    }
+}
+
 /// Raises each number to the one sent, where that is above its owner's one mark and up to the other, and each owner's
-/// greatest number to the greatest of its numbers then.
+/// greatest number to the greatest of its numbers then. No number may be above its owner's greatest before. It goes
+/// over all planes, or where only few owners have anything sent and there are many keys, over the keys of these owners.
 pub fn take<N: Number>(
     cells: &mut [N],
     greatest: &mut [N],
@@ -259,18 +324,15 @@ pub fn take<N: Number>(
     requires sent { length sent.now ≡ length cells.old }
     requires low { length low.now ≡ nodes }
     requires high { length high.now ≡ nodes }
-    ensures cells { ArePlanesChanged
-        (λ r k x y. y ≡ number_taken x (cell (map N.number sent.now) nodes r k) (slice_index (map N.number low.now) r)
-        (slice_index (map N.number high.now) r)) nodes keys
+    requires covered { AreCovered nodes keys (map N.number cells.old) (map N.number greatest.old) }
+    ensures cells { AreTaken nodes keys (map N.number sent.now) (map N.number low.now) (map N.number high.now)
         (map N.number cells.old) (map N.number cells.new) }
-    ensures greatest { HasEach nodes (λ r y. IsRaised (numbers_taken nodes (map N.number cells.old) (map N.number sent.now)
-        (map N.number low.now) (map N.number high.now)) keys r (slice_index (map N.number greatest.old) r) y)
-        (map N.number greatest.new) }
+    ensures greatest { AreRaised nodes keys (map N.number cells.old) (map N.number sent.now) (map N.number low.now)
+        (map N.number high.now) (map N.number greatest.old) (map N.number greatest.new) }
 {
-    for key in 0..keys {
-        let plane = plane_of(sent, nodes, key);
-        let start = key * nodes;
-        let block = &mut cells[start..start + nodes];
-        planes::take_plane(block, greatest, plane, low, high);
+    if owners::are_few(keys, low, high) {
+        owners::take_owners(cells, greatest, sent, nodes, keys, low, high);
+    } else {
+        take_planes(cells, greatest, sent, nodes, keys, low, high);
     }
 }

@@ -31,7 +31,8 @@ fn lower_counting<N: Number>(least: &mut [N], plane: &[N], last: &[N]) -> u32
     requires last { length last.now ≡ length least.old }
     requires room { length least.old ≤ MOST_NODES }
     ensures count { result ≡ sum_below (length least.old)
-        (λ r. if nat_lt (slice_index (map N.number plane.now) r) (slice_index (map N.number last.now) r) then 1 else 0) }
+        (λ r. if nat_lt (slice_index (map N.number plane.now) r) (slice_index (map N.number last.now) r)
+        then 1 else 0) }
     ensures least { AreChanged (λ r x y. y ≡ min x (slice_index (map N.number plane.now) r))
         (map N.number least.old) (map N.number least.new) }
 {

@@ -4,11 +4,12 @@
 mod grids;
 mod lags;
 mod numbers;
+mod owners;
 mod planes;
 
 pub use grids::{
-    ahead, counts_above, counts_between, least_above, take, total_above, total_held, total_upto,
-    zeros,
+    Masked, ahead, counts_above, counts_between, least_above, take, total_above, total_held,
+    total_upto, zeros,
 };
 pub use lags::{count_behind, least_behind, lower_all};
 pub use numbers::Number;

@@ -8,7 +8,7 @@ ghost use Rattle.planes.specs.Planes.{IsLowered, number_ahead, number_taken};
 
 use crate::numbers::Number;
 
-fn is_between<N: Number>(number: N, low: N, high: N) -> bool
+pub(crate) fn is_between<N: Number>(number: N, low: N, high: N) -> bool
     ensures { result ≡ nat_lt (N.number low) (N.number number) && nat_le (N.number number) (N.number high) }
 {
     number.is_above(low) & number.is_upto(high)
@@ -64,20 +64,25 @@ pub fn lower_to_next<N: Number>(least: &mut [N], plane: &[N], low: &[N])
     }
 }
 
-/// Keeps the numbers that are above both the peer's and a mark, and puts 0 in place of the others.
-pub fn keep_ahead<N: Number>(numbers: &mut [N], peer: &[N], low: &[N])
+/// Keeps the numbers that are above both the peer's and a mark, and puts 0 in place of the others. It answers how many
+/// it keeps.
+pub fn keep_ahead<N: Number>(numbers: &mut [N], peer: &[N], low: &[N]) -> u32
     requires peer { length peer.now ≡ length numbers.old }
     requires low { length low.now ≡ length numbers.old }
-    ensures { AreChanged (λ r x y. y ≡ number_ahead x (slice_index (map N.number peer.now) r)
+    requires room { length numbers.old ≤ MOST_NODES }
+    ensures numbers { AreChanged (λ r x y. y ≡ number_ahead x (slice_index (map N.number peer.now) r)
         (slice_index (map N.number low.now) r)) (map N.number numbers.old) (map N.number numbers.new) }
+    ensures count { result ≡ sum_below (length numbers.old)
+        (λ r. if nat_lt (max (slice_index (map N.number peer.now) r) (slice_index (map N.number low.now) r))
+        (slice_index (map N.number numbers.old) r) then 1 else 0) }
 {
+    let mut count = N::zero();
     for r in 0..numbers.len() {
-        numbers[r] = pick(
-            numbers[r].is_above(peer[r].max_with(low[r])),
-            numbers[r],
-            N::zero(),
-        );
+        let is_ahead = numbers[r].is_above(peer[r].max_with(low[r]));
+        numbers[r] = pick(is_ahead, numbers[r], N::zero());
+        count = count.plus(is_ahead);
     }
+    count.widen()
 }
 
 /// Raises the numbers of a plane to those sent that are above one mark and up to another, and each owner's greatest

@@ -6,7 +6,7 @@ ghost use Rattle.bench_types.specs.declared.faults.Fault.TheVariants.{OutOfMemor
 ghost use Rattle.bench_types.specs.Budget.{IsLawfulBudget};
 ghost use Rattle.bench_types.specs.Mode.{digest_kind};
 ghost use Rattle.owner_lists.specs.OwnerListView.{all_writes};
-ghost use Rattle.planes.specs.Planes.{cell, number_ahead, HasEach, HasEachPlace};
+ghost use Rattle.planes.specs.Planes.{cell, number_ahead, total_above, HasEach, HasEachPlace};
 ghost use Rattle.version_tables.specs.Views.{table_in, IsKept};
 ghost use Rattle.version_tables.specs.inner.Deltas.{AreMarksOf};
 ghost use Rattle.version_tables.specs.inner.Histories.{FitsHistories};
@@ -19,7 +19,7 @@ use crate::tables::{VersionTable, Written};
 use crate::told_marks::told;
 use crate::weights::Offer;
 use bench_types::{DigestKind, Fault, Mode, Rules};
-use planes::Number;
+use planes::{Masked, Number};
 use std::alloc::Global;
 
 /// Of each owner what is above the low mark and up to the high one is sent, where it is above the receiver's.
@@ -29,6 +29,13 @@ pub(crate) struct DeltaMarks<N: Number> {
     pub(crate) high: Vec<N>,
     pub(crate) sent: u32,
     pub(crate) cut: u32,
+}
+
+// The numbers that are offered, and how many of them are above the low marks.
+#[derive(Clone, Copy)]
+struct Offered<'a, N: Number> {
+    cells: &'a [N],
+    found: u32,
 }
 
 // What the sender sends the receiver.
@@ -53,9 +60,9 @@ pub(crate) fn delta<N: Number, H: Written>(
     let kind = rules.mode.digest_kind();
     let low = told_to(alloc, sender, receiver, histories, kind)?;
     let ahead = ahead_of(alloc, sender, receiver, kind, &low)?;
-    let cells = either(sender, receiver, kind, &low, &ahead);
+    let offered = either(sender, receiver, kind, &low, &ahead);
     let marked = marks_sent(
-        alloc, sender, receiver, histories, rules, rotation, &low, cells,
+        alloc, sender, receiver, histories, rules, rotation, &low, offered,
     )?;
     let marks = marks_of(alloc, rules.mode, low, sender.greatest(), marked)?;
     Ok(marks)
@@ -70,7 +77,7 @@ fn marks_sent<N: Number, H: Written>(
     rules: &Rules,
     rotation: u32,
     low: &[N],
-    cells: &[N],
+    offered: Offered<N>,
 ) -> Result<Marked<N>, Fault>
     requires nodes { sender.now.nodes ≡ receiver.now.nodes }
     requires keys { sender.now.keys ≡ receiver.now.keys }
@@ -82,14 +89,16 @@ fn marks_sent<N: Number, H: Written>(
         (λ r n. n ≡ told_number (digest_kind rules.now.mode) N.most receiver.now.node (all_writes histories.now.lists)
         (slice_index receiver.now.greatest) r) (map N.number low.now) }
     requires cells { AreOffered (digest_kind rules.now.mode) sender.now receiver.now (map N.number low.now)
-        (map N.number cells.now) }
+        (map N.number offered.cells.now) }
+    requires found { offered.found ≡ total_above sender.now.nodes sender.now.keys (map N.number offered.cells.now)
+        (map N.number low.now) }
     ensures marks { IfOk result (λ m. AreMarksOf rules.now rotation H.lists sender.now receiver.now
         (low_list rules.now.mode (map N.number low.now) (map N.number m.mark.items))
         (high_list rules.now.mode (map N.number m.mark.items) sender.now.greatest) m.sent m.cut) }
     ensures only { IsOkUnless result OutOfMemory }
 {
     let offer = Offer {
-        cells,
+        cells: offered.cells,
         nodes: sender.nodes() as usize,
         keys: sender.keys() as usize,
         low,
@@ -99,7 +108,15 @@ fn marks_sent<N: Number, H: Written>(
     };
     let ends = histories.ends();
     let last = histories.rounds();
-    let marked = planned(alloc, &offer, rules.mode, rotation as usize, ends, last)?;
+    let marked = planned(
+        alloc,
+        &offer,
+        offered.found,
+        rules.mode,
+        rotation as usize,
+        ends,
+        last,
+    )?;
     Ok(marked)
 }
 
@@ -132,24 +149,30 @@ fn told_to<N: Number, H: Written>(
     )
 }
 
-// For a precise digest what of the sender's is ahead of the receiver's.
+// For a precise digest what of the sender's is ahead of the receiver's, and how many numbers that is.
 fn ahead_of<N: Number, H: Written>(
     alloc: Global,
     sender: &VersionTable<N, H>,
     receiver: &VersionTable<N, H>,
     kind: DigestKind,
     low: &[N],
-) -> Result<Vec<N>, Fault>
+) -> Result<Masked<N>, Fault>
     requires nodes { sender.now.nodes ≡ receiver.now.nodes }
     requires keys { sender.now.keys ≡ receiver.now.keys }
     requires low { length low.now ≡ sender.now.nodes }
-    ensures ahead { kind ≡ Precise → IfOk result (λ v. HasEachPlace sender.now.nodes sender.now.keys
+    ensures ahead { kind ≡ Precise → IfOk result (λ m. HasEachPlace sender.now.nodes sender.now.keys
         (λ r k n. n ≡ number_ahead (cell sender.now.cells sender.now.nodes r k)
-        (cell receiver.now.cells sender.now.nodes r k) (slice_index (map N.number low.now) r)) (map N.number v.items)) }
+        (cell receiver.now.cells sender.now.nodes r k) (slice_index (map N.number low.now) r))
+        (map N.number m.numbers.items)) }
+    ensures count { kind ≡ Precise → IfOk result (λ m. m.count
+        ≡ total_above sender.now.nodes sender.now.keys (map N.number m.numbers.items) (map N.number low.now)) }
     ensures only { IsOkUnless result OutOfMemory }
 {
     match kind {
-        DigestKind::Scuttle => Ok(Vec::new(alloc)),
+        DigestKind::Scuttle => Ok(Masked {
+            numbers: Vec::new(alloc),
+            count: 0,
+        }),
         DigestKind::Precise => {
             let nodes = sender.nodes() as usize;
             let keys = sender.keys() as usize;
@@ -164,18 +187,32 @@ fn either<'a, N: Number, H: Written>(
     receiver: &VersionTable<N, H>,
     kind: DigestKind,
     low: &[N],
-    ahead: &'a [N],
-) -> &'a [N]
+    ahead: &'a Masked<N>,
+) -> Offered<'a, N>
     requires nodes { sender.now.nodes ≡ receiver.now.nodes }
+    requires low { length low.now ≡ sender.now.nodes }
     requires ahead { kind ≡ Precise → HasEachPlace sender.now.nodes sender.now.keys
         (λ r k n. n ≡ number_ahead (cell sender.now.cells sender.now.nodes r k)
         (cell receiver.now.cells sender.now.nodes r k) (slice_index (map N.number low.now) r))
-        (map N.number ahead.now) }
-    ensures { AreOffered kind sender.now receiver.now (map N.number low.now) (map N.number result.now) }
+        (map N.number ahead.now.numbers.items) }
+    requires count { kind ≡ Precise → ahead.now.count
+        ≡ total_above sender.now.nodes sender.now.keys (map N.number ahead.now.numbers.items) (map N.number low.now) }
+    ensures cells { AreOffered kind sender.now receiver.now (map N.number low.now) (map N.number result.cells.now) }
+    ensures found { result.found
+        ≡ total_above sender.now.nodes sender.now.keys (map N.number result.cells.now) (map N.number low.now) }
 {
     match kind {
-        DigestKind::Scuttle => sender.cells(),
-        DigestKind::Precise => ahead,
+        DigestKind::Scuttle => {
+            let nodes = sender.nodes() as usize;
+            let keys = sender.keys() as usize;
+            let cells = sender.cells();
+            let found = planes::total_above(cells, nodes, keys, low, sender.greatest());
+            Offered { cells, found }
+        }
+        DigestKind::Precise => Offered {
+            cells: &ahead.numbers,
+            found: ahead.count,
+        },
     }
 }
 

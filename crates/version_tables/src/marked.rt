@@ -27,16 +27,20 @@ pub(crate) struct Marked<N: Number> {
     pub(crate) cut: u32,
 }
 
-/// All where it fits, else whole levels and a share of the first one that doesn't fit with them.
+/// All where it fits, else whole levels and a share of the first one that doesn't fit with them. How many numbers are
+/// offered is given.
 pub(crate) fn planned<N: Number>(
     alloc: Global,
     offer: &Offer<N>,
+    found: u32,
     mode: Mode,
     rotation: usize,
     ends: &[N],
     last: u32,
 ) -> Result<Marked<N>, Fault>
     requires offer { IsOffer N.number N.most offer.now }
+    requires found { found
+        ≡ count_in N.number offer.now (marks N.number offer.now.low.now) (marks N.number offer.now.high.now) }
     requires rotation { rotation < offer.now.nodes }
     requires ends { AreEnds (all_writes offer.now.lists.now) offer.now.nodes last (map N.number ends.now) }
     requires made { (owner : ℕ) → AreMadeBy last (all_writes offer.now.lists.now owner) }
@@ -45,7 +49,6 @@ pub(crate) fn planned<N: Number>(
         (λ m. AreMarked mode rotation N.number offer.now (marks N.number m.mark.items) m.sent m.cut) }
     ensures only { IsOkUnless result OutOfMemory }
 {
-    let found = planes::total_above(offer.cells, offer.nodes, offer.keys, offer.low);
     if offer.fits(found, offer.low, offer.high) {
         let mark = whole_mark(alloc, offer, mode)?;
         return Ok(Marked {

@@ -113,7 +113,7 @@ fn look<N: Number>(offer: &Offer<N>, mark: &[N], found: u32, newest: bool) -> Fo
     ensures fits { IsTrue result.fits
         ↔ (weight_on (round_mode newest) N.number offer.now (marks N.number mark.now) ≤ amount_of offer.now.budget) }
 {
-    let above = planes::total_above(offer.cells, offer.nodes, offer.keys, mark);
+    let above = planes::total_above(offer.cells, offer.nodes, offer.keys, mark, offer.high);
     if newest {
         let fits = offer.fits(above, mark, offer.high);
         Found { count: above, fits }

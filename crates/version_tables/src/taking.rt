@@ -4,7 +4,7 @@ ghost use Rattle.std.specs.Prelude.{◌≡◌, ◌==◌, ℕ, ◌<◌, ◌≤◌
 ghost use Rattle.bench_types.specs.declared.entries.Entry.{Entry};
 ghost use Rattle.owner_lists.specs.OwnerListView.{OwnerListView, all_writes, entries_of};
 ghost use Rattle.owner_lists.specs.Numbers.{write_numbered};
-ghost use Rattle.planes.specs.Planes.{cell, ArePlanesChanged, HasEach, IsGrid};
+ghost use Rattle.planes.specs.Planes.{cell, AreCovered, ArePlanesChanged, HasEach, IsGrid};
 ghost use Rattle.version_tables.specs.inner.Offers.{start_of, IsNumberedHistory};
 ghost use Rattle.version_tables.specs.inner.Histories.{bases_in};
 ghost use Rattle.version_tables.specs.inner.Taken.{drop_start, number_kept, HasTaken, HasTakenUnless, IsTaken, StaysOne};
@@ -142,6 +142,7 @@ fn take_numbers<N: Number>(
     requires sent { length sent.now ≡ length cells.old }
     requires low { length low.now ≡ nodes }
     requires high { length high.now ≡ nodes }
+    requires covered { AreCovered nodes keys (map N.number cells.old) (map N.number greatest.old) }
     requires before { map N.number before.now ≡ map N.number greatest.old }
     requires bases { HasEach nodes (λ r n. n ≡ bases_in lists.now r) (map N.number bases.now) }
     requires lists { length lists.now ≡ nodes }

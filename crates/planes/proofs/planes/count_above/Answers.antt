@@ -1,4 +1,4 @@
-use Rattle.std.proofs.Common.{◌≡◌, ◌<◌, ◌+◌, nat_lt, get_or, ap, subst, sym, ◌∙◌, arith, map, length, if◌then◌else◌}
+use Rattle.std.proofs.Common.{◌≡◌, ◌+◌, nat_lt, get_or, ◌∙◌, arith, map, if◌then◌else◌}
 use Rattle.std.proofs.lemmas.List.{length-map}
 use Rattle.planes.proofs.Elementwise.{number-at, changed_none, changed_all, written_next}
 use Rattle.planes.proofs.planes.count_above.Given as given

@@ -1,8 +1,10 @@
 use Rattle.std.proofs.Common.{refl, sym, ap, ◌∙◌, subst, map}
 use Rattle.std.proofs.lemmas.List.{length-map}
-use Rattle.planes.specs.Planes.{cell}
+use Rattle.planes.specs.Planes.{cell, total_above}
 use Rattle.version_tables.specs.inner.Deltas.{AreMarksOf}
 use Rattle.version_tables.specs.inner.Marked.{low_list, high_list}
+use Rattle.version_tables.specs.inner.Offered.{marks}
+use Rattle.version_tables.proofs.RoundMarks.{count-newest}
 use Rattle.version_tables.proofs.Delivered.{offer-is, delta-marks}
 use Rattle.version_tables.proofs.deltas.marks_sent.Goals as goal
 
@@ -10,9 +12,17 @@ pub planned-requires-clause-offer : goal.planned-requires-clause-offer
 planned-requires-clause-offer g c κs within =
     offer-is g.N.Number.number g.N.Number.most g.H.Written.lists c.args.sender.now c.args.receiver.now c.nodes.ensures.kept c.requires.kept c.args.histories.now c.lists.ensures.so_far
     c.requires.sender c.requires.receiver c.requires.nodes c.requires.keys c.args.rules.now.mode
-    (record { cells = c.args.cells; nodes = c.nodes.result; keys = c.keys.result; low = c.args.low; high = c.greatest.result; lists = c.lists.result; budget = c.args.rules.now.budget })
-    c.nodes.ensures.value c.keys.ensures.value c.lists.ensures.value c.greatest.ensures.value c.requires.low (sym (length-map c.args.cells.now g.N.Number.number) ∙ c.requires.cells.size)
-    (λ owner key in_nodes in_keys. ap (λ n. cell (map g.N.Number.number c.args.cells.now) n owner key) c.nodes.ensures.value ∙ c.requires.cells.each owner key in_nodes in_keys)
+    (record { cells = c.args.offered.cells; nodes = c.nodes.result; keys = c.keys.result; low = c.args.low; high = c.greatest.result; lists = c.lists.result; budget = c.args.rules.now.budget })
+    c.nodes.ensures.value c.keys.ensures.value c.lists.ensures.value c.greatest.ensures.value c.requires.low (sym (length-map c.args.offered.cells.now g.N.Number.number) ∙ c.requires.cells.size)
+    (λ owner key in_nodes in_keys. ap (λ n. cell (map g.N.Number.number c.args.offered.cells.now) n owner key) c.nodes.ensures.value ∙ c.requires.cells.each owner key in_nodes in_keys)
+
+pub planned-requires-clause-found : goal.planned-requires-clause-found
+planned-requires-clause-found g c κs within =
+    c.requires.found
+    ∙ (λ i. total_above (sym c.nodes.ensures.value i) (sym c.keys.ensures.value i) (map g.N.Number.number c.args.offered.cells.now) (map g.N.Number.number c.args.low.now))
+    ∙ count-newest g.N.Number.number g.N.Number.most
+    (record { cells = c.args.offered.cells; nodes = c.nodes.result; keys = c.keys.result; low = c.args.low; high = c.greatest.result; lists = c.lists.result; budget = c.args.rules.now.budget })
+    (planned-requires-clause-offer g c κs within) (marks g.N.Number.number c.args.low.now)
 
 pub returns-clause-marks : goal.returns-clause-marks
 returns-clause-marks g c =
@@ -22,8 +32,8 @@ returns-clause-marks g c =
     c.greatest.ensures.value
     (delta-marks g.N.Number.number g.N.Number.most g.H.Written.lists c.args.sender.now c.args.receiver.now c.nodes.ensures.kept c.requires.kept c.args.histories.now c.lists.ensures.so_far
     c.requires.sender c.requires.receiver c.requires.nodes c.requires.keys c.args.rules.now.mode
-    (record { cells = c.args.cells; nodes = c.nodes.result; keys = c.keys.result; low = c.args.low; high = c.greatest.result; lists = c.lists.result; budget = c.args.rules.now.budget })
-    c.nodes.ensures.value c.keys.ensures.value c.lists.ensures.value c.greatest.ensures.value c.requires.low (sym (length-map c.args.cells.now g.N.Number.number) ∙ c.requires.cells.size)
-    (λ owner key in_nodes in_keys. ap (λ n. cell (map g.N.Number.number c.args.cells.now) n owner key) c.nodes.ensures.value ∙ c.requires.cells.each owner key in_nodes in_keys)
+    (record { cells = c.args.offered.cells; nodes = c.nodes.result; keys = c.keys.result; low = c.args.low; high = c.greatest.result; lists = c.lists.result; budget = c.args.rules.now.budget })
+    c.nodes.ensures.value c.keys.ensures.value c.lists.ensures.value c.greatest.ensures.value c.requires.low (sym (length-map c.args.offered.cells.now g.N.Number.number) ∙ c.requires.cells.size)
+    (λ owner key in_nodes in_keys. ap (λ n. cell (map g.N.Number.number c.args.offered.cells.now) n owner key) c.nodes.ensures.value ∙ c.requires.cells.each owner key in_nodes in_keys)
     c.args.rules.now.budget refl c.args.rotation c.requires.rotation (map g.N.Number.number c.in_ok-marked.marked.mark.items) c.in_ok-marked.marked.sent c.in_ok-marked.marked.cut
     c.in_ok-marked.ensures.marked (length-map c.in_ok-marked.marked.mark.items g.N.Number.number ∙ c.in_ok-marked.ensures.size ∙ c.nodes.ensures.value))

@@ -3,8 +3,8 @@ use Rattle.std.proofs.lemmas.List.{length-map}
 use Rattle.planes.specs.Sums.{sum_below}
 use Rattle.planes.specs.Planes.{cell}
 use Rattle.planes.proofs.Places.{plane_count, total_fits, total_suc, total_whole}
-use Rattle.planes.proofs.grids.total_above.Given as given
-use Rattle.planes.proofs.grids.total_above.Goals as goal
+use Rattle.planes.proofs.grids.total_planes_above.Given as given
+use Rattle.planes.proofs.grids.total_planes_above.Goals as goal
 
 pub loop-key-init : goal.loop-key-init
 loop-key-init g c = refl

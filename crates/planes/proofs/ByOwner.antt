@@ -1,0 +1,194 @@
+-- Tables whose owners are gone over one by one.
+-- Serves `take_owner`, `take_owners` and `total_owners_above`.
+use Rattle.std.proofs.Common.{◌≡◌, ℕ, zero, suc, Fits, w32, ◌+◌, ◌*◌, ◌<◌, ◌≤◌, ◌==◌, ◌&&◌, Bool, true, false, cond, List, length, get_or, set, map, nat_lt, nat_le, max, inl, inr, refl, sym, ap, ◌∙◌, subst, arith}
+use Rattle.std.proofs.Math.Nat.{mul-le-mul_right}
+use Rattle.std.proofs.lemmas.Bool.{cases_lt, cases_eq, eq-eqb, ne_eqb, lt-ltb, le-ltb, lt-leb}
+use Rattle.std.proofs.lemmas.List.{get_or-set_same, get_or-set_other, length-set, map-set}
+use Rattle.bench_types.specs.declared.limits.TheConstants.{MOST_NODES, MOST_KEYS}
+use Rattle.planes.specs.Sums.{sum_below}
+use Rattle.planes.specs.Planes.{Cells, cell, count_above, number_taken, HasNoneAbove, IsRaised, ArePlanesChanged, ArePlanesChangedUpto}
+use Rattle.planes.proofs.Counts.{count_le, sum_next}
+
+-- an owner of whom nothing is above its mark
+none_below : (keys : ℕ) (test : ℕ → Bool) → ((k : ℕ) → k < keys → test k ≡ false) → sum_below keys (λ k. cond (test k) 1 0) ≡ 0
+none_below zero test none = refl
+none_below (suc keys) test none = (λ i. none_below keys test (λ k lt. none k (omega (arith, lt))) i + cond (none keys (omega arith) i) 1 0)
+
+pub count-none : (cells : Cells) (keys owner low high : ℕ) → HasNoneAbove cells keys owner high → high ≤ low → count_above cells keys owner low ≡ 0
+count-none cells keys owner low high covered le =
+    none_below keys (λ k. nat_lt low (cells owner k)) (λ k lt. le-ltb low (cells owner k) (omega (arith, covered k lt, le)))
+
+-- the numbers of one owner more are counted
+pub owner_counted : (cells : Cells) (keys : ℕ) (low : ℕ → ℕ) (owner total count mark : ℕ) → total ≡ sum_below owner (λ r. count_above cells keys r (low r)) → count ≡ count_above cells keys owner mark → mark ≡ low owner
+    → total + count ≡ sum_below (owner + 1) (λ r. count_above cells keys r (low r))
+owner_counted cells keys low owner total count mark is now same =
+    sum_next (λ r. count_above cells keys r (low r)) owner total count is (now ∙ ap (count_above cells keys owner) same)
+
+-- or there are none
+pub owner_passed : (cells : Cells) (keys : ℕ) (low : ℕ → ℕ) (owner total high : ℕ) → total ≡ sum_below owner (λ r. count_above cells keys r (low r)) → HasNoneAbove cells keys owner high → high ≤ low owner
+    → total ≡ sum_below (owner + 1) (λ r. count_above cells keys r (low r))
+owner_passed cells keys low owner total high is covered le =
+    let one_more = sum_next (λ r. count_above cells keys r (low r)) owner total 0 is (sym (count-none cells keys owner (low owner) high covered le)) in
+    omega (arith, one_more)
+
+counts_le : (cells : Cells) (keys owners : ℕ) (low : ℕ → ℕ) → keys ≤ MOST_KEYS → sum_below owners (λ r. count_above cells keys r (low r)) ≤ owners * MOST_KEYS
+counts_le cells keys zero low few = omega arith
+counts_le cells keys (suc owners) low few = omega (arith, counts_le cells keys owners low few, count_le keys (λ k. nat_lt (low owners) (cells owners k)), few)
+
+pub owners-fit : (cells : Cells) (nodes keys : ℕ) (low : ℕ → ℕ) (owner total count mark : ℕ) → nodes ≤ MOST_NODES → keys ≤ MOST_KEYS → owner < nodes
+    → total ≡ sum_below owner (λ r. count_above cells keys r (low r)) → count ≡ count_above cells keys owner mark → Fits w32 (total + count)
+owners-fit cells nodes keys low owner total count mark few_nodes few_keys lt is now =
+    omega (arith, is, now, lt, few_nodes, few_keys, counts_le cells keys owner low few_keys, count_le keys (λ k. nat_lt mark (cells owner k)))
+
+-- nothing is taken that isn't above one mark and up to another
+pub taken-none : (x sent low high : ℕ) → (nat_lt low sent && nat_le sent high) ≡ false → number_taken x sent low high ≡ x
+taken-none x sent low high outside = ap (λ b. max x (cond b sent 0)) outside ∙ omega arith
+
+pub taken-some : (x sent low high : ℕ) → (nat_lt low sent && nat_le sent high) ≡ true → number_taken x sent low high ≡ max x sent
+taken-some x sent low high inside = ap (λ b. max x (cond b sent 0)) inside
+
+none_between : (sent low high : ℕ) → high ≤ low → (nat_lt low sent && nat_le sent high) ≡ false
+none_between sent low high le = elim (cases_lt low sent) [
+  | inl above ↦ (λ i. lt-ltb low sent above i && lt-leb sent high (omega (arith, above, le)) i)
+  | inr not_above ↦ ap (λ b. b && nat_le sent high) (le-ltb low sent (omega (arith, not_above)))
+]
+
+pub taken-passed : (x sent low high : ℕ) → high ≤ low → number_taken x sent low high ≡ x
+taken-passed x sent low high le = taken-none x sent low high (none_between sent low high le)
+
+-- numbers of one owner are changed
+abbrev pub owner_changed : (ℕ → ℕ → ℕ → ℕ) → ℕ → ℕ → ℕ → ℕ → ℕ → Type 0
+owner_changed to owner r k x y = y ≡ cond (r == owner) (to r k x) x
+
+module _ (to : ℕ → ℕ → ℕ → ℕ) (owner nodes : ℕ) (old : List ℕ) (in_nodes : owner < nodes) where
+  -- the number of one key more
+  owner_set : (xs : List ℕ) (key x : ℕ) → ArePlanesChangedUpto (owner_changed to owner) nodes old xs key → key * nodes + nodes ≤ length old → x ≡ to owner key (cell old nodes owner key)
+      → ArePlanesChangedUpto (owner_changed to owner) nodes old (set xs (key * nodes + owner) x) (key + 1)
+  owner_set xs key x before within is = record {
+    size = length-set xs (key * nodes + owner) x ∙ before.size;
+    below = λ r k in_node lt. elim (cases_lt k key) [
+      | inl earlier ↦ subst (owner_changed to owner r k (cell old nodes r k))
+          (sym (get_or-set_other xs (key * nodes + owner) (k * nodes + r) x 0 (λ e. omega (arith, e, in_node, mul-le-mul_right {m = k + 1} {n = key} nodes (omega (arith, earlier))))))
+          (before.below r k in_node earlier)
+      | inr not_earlier ↦ subst (λ j. owner_changed to owner r j (cell old nodes r j) (get_or (set xs (key * nodes + owner) x) (j * nodes + r) 0)) {x = key} {y = k} (omega (arith, lt, not_earlier)) (here r in_node)
+    ];
+    from = λ i le. get_or-set_other xs (key * nodes + owner) i x 0 (λ e. omega (arith, e, le, in_nodes)) ∙ before.from i (omega (arith, le));
+  }
+    where
+      here : (r : ℕ) → r < nodes → owner_changed to owner r key (cell old nodes r key) (get_or (set xs (key * nodes + owner) x) (key * nodes + r) 0)
+      here r in_node = elim (cases_eq r owner) [
+        | inl same ↦ subst (λ o. owner_changed to owner o key (cell old nodes o key) (get_or (set xs (key * nodes + owner) x) (key * nodes + o) 0)) (sym same)
+            (get_or-set_same xs (key * nodes + owner) x 0 (omega (arith, before.size, within, in_nodes)) ∙ is ∙ ap (λ b. cond b (to owner key (cell old nodes owner key)) (cell old nodes owner key)) (sym (eq-eqb owner owner refl)))
+        | inr other ↦
+            get_or-set_other xs (key * nodes + owner) (key * nodes + r) x 0 (λ e. other (omega (arith, e)))
+            ∙ before.from (key * nodes + r) (omega arith)
+            ∙ ap (λ b. cond b (to r key (cell old nodes r key)) (cell old nodes r key)) (sym (ne_eqb r owner other))
+      ]
+
+  pub owner-next : {N : Type 0} (number : N → ℕ) (xs : List N) (key : ℕ) (x : N) → ArePlanesChangedUpto (owner_changed to owner) nodes old (map number xs) key → key * nodes + nodes ≤ length old
+      → number x ≡ to owner key (cell old nodes owner key) → ArePlanesChangedUpto (owner_changed to owner) nodes old (map number (set xs (key * nodes + owner) x)) (key + 1)
+  owner-next number xs key x before within is =
+      subst (λ ys. ArePlanesChangedUpto (owner_changed to owner) nodes old ys (key + 1)) (sym (map-set number xs (key * nodes + owner) x))
+      (owner_set (map number xs) key (number x) before within is)
+
+  -- or it stays
+  pub owner-stays : (xs : List ℕ) (key : ℕ) → ArePlanesChangedUpto (owner_changed to owner) nodes old xs key → to owner key (cell old nodes owner key) ≡ cell old nodes owner key
+      → ArePlanesChangedUpto (owner_changed to owner) nodes old xs (key + 1)
+  owner-stays xs key before same = record {
+    size = before.size;
+    below = λ r k in_node lt. elim (cases_lt k key) [
+      | inl earlier ↦ before.below r k in_node earlier
+      | inr not_earlier ↦ subst (λ j. owner_changed to owner r j (cell old nodes r j) (cell xs nodes r j)) {x = key} {y = k} (omega (arith, lt, not_earlier)) (here r)
+    ];
+    from = λ i le. before.from i (omega (arith, le));
+  }
+    where
+      here : (r : ℕ) → owner_changed to owner r key (cell old nodes r key) (cell xs nodes r key)
+      here r = before.from (key * nodes + r) (omega arith) ∙ elim (cases_eq r owner) [
+        | inl is ↦
+            sym (ap (λ o. to o key (cell old nodes o key)) is ∙ same ∙ ap (λ o. cell old nodes o key) (sym is))
+            ∙ ap (λ b. cond b (to r key (cell old nodes r key)) (cell old nodes r key)) (sym (eq-eqb r owner is))
+        | inr other ↦ ap (λ b. cond b (to r key (cell old nodes r key)) (cell old nodes r key)) (sym (ne_eqb r owner other))
+      ]
+
+-- of the owners below a bound
+abbrev pub owners_changed : (ℕ → ℕ → ℕ → ℕ) → ℕ → ℕ → ℕ → ℕ → ℕ → Type 0
+owners_changed to bound r k x y = y ≡ cond (nat_lt r bound) (to r k x) x
+
+module _ (to : ℕ → ℕ → ℕ → ℕ) (nodes keys : ℕ) (old : List ℕ) where
+  pub owners-none : ArePlanesChanged (owners_changed to 0) nodes keys old old
+  owners-none = record { size = refl; each = λ r k in_node in_key. ap (λ b. cond b (to r k (cell old nodes r k)) (cell old nodes r k)) (sym (le-ltb r 0 (omega arith))) }
+
+  -- what an owner's turn makes of a number, where those before it were changed already
+  owner_turn : (bound r : ℕ) (now : ℕ → ℕ) (k x y z : ℕ) → owners_changed to bound r k x y → z ≡ cond (r == bound) (now y) y → (r ≡ bound → now x ≡ to r k x) → owners_changed to (bound + 1) r k x z
+  owner_turn bound r now k x y z before after same = elim (cases_eq r bound) [
+    | inl here ↦
+        let still : y ≡ x = before ∙ ap (λ b. cond b (to r k x) x) (le-ltb r bound (omega (arith, here))) in
+        after ∙ ap (λ b. cond b (now y) y) (eq-eqb r bound here) ∙ ap now still ∙ same here
+        ∙ ap (λ b. cond b (to r k x) x) (sym (lt-ltb r (bound + 1) (omega (arith, here))))
+    | inr other ↦
+        after ∙ ap (λ b. cond b (now y) y) (ne_eqb r bound other) ∙ before
+        ∙ ap (λ b. cond b (to r k x) x) (elim (cases_lt r bound) [
+          | inl earlier ↦ lt-ltb r bound earlier ∙ sym (lt-ltb r (bound + 1) (omega (arith, earlier)))
+          | inr later ↦ le-ltb r bound (omega (arith, later)) ∙ sym (le-ltb r (bound + 1) (omega (arith, later, other)))
+        ])
+  ]
+
+  pub owners-next : (bound : ℕ) (now : ℕ → ℕ → ℕ → ℕ) (mid new : List ℕ) → ArePlanesChanged (owners_changed to bound) nodes keys old mid → ArePlanesChanged (owner_changed now bound) nodes keys mid new
+      → ((k x : ℕ) → now bound k x ≡ to bound k x) → ArePlanesChanged (owners_changed to (bound + 1)) nodes keys old new
+  owners-next bound now mid new before after same = record {
+    size = after.size ∙ before.size;
+    each = λ r k in_node in_key.
+        owner_turn bound r (now r k) k (cell old nodes r k) (cell mid nodes r k) (cell new nodes r k) (before.each r k in_node in_key) (after.each r k in_node in_key)
+        (λ here. ap (λ o. now o k (cell old nodes r k)) here ∙ same k (cell old nodes r k) ∙ ap (λ o. to o k (cell old nodes r k)) (sym here));
+  }
+
+  pub owners-stay : (bound : ℕ) (mid : List ℕ) → ArePlanesChanged (owners_changed to bound) nodes keys old mid → ((k x : ℕ) → to bound k x ≡ x) → ArePlanesChanged (owners_changed to (bound + 1)) nodes keys old mid
+  owners-stay bound mid before same = record {
+    size = before.size;
+    each = λ r k in_node in_key.
+        owner_turn bound r (λ y. y) k (cell old nodes r k) (cell mid nodes r k) (cell mid nodes r k) (before.each r k in_node in_key) (either_same (r == bound) (cell mid nodes r k))
+        (λ here. sym (ap (λ o. to o k (cell old nodes r k)) here ∙ same k (cell old nodes r k)));
+  }
+    where
+      either_same : (b : Bool) (y : ℕ) → y ≡ cond b y y
+      either_same true y = refl
+      either_same false y = refl
+
+  pub owners-all : (bound : ℕ) (mid : List ℕ) → nodes ≤ bound → ArePlanesChanged (owners_changed to bound) nodes keys old mid → ArePlanesChanged (λ r k x y. y ≡ to r k x) nodes keys old mid
+  owners-all bound mid le before = record {
+    size = before.size;
+    each = λ r k in_node in_key. before.each r k in_node in_key ∙ ap (λ b. cond b (to r k (cell old nodes r k)) (cell old nodes r k)) (lt-ltb r bound (omega (arith, in_node, le)));
+  }
+
+  -- an owner whose turn is still to come has its numbers
+  pub owner-waits : (bound : ℕ) (mid : List ℕ) → ArePlanesChanged (owners_changed to bound) nodes keys old mid → (k : ℕ) → bound < nodes → k < keys → cell mid nodes bound k ≡ cell old nodes bound k
+  owner-waits bound mid before k in_node in_key =
+      before.each bound k in_node in_key ∙ ap (λ b. cond b (to bound k (cell old nodes bound k)) (cell old nodes bound k)) (le-ltb bound bound (omega arith))
+
+-- a greatest number above all stays, where a number that is no greater comes
+pub raised-past : (cells : Cells) (key owner x y : ℕ) → IsRaised cells key owner x y → cells owner key ≤ x → IsRaised cells (key + 1) owner x y
+raised-past cells key owner x y before le = record {
+  rises = before.rises;
+  upto = λ k lt. elim (cases_lt k key) [
+    | inl earlier ↦ before.upto k earlier
+    | inr not_earlier ↦ subst (λ j. cells owner j ≤ y) {x = key} {y = k} (omega (arith, lt, not_earlier)) (omega (arith, le, before.rises))
+  ];
+  from = elim before.from [
+    | inl old ↦ inl old
+    | inr (k, lt, is) ↦ inr (k, omega (arith, lt), is)
+  ];
+}
+
+pub raised-stays : (cells : Cells) (keys owner x : ℕ) → HasNoneAbove cells keys owner x → IsRaised cells keys owner x x
+raised-stays cells keys owner x covered = record { rises = omega arith; upto = covered; from = inl refl }
+
+pub raised-same : (one other : Cells) (keys owner x y : ℕ) → ((k : ℕ) → k < keys → one owner k ≡ other owner k) → IsRaised one keys owner x y → IsRaised other keys owner x y
+raised-same one other keys owner x y same is = record {
+  rises = is.rises;
+  upto = λ k lt. subst (λ n. n ≤ y) (same k lt) (is.upto k lt);
+  from = elim is.from [
+    | inl old ↦ inl old
+    | inr (k, lt, e) ↦ inr (k, lt, sym (same k lt) ∙ e)
+  ];
+}

@@ -1,0 +1,13 @@
+use Rattle.std.proofs.Common.{slice_index, map}
+use Rattle.planes.specs.inner.Elementwise.{AreChangedUpto}
+use Rattle.planes.specs.Planes.{cell, number_taken, numbers_taken, ArePlanesChanged, IsRaised}
+use Rattle.planes.proofs.ByOwner.{owners_changed}
+use Rattle.planes.proofs.owners.take_owners.Given as goal
+
+abbrev pub invariant-loop-owner : goal.invariant-loop-owner
+invariant-loop-owner g l = record {
+  cells : ArePlanesChanged (owners_changed (λ r k x. number_taken x (cell (map g.N.Number.number l.sent) l.nodes r k) (slice_index (map g.N.Number.number l.low) r) (slice_index (map g.N.Number.number l.high) r)) l.owner) l.nodes l.keys
+      (map g.N.Number.number l.initial.cells) (map g.N.Number.number l.cells);
+  greatest : AreChangedUpto (λ r x y. IsRaised (numbers_taken l.nodes (map g.N.Number.number l.initial.cells) (map g.N.Number.number l.sent) (map g.N.Number.number l.low) (map g.N.Number.number l.high)) l.keys r x y)
+      (map g.N.Number.number l.initial.greatest) (map g.N.Number.number l.greatest) l.owner;
+}

@@ -1,0 +1,8 @@
+use Rattle.std.proofs.Common.{◌≡◌, slice_index, map}
+use Rattle.planes.specs.Sums.{sum_below}
+use Rattle.planes.specs.Planes.{cell, count_above}
+use Rattle.planes.proofs.owners.total_owners_above.Given as goal
+
+abbrev pub invariant-loop-owner : goal.invariant-loop-owner
+invariant-loop-owner g l =
+    l.total ≡ sum_below l.owner (λ r. count_above (cell (map g.N.Number.number l.cells) l.nodes) l.keys r (slice_index (map g.N.Number.number l.low) r))

@@ -1,6 +1,6 @@
 -- What owners write is the same under each mode.
 -- Serves `bench`.
-use Rattle.std.proofs.Common.{◌≡◌, ℕ, zero, suc, ◌+◌, ◌++◌, [], List, map, if◌then◌else◌, refl, subst}
+use Rattle.std.proofs.Common.{◌≡◌, ℕ, zero, suc, ◌+◌, ◌++◌, [], map, if◌then◌else◌, refl, subst}
 use Rattle.std.specs.Prelude.{Some}
 use Rattle.std.specs.List.{range_with_len}
 use Rattle.bench_types.specs.declared.entries.Entry.{Entry}
@@ -31,7 +31,6 @@ module _ (s : Settings) (mode : Mode) (n : ℕ) where
   many round = refl
 
   word : (round place : ℕ) → word_of s' n round place ≡ word_of s n round place
-  unfolding word_of
   word round place = refl
 
   generation : (round : ℕ) → generation_upto s' n round ≡ generation_upto s n round

@@ -21,6 +21,7 @@ use Rattle.bench_types.specs.declared.entries.Entry.{Entry}
 use Rattle.bench_types.specs.declared.exchanges.Record.{Record}
 use Rattle.bench_types.specs.declared.exchanges.Rules.{Rules}
 use Rattle.simulation.specs.Soundness.{AreSound, OnlyRestartsLowerMarks}
+use Rattle.round_plan.specs.Words.{run_words_of}
 use Rattle.simulation.specs.inner.Insides.{IsInside, HasPlayed, simulation_of, tables_held, lists_held}
 use Rattle.simulation.specs.Simulation.{PlaysNext}
 use Rattle.round_plan.specs.Plan.{round_list_of}
@@ -83,11 +84,16 @@ module _ {T H S : Type 0} (table : T → Table) (lists : H → List OwnerListVie
   pub ended_before : Ended old.histories (done + 1 - 1)
   ended_before = subst (Ended old.histories) previous (subst (λ c. IfSome c (λ d. Ended d.histories done)) is so_far.ended)
 
+  pub words_before : old.words ≡ run_words_of s (done + 1 - 1)
+  words_before =
+      subst (λ c. IfSome c (λ d. d.words ≡ run_words_of s done)) is so_far.words ∙ ap (run_words_of s) previous
+
   module _ (standing : StandAfterRound s (done + 1) (map table new.tables.items) (lists new.histories)) (after : map table new.tables.items ≡ tables_after s (done + 1)) where
-    pub step_inside : Ended new.histories (done + 1) → IsInside table lists Ended May s rules (Some new) (done + 1)
-    step_inside ended = record {
+    pub step_inside : Ended new.histories (done + 1) → new.words ≡ run_words_of s (done + 1) → IsInside table lists Ended May s rules (Some new) (done + 1)
+    step_inside ended words = record {
       simulation = record { within = omega (arith, not_done); standing = λ _. standing; tables = λ _. after };
       ended = ended;
+      words = words;
       may_write = so_far.may_write;
       of_scenario = so_far.of_scenario;
     }

@@ -6,6 +6,7 @@ ghost use Rattle.bench_types.specs.Entry.{AreNextAfter};
 ghost use Rattle.node_table.specs.Table.{IsProper};
 ghost use Rattle.owner_lists.specs.OwnerListView.{all_writes, written, list_of_owner};
 ghost use Rattle.owner_lists.specs.Writes.{AreBornBy};
+ghost use Rattle.round_plan.specs.Words.{run_words_of, AreWordsOf};
 ghost use Rattle.round_plan.specs.Writes.{born_in};
 ghost use Rattle.cluster.specs.Tables.{AreProper};
 ghost use Rattle.round_tables.specs.Histories.{own_list, StandsBeside};
@@ -16,7 +17,7 @@ ghost use Rattle.simulation.specs.inner.Steps.{begun_table, MayWriteEach, Others
 
 use bench_types::Fault;
 use bench_types::limits::MOST_ROUNDS;
-use round_plan::{OwnWrite, forgets_now, restarts_now, writes_of};
+use round_plan::{OwnWrite, ROUND_WORDS, RunWords, forgets_now, restarts_now, writes_by};
 use round_tables::RoundTable;
 use scenario::Scenario;
 use std::alloc::Global;
@@ -44,11 +45,13 @@ pub(crate) fn begin_round<T: RoundTable>(
     scenario: &Scenario,
     tables: &mut [T],
     histories: &mut T::Histories,
+    words: &RunWords,
     round: u32,
 ) -> Result<(), Fault>
     requires first { 1 ≤ round }
     requires last { round ≤ MOST_ROUNDS }
     requires within { round ≤ scenario.now.rounds }
+    requires words { words.now ≡ run_words_of scenario.now round }
     requires may_write { MayWriteAll T.may_write scenario.now }
     requires ended { T.has_ended histories.old (round - 1) }
     requires standing { StandAfterRound scenario.now (round - 1) (map T.table tables.old) (T.lists histories.old) }
@@ -60,7 +63,14 @@ pub(crate) fn begin_round<T: RoundTable>(
 {
     for node in 0..scenario.nodes() {
         let at = node as usize;
-        begin_node(scenario, node, &mut tables[at], histories, round)?;
+        begin_node(
+            scenario,
+            node,
+            &mut tables[at],
+            histories,
+            words.of_node(node),
+            round,
+        )?;
     }
     T::end_writes(histories, round)
 }
@@ -72,12 +82,14 @@ fn begin_node<T: RoundTable>(
     node: u32,
     table: &mut T,
     histories: &mut T::Histories,
+    words: &[u32; ROUND_WORDS as usize],
     round: u32,
 ) -> Result<(), Fault>
     requires first { 1 ≤ round }
     requires last { round ≤ MOST_ROUNDS }
     requires within { round ≤ scenario.now.rounds }
     requires node { node < scenario.now.nodes }
+    requires words { AreWordsOf scenario.now.seed node round words.now }
     requires may_write { MayWriteAll T.may_write scenario.now }
     requires ended { T.has_ended histories.old (round - 1) }
     requires lists { length (T.lists histories.old) ≡ scenario.now.nodes }
@@ -91,7 +103,7 @@ fn begin_node<T: RoundTable>(
     ensures only { IsOkUnless result OutOfMemory }
 {
     restart(scenario, node, table, histories, round);
-    let writes = writes_of(scenario, node, round, T::count(histories, node));
+    let writes = writes_by(scenario, node, round, T::count(histories, node), words);
     write_own(table, histories, writes.as_slice(), round)
 }
 

@@ -6,6 +6,7 @@ ghost use Rattle.bench_types.specs.declared.limits.TheConstants.{MOST_WORKERS};
 ghost use Rattle.scenario.specs.Settings.{IsLawfulScenario};
 ghost use Rattle.pool.specs.Runs.{IsPoolFault};
 ghost use Rattle.cluster.specs.Tables.{tables_in};
+ghost use Rattle.round_plan.specs.Words.{run_words_of};
 ghost use Rattle.exchange.specs.Exchanging.{kept_table};
 ghost use Rattle.simulation.specs.Rounds.{opening_tables, begun, round_of, rules_of, tables_after};
 ghost use Rattle.simulation.specs.Standing.{StandAfterRound};
@@ -18,7 +19,7 @@ use bench_types::limits::{MOST_ROUNDS, MOST_WORKERS};
 use bench_types::{Fault, Rules};
 use node_table::NodeTable;
 use pool::{Gate, run_list_with};
-use round_plan::round_list;
+use round_plan::{RunWords, round_list_by};
 use round_tables::RoundTable;
 use scenario::Scenario;
 use std::alloc::Global;
@@ -52,11 +53,12 @@ impl<T: RoundTable> Model for Sim<T> {
         s.scenario s.rules s.cluster s.rounds_done };
 }
 
-// What all nodes hold, and what each has written.
+// What all nodes hold, what each has written, and their words of the last round.
 #[derive(Drop)]
 struct Cluster<T: RoundTable> {
     tables: Vec<T>,
     histories: T::Histories,
+    words: RunWords,
 }
 
 impl Sim<NodeTable> {
@@ -204,21 +206,24 @@ impl<T: RoundTable> Cluster<T> {
         ensures standing { IfOk result
             (λ c. StandAfterRound scenario.now 0 (tables_of T.table c) (T.lists c.histories)) }
         ensures ended { IfOk result (λ c. T.has_ended c.histories 0) }
+        ensures words { IfOk result (λ c. c.words ≡ run_words_of scenario.now 0) }
         ensures only { IsOkUnless result OutOfMemory }
     {
         Ok(Cluster {
             tables: empty_tables(alloc, scenario)?,
             histories: T::histories(alloc, scenario.nodes())?,
+            words: RunWords::new(alloc, scenario)?,
         })
     }
 
-    // What a round begins with.
+    // What a round begins with: its restarts and its writes, by the words of the round.
     fn begin(&mut self, scenario: &Scenario, round: u32) -> Result<(), Fault>
         requires first { 1 ≤ round }
         requires last { round ≤ MOST_ROUNDS }
         requires within { round ≤ scenario.now.rounds }
         requires may_write { MayWriteAll T.may_write scenario.now }
         requires ended { T.has_ended self.old.histories (round - 1) }
+        requires words { self.old.words ≡ run_words_of scenario.now round }
         requires standing { StandAfterRound scenario.now (round - 1) (tables_of T.table self.old)
             (T.lists self.old.histories) }
         ensures standing { OnOk result
@@ -226,9 +231,16 @@ impl<T: RoundTable> Cluster<T> {
         ensures tables { OnOk result
             (tables_of T.table self.new ≡ begun scenario.now round (tables_of T.table self.old)) }
         ensures ended { OnOk result (T.has_ended self.new.histories round) }
+        ensures words { self.new.words ≡ run_words_of scenario.now round }
         ensures only { IsOkUnless result OutOfMemory }
     {
-        begin_round(scenario, &mut self.tables, &mut self.histories, round)
+        begin_round(
+            scenario,
+            &mut self.tables,
+            &mut self.histories,
+            &self.words,
+            round,
+        )
     }
 
     // A round. Where it fails, the tables are given up.
@@ -250,25 +262,39 @@ impl<T: RoundTable> Cluster<T> {
         requires rules { rules.now ≡ rules_of scenario.now }
         requires may_write { MayWriteAll T.may_write scenario.now }
         requires ended { T.has_ended self.histories (round - 1) }
+        requires words { self.words ≡ run_words_of scenario.now (round - 1) }
         requires standing { StandAfterRound scenario.now (round - 1) (tables_of T.table self) (T.lists self.histories) }
         requires after { tables_of T.table self ≡ tables_after scenario.now (round - 1) }
         ensures tables { IfOk result (λ p. tables_of T.table p.0 ≡ tables_after scenario.now round) }
         ensures standing { IfOk result
             (λ p. StandAfterRound scenario.now round (tables_of T.table p.0) (T.lists p.0.histories)) }
         ensures ended { IfOk result (λ p. T.has_ended p.0.histories round) }
+        ensures words { IfOk result (λ p. p.0.words ≡ run_words_of scenario.now round) }
         ensures played { IfOk result (λ p. HasPlayed T.table T.lists scenario.now round self p.0 p.1) }
         ensures fault { IfErr result (IsPoolFault workers) }
     {
+        self.words.next_round();
         self.begin(scenario, round)?;
-        let list = round_list(rt, alloc, scenario, round)?;
-        let Cluster { tables, histories } = self;
+        let list = round_list_by(alloc, scenario, round, &self.words)?;
+        let Cluster {
+            tables,
+            histories,
+            words,
+        } = self;
         let shared = T::shared(&histories, round);
         let (tables, records) = run_list_with(
             rt, alloc, shared, &list, tables, workers, gate, rules,
         )?;
         let lag = T::figures(rt, alloc, &tables, &histories, round)?;
         let played = Round::of(round, list, records, lag);
-        Ok((Cluster { tables, histories }, played))
+        Ok((
+            Cluster {
+                tables,
+                histories,
+                words,
+            },
+            played,
+        ))
     }
 }
 

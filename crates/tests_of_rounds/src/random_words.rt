@@ -6,7 +6,7 @@ use crate::small_scenarios::{PLAIN, RANDOM, expect_counts, listed, scenario_of};
 use crate::word_tables::{PLACES, WORDS};
 use bench_types::Exchange;
 use bench_types::limits::MOST_ROUNDS;
-use round_plan::{OwnWrite, ROUND_WORDS, draw, peer, writes_of};
+use round_plan::{OwnWrite, ROUND_WORDS, RunWords, draw, peer, round_list_by, writes_of};
 use scenario::Scenario;
 use std::process::Abort;
 
@@ -100,6 +100,15 @@ fn losing(lost: [bool; 3]) -> Exchange {
     }
 }
 
+// That these are the words of a block of a zero key, 0 or 1.
+fn expect_block(rt: &impl Abort, words: &[u32; ROUND_WORDS as usize], block: usize) {
+    assert!(rt; block < 2);
+    for place in 0..ROUND_WORDS as usize {
+        let wanted = u32::from_le_bytes(BLOCKS[ROUND_WORDS as usize * block + place]);
+        expect_at(rt, words[place], wanted, place);
+    }
+}
+
 #[test]
 fn words_of_another_program(rt: HostRuntime) {
     let rest = "nodes = 4096\nkeys = 1\nloss_ppm = 0\nwrites = 0\nseed = ";
@@ -118,6 +127,29 @@ fn blocks_of_a_zero_key(rt: HostRuntime) {
         let word = u32::from_le_bytes(BLOCKS[place as usize]);
         expect_word(&rt, &scenario, 0, place, word);
     }
+}
+
+// The words that a run keeps, in its first two rounds.
+#[test]
+fn words_kept_by_a_run(rt: HostRuntime) {
+    let scenario = scenario_of(&rt, &[RANDOM, "nodes = 2\n", PLAIN]);
+    assert!(rt; scenario.nodes() == 2);
+    let mut words = RunWords::new(rt.alloc(), &scenario).expect(&rt, "memory");
+    words.next_round();
+    expect_block(&rt, words.of_node(0), 0);
+    words.next_round();
+    expect_block(&rt, words.of_node(0), 1);
+}
+
+// A list by words that are kept.
+#[test]
+fn list_by_kept_words(rt: HostRuntime) {
+    let scenario = scenario_of(&rt, &[RANDOM, "nodes = 10\n", PLAIN]);
+    let mut words = RunWords::new(rt.alloc(), &scenario).expect(&rt, "memory");
+    words.next_round();
+    let list = round_list_by(rt.alloc(), &scenario, 1, &words).expect(&rt, "memory");
+    expect_counts(&rt, &list, (10, 0));
+    expect(&rt, list.get(0), Some(turned(0, 4, 3)));
 }
 
 #[test]

@@ -9,6 +9,7 @@ use Rattle.simulation.specs.declared.sims.Cluster.{Cluster}
 use Rattle.node_table.specs.Table.{Table}
 use Rattle.scenario.specs.Settings.{Settings}
 use Rattle.owner_lists.specs.OwnerListView.{OwnerListView}
+use Rattle.round_plan.specs.Words.{run_words_of}
 use Rattle.simulation.specs.RoundView.{RoundView}
 use Rattle.simulation.specs.Rounds.{rules_of}
 use Rattle.simulation.specs.inner.Steps.{IsPlayedFrom}
@@ -47,13 +48,14 @@ pub record IsSimulation {T : Type 0} (table : T → Table) (v : SimView T) : Typ
   pub standing : v.broken ≡ false → StandAfterRound v.settings v.rounds_done (map table v.tables) v.lists
   pub tables : AreTablesAfter table v v.tables
 
--- and what lies in it: the scenario's rules, and histories of which so many rounds have ended; the tables may hold what
--- the run writes
+-- and what lies in it: the scenario's rules, histories of which so many rounds have ended, and the words of the last of
+-- them; the tables may hold what the run writes
 pub record IsInside {T H S : Type 0} (table : T → Table) (lists : H → List OwnerListView) (Ended : H → ℕ → Type 0)
     (May : ℕ → ℕ → Entry → Type 0) (s : Settings) (rules : Rules) (cluster : Option (Cluster T H S))
     (done : ℕ) : Type 0 where
   pub simulation : IsSimulation table (simulation_of lists s cluster done)
   pub ended : IfSome cluster (λ c. Ended c.histories done)
+  pub words : IfSome cluster (λ c. c.words ≡ run_words_of s done)
   pub may_write : MayWriteAll May s
   pub of_scenario : rules ≡ rules_of s
 

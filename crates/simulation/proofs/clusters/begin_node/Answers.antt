@@ -29,7 +29,7 @@ write_own-requires-clause-next g c _ _ =
     let count = length (list_of_owner lists c.args.node).current in
     subst (λ m. AreNextAfter t.generation (length (list_of_owner lists m).current) (map (born_in c.args.round t.generation) c.as_slice.result.now)) (sym owner.table.node)
     (subst (λ k. AreNextAfter k count (map (born_in c.args.round k) c.as_slice.result.now)) (sym owner.generation)
-    (subst (AreNextAfter (generation_upto s c.args.node c.args.round) count) (sym (made c.args.scenario.now c.args.node c.args.round _ _ _ _ c.as_slice.ensures.value c.writes_of-writes.ensures.value c.count.ensures)) (next-own_writes s c.args.node c.args.round count)))
+    (subst (AreNextAfter (generation_upto s c.args.node c.args.round) count) (sym (made c.args.scenario.now c.args.node c.args.round _ _ _ _ c.as_slice.ensures.value c.writes_by-writes.ensures.value c.count.ensures)) (next-own_writes s c.args.node c.args.round count)))
 
 pub write_own-requires-clause-may : goal.write_own-requires-clause-may
 write_own-requires-clause-may g c _ _ =
@@ -39,7 +39,7 @@ write_own-requires-clause-may g c _ _ =
     let lists = g.T.RoundTable.lists c.restart.new.histories in
     let May = g.T.RoundTable.may_write in
     subst (λ m. MayWriteEach May m (length (all_writes lists m)) (map (born_in c.args.round t.generation) c.as_slice.result.now)) (sym owner.table.node)
-    (subst (MayWriteEach May c.args.node (length (all_writes lists c.args.node))) (sym (made_now s c.args.round c.args.node t (list_of_owner lists c.args.node) c.as_slice.result.now owner (made c.args.scenario.now c.args.node c.args.round _ _ _ _ c.as_slice.ensures.value c.writes_of-writes.ensures.value c.count.ensures)))
+    (subst (MayWriteEach May c.args.node (length (all_writes lists c.args.node))) (sym (made_now s c.args.round c.args.node t (list_of_owner lists c.args.node) c.as_slice.result.now owner (made c.args.scenario.now c.args.node c.args.round _ _ _ _ c.as_slice.ensures.value c.writes_by-writes.ensures.value c.count.ensures)))
     (subst (λ es. MayWriteEach May c.args.node (length es) (own_writes s c.args.node c.args.round (count_before s c.args.node c.args.round))) (sym owner.all)
     (may_write_each May s c.args.node c.args.round c.requires.may_write c.requires.node c.requires.first c.requires.within)))
 
@@ -64,13 +64,13 @@ write_own-requires-clause-born g c _ _ =
 pub returns-clause-owner : goal.returns-clause-owner
 returns-clause-owner g c =
     on_ok_weaker c.write_own.result
-    (λ is. (owner_written c.args.scenario.now c.args.round c.args.node _ _ _ _ c.as_slice.result.now c.requires.first c.as_slice.ensures.limit c.restart.ensures.owner (subst (λ m. HasWritten c.args.round c.as_slice.result.now (g.T.MemoryTable.table c.restart.new.table) (g.T.MemoryTable.table c.write_own.new.table) (list_of_owner (g.T.RoundTable.lists c.restart.new.histories) m) (list_of_owner (g.T.RoundTable.lists c.write_own.new.histories) m)) c.restart.ensures.owner.table.node is) (made c.args.scenario.now c.args.node c.args.round _ _ _ _ c.as_slice.ensures.value c.writes_of-writes.ensures.value c.count.ensures)).0)
+    (λ is. (owner_written c.args.scenario.now c.args.round c.args.node _ _ _ _ c.as_slice.result.now c.requires.first c.as_slice.ensures.limit c.restart.ensures.owner (subst (λ m. HasWritten c.args.round c.as_slice.result.now (g.T.MemoryTable.table c.restart.new.table) (g.T.MemoryTable.table c.write_own.new.table) (list_of_owner (g.T.RoundTable.lists c.restart.new.histories) m) (list_of_owner (g.T.RoundTable.lists c.write_own.new.histories) m)) c.restart.ensures.owner.table.node is) (made c.args.scenario.now c.args.node c.args.round _ _ _ _ c.as_slice.ensures.value c.writes_by-writes.ensures.value c.count.ensures)).0)
     c.write_own.ensures.written
 
 pub returns-clause-table : goal.returns-clause-table
 returns-clause-table g c =
     on_ok_weaker c.write_own.result
     (λ is.
-    (owner_written c.args.scenario.now c.args.round c.args.node _ _ _ _ c.as_slice.result.now c.requires.first c.as_slice.ensures.limit c.restart.ensures.owner (subst (λ m. HasWritten c.args.round c.as_slice.result.now (g.T.MemoryTable.table c.restart.new.table) (g.T.MemoryTable.table c.write_own.new.table) (list_of_owner (g.T.RoundTable.lists c.restart.new.histories) m) (list_of_owner (g.T.RoundTable.lists c.write_own.new.histories) m)) c.restart.ensures.owner.table.node is) (made c.args.scenario.now c.args.node c.args.round _ _ _ _ c.as_slice.ensures.value c.writes_of-writes.ensures.value c.count.ensures)).1
+    (owner_written c.args.scenario.now c.args.round c.args.node _ _ _ _ c.as_slice.result.now c.requires.first c.as_slice.ensures.limit c.restart.ensures.owner (subst (λ m. HasWritten c.args.round c.as_slice.result.now (g.T.MemoryTable.table c.restart.new.table) (g.T.MemoryTable.table c.write_own.new.table) (list_of_owner (g.T.RoundTable.lists c.restart.new.histories) m) (list_of_owner (g.T.RoundTable.lists c.write_own.new.histories) m)) c.restart.ensures.owner.table.node is) (made c.args.scenario.now c.args.node c.args.round _ _ _ _ c.as_slice.ensures.value c.writes_by-writes.ensures.value c.count.ensures)).1
     ∙ ap (λ t. with_own_writes t (own_writes c.args.scenario.now c.args.node c.args.round (count_before c.args.scenario.now c.args.node c.args.round))) c.restart.ensures.table)
     c.write_own.ensures.written

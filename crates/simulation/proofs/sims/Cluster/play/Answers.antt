@@ -3,7 +3,8 @@ use Rattle.cluster.specs.Tables.{IsCluster}
 use Rattle.owner_lists.specs.OwnerListView.{lists_in}
 use Rattle.staleness.specs.Figures.{figures_of}
 use Rattle.round_plan.specs.Plan.{RoundListView, IsRoundPlan}
-use Rattle.simulation.proofs.Playing.{IsLeft, is_left, each_begun, nodes_cluster, standing_cluster, one_list_each, one_record_each, round_is, played_is}
+use Rattle.round_plan.specs.Words.{RunWordsView}
+use Rattle.simulation.proofs.Playing.{IsLeft, next_words_of, is_left, each_begun, nodes_cluster, standing_cluster, one_list_each, one_record_each, round_is, played_is}
 use Rattle.simulation.proofs.Standing.{written_by}
 use Rattle.simulation.proofs.sims.Cluster.play.Given as given
 use Rattle.simulation.proofs.sims.Cluster.play.Goals as goal
@@ -94,3 +95,15 @@ returns-clause-played g c =
     (round_is c.args.scenario.now c.args.round c.in_ok-list.list (subst IsRoundPlan c.list.view_is c.list.invariant) c.in_ok-list.ensures.plan _ _ _ c.in_ok-tables.records.items c.in_ok-tables.ensures.exchanged (map g.T.MemoryTable.table c.args.self.tables.items) c.in_ok-begin.ensures.tables c.requires.rules)
     (c.in_ok-lag.ensures.figures ∙ ap (λ ts. figures_of c.args.round (map g.T.MemoryTable.table ts) (lists_in lists)) c.deref.ensures.value)
     c.of-played.ensures
+
+pub next_round-requires : goal.next_round-requires
+next_round-requires g c = omega (arith, ap (λ (v : RunWordsView). v.round) c.requires.words, c.requires.first, c.requires.within, c.requires.lawful.rounds.1)
+
+pub begin-requires-clause-words : goal.begin-requires-clause-words
+begin-requires-clause-words g c = λ κs out. next_words_of c.args.scenario.now c.args.round c.requires.first _ _ c.next_round.ensures c.requires.words
+
+pub round_list_by-requires-clause-words : goal.round_list_by-requires-clause-words
+round_list_by-requires-clause-words g c = c.in_ok-begin.ensures.words
+
+pub returns-clause-words : goal.returns-clause-words
+returns-clause-words g c = c.in_ok-begin.ensures.words

@@ -2,7 +2,7 @@ use Rattle.std.proofs.Common.{◌+◌, Some, sym, ◌∙◌, subst, arith}
 use Rattle.scenario.specs.Settings.{IsLawfulScenario}
 use Rattle.simulation.specs.Simulation.{SimView, MayStep, PlaysNext}
 use Rattle.simulation.specs.inner.Insides.{simulation_of}
-use Rattle.simulation.proofs.Stepping.{standing_before, tables_before, ended_before, step_played}
+use Rattle.simulation.proofs.Stepping.{standing_before, tables_before, ended_before, words_before, step_played}
 use Rattle.simulation.proofs.sims.Sim.step.Goals as goal
 
 pub returns-clause-played : goal.returns-clause-played
@@ -29,3 +29,6 @@ play-requires-clause-after g c = λ κs out. tables_before g.T.MemoryTable.table
 
 pub play-requires-clause-ended : goal.play-requires-clause-ended
 play-requires-clause-ended g c = λ κs out. ended_before g.T.MemoryTable.table g.T.RoundTable.lists g.T.RoundTable.has_ended g.T.RoundTable.may_write c.self.inside.scenario c.self.inside.rules c.self.inside.cluster c.in-Some.cluster c.in-Some.cluster c.self.inside.rounds_done c.self.invariant (sym c.take.ensures.value ∙ c.in-Some.is) (subst MayStep (sym c.self.view_is) c.in_ok-check_step.ensures.ok).1
+
+pub play-requires-clause-words : goal.play-requires-clause-words
+play-requires-clause-words g c = λ κs out. words_before g.T.MemoryTable.table g.T.RoundTable.lists g.T.RoundTable.has_ended g.T.RoundTable.may_write c.self.inside.scenario c.self.inside.rules c.self.inside.cluster c.in-Some.cluster c.in-Some.cluster c.self.inside.rounds_done c.self.invariant (sym c.take.ensures.value ∙ c.in-Some.is) (subst MayStep (sym c.self.view_is) c.in_ok-check_step.ensures.ok).1

@@ -1,10 +1,11 @@
 //! Texts that are read, and the list of a round.
 
-ghost use Rattle.std.specs.Prelude.{◌≤◌};
+ghost use Rattle.std.specs.Prelude.{◌≡◌, ◌≤◌, IfOk};
+ghost use Rattle.round_plan.specs.Words.{run_words_of};
 
 use bench_types::{Budget, Exchange, Fault, Field, Mode, TableName};
 use refusals::{Failure, check, pass, refused, retried};
-use round_plan::round_list;
+use round_plan::{RoundList, RunWords, round_list, round_list_by};
 use scenario::{Scenario, read};
 use std::thread::Threads;
 
@@ -131,11 +132,35 @@ fn try_round_list<R: Eprint + AllocGlobal + Threads + Sync>(
 ) -> Result<(), Failure> {
     let alloc = rt.alloc();
     let list = retried!(rt, "round_list", round_list(rt, alloc, scenario, 1));
+    check_list(&list, "round_list")
+}
+
+fn check_list(list: &RoundList, name: &'static str) -> Result<(), Failure> {
     check(
         (list.nodes(), list.len(), list.unreached()) == (10, 10, 0),
-        "round_list",
+        name,
     )?;
-    check(list.get(0) == Some(FIRST), "round_list")
+    check(list.get(0) == Some(FIRST), name)
+}
+
+// The words before the first round.
+fn run_words<R: Eprint + AllocGlobal>(rt: &R, scenario: &Scenario) -> Result<RunWords, Failure>
+    ensures { IfOk result (λ words. words ≡ run_words_of scenario.now 0) }
+{
+    let alloc = rt.alloc();
+    Ok(retried!(rt, "RunWords::new", RunWords::new(alloc, scenario)))
+}
+
+fn try_round_list_by<R: Eprint + AllocGlobal>(rt: &R, scenario: &Scenario) -> Result<(), Failure> {
+    let alloc = rt.alloc();
+    let mut words = run_words(rt, scenario)?;
+    words.next_round();
+    let list = retried!(
+        rt,
+        "round_list_by",
+        round_list_by(alloc, scenario, 1, &words)
+    );
+    check_list(&list, "round_list_by")
 }
 
 pub(crate) fn try_scenarios<R: Print + Eprint + AllocGlobal + Threads + Sync>(
@@ -146,5 +171,7 @@ pub(crate) fn try_scenarios<R: Print + Eprint + AllocGlobal + Threads + Sync>(
     try_read(rt)?;
     pass(rt, "read")?;
     try_round_list(rt, &ten_nodes)?;
-    pass(rt, "round_list")
+    pass(rt, "round_list")?;
+    try_round_list_by(rt, &ten_nodes)?;
+    pass(rt, "round_list_by")
 }

@@ -66,9 +66,7 @@ fn count_writes(
             counts.push(Vec::new(alloc))?;
         }
         if let Some(of_node) = counts.get_mut(node) {
-            while of_node.len() <= generation {
-                of_node.push(0)?;
-            }
+            of_node.resize(generation + 1, 0)?;
             of_node[generation] = table.greatest(table.node()).version;
         }
     }

@@ -29,7 +29,7 @@ abbrev pub table_of : Field → Data → Result Members Fault
 table_of f (toml.table table) = Ok table
 table_of f _ = Err (WrongType f)
 
--- an array of tables has no_other_field so many elements
+-- an array of tables has only so many elements
 abbrev pub few : Field → List Data → Result (List Data) Fault
 few f values = if nat_le (length values) MOST_ELEMENTS then Ok values else Err (OutOfRange f)
 
@@ -70,7 +70,7 @@ partition_of nodes value = do
 abbrev pub has_generations : ℕ → Bool
 has_generations format = format == 2
 
--- whether a restart forgets: no_other_field a format with generations says so
+-- whether a restart forgets: only a format with generations says so
 abbrev pub forget_at : ℕ → Members → Result Bool Fault
 forget_at format table = if has_generations format then flag_at field.RestartForget table else Ok false
 

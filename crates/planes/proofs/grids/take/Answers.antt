@@ -2,7 +2,7 @@ use Rattle.std.proofs.Common.{◌+◌, ◌*◌, ◌-◌, max, slice_index, ap, �
 use Rattle.std.proofs.lemmas.List.{length-map}
 use Rattle.planes.specs.Planes.{number_taken, numbers_taken, IsRaised}
 use Rattle.planes.proofs.Places.{plane-within, block-cells, planes-none, planes-written, planes-all, each-next, each-whole, raised-none, raised-next}
-use Rattle.planes.proofs.grids.take_planes.Goals as goal
+use Rattle.planes.proofs.grids.take.Goals as goal
 
 pub loop-key-init : goal.loop-key-init
 loop-key-init g c = record {

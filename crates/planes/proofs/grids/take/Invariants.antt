@@ -1,6 +1,6 @@
 use Rattle.std.proofs.Common.{◌≡◌, slice_index, map}
 use Rattle.planes.specs.Planes.{cell, number_taken, numbers_taken, ArePlanesChangedUpto, HasEach, IsRaised}
-use Rattle.planes.proofs.grids.take_planes.Given as goal
+use Rattle.planes.proofs.grids.take.Given as goal
 
 abbrev pub invariant-loop-key : goal.invariant-loop-key
 invariant-loop-key g l = record {

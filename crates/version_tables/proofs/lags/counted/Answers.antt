@@ -95,3 +95,6 @@ returns-clause-piece g c =
     let last : c.loop-part.part-index ≡ n / size + 1 = omega (arith, c.loop-part-test.false, c.loop-part.auto.part-index-end, ap length c.deref-part-items.ensures.value, many) in
     let whole : min (c.loop-part.part-index * size) n ≡ n = ap (λ p. min (p * size) n) last ∙ omega (arith, enough n size c.tables_of_a_thread-size.ensures) in
     subst (λ m. IsPieceOf tables lists 0 m c.loop-part.stale c.loop-part.leftover (map g.N.Number.number c.loop-part.least.items)) whole c.loop-part.invariant
+
+pub parts_of-requires-clause-some : goal.parts_of-requires-clause-some
+parts_of-requires-clause-some g c κs out = c.tables_of_a_thread-size.ensures

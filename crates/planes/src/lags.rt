@@ -14,8 +14,8 @@ use crate::planes;
 use bench_types::Fault;
 use std::alloc::Global;
 
-// Lowers each owner's number to the one in a plane.
-fn lower<N: Number>(least: &mut [N], plane: &[N])
+/// Lowers each owner's number to the one in a plane.
+pub fn lower<N: Number>(least: &mut [N], plane: &[N])
     requires plane { length plane.now ≡ length least.old }
     ensures least { AreChanged (λ r x y. y ≡ min x (slice_index (map N.number plane.now) r))
         (map N.number least.old) (map N.number least.new) }

@@ -83,23 +83,11 @@ returns-clause-layers g c = record {
   far = layers-far g.N.Number.number g.N.Number.most c.args.offer.now c.requires.offer (marks g.N.Number.number c.loop-alloc.near.items) (marks g.N.Number.number c.loop-alloc.far.items) c.loop-alloc.whole c.loop-alloc.more c.loop-alloc.invariant.so_far;
 }
 
-pub fits-requires-clause-offer : goal.fits-requires-clause-offer
-fits-requires-clause-offer g c κs out = c.requires.offer
-
-pub fits-requires-clause-low : goal.fits-requires-clause-low
-fits-requires-clause-low g c κs out = c.requires.offer.low
-
 pub fits-requires-clause-high : goal.fits-requires-clause-high
 fits-requires-clause-high g c κs out = ap length c.deref-in-loop-alloc.ensures.value ∙ c.loop-alloc.invariant.far
 
-pub one_more-requires-clause-offer : goal.one_more-requires-clause-offer
-one_more-requires-clause-offer g c κs out = c.requires.offer
-
 pub one_more-requires-clause-near : goal.one_more-requires-clause-near
 one_more-requires-clause-near g c κs out = ap length c.deref.ensures.value ∙ ap length c.in_ok-near.ensures.items ∙ c.requires.offer.low
-
-pub one_more-requires-in-loop-alloc-clause-offer : goal.one_more-requires-in-loop-alloc-clause-offer
-one_more-requires-in-loop-alloc-clause-offer g c κs out = c.requires.offer
 
 pub one_more-requires-in-loop-alloc-clause-near : goal.one_more-requires-in-loop-alloc-clause-near
 one_more-requires-in-loop-alloc-clause-near g c κs out = ap length c.deref-in-loop-alloc-2.ensures.value ∙ c.loop-alloc.invariant.far

@@ -9,12 +9,6 @@ use Rattle.version_tables.proofs.LayerSteps.{next-mark, steps-raised}
 use Rattle.version_tables.proofs.breadths.one_more.Given as given
 use Rattle.version_tables.proofs.breadths.one_more.Goals as goal
 
-pub least_above-requires-clause-grid : goal.least_above-requires-clause-grid
-least_above-requires-clause-grid g c κs out = c.requires.offer.grid
-
-pub least_above-requires-clause-low : goal.least_above-requires-clause-low
-least_above-requires-clause-low g c κs out = c.requires.near
-
 size : (g : given.Over) (c : goal.After-deref_mut g) → length c.deref_mut.result.now ≡ c.args.offer.now.nodes
 size g c = ap length c.deref_mut.ensures.value ∙ sym (length-map c.in_ok-marks.marks.items g.N.Number.number) ∙ c.in_ok-marks.ensures.least.size
 

@@ -12,25 +12,10 @@ use Rattle.version_tables.specs.inner.Offers.{told_number}
 use Rattle.version_tables.specs.inner.Taken.{AreSent}
 use Rattle.version_tables.proofs.deltas.delta.Goals as goal
 
-pub told_to-requires-clause-nodes : goal.told_to-requires-clause-nodes
-told_to-requires-clause-nodes g c κs out = c.requires.nodes
-
-pub told_to-requires-clause-receiver : goal.told_to-requires-clause-receiver
-told_to-requires-clause-receiver g c κs out = c.requires.receiver
-
-pub ahead_of-requires-clause-nodes : goal.ahead_of-requires-clause-nodes
-ahead_of-requires-clause-nodes g c κs out = c.requires.nodes
-
-pub ahead_of-requires-clause-keys : goal.ahead_of-requires-clause-keys
-ahead_of-requires-clause-keys g c κs out = c.requires.keys
-
 pub ahead_of-requires-clause-low : goal.ahead_of-requires-clause-low
 ahead_of-requires-clause-low g c κs out =
     ap length c.deref.ensures.value
     ∙ sym (length-map c.in_ok-low.low.items g.N.Number.number) ∙ c.in_ok-low.ensures.told.size ∙ sym c.requires.sender.nodes
-
-pub either-offered-requires-clause-nodes : goal.either-offered-requires-clause-nodes
-either-offered-requires-clause-nodes g c κs out = c.requires.nodes
 
 pub either-offered-requires-clause-low : goal.either-offered-requires-clause-low
 either-offered-requires-clause-low g c κs out =
@@ -46,21 +31,6 @@ pub either-offered-requires-clause-count : goal.either-offered-requires-clause-c
 either-offered-requires-clause-count g c κs out precise =
     c.in_ok-ahead.ensures.count precise
     ∙ ap (λ low. total_above c.args.sender.now.nodes c.args.sender.now.keys (map g.N.Number.number c.in_ok-ahead.ahead.numbers.items) (map g.N.Number.number low)) (c.deref.ensures.value ∙ sym c.deref-2.ensures.value)
-
-pub marks_sent-requires-clause-nodes : goal.marks_sent-requires-clause-nodes
-marks_sent-requires-clause-nodes g c κs out = c.requires.nodes
-
-pub marks_sent-requires-clause-keys : goal.marks_sent-requires-clause-keys
-marks_sent-requires-clause-keys g c κs out = c.requires.keys
-
-pub marks_sent-requires-clause-rotation : goal.marks_sent-requires-clause-rotation
-marks_sent-requires-clause-rotation g c κs out = c.requires.rotation
-
-pub marks_sent-requires-clause-sender : goal.marks_sent-requires-clause-sender
-marks_sent-requires-clause-sender g c κs out = c.requires.sender
-
-pub marks_sent-requires-clause-receiver : goal.marks_sent-requires-clause-receiver
-marks_sent-requires-clause-receiver g c κs out = c.requires.receiver
 
 pub marks_sent-requires-clause-kept : goal.marks_sent-requires-clause-kept
 marks_sent-requires-clause-kept g c κs out = c.in_ok-low.ensures.kept

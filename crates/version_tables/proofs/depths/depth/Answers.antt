@@ -111,23 +111,8 @@ returns-clause-runs g c =
     runs-of_level number g.N.Number.most offer c.requires.offer (record { near = c.loop-alloc.near; far = c.loop-alloc.far; whole = c.loop-alloc.whole }) c.loop-alloc.size c.loop-alloc.whole c.loop-alloc.more so_far
     (runs-some number g.N.Number.most offer c.requires.offer (marks number c.loop-alloc.near.items) (marks number c.loop-alloc.far.items) c.loop-alloc.size c.loop-alloc.whole c.loop-alloc.more so_far c.requires.cut)
 
-pub counts_above-requires-clause-grid : goal.counts_above-requires-clause-grid
-counts_above-requires-clause-grid g c κs out = c.requires.offer.grid
-
-pub counts_above-requires-clause-low : goal.counts_above-requires-clause-low
-counts_above-requires-clause-low g c κs out = c.requires.offer.low
-
-pub fits-requires-clause-offer : goal.fits-requires-clause-offer
-fits-requires-clause-offer g c κs out = c.requires.offer
-
-pub fits-requires-clause-low : goal.fits-requires-clause-low
-fits-requires-clause-low g c κs out = c.requires.offer.low
-
 pub fits-requires-clause-high : goal.fits-requires-clause-high
 fits-requires-clause-high g c κs out = ap length c.deref-in-loop-alloc.ensures.value ∙ c.loop-alloc.invariant.far
-
-pub next_runs-requires-clause-offer : goal.next_runs-requires-clause-offer
-next_runs-requires-clause-offer g c κs out = c.requires.offer
 
 pub next_runs-requires-clause-few : goal.next_runs-requires-clause-few
 next_runs-requires-clause-few g c κs out = c.greatest_of-size.ensures.few
@@ -138,9 +123,6 @@ next_runs-requires-clause-near g c κs out = ap length c.deref-3.ensures.value �
 pub next_runs-requires-clause-counts : goal.next_runs-requires-clause-counts
 next_runs-requires-clause-counts g c κs out =
     subst (λ xs. HasEach c.args.offer.now.nodes (λ r n. n ≡ owner_count_in g.N.Number.number c.args.offer.now r) (map g.N.Number.number xs)) (sym c.deref-2.ensures.value) c.in_ok-counts.ensures.counts
-
-pub next_runs-requires-in-loop-alloc-clause-offer : goal.next_runs-requires-in-loop-alloc-clause-offer
-next_runs-requires-in-loop-alloc-clause-offer g c κs out = c.requires.offer
 
 pub next_runs-requires-in-loop-alloc-clause-few : goal.next_runs-requires-in-loop-alloc-clause-few
 next_runs-requires-in-loop-alloc-clause-few g c κs out = omega (arith, c.loop-alloc.invariant.few)

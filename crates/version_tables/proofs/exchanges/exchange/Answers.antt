@@ -13,15 +13,3 @@ exchange_deltas-requires-clause-kept g c κs out = c.digest_size-digest1.ensures
 
 pub exchange_deltas-requires-clause-digest1 : goal.exchange_deltas-requires-clause-digest1
 exchange_deltas-requires-clause-digest1 g c κs out = c.digest_size-digest1.ensures.size
-
-pub exchange_deltas-requires-clause-budget : goal.exchange_deltas-requires-clause-budget
-exchange_deltas-requires-clause-budget g c κs out = c.requires.budget
-
-pub exchange_deltas-requires-clause-tables : goal.exchange_deltas-requires-clause-tables
-exchange_deltas-requires-clause-tables g c κs out = c.requires.tables
-
-pub exchange_deltas-requires-clause-initiator : goal.exchange_deltas-requires-clause-initiator
-exchange_deltas-requires-clause-initiator g c κs out = c.requires.initiator
-
-pub exchange_deltas-requires-clause-responder : goal.exchange_deltas-requires-clause-responder
-exchange_deltas-requires-clause-responder g c κs out = c.requires.responder

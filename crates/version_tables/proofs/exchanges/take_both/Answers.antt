@@ -45,15 +45,6 @@ pub take_unless-requires-clause-high : goal.take_unless-requires-clause-high
 take_unless-requires-clause-high g c = λ κs out.
     ap length c.deref-2.ensures.value ∙ sym (length-map c.args.back.now.high.items g.N.Number.number) ∙ c.requires.back_high
 
-pub take_unless-requires-clause-bases : goal.take_unless-requires-clause-bases
-take_unless-requires-clause-bases g c = λ κs out. c.requires.bases
-
-pub take_unless-requires-clause-lists : goal.take_unless-requires-clause-lists
-take_unless-requires-clause-lists g c = λ κs out. c.requires.lists
-
-pub take_unless-requires-clause-numbered : goal.take_unless-requires-clause-numbered
-take_unless-requires-clause-numbered g c = λ κs out. c.requires.numbered
-
 -- a table that takes, or doesn't, has as many numbers as before
 as_many : (nothing : Bool) (lists : ℕ → List Entry) (bases : ℕ → ℕ) (to new : VersionTableView) (sent low high : List ℕ)
     → HasTakenUnless nothing lists bases to sent low high new → length new.cells ≡ length to.cells
@@ -81,6 +72,3 @@ take_unless-requires-2-clause-bases g c = λ κs out.
 
 pub take_unless-requires-2-clause-lists : goal.take_unless-requires-2-clause-lists
 take_unless-requires-2-clause-lists g c = λ κs out. c.requires.lists ∙ sym c.requires.nodes
-
-pub take_unless-requires-2-clause-numbered : goal.take_unless-requires-2-clause-numbered
-take_unless-requires-2-clause-numbered g c = λ κs out. c.requires.numbered

@@ -29,30 +29,6 @@ returns-clause-marked g c =
     c.args.mode c.in_ok-level.level c.in_ok-level.ensures.level.near c.in_ok-level.ensures.level.far c.in_ok-level.ensures.shape
     c.in_ok-share.share.mark.items c.in_ok-share.ensures.size c.in_ok-share.share.sent c.in_ok-share.ensures.shared
 
-pub fits-requires-clause-offer : goal.fits-requires-clause-offer
-fits-requires-clause-offer g c κs out = c.requires.offer
-
-pub fits-requires-clause-low : goal.fits-requires-clause-low
-fits-requires-clause-low g c κs out = c.requires.offer.low
-
-pub fits-requires-clause-high : goal.fits-requires-clause-high
-fits-requires-clause-high g c κs out = c.requires.offer.high
-
-pub fits-requires-clause-count : goal.fits-requires-clause-count
-fits-requires-clause-count g c κs out = c.requires.found
-
-pub level_of-requires-clause-offer : goal.level_of-requires-clause-offer
-level_of-requires-clause-offer g c κs out = c.requires.offer
-
-pub level_of-requires-clause-ends : goal.level_of-requires-clause-ends
-level_of-requires-clause-ends g c κs out = c.requires.ends
-
-pub level_of-requires-clause-made : goal.level_of-requires-clause-made
-level_of-requires-clause-made g c κs out = c.requires.made
-
-pub level_of-requires-clause-found : goal.level_of-requires-clause-found
-level_of-requires-clause-found g c κs out = c.requires.found
-
 pub level_of-requires-clause-beyond : goal.level_of-requires-clause-beyond
 level_of-requires-clause-beyond g c κs out =
     elim (cases_lt (amount_of c.args.offer.now.budget) (weight_in g.N.Number.number c.args.offer.now (marks g.N.Number.number c.args.offer.now.low.now) (marks g.N.Number.number c.args.offer.now.high.now))) [
@@ -60,14 +36,8 @@ level_of-requires-clause-beyond g c κs out =
       | inr within ↦ absurd (both_ways c.fits.result c.if-fits.false (c.fits.ensures.1 (omega (arith, within))))
     ]
 
-pub share-requires-clause-offer : goal.share-requires-clause-offer
-share-requires-clause-offer g c κs out = c.requires.offer
-
 pub share-requires-clause-level : goal.share-requires-clause-level
 share-requires-clause-level g c κs out = c.in_ok-level.ensures.level
-
-pub share-requires-clause-rotation : goal.share-requires-clause-rotation
-share-requires-clause-rotation g c κs out = c.requires.rotation
 
 pub returns-clause-size : goal.returns-clause-size
 returns-clause-size g c = c.in_ok-share.ensures.size

@@ -47,17 +47,11 @@ loop-few-preserved g c =
       }
     ]
 
-pub mark_after-requires-clause-offer : goal.mark_after-requires-clause-offer
-mark_after-requires-clause-offer g c κs out = c.requires.offer
-
 pub mark_after-requires-clause-ends : goal.mark_after-requires-clause-ends
 mark_after-requires-clause-ends g c κs out = sym (length-map c.args.ends.now g.N.Number.number) ∙ c.requires.ends.size
 
 pub mark_after-requires-clause-count : goal.mark_after-requires-clause-count
 mark_after-requires-clause-count g c κs out = omega (arith, c.min-by.ensures, c.loop-few-test.true, c.loop-few.invariant.found.bound)
-
-pub look-found_there-requires-clause-offer : goal.look-found_there-requires-clause-offer
-look-found_there-requires-clause-offer g c κs out = c.requires.offer
 
 pub look-found_there-requires-clause-mark : goal.look-found_there-requires-clause-mark
 look-found_there-requires-clause-mark g c κs out =
@@ -66,9 +60,6 @@ look-found_there-requires-clause-mark g c κs out =
 pub look-found_there-requires-clause-above : goal.look-found_there-requires-clause-above
 look-found_there-requires-clause-above g c κs out = λ r lt.
     omega (arith, ap (λ xs. get_or (map g.N.Number.number xs) r 0) c.deref.ensures.value ∙ c.in_ok-mark.ensures.marks.each r lt)
-
-pub look-found_there-requires-clause-found : goal.look-found_there-requires-clause-found
-look-found_there-requires-clause-found g c κs out = c.requires.found
 
 pub overflow_add-few : goal.overflow_add-few
 overflow_add-few g c = omega (arith, c.loop-few.invariant.found.below, c.loop-few.invariant.found.bound, c.ranges.rounds.fits)

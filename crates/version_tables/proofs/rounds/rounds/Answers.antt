@@ -15,32 +15,11 @@ returns-clause-rounds g c =
     (record { near = c.in_ok-near.near; far = c.in_ok-far.far; whole = c.in_ok-few.few.whole }) c.in_ok-few.few.rounds c.in_ok-few.few.whole c.in_ok-few.ensures.few refl
     c.in_ok-near.ensures.marks c.in_ok-far.ensures.marks
 
-pub few_rounds-requires-clause-offer : goal.few_rounds-requires-clause-offer
-few_rounds-requires-clause-offer g c κs out = c.requires.offer
-
-pub few_rounds-requires-clause-ends : goal.few_rounds-requires-clause-ends
-few_rounds-requires-clause-ends g c κs out = c.requires.ends
-
-pub few_rounds-requires-clause-made : goal.few_rounds-requires-clause-made
-few_rounds-requires-clause-made g c κs out = c.requires.made
-
-pub few_rounds-requires-clause-found : goal.few_rounds-requires-clause-found
-few_rounds-requires-clause-found g c κs out = c.requires.found
-
-pub few_rounds-requires-clause-beyond : goal.few_rounds-requires-clause-beyond
-few_rounds-requires-clause-beyond g c κs out = c.requires.beyond
-
-pub mark_after-requires-clause-offer : goal.mark_after-requires-clause-offer
-mark_after-requires-clause-offer g c κs out = c.requires.offer
-
 pub mark_after-requires-clause-ends : goal.mark_after-requires-clause-ends
 mark_after-requires-clause-ends g c κs out = sym (length-map c.args.ends.now g.N.Number.number) ∙ c.requires.ends.size
 
 pub mark_after-requires-clause-count : goal.mark_after-requires-clause-count
 mark_after-requires-clause-count g c κs out = omega (arith, c.in_ok-few.ensures.few.below, c.in_ok-few.ensures.few.bound)
-
-pub mark_after-requires-2-clause-offer : goal.mark_after-requires-2-clause-offer
-mark_after-requires-2-clause-offer g c κs out = c.requires.offer
 
 pub mark_after-requires-2-clause-ends : goal.mark_after-requires-2-clause-ends
 mark_after-requires-2-clause-ends g c κs out = sym (length-map c.args.ends.now g.N.Number.number) ∙ c.requires.ends.size

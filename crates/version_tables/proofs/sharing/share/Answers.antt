@@ -5,21 +5,6 @@ use Rattle.version_tables.specs.inner.Sharing.{AreShared}
 use Rattle.version_tables.specs.inner.Turns.{ArePartCounts}
 use Rattle.version_tables.proofs.sharing.share.Goals as goal
 
-pub parts-requires-clause-offer : goal.parts-requires-clause-offer
-parts-requires-clause-offer g c κs out = c.requires.offer
-
-pub parts-requires-clause-level : goal.parts-requires-clause-level
-parts-requires-clause-level g c κs out = c.requires.level
-
-pub share_into-sent-requires-clause-offer : goal.share_into-sent-requires-clause-offer
-share_into-sent-requires-clause-offer g c κs out = c.requires.offer
-
-pub share_into-sent-requires-clause-rotation : goal.share_into-sent-requires-clause-rotation
-share_into-sent-requires-clause-rotation g c κs out = c.requires.rotation
-
-pub share_into-sent-requires-clause-level : goal.share_into-sent-requires-clause-level
-share_into-sent-requires-clause-level g c κs out = c.requires.level
-
 pub share_into-sent-requires-clause-counts : goal.share_into-sent-requires-clause-counts
 share_into-sent-requires-clause-counts g c κs out =
     subst (λ xs. ArePartCounts c.args.mode g.N.Number.number c.args.offer.now c.args.level.now (map g.N.Number.number xs)) (sym c.deref-2.ensures.value) c.in_ok-counts.ensures.counts

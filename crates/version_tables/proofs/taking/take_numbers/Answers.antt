@@ -16,24 +16,6 @@ returns g c = record {
       (c.take.ensures.cells.each owner key in_nodes in_keys i));
 }
 
-pub take-requires-clause-grid : goal.take-requires-clause-grid
-take-requires-clause-grid g c κs out = c.requires.grid
-
-pub take-requires-clause-greatest : goal.take-requires-clause-greatest
-take-requires-clause-greatest g c κs out = c.requires.greatest
-
-pub take-requires-clause-sent : goal.take-requires-clause-sent
-take-requires-clause-sent g c κs out = c.requires.sent
-
-pub take-requires-clause-low : goal.take-requires-clause-low
-take-requires-clause-low g c κs out = c.requires.low
-
-pub take-requires-clause-high : goal.take-requires-clause-high
-take-requires-clause-high g c κs out = c.requires.high
-
-pub take-requires-clause-covered : goal.take-requires-clause-covered
-take-requires-clause-covered g c κs out = c.requires.covered
-
 pub drop_older-requires-clause-grid : goal.drop_older-requires-clause-grid
 drop_older-requires-clause-grid g c κs out =
     subst (IsGrid c.args.nodes c.args.keys) (sym (sym (length-map c.take.new.cells g.N.Number.number) ∙ c.take.ensures.cells.size ∙ length-map c.args.cells.now g.N.Number.number)) c.requires.grid
@@ -47,9 +29,3 @@ drop_older-requires-clause-greatest g c κs out = sym (length-map c.take.new.gre
 
 pub drop_older-requires-clause-bases : goal.drop_older-requires-clause-bases
 drop_older-requires-clause-bases g c κs out = sym (length-map c.args.bases.now g.N.Number.number) ∙ c.requires.bases.size
-
-pub drop_older-requires-clause-lists : goal.drop_older-requires-clause-lists
-drop_older-requires-clause-lists g c κs out = c.requires.lists
-
-pub drop_older-requires-clause-numbered : goal.drop_older-requires-clause-numbered
-drop_older-requires-clause-numbered g c κs out = c.requires.numbered

@@ -87,6 +87,3 @@ take_numbers-requires-clause-bases g c κs out =
 
 pub take_numbers-requires-clause-lists : goal.take_numbers-requires-clause-lists
 take_numbers-requires-clause-lists g c κs out = c.requires.lists ∙ sym (ap (λ (v : VersionTableView). v.nodes) c.table.view_is)
-
-pub take_numbers-requires-clause-numbered : goal.take_numbers-requires-clause-numbered
-take_numbers-requires-clause-numbered g c κs out = c.requires.numbered

@@ -6,17 +6,11 @@ use Rattle.version_tables.specs.inner.Turns.{ArePartCounts}
 use Rattle.version_tables.proofs.Modes.{of-each}
 use Rattle.version_tables.proofs.weights.Offer.parts.Goals as goal
 
-pub counts_between-requires-clause-grid : goal.counts_between-requires-clause-grid
-counts_between-requires-clause-grid g c κs out = c.requires.offer.grid
-
 pub counts_between-requires-clause-low : goal.counts_between-requires-clause-low
 counts_between-requires-clause-low g c κs out = ap length c.deref.ensures.value ∙ c.requires.level.far
 
 pub counts_between-requires-clause-high : goal.counts_between-requires-clause-high
 counts_between-requires-clause-high g c κs out = ap length c.deref-in-PreciseNewest.ensures.value ∙ c.requires.level.near
-
-pub counts_between-requires-in-ScuttleBreadth-clause-grid : goal.counts_between-requires-in-ScuttleBreadth-clause-grid
-counts_between-requires-in-ScuttleBreadth-clause-grid g c κs out = c.requires.offer.grid
 
 pub counts_between-requires-in-ScuttleBreadth-clause-low : goal.counts_between-requires-in-ScuttleBreadth-clause-low
 counts_between-requires-in-ScuttleBreadth-clause-low g c κs out = ap length c.deref-in-ScuttleBreadth.ensures.value ∙ c.requires.level.near

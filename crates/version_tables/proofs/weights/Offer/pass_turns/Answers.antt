@@ -91,12 +91,6 @@ unreachable-requires g c =
     turns-end number g.N.Number.most c.args.self.now c.requires.offer c.args.mode c.args.rotation c.requires.rotation (marks number level.near.items) (marks number level.far.items) c.requires.level.farther
     (marks number c.loop-turn.mark) c.loop-turn.turn c.loop-turn.left c.loop-turn.sent c.loop-turn.invariant.so_far c.requires.level.beyond c.loop-turn-test.false
 
-pub owner_of_turn-owner-requires-clause-turn : goal.owner_of_turn-owner-requires-clause-turn
-owner_of_turn-owner-requires-clause-turn g c = c.loop-turn-test.true
-
-pub owner_of_turn-owner-requires-clause-rotation : goal.owner_of_turn-owner-requires-clause-rotation
-owner_of_turn-owner-requires-clause-rotation g c = c.requires.rotation
-
 pub number_at-near-requires : goal.number_at-near-requires
 number_at-near-requires g c = (
   c.type_bounds.send-N,
@@ -114,9 +108,6 @@ number_at-requires g c = (
   c.type_bounds.send-N,
   (c.type_bounds.sync-N, subst (λ n. c.owner_of_turn-owner.result < n) (sym (sym (length-map c.args.counts.now g.N.Number.number) ∙ c.requires.counts.size)) c.owner_of_turn-owner.ensures.below),
 )
-
-pub weight_of_part-weight-requires-clause-offer : goal.weight_of_part-weight-requires-clause-offer
-weight_of_part-weight-requires-clause-offer g c κs out = c.requires.offer
 
 pub weight_of_part-weight-requires-clause-owner : goal.weight_of_part-weight-requires-clause-owner
 weight_of_part-weight-requires-clause-owner g c κs out = c.owner_of_turn-owner.ensures.below

@@ -6,21 +6,9 @@ use Rattle.version_tables.proofs.Modes.{of-each}
 use Rattle.version_tables.proofs.TurnSteps.{stop-breadth, stop-depth, stop-oldest, stop-newest}
 use Rattle.version_tables.proofs.weights.Offer.stop.Goals as goal
 
-pub stop_down-requires-clause-offer : goal.stop_down-requires-clause-offer
-stop_down-requires-clause-offer g c κs out = c.requires.offer
-
-pub stop_down-requires-clause-owner : goal.stop_down-requires-clause-owner
-stop_down-requires-clause-owner g c κs out = c.requires.owner
-
 pub stop_down-requires-clause-beyond : goal.stop_down-requires-clause-beyond
 stop_down-requires-clause-beyond g c κs out =
     subst (λ m. c.args.room < part_between m (weights_in c.args.self.now c.args.owner) (cells_in g.N.Number.number c.args.self.now) c.args.self.now.keys c.args.owner (g.N.Number.number c.args.near) (g.N.Number.number c.args.far)) c.in-PreciseNewest.is c.requires.beyond
-
-pub stop_up-requires-clause-offer : goal.stop_up-requires-clause-offer
-stop_up-requires-clause-offer g c κs out = c.requires.offer
-
-pub stop_up-requires-clause-owner : goal.stop_up-requires-clause-owner
-stop_up-requires-clause-owner g c κs out = c.requires.owner
 
 pub stop_up-requires-clause-beyond : goal.stop_up-requires-clause-beyond
 stop_up-requires-clause-beyond g c κs out =

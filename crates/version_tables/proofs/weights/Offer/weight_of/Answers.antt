@@ -41,12 +41,6 @@ loop-key-preserved g c =
           }
     ]
 
-pub cell_of-cell-requires-clause-offer : goal.cell_of-cell-requires-clause-offer
-cell_of-cell-requires-clause-offer g c κs out = c.requires.offer
-
-pub cell_of-cell-requires-clause-owner : goal.cell_of-cell-requires-clause-owner
-cell_of-cell-requires-clause-owner g c κs out = c.requires.owner
-
 pub cell_of-cell-requires-clause-key : goal.cell_of-cell-requires-clause-key
 cell_of-cell-requires-clause-key g c κs out = c.loop-key-test.true
 

@@ -4,24 +4,12 @@ use Rattle.version_tables.specs.inner.Plans.{count_on, weight_on}
 use Rattle.version_tables.proofs.Modes.{of-each}
 use Rattle.version_tables.proofs.weights.Offer.weight_of_whole.Goals as goal
 
-pub weight-requires-clause-offer : goal.weight-requires-clause-offer
-weight-requires-clause-offer g c κs out = c.requires.offer
-
 pub weight-requires-clause-low : goal.weight-requires-clause-low
 weight-requires-clause-low g c κs out = ap length c.deref.ensures.value ∙ c.requires.level.near
-
-pub weight-requires-clause-high : goal.weight-requires-clause-high
-weight-requires-clause-high g c κs out = c.requires.offer.high
 
 pub weight-requires-clause-count : goal.weight-requires-clause-count
 weight-requires-clause-count g c κs out =
     c.requires.level.whole ∙ (λ i. count_on (c.in-PreciseNewest.is i) g.N.Number.number c.args.self.now (marks g.N.Number.number (sym c.deref.ensures.value i)))
-
-pub weight-requires-in-ScuttleBreadth-clause-offer : goal.weight-requires-in-ScuttleBreadth-clause-offer
-weight-requires-in-ScuttleBreadth-clause-offer g c κs out = c.requires.offer
-
-pub weight-requires-in-ScuttleBreadth-clause-low : goal.weight-requires-in-ScuttleBreadth-clause-low
-weight-requires-in-ScuttleBreadth-clause-low g c κs out = c.requires.offer.low
 
 pub weight-requires-in-ScuttleBreadth-clause-high : goal.weight-requires-in-ScuttleBreadth-clause-high
 weight-requires-in-ScuttleBreadth-clause-high g c κs out = ap length c.deref-in-ScuttleBreadth.ensures.value ∙ c.requires.level.near

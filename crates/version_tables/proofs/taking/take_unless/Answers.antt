@@ -6,20 +6,14 @@ use Rattle.owner_lists.specs.OwnerListView.{all_writes}
 use Rattle.version_tables.specs.Views.{VersionTableView}
 use Rattle.version_tables.specs.inner.Histories.{bases_in}
 use Rattle.version_tables.specs.inner.Taken.{IsTaken}
+use Rattle.version_tables.proofs.Laid.{seen}
 use Rattle.version_tables.proofs.TakenNumbers.{take-stays, has-taken}
 use Rattle.version_tables.proofs.taking.take_unless.Given as given
 use Rattle.version_tables.proofs.taking.take_unless.Goals as goal
 
 module _ (g : given.Over) (c : goal.After-table-2-1 g) where
   abbrev old : VersionTableView
-  old = record {
-    node = c.table.inside.node;
-    nodes = c.table.inside.nodes;
-    keys = c.table.inside.keys;
-    generation = c.table.inside.generation;
-    cells = map g.N.Number.number c.table.inside.cells.items;
-    greatest = map g.N.Number.number c.table.inside.greatest.items;
-  }
+  old = seen c.table.view_is
 
   taken : IsTaken (all_writes c.args.lists.now) (bases_in c.args.lists.now) old.nodes old.keys old.cells old.greatest
       (map g.N.Number.number c.args.sent.now) (map g.N.Number.number c.args.low.now) (map g.N.Number.number c.args.high.now)

@@ -1,5 +1,5 @@
 -- The least of an owner's numbers that are below the last ones, key by key.
--- Serves `count_behind` and `lower_planes_behind`.
+-- Serves `count_behind` and `least_behind`.
 use Rattle.std.proofs.Common.{◌≡◌, ℕ, ◌+◌, ◌<◌, ◌≤◌, cond, nat_lt, get_or, List, inl, inr, refl, sym, ap, ◌∙◌, subst, arith}
 use Rattle.std.proofs.lemmas.Bool.{cases_lt, lt-ltb, le-ltb}
 use Rattle.planes.specs.Planes.{Cells, HasEach}

@@ -1,5 +1,5 @@
 -- Tables whose owners are gone over one by one.
--- Serves `take_owner`, `take_owners` and `total_owners_above`.
+-- Serves `take_owner`, `take_owners`, `total_owners_above` and `version_tables`.
 use Rattle.std.proofs.Common.{◌≡◌, ℕ, zero, suc, Fits, w32, ◌+◌, ◌*◌, ◌<◌, ◌≤◌, ◌==◌, ◌&&◌, Bool, true, false, cond, List, length, get_or, set, map, nat_lt, nat_le, max, inl, inr, refl, sym, ap, ◌∙◌, subst, arith}
 use Rattle.std.proofs.Math.Nat.{mul-le-mul_right}
 use Rattle.std.proofs.lemmas.Bool.{cases_lt, cases_eq, eq-eqb, ne_eqb, lt-ltb, le-ltb, lt-leb}

@@ -1,9 +1,9 @@
 -- The numbers of a table's planes, one after another.
 -- Serves the functions of `grids`, `lags` and `owners`, `Behind` and `version_tables`.
-use Rattle.std.proofs.Common.{◌≡◌, ℕ, zero, suc, Fits, w32, ◌+◌, ◌*◌, ◌-◌, ◌<◌, ◌≤◌, ◌&&◌, Bool, true, false, cond, List, [], ◌∷◌, ◌++◌, length, get_or, map, take, drop, nat_lt, nat_le, max, inl, inr, refl, sym, ap, ◌∙◌, subst, arith}
+use Rattle.std.proofs.Common.{◌≡◌, ℕ, zero, suc, Fits, w32, ◌+◌, ◌*◌, ◌-◌, ◌<◌, ◌≤◌, ◌&&◌, Bool, true, false, cond, List, ◌++◌, length, get_or, map, take, drop, nat_lt, nat_le, max, inl, inr, refl, sym, ap, ◌∙◌, subst, arith}
 use Rattle.std.proofs.Math.Nat.{mul-le-mul_right}
 use Rattle.std.proofs.lemmas.Bool.{cases_lt, lt-ltb, le-ltb}
-use Rattle.std.proofs.lemmas.List.{get_or-take, get_or-drop, length-map, length-append, length-drop, length-take-le, get_or_append_left, get_or-append_right, get_or_at, map-append, take-map}
+use Rattle.std.proofs.lemmas.List.{get_or-take, get_or-drop, length-map, length-append, length-drop, length-take-le, get_or_append_left, get_or-append_right, map-append, take-map}
 use Rattle.std.specs.List.{drop-map}
 use borrow.Rule.Slice.PartMut.{put_mid, post_of}
 use Rattle.bench_types.specs.declared.limits.TheConstants.{MOST_NODES, MOST_KEYS}
@@ -22,14 +22,6 @@ plane-within nodes keys size key grid lt = omega (arith, grid.whole, mul-le-mul_
 pub grid-room : (nodes keys size : ℕ) → IsGrid nodes keys size → size ≤ MOST_KEYS * MOST_NODES
 grid-room nodes keys size grid = omega (arith, grid.whole, mul-le-mul_right {m = keys} {n = MOST_KEYS} nodes grid.few_keys, grid.few_nodes)
 
--- numbers of which each is the same
-pub each-same : {N : Type 0} (number : N → ℕ) (nodes n : ℕ) (xs : List N) (is : ℕ → ℕ → Type 0) → length xs ≡ nodes
-    → ((r : ℕ) → r < nodes → get_or (map number xs) r 0 ≡ n) → ((r : ℕ) → r < nodes → is r n) → HasEach nodes is (map number xs)
-each-same number nodes n xs is size same here = record {
-  size = length-map xs number ∙ size;
-  each = λ r lt. subst (is r) (sym (same r lt)) (here r lt);
-}
-
 -- one more plane is counted
 pub each-next : (nodes : ℕ) (is next : ℕ → ℕ → Type 0) (changed : ℕ → ℕ → ℕ → Type 0) (old new : List ℕ) → HasEach nodes is old → AreChanged changed old new
     → ((r x y : ℕ) → r < nodes → is r x → changed r x y → next r y) → HasEach nodes next new
@@ -37,9 +29,6 @@ each-next nodes is next changed old new before now step = record {
   size = now.size ∙ before.size;
   each = λ r lt. step r (get_or old r 0) (get_or new r 0) lt (before.each r lt) (now.each r (omega (arith, lt, before.size)));
 }
-
-pub sum_suc : (f : ℕ → ℕ) (key x y z : ℕ) → x ≡ sum_below key f → y ≡ x + z → z ≡ f key → y ≡ sum_below (key + 1) f
-sum_suc f key x y z is now here = now ∙ (λ i. is i + here i) ∙ ap (λ n. sum_below n f) {x = suc key} {y = key + 1} (omega arith)
 
 -- two tests as one
 both-tests : (a b : Bool) → ◌≡◌ {A = ℕ} (cond (a && b) 1 0) (cond a (cond b 1 0) 0)
@@ -136,9 +125,6 @@ module _ (most : ℕ) (cells : Cells) (key owner mark x y : ℕ) (fits : x ≤ m
   least-next before = (omega (arith, now.lowered, fits), next-least before)
 
 -- sums of planes
-pub total_suc : (f : ℕ → ℕ) (key x z : ℕ) → x ≡ sum_below key f → z ≡ f key → x + z ≡ sum_below (key + 1) f
-total_suc f key x z is here = (λ i. is i + here i) ∙ ap (λ n. sum_below n f) {x = suc key} {y = key + 1} (omega arith)
-
 pub plane_count : (nodes : ℕ) (one other : ℕ → Bool) (n x : ℕ) → n ≡ nodes → x ≡ sum_below n (λ r. cond (one r) 1 0) → ((r : ℕ) → r < nodes → one r ≡ other r) → x ≡ sum_below nodes (λ r. cond (other r) 1 0)
 plane_count nodes one other n x size is same = is ∙ ap (λ m. sum_below m (λ r. cond (one r) 1 0)) size ∙ sum_below-same nodes _ _ (λ r lt. ap (λ b. cond b 1 0) (same r lt))
 
@@ -294,19 +280,6 @@ each-start nodes most cells mark xs start = record {
   size = start.size;
   each = λ r lt. subst (λ n. (n ≤ most) × IsNextAbove most cells 0 r (mark r) n) (sym (start.each r lt)) (least-none most cells r (mark r));
 }
-
--- one more number that is the same
-pub each-pushed : {N : Type 0} (number : N → ℕ) (xs : List N) (x : N) (n m : ℕ) → HasEach n (λ r k. k ≡ m) (map number xs) → number x ≡ m → HasEach (n + 1) (λ r k. k ≡ m) (map number (xs ++ x ∷ []))
-each-pushed number xs x n m before is = record {
-  size = ap length mapped ∙ omega (arith, length-append (map number xs) (number x ∷ []), before.size);
-  each = λ r lt. ap (λ ys. get_or ys r 0) mapped ∙ elim (cases_lt r n) [
-    | inl earlier ↦ get_or_append_left (map number xs) (number x ∷ []) 0 r (omega (arith, earlier, before.size)) ∙ before.each r earlier
-    | inr not_earlier ↦ get_or_at (map number xs) (number x) [] 0 r (omega (arith, before.size, lt, not_earlier)) ∙ is
-  ];
-}
-  where
-    mapped : map number (xs ++ x ∷ []) ≡ map number xs ++ number x ∷ []
-    mapped = map-append number xs (x ∷ [])
 
 -- a mark raised to one number more
 pub raised-none : (cells : Cells) (owner x : ℕ) → IsRaised cells 0 owner x x

@@ -48,65 +48,6 @@ pub fn zeros<N: Number>(alloc: Global, count: usize) -> Result<Vec<N>, Fault>
     all_of(alloc, count, N::zero())
 }
 
-// Counts for each owner how many of its numbers are above a mark.
-fn count_planes_above<N: Number>(
-    counts: &mut [N],
-    cells: &[N],
-    nodes: usize,
-    keys: usize,
-    low: &[N],
-)
-    requires grid { IsGrid nodes keys (length cells.now) }
-    requires low { length low.now ≡ nodes }
-    requires counts { HasEach nodes (λ r n. n ≡ 0) (map N.number counts.old) }
-    ensures counts { HasEach nodes
-        (λ r n. n ≡ count_above (cell (map N.number cells.now) nodes) keys r (slice_index (map N.number low.now) r))
-        (map N.number counts.new) }
-{
-    for key in 0..keys {
-        let plane = plane_of(cells, nodes, key);
-        planes::count_above(counts, plane, low);
-    }
-}
-
-// Counts for each owner how many of its numbers are above one mark and up to another.
-fn count_planes_between<N: Number>(
-    counts: &mut [N],
-    cells: &[N],
-    nodes: usize,
-    keys: usize,
-    low: &[N],
-    high: &[N],
-)
-    requires grid { IsGrid nodes keys (length cells.now) }
-    requires low { length low.now ≡ nodes }
-    requires high { length high.now ≡ nodes }
-    requires counts { HasEach nodes (λ r n. n ≡ 0) (map N.number counts.old) }
-    ensures counts { HasEach nodes
-        (λ r n. n ≡ count_between (cell (map N.number cells.now) nodes) keys r (slice_index (map N.number low.now) r)
-        (slice_index (map N.number high.now) r)) (map N.number counts.new) }
-{
-    for key in 0..keys {
-        let plane = plane_of(cells, nodes, key);
-        planes::count_between(counts, plane, low, high);
-    }
-}
-
-// Lowers the most to the least of each owner's numbers above a mark.
-fn lower_planes<N: Number>(least: &mut [N], cells: &[N], nodes: usize, keys: usize, low: &[N])
-    requires grid { IsGrid nodes keys (length cells.now) }
-    requires low { length low.now ≡ nodes }
-    requires least { HasEach nodes (λ r n. n ≡ N.most) (map N.number least.old) }
-    ensures least { HasEach nodes
-        (λ r n. IsNextAbove N.most (cell (map N.number cells.now) nodes) keys r
-        (slice_index (map N.number low.now) r) n) (map N.number least.new) }
-{
-    for key in 0..keys {
-        let plane = plane_of(cells, nodes, key);
-        planes::lower_to_next(least, plane, low);
-    }
-}
-
 /// For each owner how many of its numbers are above a mark.
 pub fn counts_above<N: Number>(
     alloc: Global,
@@ -122,8 +63,12 @@ pub fn counts_above<N: Number>(
         (map N.number v.items)) }
     ensures only { IsOkUnless result OutOfMemory }
 {
-    let mut counts = all_of(alloc, nodes, N::zero())?;
-    count_planes_above(&mut counts, cells, nodes, keys, low);
+    let mut counts = zeros(alloc, nodes)?;
+    let all: &mut [N] = &mut counts;
+    for key in 0..keys {
+        let plane = plane_of(cells, nodes, key);
+        planes::count_above(all, plane, low);
+    }
     Ok(counts)
 }
 
@@ -144,8 +89,12 @@ pub fn counts_between<N: Number>(
         (slice_index (map N.number high.now) r)) (map N.number v.items)) }
     ensures only { IsOkUnless result OutOfMemory }
 {
-    let mut counts = all_of(alloc, nodes, N::zero())?;
-    count_planes_between(&mut counts, cells, nodes, keys, low, high);
+    let mut counts = zeros(alloc, nodes)?;
+    let all: &mut [N] = &mut counts;
+    for key in 0..keys {
+        let plane = plane_of(cells, nodes, key);
+        planes::count_between(all, plane, low, high);
+    }
     Ok(counts)
 }
 
@@ -165,7 +114,11 @@ pub fn least_above<N: Number>(
     ensures only { IsOkUnless result OutOfMemory }
 {
     let mut least = all_of(alloc, nodes, N::greatest())?;
-    lower_planes(&mut least, cells, nodes, keys, low);
+    let all: &mut [N] = &mut least;
+    for key in 0..keys {
+        let plane = plane_of(cells, nodes, key);
+        planes::lower_to_next(all, plane, low);
+    }
     Ok(least)
 }
 
@@ -221,20 +174,6 @@ pub fn ahead<N: Number>(
     Ok(Masked { numbers, count })
 }
 
-// How many numbers are above their owners' marks, plane by plane.
-fn total_planes_above<N: Number>(cells: &[N], nodes: usize, keys: usize, low: &[N]) -> u32
-    requires grid { IsGrid nodes keys (length cells.now) }
-    requires low { length low.now ≡ nodes }
-    ensures { result ≡ total_above nodes keys (map N.number cells.now) (map N.number low.now) }
-{
-    let mut total = 0;
-    for key in 0..keys {
-        let plane = plane_of(cells, nodes, key);
-        total += planes::how_many_above(plane, low);
-    }
-    total
-}
-
 /// How many numbers are above their owners' marks, where none is above its owner's high mark. It goes over all planes,
 /// or where only few owners' marks differ and there are many keys, over the keys of these owners.
 pub fn total_above<N: Number>(cells: &[N], nodes: usize, keys: usize, low: &[N], high: &[N]) -> u32
@@ -245,10 +184,14 @@ pub fn total_above<N: Number>(cells: &[N], nodes: usize, keys: usize, low: &[N],
     ensures { result ≡ total_above nodes keys (map N.number cells.now) (map N.number low.now) }
 {
     if owners::are_few(keys, low, high) {
-        owners::total_owners_above(cells, nodes, keys, low, high)
-    } else {
-        total_planes_above(cells, nodes, keys, low)
+        return owners::total_owners_above(cells, nodes, keys, low, high);
     }
+    let mut total = 0;
+    for key in 0..keys {
+        let plane = plane_of(cells, nodes, key);
+        total += planes::how_many_above(plane, low);
+    }
+    total
 }
 
 /// How many numbers are not 0.
@@ -279,34 +222,6 @@ pub fn total_upto<N: Number>(cells: &[N], nodes: usize, keys: usize, high: &[N])
     total
 }
 
-// Takes what is sent, plane by plane.
-fn take_planes<N: Number>(
-    cells: &mut [N],
-    greatest: &mut [N],
-    sent: &[N],
-    nodes: usize,
-    keys: usize,
-    low: &[N],
-    high: &[N],
-)
-    requires grid { IsGrid nodes keys (length cells.old) }
-    requires greatest { length greatest.old ≡ nodes }
-    requires sent { length sent.now ≡ length cells.old }
-    requires low { length low.now ≡ nodes }
-    requires high { length high.now ≡ nodes }
-    ensures cells { AreTaken nodes keys (map N.number sent.now) (map N.number low.now) (map N.number high.now)
-        (map N.number cells.old) (map N.number cells.new) }
-    ensures greatest { AreRaised nodes keys (map N.number cells.old) (map N.number sent.now) (map N.number low.now)
-        (map N.number high.now) (map N.number greatest.old) (map N.number greatest.new) }
-{
-    for key in 0..keys {
-        let plane = plane_of(sent, nodes, key);
-        let start = key * nodes;
-        let block = &mut cells[start..start + nodes];
-        planes::take_plane(block, greatest, plane, low, high);
-    }
-}
-
 /// Raises each number to the one sent, where that is above its owner's one mark and up to the other, and each owner's
 /// greatest number to the greatest of its numbers then. No number may be above its owner's greatest before. It goes
 /// over all planes, or where only few owners have anything sent and there are many keys, over the keys of these owners.
@@ -332,7 +247,12 @@ pub fn take<N: Number>(
 {
     if owners::are_few(keys, low, high) {
         owners::take_owners(cells, greatest, sent, nodes, keys, low, high);
-    } else {
-        take_planes(cells, greatest, sent, nodes, keys, low, high);
+        return;
+    }
+    for key in 0..keys {
+        let plane = plane_of(sent, nodes, key);
+        let start = key * nodes;
+        let block = &mut cells[start..start + nodes];
+        planes::take_plane(block, greatest, plane, low, high);
     }
 }

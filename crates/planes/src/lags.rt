@@ -14,8 +14,8 @@ use crate::planes;
 use bench_types::Fault;
 use std::alloc::Global;
 
-// Lowers each owner's number to the one in a plane.
-fn lower<N: Number>(least: &mut [N], plane: &[N])
+/// Lowers each owner's number to the one in a plane.
+pub fn lower<N: Number>(least: &mut [N], plane: &[N])
     requires plane { length plane.now ≡ length least.old }
     ensures least { AreChanged (λ r x y. y ≡ min x (slice_index (map N.number plane.now) r))
         (map N.number least.old) (map N.number least.new) }
@@ -103,29 +103,6 @@ pub fn count_behind<N: Number>(
     count
 }
 
-// Lowers the most to the least of each owner's numbers that are below the last ones.
-fn lower_planes_behind<N: Number>(
-    least: &mut [N],
-    cells: &[N],
-    last: &[N],
-    nodes: usize,
-    keys: usize,
-)
-    requires grid { IsGrid nodes keys (length cells.now) }
-    requires last { length last.now ≡ length cells.now }
-    requires least { HasEach nodes (λ r n. n ≡ N.most) (map N.number least.old) }
-    ensures least { HasEach nodes
-        (λ r n. IsLeastBehind N.most (cell (map N.number cells.now) nodes) (cell (map N.number last.now) nodes)
-        keys r n)
-        (map N.number least.new) }
-{
-    for key in 0..keys {
-        let plane = plane_of(cells, nodes, key);
-        let of_last = plane_of(last, nodes, key);
-        lower_to_behind(least, plane, of_last);
-    }
-}
-
 /// For each owner the least of its numbers that are below the last ones, or `N::greatest()` where none is. An error is
 /// lack of memory (`OutOfMemory`).
 pub fn least_behind<N: Number>(
@@ -144,6 +121,11 @@ pub fn least_behind<N: Number>(
     ensures only { IsOkUnless result OutOfMemory }
 {
     let mut least = all_of(alloc, nodes, N::greatest())?;
-    lower_planes_behind(&mut least, cells, last, nodes, keys);
+    let all: &mut [N] = &mut least;
+    for key in 0..keys {
+        let plane = plane_of(cells, nodes, key);
+        let of_last = plane_of(last, nodes, key);
+        lower_to_behind(all, plane, of_last);
+    }
     Ok(least)
 }

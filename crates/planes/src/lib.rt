@@ -11,5 +11,5 @@ pub use grids::{
     Masked, ahead, counts_above, counts_between, least_above, take, total_above, total_held,
     total_upto, zeros,
 };
-pub use lags::{count_behind, least_behind, lower_all};
+pub use lags::{count_behind, least_behind, lower, lower_all};
 pub use numbers::Number;

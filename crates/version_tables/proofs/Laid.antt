@@ -139,3 +139,7 @@ no_cells lists node nodes keys cells in_nodes few some many none = (
       where
         nothing : (owner : ℕ) (e : Entry) → None ≡ Some e → ⊥
         nothing owner e h = cc
+
+-- what is seen of a table, of which it is known that it is what lies there
+abbrev pub seen : {A : Type 0} {x y : A} → x ≡ y → A
+seen {x = x} is = x

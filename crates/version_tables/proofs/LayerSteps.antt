@@ -1,6 +1,6 @@
 -- Layers of an offer, gone over as long as they fit.
--- Serves `breadth`, `next_runs` and `one_more`.
-use Rattle.std.proofs.Common.{◌≡◌, ℕ, ◌+◌, ◌-◌, ◌<◌, ◌≤◌, true, false, cond, ltb, List, [], ◌∷◌, ◌++◌, length, take, get_or, map, inl, inr, refl, sym, ap, ◌∙◌, subst, arith}
+-- Serves `breadth` and `one_more`.
+use Rattle.std.proofs.Common.{◌≡◌, ℕ, ◌+◌, ◌-◌, ◌<◌, ◌≤◌, true, false, cond, ltb, List, length, get_or, map, inl, inr, sym, ap, ◌∙◌, subst, arith}
 use Rattle.std.proofs.lemmas.Bool.{cases_lt, lt-ltb, le-ltb}
 use Rattle.std.proofs.lemmas.List.{length-map}
 use Rattle.bench_types.specs.Budget.{amount_of}
@@ -128,14 +128,6 @@ module _ {N : Type 0} (number : N → ℕ) (most : ℕ) (offer : Offer N) (is : 
 
     pub layers-farther : (owner : ℕ) → owner < offer.nodes → (low owner ≤ near owner) × (near owner ≤ far owner)
     layers-farther owner lt = ((so_far.layered owner lt).above, elim (so_far.next owner lt) [ inl none ↦ omega (arith, none.1) | inr some ↦ omega (arith, some.above) ])
-
--- a list in front of another
-pub take_whole : {X : Type 0} (n : ℕ) (xs ys : List X) → length xs ≡ n → take n (xs ++ ys) ≡ xs
-take_whole n xs ys is = ap (λ k. take k (xs ++ ys)) (sym is) ∙ all xs ys
-  where
-    all : {X : Type 0} (xs ys : List X) → take (length xs) (xs ++ ys) ≡ xs
-    all [] ys = refl
-    all (x ∷ xs) ys = ap (λ zs. x ∷ zs) (all xs ys)
 
 -- each owner's next mark is counted where it is raised
 pub steps-raised : {N : Type 0} (number : N → ℕ) (most : ℕ) (offer : Offer N) → IsOffer number most offer → (near : ℕ → ℕ) (items old new : List N) (count : ℕ) → old ≡ items

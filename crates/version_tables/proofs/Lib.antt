@@ -29,6 +29,7 @@ pub mod Counted
 pub mod Parts
 pub mod Whole
 pub mod Clearing
+pub mod Modes
 pub mod WeightLaws
 pub mod OfferWeights
 pub mod LayerSteps

@@ -1,13 +1,13 @@
 -- Pieces of tables as code counts them, table by table and part by part.
 -- Serves `cells_of`, `counted` and `piece_of`.
-use Rattle.std.proofs.Common.{◌≡◌, ℕ, ◌+◌, ◌-◌, ◌*◌, ◌<◌, ◌≤◌, min, Bool, cond, ◌&&◌, List, [], ◌∷◌, ◌++◌, take, drop, length, get_or, map, inl, inr, refl, sym, ap, ◌∙◌, subst, arith}
+use Rattle.std.proofs.Common.{◌≡◌, ℕ, ◌+◌, ◌-◌, ◌*◌, ◌<◌, ◌≤◌, min, Bool, cond, ◌&&◌, List, [], ◌∷◌, ◌++◌, length, get_or, map, inl, inr, refl, sym, ap, ◌∙◌, subst, arith}
 use Rattle.std.specs.Prelude.{slice_index, nat_lt, nat_le, Result, Ok, IfOk}
 use Rattle.std.specs.List.{AllZip, range_with_len}
 use Rattle.std.proofs.lemmas.List.FromFn.{length-range_with_len}
 use Rattle.std.proofs.lemmas.Slice.Zip.{AllZip-long}
 use Rattle.std.proofs.lemmas.Bool.{cases_lt}
 use Rattle.std.specs.Borrow.{Bor}
-use Rattle.std.proofs.lemmas.List.{get_or-map, get_or_default, get_or_append_left, get_or_at, length-append, map-append, length-map, append-nil, drop_all, take_all}
+use Rattle.std.proofs.lemmas.List.{get_or-map, get_or_default, get_or_append_left, get_or_at, length-append, map-append, length-map}
 use Rattle.bench_types.specs.declared.entries.Entry.{Entry}
 use Rattle.bench_types.specs.declared.faults.Fault.{Fault}
 use Rattle.bench_types.specs.declared.limits.TheConstants.{MOST_NODES, MOST_KEYS}
@@ -191,13 +191,6 @@ part-found {X} P count items parts k r x same each lt is ok =
 
 pub many-parts : {X : Type 0} (P : ℕ → X → Type 0) (count : ℕ) (parts : List (Result X Fault)) → AllZip (λ part found. IfOk found (P part)) (range_with_len 0 count) parts → length parts ≡ count
 many-parts P count parts each = AllZip-long (λ part found. IfOk found (P part)) (range_with_len 0 count) parts each ∙ length-range_with_len 0 count
-
--- a slice that was written into is all of its vector again
-pub all_written : {X : Type 0} (len : ℕ) (new items : List X) → length new ≡ length items → len ≡ length items → take len (new ++ drop (length new) items) ≡ new
-all_written len new items same is =
-    ap (λ xs. take len (new ++ xs)) (drop_all (length new) items (omega (arith, same)))
-    ∙ ap (take len) (append-nil new)
-    ∙ take_all len new (omega (arith, same, is))
 
 -- a table's numbers as code reads them
 pub cells-read : {N : Type 0} (number : N → ℕ) (cells : List (Bor (List N))) (p : ℕ) (x : Bor (List N)) → p < length (numbers_in number cells) → x ≡ get_or cells p x → map number x.now ≡ numbers_at (numbers_in number cells) p

@@ -1,13 +1,13 @@
 -- An owner's numbers gone over one after another.
--- Serves `Offer::next_down`, `Offer::next_up`, `Offer::stop_down` and `Offer::stop_up`.
-use Rattle.std.proofs.Common.{◌≡◌, ◌≢◌, ℕ, zero, suc, ◌+◌, ◌<◌, ◌≤◌, ◌⊎◌, min, max, inl, inr, refl, ap, ◌∙◌, subst, arith}
+-- Serves `Offer::next_down`, `Offer::next_up` and `Offer::stop_from`.
+use Rattle.std.proofs.Common.{◌≡◌, ◌≢◌, ℕ, zero, suc, ◌+◌, ◌<◌, ◌≤◌, ◌⊎◌, Bool, true, false, min, max, inl, inr, refl, sym, ap, ◌∙◌, subst, arith}
 use Rattle.std.proofs.lemmas.Bool.{cases_lt}
 use Rattle.planes.specs.Planes.{Cells}
 use Rattle.planes.specs.Sums.{sum_below}
 use Rattle.version_tables.specs.inner.Shares.{NumbersDiffer}
-use Rattle.version_tables.specs.inner.Stops.{HasBetween, IsNextUp, IsNextDown}
+use Rattle.version_tables.specs.inner.Stops.{weight_from, HasBetween, HasNext, IsNext, IsNextUp, IsNextDown, IsOn, IsPast}
 use Rattle.version_tables.specs.inner.Weights.{weight_of}
-use Rattle.version_tables.proofs.WeightLaws.{part, part-in, part-low, part-high, part-cases, weight_of-split}
+use Rattle.version_tables.proofs.WeightLaws.{part, part-in, part-low, part-high, part-cases, weight_of-none, weight_of-split, count_between-most}
 
 -- a single number of an owner lies between two marks
 pub weight_of-one : (weight : ℕ → ℕ) (cells : Cells) (keys owner low high key number : ℕ) → key < keys → cells owner key ≡ number → low < number → number ≤ high
@@ -88,6 +88,43 @@ module _ (weight : ℕ → ℕ) (cells : Cells) (keys owner : ℕ) (differ : Num
         weight_of-split weight cells keys owner low below mark (omega (arith, under, is.above)) (omega (arith, under, is.upto)),
         down-one low mark next below is under,
       )
+
+  -- a mark past the next number lets through that one more, from the newest on too
+  pub past-next : (newest : Bool) (near mark far next past : ℕ) → IsOn newest near mark → IsNext newest cells keys owner mark far next → IsPast newest next past
+      → weight_from newest weight cells keys owner near past ≡ weight_from newest weight cells keys owner near mark + weight next
+  past-next false near mark far next past on is same = ap (weight_of weight cells keys owner near) same ∙ up-next near mark far next on is
+  past-next true near mark far next past on is under = down-next far mark near next past on is under
+
+  pub past-rest : (newest : Bool) (mark far next past : ℕ) → IsNext newest cells keys owner mark far next → IsPast newest next past
+      → weight_from newest weight cells keys owner mark far ≡ weight next + weight_from newest weight cells keys owner past far
+  past-rest false mark far next past is same = up-rest mark far next is ∙ ap (λ m. weight next + weight_of weight cells keys owner m far) (sym same)
+  past-rest true mark far next past is under = down-rest far mark next past is under
+
+-- from the oldest or the newest on
+module _ (cells : Cells) (keys owner : ℕ) where
+  pub some-next : (newest : Bool) (weight : ℕ → ℕ) (near far : ℕ) → 0 < weight_from newest weight cells keys owner near far → HasNext newest cells keys owner near far
+  some-next false weight near far some = has-between weight cells keys owner near far some
+  some-next true weight near far some = has-between weight cells keys owner far near some
+
+  pub none-from : (newest : Bool) (weight : ℕ → ℕ) (near : ℕ) → weight_from newest weight cells keys owner near near ≡ 0
+  none-from false weight near = weight_of-none weight cells keys owner near near (omega arith)
+  none-from true weight near = weight_of-none weight cells keys owner near near (omega arith)
+
+  pub few-from : (newest : Bool) (near far : ℕ) → weight_from newest (λ _. 1) cells keys owner near far ≤ keys
+  few-from false near far = count_between-most cells keys owner near far
+  few-from true near far = count_between-most cells keys owner far near
+
+  pub next-held : (newest : Bool) (near far next : ℕ) → IsNext newest cells keys owner near far next → (key : ℕ) × (key < keys) × (cells owner key ≡ next) × (0 < next)
+  next-held false near far next is = (is.key, is.in_keys, is.is, omega (arith, is.above))
+  next-held true near far next is = (is.key, is.in_keys, is.is, omega (arith, is.above))
+
+  pub past-on : (newest : Bool) (near mark far next past : ℕ) → IsOn newest near mark → IsNext newest cells keys owner mark far next → IsPast newest next past → IsOn newest near past
+  past-on false near mark far next past on is same = omega (arith, on, is.above, same)
+  past-on true near mark far next past on is under = omega (arith, on, is.upto, under)
+
+pub on-start : (newest : Bool) (near : ℕ) → IsOn newest near near
+on-start false near = omega arith
+on-start true near = omega arith
 
 -- the least of the numbers gone over
 pub record IsLeastSoFar (cells : Cells) (keys owner low high next : ℕ) : Type 0 where

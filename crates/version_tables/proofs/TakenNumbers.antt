@@ -1,12 +1,12 @@
 -- A table that took a delta by marks is the one that took its items.
--- Serves `take`, `take_both`, `TakenTables` and `TakenViews`.
+-- Serves `take_both`, `take_unless`, `TakenTables` and `TakenViews`.
 use Rattle.std.proofs.Common.{◌≡◌, ℕ, ◌<◌, ◌≤◌, ◌&&◌, Bool, true, false, cond, max, nat_lt, nat_le, List, inl, inr, refl, sym, ap, ◌∙◌, subst, arith}
 use Rattle.std.proofs.lemmas.Bool.{cases_lt, lt-ltb, le-leb, lt-leb, ltb-true, and_parts}
 use Rattle.planes.specs.Planes.{number_taken}
 use Rattle.bench_types.specs.declared.entries.Entry.{Entry}
 use Rattle.version_tables.specs.Views.{VersionTableView}
 use Rattle.version_tables.specs.inner.Laid.{IsVersionTable}
-use Rattle.version_tables.specs.inner.Taken.{is_taken, number_kept, IsTaken, HasTaken, StaysOne}
+use Rattle.version_tables.specs.inner.Taken.{is_taken, number_kept, IsTaken, HasTaken, HasTakenUnless, StaysOne}
 
 -- a number that is taken is the one that is sent
 pub taken-number : (x s low high : ℕ) → is_taken x s low high ≡ true → number_taken x s low high ≡ s
@@ -46,8 +46,9 @@ module _ (lists : ℕ → List Entry) (bases : ℕ → ℕ) (sent low high : Lis
   pub take-stays : (written : ℕ → List Entry) → StaysOne written lists bases v sent low high → IsVersionTable written old.node old.nodes old.keys old.generation cells greatest
   take-stays written stays = subst (λ w. StaysOne written lists bases w sent low high) (sym is) stays cells greatest taken
 
-  pub has-taken : HasTaken lists bases v sent low high (record old { cells = cells; greatest = greatest })
-  has-taken = subst (λ w. HasTaken lists bases w sent low high (record old { cells = cells; greatest = greatest })) is (record { taken = taken; rest = refl })
+  pub has-taken : (nothing : Bool) → nothing ≡ false → HasTakenUnless nothing lists bases v sent low high (record old { cells = cells; greatest = greatest })
+  has-taken true some = cc
+  has-taken false some = subst (λ w. HasTaken lists bases w sent low high (record old { cells = cells; greatest = greatest })) is (record { taken = taken; rest = refl })
 
 -- what holds of three lists holds of the same ones
 pub along_three : (P : List ℕ → List ℕ → List ℕ → Type 0) (a b c d x y : List ℕ) → a ≡ b → c ≡ d → x ≡ y → P a c x → P b d y

@@ -19,7 +19,7 @@ use Rattle.version_tables.specs.inner.Offered.{cells_in, marks, weights_in, IsOf
 use Rattle.version_tables.specs.inner.Plans.{weight_on, count_on, AreFarther}
 use Rattle.version_tables.specs.inner.Shares.{lets_through}
 use Rattle.version_tables.specs.inner.Sharing.{AreShared}
-use Rattle.version_tables.specs.inner.Stops.{IsStopUp, IsStopDown}
+use Rattle.version_tables.specs.inner.Stops.{IsStopFrom}
 use Rattle.version_tables.specs.inner.Turns.{part_between, AreTurnsPassed, IsStop}
 use Rattle.version_tables.specs.inner.Weights.{weight_of, weight_between, one_each}
 use Rattle.version_tables.proofs.WeightLaws.{part, part-in, part-low, part-high, weight_of-split, weight_of-same, weight_of-most, number_share-one, count_between-most}
@@ -54,12 +54,12 @@ split-covered weight cells keys owner low mark high le covered =
 
 -- where an owner's part stops
 module _ (weight : ℕ → ℕ) (cells : Cells) (keys owner near far room mark sent : ℕ) where
-  module _ (up : IsStopUp weight cells keys owner near far room mark sent) where
+  module _ (up : IsStopFrom false weight cells keys owner near far room mark sent) where
     abbrev at : ℕ
     at = cells owner up.next.key
 
     up_outside : leb at near ≡ false
-    up_outside = lt-leb at near (omega (arith, up.next.is, up.next.above, up.higher))
+    up_outside = lt-leb at near (omega (arith, up.next.is, up.next.above, up.on))
 
     up_inside : leb at far ≡ true
     up_inside = le-leb at far (omega (arith, up.next.is, up.next.upto))
@@ -71,7 +71,7 @@ module _ (weight : ℕ → ℕ) (cells : Cells) (keys owner near far room mark s
     ]
 
     up_between : ((0 ≤ near) × (near ≤ mark)) × ((0 ≤ mark) × (mark ≤ far))
-    up_between = ((omega arith, omega (arith, up.higher)), (omega arith, omega (arith, up.next.above, up.next.upto)))
+    up_between = ((omega arith, omega (arith, up.on)), (omega arith, omega (arith, up.next.above, up.next.upto)))
 
     up_beyond : room < weight_of weight cells keys owner near mark + weight at
     up_beyond = omega (arith, up.beyond, ap weight up.next.is)
@@ -85,17 +85,17 @@ module _ (weight : ℕ → ℕ) (cells : Cells) (keys owner near far room mark s
     pub stop-oldest : IsStop PreciseOldest weight cells keys owner near far room mark sent
     stop-oldest = record { key = up.next.key; in_keys = up.next.in_keys; outside = up_outside; inside = up_inside; own = up_own; between = up_between; within = up.within; beyond = up_beyond; count = up.count }
 
-  pub stop-newest : IsStopDown weight cells keys owner far near room mark sent → IsStop PreciseNewest weight cells keys owner near far room mark sent
+  pub stop-newest : IsStopFrom true weight cells keys owner near far room mark sent → IsStop PreciseNewest weight cells keys owner near far room mark sent
   stop-newest down = record {
     key = down.next.key;
     in_keys = down.next.in_keys;
-    outside = le-ltb near (cells owner down.next.key) (omega (arith, down.next.is, down.next.upto, down.lower));
+    outside = le-ltb near (cells owner down.next.key) (omega (arith, down.next.is, down.next.upto, down.on));
     inside = lt-ltb far (cells owner down.next.key) (omega (arith, down.next.is, down.next.above));
     own = λ k lt. elim (cases_lt mark (cells owner k)) [
       | inl over ↦ lt-ltb mark (cells owner k) over ∙ sym (lt-ltb (cells owner down.next.key) (cells owner k) (omega (arith, down.next.is, down.next.upto, over)))
       | inr within ↦ le-ltb mark (cells owner k) (omega (arith, within)) ∙ sym (le-ltb (cells owner down.next.key) (cells owner k) (omega (arith, down.next.is, down.next.no_more k lt (omega (arith, within)))))
     ];
-    between = ((omega arith, omega (arith, down.lower)), (omega arith, omega (arith, down.next.above, down.next.upto)));
+    between = ((omega arith, omega (arith, down.on)), (omega arith, omega (arith, down.next.above, down.next.upto)));
     within = down.within;
     beyond = omega (arith, down.beyond, ap weight down.next.is);
     count = down.count;

@@ -143,25 +143,6 @@ fn mark_after<N: Number>(
     ensures only { IsOkUnless result OutOfMemory }
 {
     let round = if newest { rounds - count } else { count };
-    mark_of(alloc, offer, ends, rounds, round)
-}
-
-// The marks at the end of a round.
-fn mark_of<N: Number>(
-    alloc: Global,
-    offer: &Offer<N>,
-    ends: &[N],
-    rounds: u32,
-    round: u32,
-) -> Result<Vec<N>, Fault>
-    requires offer { IsOffer N.number N.most offer.now }
-    requires ends { length ends.now ≡ (rounds + 1) * offer.now.nodes }
-    requires round { round ≤ rounds }
-    ensures marks { IfOk result (λ v. HasEach offer.now.nodes
-        (λ r n. n ≡ end_mark (map N.number ends.now) offer.now.nodes (marks N.number offer.now.low.now) round r)
-        (map N.number v.items)) }
-    ensures only { IsOkUnless result OutOfMemory }
-{
     let mut mark = Vec::from_slice(alloc, offer.low)?;
     raise_to_end(&mut mark, ends, rounds, round);
     Ok(mark)

@@ -71,9 +71,9 @@ impl<'a, N: Number> Offer<'a, N> {
             (N.number near) (N.number far) room (N.number result.mark) result.sent }
     {
         match mode {
-            Mode::PreciseNewest => self.stop_down(owner, far, near, room),
+            Mode::PreciseNewest => self.stop_from(true, owner, near, far, room),
             Mode::ScuttleBreadth | Mode::ScuttleDepth | Mode::PreciseOldest => {
-                self.stop_up(owner, near, far, room)
+                self.stop_from(false, owner, near, far, room)
             }
         }
     }

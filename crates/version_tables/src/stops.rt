@@ -2,8 +2,7 @@
 
 ghost use Rattle.std.specs.Prelude.{◌≡◌, ℕ, ◌+◌, ◌-◌, ◌*◌, ◌<◌, ◌≤◌, length};
 ghost use Rattle.version_tables.specs.inner.Offered.{cells_in, weights_in, IsOffer};
-ghost use Rattle.version_tables.specs.inner.Stops.{HasBetween, IsNextUp, IsNextDown, IsStopUp, IsStopDown};
-ghost use Rattle.version_tables.specs.inner.Weights.{weight_of};
+ghost use Rattle.version_tables.specs.inner.Stops.{weight_from, HasBetween, HasNext, IsNext, IsNextUp, IsNextDown, IsPast, IsStopFrom};
 
 use crate::weights::Offer;
 use planes::Number;
@@ -52,51 +51,63 @@ impl<'a, N: Number> Offer<'a, N> {
         next
     }
 
-    /// One after another from the least on, as long as they fit.
-    pub(crate) fn stop_up(&self, owner: usize, low: N, high: N, room: u32) -> Stop<N>
+    // Of those between a near and a far mark the least, or from the newest on the greatest.
+    fn next(&self, newest: bool, owner: usize, near: N, far: N) -> N
         requires offer { IsOffer N.number N.most self.now }
         requires owner { owner < self.now.nodes }
-        requires beyond { room < weight_of (weights_in self.now owner) (cells_in N.number self.now) self.now.keys owner
-            (N.number low) (N.number high) }
-        ensures { IsStopUp (weights_in self.now owner) (cells_in N.number self.now) self.now.keys owner (N.number low)
-            (N.number high) room (N.number result.mark) result.sent }
+        requires some { HasNext newest (cells_in N.number self.now) self.now.keys owner
+            (N.number near) (N.number far) }
+        ensures { IsNext newest (cells_in N.number self.now) self.now.keys owner (N.number near) (N.number far)
+            (N.number result) }
     {
-        let mut mark = low;
+        if newest {
+            self.next_down(owner, far, near)
+        } else {
+            self.next_up(owner, near, far)
+        }
+    }
+
+    /// One after another from the near mark on, as long as they fit.
+    pub(crate) fn stop_from(
+        &self,
+        newest: bool,
+        owner: usize,
+        near: N,
+        far: N,
+        room: u32,
+    ) -> Stop<N>
+        requires offer { IsOffer N.number N.most self.now }
+        requires owner { owner < self.now.nodes }
+        requires beyond { room < weight_from newest (weights_in self.now owner) (cells_in N.number self.now)
+            self.now.keys owner (N.number near) (N.number far) }
+        ensures { IsStopFrom newest (weights_in self.now owner) (cells_in N.number self.now) self.now.keys owner
+            (N.number near) (N.number far) room (N.number result.mark) result.sent }
+    {
+        let mut mark = near;
         let mut sent = 0;
         let mut left = room;
-        let mut next = self.next_up(owner, mark, high);
+        let mut next = self.next(newest, owner, mark, far);
         let mut weight = self.weight_of_number(owner, next);
         while weight <= left {
             left -= weight;
             sent += 1;
-            mark = next;
-            next = self.next_up(owner, mark, high);
+            mark = mark_past(newest, next);
+            next = self.next(newest, owner, mark, far);
             weight = self.weight_of_number(owner, next);
         }
         Stop { mark, sent }
     }
+}
 
-    /// And from the greatest on.
-    pub(crate) fn stop_down(&self, owner: usize, low: N, high: N, room: u32) -> Stop<N>
-        requires offer { IsOffer N.number N.most self.now }
-        requires owner { owner < self.now.nodes }
-        requires beyond { room < weight_of (weights_in self.now owner) (cells_in N.number self.now) self.now.keys owner
-            (N.number low) (N.number high) }
-        ensures { IsStopDown (weights_in self.now owner) (cells_in N.number self.now) self.now.keys owner (N.number low)
-            (N.number high) room (N.number result.mark) result.sent }
-    {
-        let mut mark = high;
-        let mut sent = 0;
-        let mut left = room;
-        let mut next = self.next_down(owner, low, mark);
-        let mut weight = self.weight_of_number(owner, next);
-        while weight <= left {
-            left -= weight;
-            sent += 1;
-            mark = N::narrow(next.widen() - 1);
-            next = self.next_down(owner, low, mark);
-            weight = self.weight_of_number(owner, next);
-        }
-        Stop { mark, sent }
+// The nearest mark that is past a number.
+fn mark_past<N: Number>(newest: bool, number: N) -> N
+    requires some { 0 < N.number number }
+    requires fits { N.number number ≤ N.most }
+    ensures { IsPast newest (N.number number) (N.number result) }
+{
+    if newest {
+        N::narrow(number.widen() - 1)
+    } else {
+        number
     }
 }

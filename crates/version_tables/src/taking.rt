@@ -7,7 +7,7 @@ ghost use Rattle.owner_lists.specs.Numbers.{write_numbered};
 ghost use Rattle.planes.specs.Planes.{cell, AreCovered, ArePlanesChanged, HasEach, IsGrid};
 ghost use Rattle.version_tables.specs.inner.Offers.{start_of, IsNumberedHistory};
 ghost use Rattle.version_tables.specs.inner.Histories.{bases_in};
-ghost use Rattle.version_tables.specs.inner.Taken.{drop_start, number_kept, HasTaken, HasTakenUnless, IsTaken, StaysOne};
+ghost use Rattle.version_tables.specs.inner.Taken.{drop_start, number_kept, HasTakenUnless, IsTaken, StaysOne};
 
 use crate::tables::{VersionTable, Written};
 use owner_lists::OwnerList;
@@ -72,33 +72,7 @@ fn drop_owner<N: Number>(cells: &mut [N], nodes: usize, keys: usize, owner: usiz
     }
 }
 
-// And so of each owner.
-fn drop_each<N: Number>(
-    cells: &mut [N],
-    nodes: usize,
-    keys: usize,
-    before: &[N],
-    greatest: &[N],
-    bases: &[N],
-    lists: &[OwnerList],
-)
-    requires grid { IsGrid nodes keys (length cells.old) }
-    requires before { length before.now ≡ nodes }
-    requires greatest { length greatest.now ≡ nodes }
-    requires bases { length bases.now ≡ nodes }
-    requires lists { length lists.now ≡ nodes }
-    requires numbered { (owner : ℕ) → IsNumberedHistory (all_writes lists.now owner) }
-    ensures { ArePlanesChanged (λ r k x y. y ≡ number_kept (drop_start (all_writes lists.now r)
-        (slice_index (map N.number before.now) r) (slice_index (map N.number bases.now) r)
-        (slice_index (map N.number greatest.now) r)) x) nodes keys (map N.number cells.old) (map N.number cells.new) }
-{
-    for owner in 0..nodes {
-        let start = drop_from(&lists[owner], before[owner], bases[owner], greatest[owner]);
-        drop_owner(cells, nodes, keys, owner, start);
-    }
-}
-
-// The same, with one look at whether any owner's old number is of an earlier generation.
+// And so of each owner, where any owner's old number is of an earlier generation.
 fn drop_older<N: Number>(
     cells: &mut [N],
     nodes: usize,
@@ -118,8 +92,12 @@ fn drop_older<N: Number>(
         (slice_index (map N.number before.now) r) (slice_index (map N.number bases.now) r)
         (slice_index (map N.number greatest.now) r)) x) nodes keys (map N.number cells.old) (map N.number cells.new) }
 {
-    if planes::total_upto(before, nodes, 1, bases) > 0 {
-        drop_each(cells, nodes, keys, before, greatest, bases, lists);
+    if planes::total_upto(before, nodes, 1, bases) == 0 {
+        return;
+    }
+    for owner in 0..nodes {
+        let start = drop_from(&lists[owner], before[owner], bases[owner], greatest[owner]);
+        drop_owner(cells, nodes, keys, owner, start);
     }
 }
 
@@ -155,45 +133,6 @@ fn take_numbers<N: Number>(
     drop_older(cells, nodes, keys, before, greatest, bases, lists);
 }
 
-// Takes what marks let through of a sender's numbers, and drops of each owner what is of older generations than its
-// newest. The greatest numbers before it are given.
-fn take<N: Number, H: Written>(
-    table: &mut VersionTable<N, H>,
-    sent: &[N],
-    low: &[N],
-    high: &[N],
-    before: &[N],
-    bases: &[N],
-    lists: &[OwnerList],
-)
-    requires sent { length sent.now ≡ length table.old.cells }
-    requires low { length low.now ≡ table.old.nodes }
-    requires high { length high.now ≡ table.old.nodes }
-    requires before { map N.number before.now ≡ table.old.greatest }
-    requires bases { HasEach table.old.nodes (λ r n. n ≡ bases_in lists.now r) (map N.number bases.now) }
-    requires lists { length lists.now ≡ table.old.nodes }
-    requires numbered { (owner : ℕ) → IsNumberedHistory (all_writes lists.now owner) }
-    requires stays { StaysOne H.lists (all_writes lists.now) (bases_in lists.now) table.old (map N.number sent.now)
-        (map N.number low.now) (map N.number high.now) }
-    ensures { HasTaken (all_writes lists.now) (bases_in lists.now) table.old (map N.number sent.now)
-        (map N.number low.now) (map N.number high.now) table.new }
-{
-    let nodes = table.nodes as usize;
-    let keys = table.keys as usize;
-    take_numbers(
-        &mut table.cells,
-        &mut table.greatest,
-        nodes,
-        keys,
-        sent,
-        low,
-        high,
-        before,
-        bases,
-        lists,
-    );
-}
-
 /// Takes what marks let through of a sender's numbers, and drops of each owner what is of older generations than its
 /// newest, unless there is nothing to take. The greatest numbers before it are given.
 pub(crate) fn take_unless<N: Number, H: Written>(
@@ -218,7 +157,21 @@ pub(crate) fn take_unless<N: Number, H: Written>(
     ensures { HasTakenUnless nothing (all_writes lists.now) (bases_in lists.now) table.old (map N.number sent.now)
         (map N.number low.now) (map N.number high.now) table.new }
 {
-    if !nothing {
-        take(table, sent, low, high, before, bases, lists);
+    if nothing {
+        return;
     }
+    let nodes = table.nodes as usize;
+    let keys = table.keys as usize;
+    take_numbers(
+        &mut table.cells,
+        &mut table.greatest,
+        nodes,
+        keys,
+        sent,
+        low,
+        high,
+        before,
+        bases,
+        lists,
+    );
 }

@@ -1,6 +1,6 @@
 //! What is offered to a receiver, by marks for each owner.
 
-ghost use Rattle.std.specs.Prelude.{◌≡◌, ℕ, ◌<◌, ◌≤◌, length, map, min, slice_index, IfOk, IsOkUnless};
+ghost use Rattle.std.specs.Prelude.{◌≡◌, ℕ, ◌<◌, ◌≤◌, length, map, slice_index, IfOk, IsOkUnless};
 ghost use Rattle.bench_types.specs.declared.faults.Fault.TheVariants.{OutOfMemory};
 ghost use Rattle.bench_types.specs.declared.exchanges.DigestKind.TheVariants.{Precise};
 ghost use Rattle.owner_lists.specs.OwnerListView.{all_writes, entries_of};
@@ -72,18 +72,7 @@ fn put_starts<N: Number>(numbers: &mut [N], lists: &[OwnerList], bases: &[N])
         (map N.number numbers.old) (map N.number numbers.new) }
 {
     put_earlier_starts(numbers, lists, bases);
-    lower(numbers, bases);
-}
-
-// Lowers each number to that of another list.
-fn lower<N: Number>(numbers: &mut [N], bounds: &[N])
-    requires { length bounds.now ≡ length numbers.old }
-    ensures { AreChanged (λ r x y. y ≡ min x (slice_index (map N.number bounds.now) r))
-        (map N.number numbers.old) (map N.number numbers.new) }
-{
-    for r in 0..numbers.len() {
-        numbers[r] = numbers[r].min_with(bounds[r]);
-    }
+    planes::lower(numbers, bases);
 }
 
 // Puts the starts of earlier generations. Most often there are none, which one fast loop tells.

@@ -12,7 +12,7 @@ use owner_lists::OwnerList;
 use planes::Number;
 
 /// The candidates are the cells of each owner above `low`, of which none is above `high`.
-#[derive(Clone, Copy)]
+#[derive(Drop)]
 pub(crate) struct Offer<'a, N: Number> {
     pub(crate) cells: &'a [N],
     pub(crate) nodes: usize,

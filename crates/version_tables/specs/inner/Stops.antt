@@ -1,6 +1,6 @@
 -- Where an owner's part of a level stops: at the first of its numbers that doesn't fit. Source: this project.
-use Rattle.std.specs.Prelude.{◌≡◌, ℕ, ◌+◌, ◌<◌, ◌≤◌}
-use Rattle.planes.specs.Planes.{Cells, count_between}
+use Rattle.std.specs.Prelude.{◌≡◌, ℕ, ◌+◌, ◌<◌, ◌≤◌, Bool, true, false}
+use Rattle.planes.specs.Planes.{Cells}
 use Rattle.version_tables.specs.inner.Weights.{weight_of}
 
 -- a key's number is above one mark and up to another
@@ -28,20 +28,37 @@ pub record IsNextDown (cells : Cells) (keys owner low high next : ℕ) : Type 0 
   pub upto : next ≤ high
   pub no_more : (k : ℕ) → k < keys → cells owner k ≤ high → cells owner k ≤ next
 
--- a mark up to which numbers fit into some room, and the next one doesn't
-pub record IsStopUp (weight : ℕ → ℕ) (cells : Cells) (keys owner low high room mark sent : ℕ) : Type 0 where
-  pub number : ℕ
-  pub next : IsNextUp cells keys owner mark high number
-  pub higher : low ≤ mark
-  pub within : weight_of weight cells keys owner low mark ≤ room
-  pub beyond : room < weight_of weight cells keys owner low mark + weight number
-  pub count : sent ≡ count_between cells keys owner low mark
+-- the next number from a near mark on: the least, or from the newest on the greatest
+abbrev pub IsNext : Bool → Cells → ℕ → ℕ → ℕ → ℕ → ℕ → Type 0
+IsNext false cells keys owner near far next = IsNextUp cells keys owner near far next
+IsNext true cells keys owner near far next = IsNextDown cells keys owner far near next
 
--- a mark above which they do
-pub record IsStopDown (weight : ℕ → ℕ) (cells : Cells) (keys owner low high room mark sent : ℕ) : Type 0 where
+-- some number is between a near and a far mark
+abbrev pub HasNext : Bool → Cells → ℕ → ℕ → ℕ → ℕ → Type 0
+HasNext false cells keys owner near far = HasBetween cells keys owner near far
+HasNext true cells keys owner near far = HasBetween cells keys owner far near
+
+-- what the numbers between them weigh
+abbrev pub weight_from : Bool → (ℕ → ℕ) → Cells → ℕ → ℕ → ℕ → ℕ → ℕ
+weight_from false weight cells keys owner near far = weight_of weight cells keys owner near far
+weight_from true weight cells keys owner near far = weight_of weight cells keys owner far near
+
+-- one mark is no nearer than another
+abbrev pub IsOn : Bool → ℕ → ℕ → Type 0
+IsOn false near mark = near ≤ mark
+IsOn true near mark = mark ≤ near
+
+-- the nearest mark that is past a number
+abbrev pub IsPast : Bool → ℕ → ℕ → Type 0
+IsPast false number mark = mark ≡ number
+IsPast true number mark = mark + 1 ≡ number
+
+-- a mark up to which numbers fit into some room, and the next one doesn't
+pub record IsStopFrom (newest : Bool) (weight : ℕ → ℕ) (cells : Cells)
+    (keys owner near far room mark sent : ℕ) : Type 0 where
   pub number : ℕ
-  pub next : IsNextDown cells keys owner low mark number
-  pub lower : mark ≤ high
-  pub within : weight_of weight cells keys owner mark high ≤ room
-  pub beyond : room < weight_of weight cells keys owner mark high + weight number
-  pub count : sent ≡ count_between cells keys owner mark high
+  pub next : IsNext newest cells keys owner mark far number
+  pub on : IsOn newest near mark
+  pub within : weight_from newest weight cells keys owner near mark ≤ room
+  pub beyond : room < weight_from newest weight cells keys owner near mark + weight number
+  pub count : sent ≡ weight_from newest (λ _. 1) cells keys owner near mark

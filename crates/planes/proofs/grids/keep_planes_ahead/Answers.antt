@@ -2,7 +2,8 @@ use Rattle.std.proofs.Common.{◌≡◌, ◌+◌, ◌*◌, ◌-◌, ◌≤◌, n
 use Rattle.std.proofs.lemmas.List.{length-map, length-take-le, length-drop}
 use Rattle.planes.specs.Sums.{sum_below}
 use Rattle.planes.specs.Planes.{cell, number_ahead}
-use Rattle.planes.proofs.Places.{plane-within, block-cells, plane_count, planes-none, planes-written, planes-all, total_fits, total_suc, total_whole}
+use Rattle.planes.proofs.Counts.{sum_next}
+use Rattle.planes.proofs.Places.{plane-within, block-cells, plane_count, planes-none, planes-written, planes-all, total_fits, total_whole}
 use Rattle.planes.proofs.grids.keep_planes_ahead.Given as given
 use Rattle.planes.proofs.grids.keep_planes_ahead.Goals as goal
 
@@ -33,7 +34,7 @@ loop-key-preserved g c = record {
       (omega (arith, length-map c.args.numbers.now g.N.Number.number, plane-within c.args.nodes c.args.keys (length c.args.numbers.now) c.loop-key.key c.requires.grid c.loop-key-test.true))
       c.keep_ahead-count.ensures.numbers
       (λ r x y lt is. is ∙ (λ i. number_ahead x (c.plane_of-of_peer.ensures.each r lt i) (slice_index (map g.N.Number.number c.args.low.now) r)));
-  count = total_suc _ c.loop-key.key c.loop-key.count c.keep_ahead-count.result c.loop-key.invariant.count (kept g c);
+  count = sum_next _ c.loop-key.key c.loop-key.count c.keep_ahead-count.result c.loop-key.invariant.count (kept g c);
 }
 
 pub returns : goal.returns

@@ -2,7 +2,8 @@ use Rattle.std.proofs.Common.{◌≡◌, nat_lt, refl, sym, ap, ◌∙◌, map, 
 use Rattle.std.proofs.lemmas.List.{length-map}
 use Rattle.planes.specs.Sums.{sum_below}
 use Rattle.planes.specs.Planes.{cell}
-use Rattle.planes.proofs.Places.{plane_count, total_fits, total_suc, total_whole}
+use Rattle.planes.proofs.Counts.{sum_next}
+use Rattle.planes.proofs.Places.{plane_count, total_fits, total_whole}
 use Rattle.planes.proofs.grids.total_held.Given as given
 use Rattle.planes.proofs.grids.total_held.Goals as goal
 
@@ -20,7 +21,7 @@ overflow_add-total g c =
     total_fits c.args.nodes c.args.keys c.loop-key.key _ c.loop-key.total c.how_many_held-total.result c.requires.grid.few_nodes c.requires.grid.few_keys c.loop-key-test.true c.loop-key.invariant (added g c)
 
 pub loop-key-preserved : goal.loop-key-preserved
-loop-key-preserved g c = total_suc _ c.loop-key.key c.loop-key.total c.how_many_held-total.result c.loop-key.invariant (added g c)
+loop-key-preserved g c = sum_next _ c.loop-key.key c.loop-key.total c.how_many_held-total.result c.loop-key.invariant (added g c)
 
 pub returns : goal.returns
 returns g c = total_whole c.args.nodes c.args.keys c.loop-key.key _ c.loop-key.total c.loop-key.invariant c.loop-key-test.false c.loop-key.auto.key-end

@@ -2,7 +2,8 @@ use Rattle.std.proofs.Common.{◌≡◌, ◌+◌, ◌*◌, ◌-◌, min, nat_lt,
 use Rattle.std.proofs.lemmas.List.{length-map}
 use Rattle.planes.specs.Sums.{sum_below}
 use Rattle.planes.specs.Planes.{cell}
-use Rattle.planes.proofs.Places.{plane-within, plane-cells, total_fits, total_suc, total_whole, planes-none, planes-written, planes-all}
+use Rattle.planes.proofs.Counts.{sum_next}
+use Rattle.planes.proofs.Places.{plane-within, plane-cells, total_fits, total_whole, planes-none, planes-written, planes-all}
 use Rattle.planes.proofs.Behind.{plane-behind}
 use Rattle.planes.proofs.lags.count_behind.Given as given
 use Rattle.planes.proofs.lags.count_behind.Goals as goal
@@ -26,7 +27,7 @@ overflow_add-count g c =
 
 pub loop-key-preserved : goal.loop-key-preserved
 loop-key-preserved g c = record {
-  count = total_suc _ c.loop-key.key c.loop-key.count c.lower_counting-count.result c.loop-key.invariant.count (added g c);
+  count = sum_next _ c.loop-key.key c.loop-key.count c.lower_counting-count.result c.loop-key.invariant.count (added g c);
   least =
       planes-written _ c.args.nodes (map g.N.Number.number c.args.least.now) g.N.Number.number c.loop-key.least c.lower_counting-count.new.least c.loop-key.key
       (c.loop-key.key * c.args.nodes + c.args.nodes - c.loop-key.key * c.args.nodes) _ (omega arith) c.loop-key.invariant.least

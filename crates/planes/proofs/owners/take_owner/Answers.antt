@@ -2,7 +2,7 @@ use Rattle.std.proofs.Common.{◌≡◌, ℕ, ◌+◌, ◌*◌, ◌<◌, ◌≤�
 use Rattle.std.proofs.lemmas.List.{length-map, get_or-map}
 use Rattle.planes.specs.Planes.{cell, number_taken, ArePlanesChangedUpto, IsRaised}
 use Rattle.planes.proofs.Elementwise.{number-at}
-use Rattle.planes.proofs.Places.{plane-within, raised-next}
+use Rattle.planes.proofs.Places.{plane-within, planes-none, planes-all, raised-none, raised-next}
 use Rattle.planes.proofs.ByOwner.{owner_changed, owner-next, owner-stays, raised-past, taken-none, taken-some}
 use Rattle.planes.proofs.owners.take_owner.Given as given
 use Rattle.planes.proofs.owners.take_owner.Goals as goal
@@ -65,3 +65,19 @@ loop-key-preserved g c =
                 (omega (arith, none, c.requires.covered c.loop-key.key c.loop-key-test.true)));
           }
     ]
+
+pub loop-key-init : goal.loop-key-init
+loop-key-init g c =
+    record {
+      cells = planes-none _ c.args.nodes (map g.N.Number.number c.args.cells.now);
+      greatest = raised-none _ c.args.owner (g.N.Number.number c.args.had);
+    }
+
+pub returns-clause-cells : goal.returns-clause-cells
+returns-clause-cells g c = planes-all _ c.args.nodes (map g.N.Number.number c.args.cells.now) (map g.N.Number.number c.loop-key.cells) c.args.keys c.loop-key.key c.loop-key.invariant.cells c.loop-key-test.false
+
+pub returns-clause-greatest : goal.returns-clause-greatest
+returns-clause-greatest g c =
+    let number = g.N.Number.number in
+    subst (λ key. IsRaised (λ r k. number_taken (cell (map number c.args.cells.now) c.args.nodes r k) (cell (map number c.args.sent.now) c.args.nodes r k) (number c.args.low) (number c.args.high)) key c.args.owner (number c.args.had) (number c.loop-key.greatest))
+    {x = c.loop-key.key} {y = c.args.keys} (omega (arith, c.loop-key-test.false, c.loop-key.auto.key-end)) c.loop-key.invariant.greatest

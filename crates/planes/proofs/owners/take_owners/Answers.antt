@@ -1,10 +1,10 @@
-use Rattle.std.proofs.Common.{ℕ, ◌+◌, slice_index, sym, subst, ◌∙◌, arith, map}
+use Rattle.std.proofs.Common.{ℕ, ◌+◌, ◌≤◌, slice_index, sym, subst, ◌∙◌, arith, map}
 use Rattle.std.proofs.lemmas.Bool.{ltb-false}
 use Rattle.std.proofs.lemmas.List.{length-map}
 use Rattle.planes.specs.inner.Elementwise.{AreChangedUpto}
-use Rattle.planes.specs.Planes.{cell, number_taken, numbers_taken, ArePlanesChanged, IsRaised}
-use Rattle.planes.proofs.Elementwise.{number-at, left_next, written_next}
-use Rattle.planes.proofs.ByOwner.{owners_changed, owner-waits, owners-next, owners-stay, raised-same, raised-stays, taken-passed}
+use Rattle.planes.specs.Planes.{cell, number_taken, numbers_taken, ArePlanesChanged, IsGrid, IsRaised}
+use Rattle.planes.proofs.Elementwise.{changed_none, number-at, left_next, written_next}
+use Rattle.planes.proofs.ByOwner.{owners_changed, owner-waits, owners-none, owners-next, owners-stay, owners-all, raised-same, raised-stays, taken-passed}
 use Rattle.planes.proofs.owners.take_owners.Goals as goal
 use Rattle.planes.proofs.owners.take_owners.Goals.{then-is_above, else-is_above}
 
@@ -53,3 +53,41 @@ loop-owner-preserved g c =
                 (raised-stays (cell (map number c.args.cells.now) c.args.nodes) c.args.keys owner _ (c.requires.covered owner c.loop-owner-test.true))));
           }
     ]
+
+pub loop-owner-init : goal.loop-owner-init
+loop-owner-init g c =
+    record {
+      cells = owners-none _ c.args.nodes c.args.keys (map g.N.Number.number c.args.cells.now);
+      greatest = changed_none _ (map g.N.Number.number c.args.greatest.now);
+    }
+
+pub take_owner-requires-clause-grid : goal.take_owner-requires-clause-grid
+take_owner-requires-clause-grid g c κs out = subst (IsGrid c.args.nodes c.args.keys) (sym c.loop-owner.auto.cells) c.requires.grid
+
+pub take_owner-requires-clause-owner : goal.take_owner-requires-clause-owner
+take_owner-requires-clause-owner g c κs out = c.loop-owner-test.true
+
+pub take_owner-requires-clause-sent : goal.take_owner-requires-clause-sent
+take_owner-requires-clause-sent g c κs out = c.requires.sent ∙ sym c.loop-owner.auto.cells
+
+pub take_owner-requires-clause-covered : goal.take_owner-requires-clause-covered
+take_owner-requires-clause-covered g c κs out k lt =
+    let number = g.N.Number.number in
+    let owner = c.loop-owner.owner in
+    let old = map number c.args.cells.now in
+    let had = number-at number c.loop-owner.greatest owner c.index-greatest-owner.result (omega (arith, c.loop-owner-test.true, c.requires.greatest, c.loop-owner.auto.greatest)) c.index-greatest-owner.is ∙ c.loop-owner.invariant.greatest.from owner (omega arith) in
+    subst (λ n. n ≤ number c.index-greatest-owner.result) (sym (owner-waits _ c.args.nodes c.args.keys old owner (map number c.loop-owner.cells) c.loop-owner.invariant.cells k c.loop-owner-test.true lt))
+    (subst (λ n. cell old c.args.nodes owner k ≤ n) (sym had) (c.requires.covered owner c.loop-owner-test.true k lt))
+
+pub returns-clause-cells : goal.returns-clause-cells
+returns-clause-cells g c =
+    let number = g.N.Number.number in
+    owners-all (λ r k x. number_taken x (cell (map number c.args.sent.now) c.args.nodes r k) (slice_index (map number c.args.low.now) r) (slice_index (map number c.args.high.now) r)) c.args.nodes c.args.keys (map number c.args.cells.now)
+    c.loop-owner.owner (map number c.loop-owner.cells) c.loop-owner-test.false c.loop-owner.invariant.cells
+
+pub returns-clause-greatest : goal.returns-clause-greatest
+returns-clause-greatest g c =
+    record {
+      size = c.loop-owner.invariant.greatest.size ∙ length-map c.args.greatest.now g.N.Number.number ∙ c.requires.greatest;
+      each = λ r lt. c.loop-owner.invariant.greatest.below r (omega (arith, lt, c.loop-owner-test.false));
+    }

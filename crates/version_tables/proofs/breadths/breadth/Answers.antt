@@ -1,9 +1,10 @@
-use Rattle.std.proofs.Common.{◌≡◌, ℕ, ◌+◌, ◌≤◌, ◌<◌, length, sym, ap, ◌∙◌, subst, arith}
+use Rattle.std.proofs.Common.{◌≡◌, ℕ, ◌+◌, ◌≤◌, ◌<◌, length, inl, inr, sym, ap, ◌∙◌, subst, arith}
+use Rattle.std.proofs.lemmas.Bool.{cases_lt, both_ways}
 use Rattle.std.proofs.lemmas.List.{length-map}
 use Rattle.bench_types.specs.Budget.{amount_of}
 use Rattle.version_tables.specs.inner.Offered.{cells_in, marks, count_in, weight_in}
 use Rattle.version_tables.specs.inner.Plans.{AreLayersSoFar, IsNextMark, raised}
-use Rattle.version_tables.proofs.LayerSteps.{layers-first, layers-count, layers-upto, layers-more, layers-next, layers-far, smaller_by}
+use Rattle.version_tables.proofs.LayerSteps.{layers-first, layers-count, layers-upto, layers-more, layers-next, layers-far, layers-farther, smaller_by}
 use Rattle.version_tables.proofs.OfferWeights.{offer-few}
 use Rattle.version_tables.proofs.breadths.breadth.Goals as goal
 
@@ -81,3 +82,30 @@ returns-clause-layers g c = record {
   near = c.loop-alloc.invariant.so_far.layered;
   far = layers-far g.N.Number.number g.N.Number.most c.args.offer.now c.requires.offer (marks g.N.Number.number c.loop-alloc.near.items) (marks g.N.Number.number c.loop-alloc.far.items) c.loop-alloc.whole c.loop-alloc.more c.loop-alloc.invariant.so_far;
 }
+
+pub fits-requires-clause-high : goal.fits-requires-clause-high
+fits-requires-clause-high g c κs out = ap length c.deref-in-loop-alloc.ensures.value ∙ c.loop-alloc.invariant.far
+
+pub one_more-requires-clause-near : goal.one_more-requires-clause-near
+one_more-requires-clause-near g c κs out = ap length c.deref.ensures.value ∙ ap length c.in_ok-near.ensures.items ∙ c.requires.offer.low
+
+pub one_more-requires-in-loop-alloc-clause-near : goal.one_more-requires-in-loop-alloc-clause-near
+one_more-requires-in-loop-alloc-clause-near g c κs out = ap length c.deref-in-loop-alloc-2.ensures.value ∙ c.loop-alloc.invariant.far
+
+pub returns-clause-level : goal.returns-clause-level
+returns-clause-level g c =
+    let number = g.N.Number.number in
+    let offer = c.args.offer.now in
+    let so_far = c.loop-alloc.invariant.so_far in
+    record {
+      near = c.loop-alloc.invariant.near;
+      far = c.loop-alloc.invariant.far;
+      farther = layers-farther number g.N.Number.most offer c.requires.offer (marks number c.loop-alloc.near.items) (marks number c.loop-alloc.far.items) c.loop-alloc.whole c.loop-alloc.more so_far;
+      whole = so_far.whole;
+      within = so_far.within;
+      beyond = elim (cases_lt (amount_of offer.budget) (weight_in number offer (marks number offer.low.now) (marks number c.loop-alloc.far.items))) [
+        | inl over ↦ over
+        | inr within ↦ absurd (both_ways c.fits.result c.loop-alloc-test.false
+            (c.fits.ensures.1 (subst (λ xs. weight_in number offer (marks number offer.low.now) (marks number xs) ≤ amount_of offer.budget) (sym c.deref-in-loop-alloc.ensures.value) (omega (arith, within)))))
+      ];
+    }

@@ -3,7 +3,8 @@ use Rattle.std.proofs.lemmas.Bool.{cases_lt, both_ways}
 use Rattle.std.proofs.lemmas.List.{length-map}
 use Rattle.bench_types.specs.Budget.{amount_of}
 use Rattle.bench_types.specs.declared.limits.TheConstants.{MOST_KEYS}
-use Rattle.version_tables.specs.inner.Offered.{marks, count_in, weight_in}
+use Rattle.planes.specs.Planes.{HasEach}
+use Rattle.version_tables.specs.inner.Offered.{marks, count_in, owner_count_in, weight_in}
 use Rattle.version_tables.specs.inner.Plans.{AreRunsSoFar, AreNextRuns}
 use Rattle.version_tables.proofs.OfferWeights.{offer-few}
 use Rattle.version_tables.proofs.RunSteps.{runs-start, runs-next, runs-some, runs-of_level, runs-farther, counts-few}
@@ -109,3 +110,26 @@ returns-clause-runs g c =
     let so_far = c.loop-alloc.invariant.so_far in
     runs-of_level number g.N.Number.most offer c.requires.offer (record { near = c.loop-alloc.near; far = c.loop-alloc.far; whole = c.loop-alloc.whole }) c.loop-alloc.size c.loop-alloc.whole c.loop-alloc.more so_far
     (runs-some number g.N.Number.most offer c.requires.offer (marks number c.loop-alloc.near.items) (marks number c.loop-alloc.far.items) c.loop-alloc.size c.loop-alloc.whole c.loop-alloc.more so_far c.requires.cut)
+
+pub fits-requires-clause-high : goal.fits-requires-clause-high
+fits-requires-clause-high g c κs out = ap length c.deref-in-loop-alloc.ensures.value ∙ c.loop-alloc.invariant.far
+
+pub next_runs-requires-clause-few : goal.next_runs-requires-clause-few
+next_runs-requires-clause-few g c κs out = c.greatest_of-size.ensures.few
+
+pub next_runs-requires-clause-near : goal.next_runs-requires-clause-near
+next_runs-requires-clause-near g c κs out = ap length c.deref-3.ensures.value ∙ ap length c.in_ok-near.ensures.items ∙ c.requires.offer.low
+
+pub next_runs-requires-clause-counts : goal.next_runs-requires-clause-counts
+next_runs-requires-clause-counts g c κs out =
+    subst (λ xs. HasEach c.args.offer.now.nodes (λ r n. n ≡ owner_count_in g.N.Number.number c.args.offer.now r) (map g.N.Number.number xs)) (sym c.deref-2.ensures.value) c.in_ok-counts.ensures.counts
+
+pub next_runs-requires-in-loop-alloc-clause-few : goal.next_runs-requires-in-loop-alloc-clause-few
+next_runs-requires-in-loop-alloc-clause-few g c κs out = omega (arith, c.loop-alloc.invariant.few)
+
+pub next_runs-requires-in-loop-alloc-clause-near : goal.next_runs-requires-in-loop-alloc-clause-near
+next_runs-requires-in-loop-alloc-clause-near g c κs out = ap length c.deref-in-loop-alloc-3.ensures.value ∙ c.loop-alloc.invariant.far
+
+pub next_runs-requires-in-loop-alloc-clause-counts : goal.next_runs-requires-in-loop-alloc-clause-counts
+next_runs-requires-in-loop-alloc-clause-counts g c κs out =
+    subst (λ xs. HasEach c.args.offer.now.nodes (λ r n. n ≡ owner_count_in g.N.Number.number c.args.offer.now r) (map g.N.Number.number xs)) (sym c.deref-in-loop-alloc-2.ensures.value) c.in_ok-counts.ensures.counts

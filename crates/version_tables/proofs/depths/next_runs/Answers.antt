@@ -1,9 +1,9 @@
-use Rattle.std.proofs.Common.{◌≡◌, ◌≤◌, ◌++◌, eqb, get_or, length, map, take, drop, sym, ap, ◌∙◌, arith}
-use Rattle.std.proofs.lemmas.List.{length-map}
+use Rattle.std.proofs.Common.{◌≡◌, ◌≤◌, eqb, get_or, length, map, ap, ◌∙◌, arith}
+use Rattle.std.specs.Vec.{with_items}
+use Rattle.std.proofs.lemmas.List.{with_items_is}
 use Rattle.std.proofs.Math.Nat.{mul-le-mul_left, mul-le-mul_right}
 use Rattle.bench_types.specs.declared.limits.TheConstants.{MOST_NODES}
 use Rattle.planes.proofs.Counts.{count_le}
-use Rattle.version_tables.proofs.LayerSteps.{take_whole}
 use Rattle.version_tables.proofs.RunSteps.{next-count, next-marked, next-more}
 use Rattle.version_tables.proofs.depths.next_runs.Goals as goal
 
@@ -30,10 +30,9 @@ returns g c =
     let v = c.in_ok-marks.marks in
     let new = c.raise_runs-owners.new.marks in
     let old = c.deref_mut.result.now in
-    let xs = take v.len (new ++ drop (length new) v.items) in
+    let xs = (with_items v new).items in
     let start : old ≡ c.args.near.now = c.deref_mut.ensures.value ∙ c.in_ok-marks.ensures.items in
-    let same : length new ≡ length old = sym (length-map new number) ∙ c.raise_runs-owners.ensures.marks.size ∙ length-map old number in
-    let whole : xs ≡ new = take_whole v.len new (drop (length new) v.items) (same ∙ c.deref_mut.ensures.len) in
+    let whole : xs ≡ new = with_items_is v new (c.raise_runs-owners.auto.marks ∙ c.deref_mut.ensures.len) in
     record {
       runs = record {
         count = next-count number g.N.Number.most offer c.args.near.now c.args.counts.now old new xs c.args.size c.raise_runs-owners.result start c.requires.near whole c.requires.counts c.raise_runs-owners.ensures.marks c.raise_runs-owners.ensures.count;

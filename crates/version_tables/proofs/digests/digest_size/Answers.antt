@@ -1,7 +1,9 @@
-use Rattle.std.proofs.Common.{map, ap, nat_lt, sym, ◌∙◌}
+use Rattle.std.proofs.Common.{length, map, ap, nat_lt, sym, ◌∙◌, arith}
+use Rattle.std.proofs.lemmas.List.{length-map}
 use Rattle.planes.specs.Planes.{cell, total_of}
 use Rattle.reconcile.specs.Digests.{digest_size}
 use Rattle.version_tables.specs.Views.{table_in}
+use Rattle.version_tables.proofs.Laid.{seen}
 use Rattle.version_tables.proofs.DigestSizes.{held-size, owners-size}
 use Rattle.version_tables.proofs.digests.digest_size.Goals as goal
 
@@ -9,12 +11,38 @@ pub returns-in-Scuttle-clause-size : goal.returns-in-Scuttle-clause-size
 returns-in-Scuttle-clause-size g c =
     c.total_held.ensures
     ∙ ap (λ xs. total_of c.table.inside.nodes 1 (λ r k. nat_lt 0 (cell (map g.N.Number.number xs) c.table.inside.nodes r k))) c.deref.ensures.value
-    ∙ owners-size g.H.Written.lists (record { node = c.table.inside.node; nodes = c.table.inside.nodes; keys = c.table.inside.keys; generation = c.table.inside.generation; cells = map g.N.Number.number c.table.inside.cells.items; greatest = map g.N.Number.number c.table.inside.greatest.items }) c.table.invariant
+    ∙ owners-size g.H.Written.lists (seen c.table.view_is) c.table.invariant
     ∙ (λ i. digest_size ((sym c.in-Scuttle.is ∙ c.digest_kind.ensures) i) (table_in g.H.Written.lists (c.table.view_is i)))
 
 pub returns-in-Precise-clause-size : goal.returns-in-Precise-clause-size
 returns-in-Precise-clause-size g c =
     c.total_held-in-Precise.ensures
     ∙ ap (λ xs. total_of c.table.inside.nodes c.table.inside.keys (λ r k. nat_lt 0 (cell (map g.N.Number.number xs) c.table.inside.nodes r k))) c.deref-in-Precise.ensures.value
-    ∙ held-size g.H.Written.lists (record { node = c.table.inside.node; nodes = c.table.inside.nodes; keys = c.table.inside.keys; generation = c.table.inside.generation; cells = map g.N.Number.number c.table.inside.cells.items; greatest = map g.N.Number.number c.table.inside.greatest.items }) c.table.invariant
+    ∙ held-size g.H.Written.lists (seen c.table.view_is) c.table.invariant
     ∙ (λ i. digest_size ((sym c.in-Precise.is ∙ c.digest_kind.ensures) i) (table_in g.H.Written.lists (c.table.view_is i)))
+
+pub total_held-requires : goal.total_held-requires
+total_held-requires g c = (
+  c.type_bounds.send-N,
+  (
+    c.type_bounds.sync-N,
+    record {
+      whole = ap length c.deref.ensures.value ∙ sym (length-map c.table.inside.greatest.items g.N.Number.number) ∙ c.table.invariant.greatest_count ∙ omega arith;
+      few_nodes = c.table.invariant.proper.nodes_limit;
+      few_keys = omega arith;
+    },
+  ),
+)
+
+pub total_held-requires-in-Precise : goal.total_held-requires-in-Precise
+total_held-requires-in-Precise g c = (
+  c.type_bounds.send-N,
+  (
+    c.type_bounds.sync-N,
+    record {
+      whole = ap length c.deref-in-Precise.ensures.value ∙ sym (length-map c.table.inside.cells.items g.N.Number.number) ∙ c.table.invariant.cell_count;
+      few_nodes = c.table.invariant.proper.nodes_limit;
+      few_keys = c.table.invariant.proper.keys_limit;
+    },
+  ),
+)

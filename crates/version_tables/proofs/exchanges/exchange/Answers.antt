@@ -4,3 +4,12 @@ use Rattle.version_tables.proofs.exchanges.exchange.Goals as goal
 pub returns-then-plan-clause-ok : goal.returns-then-plan-clause-ok
 returns-then-plan-clause-ok g c =
     lost_first g.H.Written.lists c.args.rules.now c.args.plan.now c.args.initiator.now c.args.responder.now c.sent_before_an_answer.result c.digest_size-digest1.result c.digest_size-digest1.ensures.size c.if-plan.true c.sent_before_an_answer.ensures
+
+pub exchange_deltas-requires-clause-came : goal.exchange_deltas-requires-clause-came
+exchange_deltas-requires-clause-came g c κs out = c.if-plan.false
+
+pub exchange_deltas-requires-clause-kept : goal.exchange_deltas-requires-clause-kept
+exchange_deltas-requires-clause-kept g c κs out = c.digest_size-digest1.ensures.kept
+
+pub exchange_deltas-requires-clause-digest1 : goal.exchange_deltas-requires-clause-digest1
+exchange_deltas-requires-clause-digest1 g c κs out = c.digest_size-digest1.ensures.size

@@ -1,5 +1,9 @@
-use Rattle.std.proofs.Common.{◌*◌, ap, sym, ◌∙◌}
+use Rattle.std.proofs.Common.{◌≡◌, ◌*◌, ◌<◌, length, map, ap, sym, subst, ◌∙◌}
 use Rattle.std.specs.Prelude.{◌||◌}
+use Rattle.owner_lists.specs.OwnerListView.{all_writes}
+use Rattle.planes.specs.Planes.{HasEach}
+use Rattle.version_tables.specs.inner.Histories.{bases_in}
+use Rattle.version_tables.specs.inner.Offers.{IsNumberedHistory}
 use Rattle.version_tables.proofs.ExchangedViews.{lost_second, stays_back, stays_forth, exchange_whole}
 use Rattle.version_tables.proofs.exchanges.exchange_deltas.Goals as goal
 
@@ -28,3 +32,67 @@ returns-clause-ok g c =
     c.requires.initiator c.requires.responder c.requires.tables.nodes c.requires.tables.keys _ _ _ _ _ _ _ _ c.in_ok-back.ensures.delta c.in_ok-forth.ensures.delta c.lists-lists.result.now c.lists-lists.ensures.value
     c.args.digest1 c.digest_size-digest2.result c.requires.digest1 c.digest_size-digest2.ensures.size c.requires.came c.if-plan.false _ _ c.is_nothing.ensures (ap (λ b. c.args.plan.now.lost3 || b) c.is_nothing-2.ensures)
     c.take_both.new.initiator c.take_both.new.responder c.in_ok-take_both.ensures.initiator c.in_ok-take_both.ensures.responder c.sent_both.result c.sent_both.ensures
+
+pub delta-requires-clause-budget : goal.delta-requires-clause-budget
+delta-requires-clause-budget g c κs out = c.requires.budget
+
+pub delta-requires-clause-nodes : goal.delta-requires-clause-nodes
+delta-requires-clause-nodes g c κs out = sym c.requires.tables.nodes
+
+pub delta-requires-clause-keys : goal.delta-requires-clause-keys
+delta-requires-clause-keys g c κs out = sym c.requires.tables.keys
+
+pub delta-requires-clause-rotation : goal.delta-requires-clause-rotation
+delta-requires-clause-rotation g c κs out = subst (λ n. c.args.plan.now.rotation < n) c.requires.tables.nodes c.requires.tables.rotation
+
+pub delta-requires-clause-sender : goal.delta-requires-clause-sender
+delta-requires-clause-sender g c κs out = c.requires.responder
+
+pub delta-requires-clause-receiver : goal.delta-requires-clause-receiver
+delta-requires-clause-receiver g c κs out = c.requires.initiator
+
+pub delta-requires-2-clause-budget : goal.delta-requires-2-clause-budget
+delta-requires-2-clause-budget g c κs out = c.requires.budget
+
+pub delta-requires-2-clause-nodes : goal.delta-requires-2-clause-nodes
+delta-requires-2-clause-nodes g c κs out = c.requires.tables.nodes
+
+pub delta-requires-2-clause-keys : goal.delta-requires-2-clause-keys
+delta-requires-2-clause-keys g c κs out = c.requires.tables.keys
+
+pub delta-requires-2-clause-rotation : goal.delta-requires-2-clause-rotation
+delta-requires-2-clause-rotation g c κs out = c.requires.tables.rotation
+
+pub delta-requires-2-clause-sender : goal.delta-requires-2-clause-sender
+delta-requires-2-clause-sender g c κs out = c.requires.initiator
+
+pub delta-requires-2-clause-receiver : goal.delta-requires-2-clause-receiver
+delta-requires-2-clause-receiver g c κs out = c.requires.responder
+
+pub take_both-requires-clause-nodes : goal.take_both-requires-clause-nodes
+take_both-requires-clause-nodes g c κs out = sym c.requires.tables.nodes
+
+pub take_both-requires-clause-back_low : goal.take_both-requires-clause-back_low
+take_both-requires-clause-back_low g c κs out = c.in_ok-back.ensures.delta.low_count ∙ sym c.requires.tables.nodes
+
+pub take_both-requires-clause-back_high : goal.take_both-requires-clause-back_high
+take_both-requires-clause-back_high g c κs out = c.in_ok-back.ensures.delta.high_count ∙ sym c.requires.tables.nodes
+
+pub take_both-requires-clause-forth_low : goal.take_both-requires-clause-forth_low
+take_both-requires-clause-forth_low g c κs out = c.in_ok-forth.ensures.delta.low_count
+
+pub take_both-requires-clause-forth_high : goal.take_both-requires-clause-forth_high
+take_both-requires-clause-forth_high g c κs out = c.in_ok-forth.ensures.delta.high_count
+
+pub take_both-requires-clause-bases : goal.take_both-requires-clause-bases
+take_both-requires-clause-bases g c κs out =
+    let bases = map g.N.Number.number c.bases-bases.result.now in
+    let lists = c.args.histories.now.lists in
+    subst (λ nodes. HasEach nodes (λ r n. n ≡ bases_in c.lists-lists.result.now r) bases) (sym c.requires.initiator.nodes)
+    (subst (λ ls. HasEach (length lists) (λ r n. n ≡ bases_in ls r) bases) (sym c.lists-lists.ensures.value) c.bases-bases.ensures.value)
+
+pub take_both-requires-clause-lists : goal.take_both-requires-clause-lists
+take_both-requires-clause-lists g c κs out = ap length c.lists-lists.ensures.value ∙ sym c.requires.initiator.nodes
+
+pub take_both-requires-clause-numbered : goal.take_both-requires-clause-numbered
+take_both-requires-clause-numbered g c κs out = λ owner. subst (λ ls. IsNumberedHistory (all_writes ls owner)) (sym c.lists-lists.ensures.value) (c.lists-lists.ensures.so_far owner).numbered

@@ -1,4 +1,8 @@
-use Rattle.std.proofs.Common.{map, ap, sym}
+use Rattle.std.proofs.Common.{◌≡◌, ℕ, Bool, true, false, List, length, map, ap, sym, subst, ◌∙◌}
+use Rattle.std.proofs.lemmas.List.{length-map}
+use Rattle.bench_types.specs.declared.entries.Entry.{Entry}
+use Rattle.planes.specs.Planes.{HasEach}
+use Rattle.version_tables.specs.Views.{VersionTableView}
 use Rattle.owner_lists.specs.OwnerListView.{all_writes}
 use Rattle.version_tables.specs.inner.Histories.{bases_in}
 use Rattle.version_tables.specs.inner.Taken.{HasTakenUnless, StaysOne}
@@ -28,3 +32,43 @@ pub returns-clause-responder : goal.returns-clause-responder
 returns-clause-responder g c =
     along_three (λ s l h. HasTakenUnless c.args.nothing_forth (all_writes c.args.lists.now) (bases_in c.args.lists.now) c.args.responder.now s l h c.take_unless-2.new.table) _ _ _ _ _ _
     c.cells-came_forth.ensures.value (ap (map g.N.Number.number) c.deref-4.ensures.value) (ap (map g.N.Number.number) c.deref-5.ensures.value) c.take_unless-2.ensures
+
+pub take_unless-requires-clause-sent : goal.take_unless-requires-clause-sent
+take_unless-requires-clause-sent g c = λ κs out.
+    sym (length-map c.cells-came_back.result.now g.N.Number.number) ∙ ap length c.cells-came_back.ensures.value ∙ c.requires.cells
+
+pub take_unless-requires-clause-low : goal.take_unless-requires-clause-low
+take_unless-requires-clause-low g c = λ κs out.
+    ap length c.deref.ensures.value ∙ sym (length-map c.args.back.now.low.items g.N.Number.number) ∙ c.requires.back_low
+
+pub take_unless-requires-clause-high : goal.take_unless-requires-clause-high
+take_unless-requires-clause-high g c = λ κs out.
+    ap length c.deref-2.ensures.value ∙ sym (length-map c.args.back.now.high.items g.N.Number.number) ∙ c.requires.back_high
+
+-- a table that takes, or doesn't, has as many numbers as before
+as_many : (nothing : Bool) (lists : ℕ → List Entry) (bases : ℕ → ℕ) (to new : VersionTableView) (sent low high : List ℕ)
+    → HasTakenUnless nothing lists bases to sent low high new → length new.cells ≡ length to.cells
+as_many true lists bases to new sent low high is = ap (λ (v : VersionTableView). length v.cells) is
+as_many false lists bases to new sent low high has = has.taken.cell_count
+
+pub take_unless-requires-2-clause-sent : goal.take_unless-requires-2-clause-sent
+take_unless-requires-2-clause-sent g c = λ κs out.
+    sym (length-map c.cells-came_forth.result.now g.N.Number.number)
+    ∙ ap length c.cells-came_forth.ensures.value
+    ∙ as_many c.args.nothing_back _ _ c.args.initiator.now c.take_unless.new.table _ _ _ c.take_unless.ensures
+    ∙ sym c.requires.cells
+
+pub take_unless-requires-2-clause-low : goal.take_unless-requires-2-clause-low
+take_unless-requires-2-clause-low g c = λ κs out.
+    ap length c.deref-4.ensures.value ∙ sym (length-map c.args.forth.now.low.items g.N.Number.number) ∙ c.requires.forth_low ∙ sym c.requires.nodes
+
+pub take_unless-requires-2-clause-high : goal.take_unless-requires-2-clause-high
+take_unless-requires-2-clause-high g c = λ κs out.
+    ap length c.deref-5.ensures.value ∙ sym (length-map c.args.forth.now.high.items g.N.Number.number) ∙ c.requires.forth_high ∙ sym c.requires.nodes
+
+pub take_unless-requires-2-clause-bases : goal.take_unless-requires-2-clause-bases
+take_unless-requires-2-clause-bases g c = λ κs out.
+    subst (λ n. HasEach n (λ r m. m ≡ bases_in c.args.lists.now r) (map g.N.Number.number c.args.bases.now)) (sym c.requires.nodes) c.requires.bases
+
+pub take_unless-requires-2-clause-lists : goal.take_unless-requires-2-clause-lists
+take_unless-requires-2-clause-lists g c = λ κs out. c.requires.lists ∙ sym c.requires.nodes

@@ -18,16 +18,6 @@ returns-then-widen g c keys walks =
     sym (walk-none v (cell numbers c.args.nodes c.args.owner) c.args.round keys walks.may.writes walks.may.written (max (base_of v) (g.N.Number.number c.args.first)) walks.start
     (omega (arith, walks.may.few_writes, c.if-widen.true, c.widen.ensures, c.widen-2.ensures, c.greatest.ensures)))
 
-pub offset_bounds-least-write : goal.offset_bounds-least-write
-offset_bounds-least-write g c =
-    let w = c.requires in
-    omega (
-      arith,
-      walk-index c.args.round g.N.Number.most c.args.nodes w.0 c.args.owner (g.N.Number.number c.args.first) c.args.list.now (map g.N.Number.number c.args.least.now) w.1 c.loop-place.place c.in-Some.write
-          (omega (arith, c.loop-place.auto.place, c.max-from.ensures, c.earlier_count.ensures)) (sym c.in-Some.ensures),
-      length-map c.args.least.now g.N.Number.number,
-    )
-
 pub bounds-least-write : goal.bounds-least-write
 bounds-least-write g c =
     let w = c.requires in
@@ -37,6 +27,9 @@ bounds-least-write g c =
           (omega (arith, c.loop-place.auto.place, c.max-from.ensures, c.earlier_count.ensures)) (sym c.in-Some.ensures),
       length-map c.args.least.now g.N.Number.number,
     )
+
+pub offset_bounds-least-write : goal.offset_bounds-least-write
+offset_bounds-least-write g c = omega (arith, bounds-least-write g c)
 
 pub overflow_sub-result : goal.overflow_sub-result
 overflow_sub-result g c =

@@ -1,8 +1,8 @@
 use Rattle.std.proofs.Common.{◌≡◌, ◌+◌, ◌<◌, min, map, length, sym, ap, ◌∙◌, subst, arith}
-use Rattle.std.proofs.lemmas.List.{length-map}
+use Rattle.std.proofs.lemmas.List.{length-map, with_items_is}
 use Rattle.planes.specs.Planes.{cell, ArePlanesChanged, IsGrid}
 use Rattle.version_tables.specs.inner.Pieces.{numbers_in, CountsPiece}
-use Rattle.version_tables.proofs.Parts.{counts-none, counts-more, cells-read, all_written}
+use Rattle.version_tables.proofs.Parts.{counts-none, counts-more, cells-read}
 use Rattle.version_tables.proofs.lags.piece_of.Goals as goal
 
 pub loop-at-init : goal.loop-at-init
@@ -48,6 +48,23 @@ loop-at-preserved g c =
     let items = c.loop-at.least.items in
     let changed = subst (λ xs. ArePlanesChanged (λ r k x y. y ≡ min x (cell (map number here.now) nodes r k)) nodes keys (map number xs) (map number new)) c.deref_mut.ensures.value c.count_behind-behind.ensures.least in
     subst (λ xs. CountsPiece nodes keys cells bases last c.args.from (c.loop-at.at + 1) (c.loop-at.stale + c.from-stale.result) (c.loop-at.leftover + c.from-leftover.result) (map number xs))
-    (sym (all_written c.loop-at.least.len new items (omega (arith, changed.size, length-map new number, length-map items number)) (omega (arith, c.loop-at.least.ok.0))))
+    (sym (with_items_is c.loop-at.least new (c.count_behind-behind.auto.least ∙ c.deref_mut.ensures.len)))
     (counts-more nodes keys cells bases last c.args.from c.loop-at.at c.loop-at.stale c.loop-at.leftover c.from-stale.result c.from-leftover.result (map number items) (map number new) (map number here.now) c.requires.grids lt read
     (c.from-stale.ensures ∙ c.count_behind-behind.ensures.count) (c.from-leftover.ensures ∙ c.left_over.ensures) changed c.loop-at.invariant)
+
+pub count_behind-behind-requires-clause-grid : goal.count_behind-behind-requires-clause-grid
+count_behind-behind-requires-clause-grid g c κs out =
+    subst (IsGrid c.args.nodes c.args.keys) (sym (ap length c.deref_mut.ensures.value ∙ sym (length-map c.loop-at.least.items g.N.Number.number) ∙ c.loop-at.invariant.size)) c.requires.grids.grid
+
+pub count_behind-behind-requires-clause-last : goal.count_behind-behind-requires-clause-last
+count_behind-behind-requires-clause-last g c κs out =
+    sym (length-map c.args.last.now g.N.Number.number) ∙ sym (ap length c.deref_mut.ensures.value ∙ sym (length-map c.loop-at.least.items g.N.Number.number) ∙ c.loop-at.invariant.size)
+
+pub left_over-requires-clause-bases : goal.left_over-requires-clause-bases
+left_over-requires-clause-bases g c κs out = sym (length-map c.args.bases.now g.N.Number.number) ∙ c.requires.grids.based
+
+pub returns-clause-piece : goal.returns-clause-piece
+returns-clause-piece g c =
+    let number = g.N.Number.number in
+    subst (λ n. CountsPiece c.args.nodes c.args.keys (numbers_in number c.args.cells.now) (map number c.args.bases.now) (map number c.args.last.now) c.args.from n c.loop-at.stale c.loop-at.leftover (map number c.loop-at.least.items))
+    {x = c.loop-at.at} {y = c.args.count} (omega (arith, c.loop-at-test.false, c.loop-at.auto.at-end)) c.loop-at.invariant

@@ -1,3 +1,7 @@
+use Rattle.std.proofs.Common.{inl, inr, arith}
+use Rattle.std.proofs.lemmas.Bool.{cases_lt, both_ways}
+use Rattle.bench_types.specs.Budget.{amount_of}
+use Rattle.version_tables.specs.inner.Offered.{marks, weight_in}
 use Rattle.version_tables.proofs.MarkedLaws.{whole-size, whole-marked, sent-found, share-marked}
 use Rattle.version_tables.proofs.marked.planned.Goals as goal
 
@@ -24,3 +28,16 @@ returns-clause-marked g c =
     c.requires.found
     c.args.mode c.in_ok-level.level c.in_ok-level.ensures.level.near c.in_ok-level.ensures.level.far c.in_ok-level.ensures.shape
     c.in_ok-share.share.mark.items c.in_ok-share.ensures.size c.in_ok-share.share.sent c.in_ok-share.ensures.shared
+
+pub level_of-requires-clause-beyond : goal.level_of-requires-clause-beyond
+level_of-requires-clause-beyond g c κs out =
+    elim (cases_lt (amount_of c.args.offer.now.budget) (weight_in g.N.Number.number c.args.offer.now (marks g.N.Number.number c.args.offer.now.low.now) (marks g.N.Number.number c.args.offer.now.high.now))) [
+      | inl over ↦ over
+      | inr within ↦ absurd (both_ways c.fits.result c.if-fits.false (c.fits.ensures.1 (omega (arith, within))))
+    ]
+
+pub share-requires-clause-level : goal.share-requires-clause-level
+share-requires-clause-level g c κs out = c.in_ok-level.ensures.level
+
+pub returns-clause-size : goal.returns-clause-size
+returns-clause-size g c = c.in_ok-share.ensures.size

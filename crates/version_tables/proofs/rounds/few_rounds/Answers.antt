@@ -1,9 +1,10 @@
-use Rattle.std.proofs.Common.{◌≡◌, ℕ, ◌+◌, ◌<◌, get_or, map, inl, inr, sym, ap, ◌∙◌, arith}
+use Rattle.std.proofs.Common.{◌≡◌, ℕ, ◌+◌, ◌<◌, get_or, length, map, inl, inr, sym, ap, subst, ◌∙◌, arith}
+use Rattle.std.proofs.lemmas.List.{length-map}
 use Rattle.std.proofs.lemmas.Bool.{cases_lt, both_ways}
 use Rattle.bench_types.specs.Budget.{amount_of}
 use Rattle.version_tables.specs.inner.Offered.{marks}
 use Rattle.version_tables.specs.inner.Plans.{weight_on}
-use Rattle.version_tables.specs.inner.RoundLevels.{round_mode, round_mark}
+use Rattle.version_tables.specs.inner.RoundLevels.{round_mode, round_mark, AreFewAndEnough}
 use Rattle.version_tables.proofs.RoundMarks.{begun, further, nearer}
 use Rattle.version_tables.proofs.rounds.few_rounds.Goals as goal
 use Rattle.version_tables.proofs.rounds.few_rounds.Goals.{then-found_there, else-found_there}
@@ -45,3 +46,49 @@ loop-few-preserved g c =
         step = omega (arith, w.step-is, c.loop-few.invariant.step);
       }
     ]
+
+pub mark_after-requires-clause-ends : goal.mark_after-requires-clause-ends
+mark_after-requires-clause-ends g c κs out = sym (length-map c.args.ends.now g.N.Number.number) ∙ c.requires.ends.size
+
+pub mark_after-requires-clause-count : goal.mark_after-requires-clause-count
+mark_after-requires-clause-count g c κs out = omega (arith, c.min-by.ensures, c.loop-few-test.true, c.loop-few.invariant.found.bound)
+
+pub look-found_there-requires-clause-mark : goal.look-found_there-requires-clause-mark
+look-found_there-requires-clause-mark g c κs out =
+    ap length c.deref.ensures.value ∙ sym (length-map c.in_ok-mark.mark.items g.N.Number.number) ∙ c.in_ok-mark.ensures.marks.size
+
+pub look-found_there-requires-clause-above : goal.look-found_there-requires-clause-above
+look-found_there-requires-clause-above g c κs out = λ r lt.
+    omega (arith, ap (λ xs. get_or (map g.N.Number.number xs) r 0) c.deref.ensures.value ∙ c.in_ok-mark.ensures.marks.each r lt)
+
+pub overflow_add-few : goal.overflow_add-few
+overflow_add-few g c = omega (arith, c.loop-few.invariant.found.below, c.loop-few.invariant.found.bound, c.ranges.rounds.fits)
+
+pub overflow_add-few-in-loop-few : goal.overflow_add-few-in-loop-few
+overflow_add-few-in-loop-few g c = omega (arith, c.min-by.ensures, c.loop-few-test.true, c.loop-few.invariant.found.bound, c.ranges.rounds.fits)
+
+pub overflow_add-few-then-found_there : goal.overflow_add-few-then-found_there
+overflow_add-few-then-found_there g c = omega (arith, c.min-by.ensures, c.loop-few-test.true, c.loop-few.invariant.found.bound, c.ranges.rounds.fits)
+
+pub overflow_add-enough : goal.overflow_add-enough
+overflow_add-enough g c = omega (arith, c.min-by.ensures, c.loop-few-test.true, c.loop-few.invariant.found.bound, c.ranges.rounds.fits)
+
+pub overflow_mul-step : goal.overflow_mul-step
+overflow_mul-step g c = omega (arith, c.min-by.ensures, c.loop-few-test.true, c.loop-few.invariant.found.bound, c.ranges.rounds.fits)
+
+pub overflow_sub-enough : goal.overflow_sub-enough
+overflow_sub-enough g c = omega (arith, c.loop-few.invariant.found.below)
+
+pub loop-few-smaller : goal.loop-few-smaller
+loop-few-smaller g c =
+    let some : 0 < c.min-by.result = omega (arith, c.min-by.ensures, c.loop-few.invariant.step, c.loop-few-test.true) in
+    let less : c.loop-few.few + c.min-by.result < c.loop-few.enough = omega (arith, c.min-by.ensures, c.loop-few-test.true) in
+    elim c.if-found_there.branch [
+      | then-found_there w ↦ omega (arith, w.few-is, w.enough-is, some, less)
+      | else-found_there w ↦ omega (arith, w.few-is, w.enough-is, some, less)
+    ]
+
+pub returns-clause-few : goal.returns-clause-few
+returns-clause-few g c =
+    subst (λ enough. AreFewAndEnough c.args.newest g.N.Number.number c.args.offer.now (round_mark c.args.newest c.args.rounds (map g.N.Number.number c.args.ends.now) c.args.offer.now.nodes (marks g.N.Number.number c.args.offer.now.low.now)) c.args.rounds c.loop-few.few enough c.loop-few.whole)
+    {x = c.loop-few.enough} {y = c.loop-few.few + 1} (omega (arith, c.loop-few-test.false, c.loop-few.invariant.found.below)) c.loop-few.invariant.found

@@ -1,7 +1,8 @@
-use Rattle.std.proofs.Common.{◌≡◌, ◌==◌, map, if◌then◌else◌}
+use Rattle.std.proofs.Common.{map}
 use Rattle.planes.specs.Planes.{ArePlanesChangedUpto}
+use Rattle.planes.proofs.ByOwner.{owner_changed}
 use Rattle.version_tables.specs.inner.Taken.{number_kept}
 use Rattle.version_tables.proofs.taking.clear_column.Given as goal
 
 abbrev pub invariant-loop-key : goal.invariant-loop-key
-invariant-loop-key g l = ArePlanesChangedUpto (λ r k x y. y ≡ (if r == l.owner then number_kept l.start x else x)) l.nodes (map g.N.Number.number l.initial.cells) (map g.N.Number.number l.cells) l.key
+invariant-loop-key g l = ArePlanesChangedUpto (owner_changed (λ r k x. number_kept l.start x) l.owner) l.nodes (map g.N.Number.number l.initial.cells) (map g.N.Number.number l.cells) l.key

@@ -1,4 +1,6 @@
-use Rattle.std.proofs.Common.{slice_index, ◌∙◌, map}
+use Rattle.std.proofs.Common.{length, slice_index, ap, sym, subst, ◌∙◌, map}
+use Rattle.std.proofs.lemmas.List.{length-map}
+use Rattle.planes.specs.Planes.{IsGrid}
 use Rattle.owner_lists.specs.OwnerListView.{all_writes}
 use Rattle.version_tables.specs.inner.Taken.{drop_start, number_kept}
 use Rattle.version_tables.proofs.taking.take_numbers.Goals as goal
@@ -13,3 +15,17 @@ returns g c = record {
       ∙ (λ i. number_kept (drop_start (all_writes c.args.lists.now owner) (slice_index (c.requires.before i) owner) (c.requires.bases.each owner in_nodes i) (slice_index (map g.N.Number.number c.take.new.greatest) owner))
       (c.take.ensures.cells.each owner key in_nodes in_keys i));
 }
+
+pub drop_older-requires-clause-grid : goal.drop_older-requires-clause-grid
+drop_older-requires-clause-grid g c κs out =
+    subst (IsGrid c.args.nodes c.args.keys) (sym (sym (length-map c.take.new.cells g.N.Number.number) ∙ c.take.ensures.cells.size ∙ length-map c.args.cells.now g.N.Number.number)) c.requires.grid
+
+pub drop_older-requires-clause-before : goal.drop_older-requires-clause-before
+drop_older-requires-clause-before g c κs out =
+    sym (length-map c.args.before.now g.N.Number.number) ∙ ap length c.requires.before ∙ length-map c.args.greatest.now g.N.Number.number ∙ c.requires.greatest
+
+pub drop_older-requires-clause-greatest : goal.drop_older-requires-clause-greatest
+drop_older-requires-clause-greatest g c κs out = sym (length-map c.take.new.greatest g.N.Number.number) ∙ c.take.ensures.greatest.size
+
+pub drop_older-requires-clause-bases : goal.drop_older-requires-clause-bases
+drop_older-requires-clause-bases g c κs out = sym (length-map c.args.bases.now g.N.Number.number) ∙ c.requires.bases.size

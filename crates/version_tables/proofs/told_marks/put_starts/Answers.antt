@@ -5,7 +5,7 @@ use Rattle.version_tables.proofs.told_marks.put_starts.Goals as goal
 
 pub returns : goal.returns
 returns g c = record {
-  size = c.lower.ensures.size ∙ c.put_earlier_starts.ensures.size;
+  size = c.lower.ensures.least.size ∙ c.put_earlier_starts.ensures.size;
   each = λ r lt.
       let within : r < length c.args.lists.now = omega (arith, lt, c.requires.count) in
       let base = c.requires.based.each r within in
@@ -14,5 +14,5 @@ returns g c = record {
       (λ behind.
       start-own (list_of_owner c.args.lists.now r) (get_or (map g.N.Number.number c.args.numbers.now) r 0) (c.requires.writes r) (omega (arith, behind, base)) (c.requires.within r within)
       ∙ sym base)
-      (c.lower.ensures.each r (omega (arith, lt, c.put_earlier_starts.ensures.size)));
+      (c.lower.ensures.least.each r (omega (arith, lt, c.put_earlier_starts.ensures.size)));
 }

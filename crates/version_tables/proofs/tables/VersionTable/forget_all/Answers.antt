@@ -4,20 +4,14 @@ use Rattle.std.proofs.lemmas.List.{with_items_is}
 use Rattle.node_table.specs.Table.{without_all}
 use Rattle.planes.specs.inner.Elementwise.{AreChanged}
 use Rattle.version_tables.specs.Views.{VersionTableView, table_in}
+use Rattle.version_tables.proofs.Laid.{seen}
 use Rattle.version_tables.proofs.OwnCalls.{forgets-table, forgets-kept}
 use Rattle.version_tables.proofs.tables.VersionTable.forget_all.Given as given
 use Rattle.version_tables.proofs.tables.VersionTable.forget_all.Goals as goal
 
 module _ (g : given.Over) (c : goal.After-self-3-1 g) where
   abbrev old : VersionTableView
-  old = record {
-    node = c.self.inside.node;
-    nodes = c.self.inside.nodes;
-    keys = c.self.inside.keys;
-    generation = c.self.inside.generation;
-    cells = map g.N.Number.number c.self.inside.cells.items;
-    greatest = map g.N.Number.number c.self.inside.greatest.items;
-  }
+  old = seen c.self.view_is
 
   no_cells : AreChanged (λ r x y. y ≡ 0) old.cells (map g.N.Number.number (with_items c.self.inside.cells c.clear.new.numbers).items)
   no_cells =

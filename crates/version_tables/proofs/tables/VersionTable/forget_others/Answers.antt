@@ -5,20 +5,14 @@ use Rattle.node_table.specs.Table.{without_others}
 use Rattle.planes.specs.Planes.{ArePlanesChanged}
 use Rattle.planes.specs.inner.Elementwise.{AreChanged}
 use Rattle.version_tables.specs.Views.{VersionTableView, table_in}
+use Rattle.version_tables.proofs.Laid.{seen}
 use Rattle.version_tables.proofs.OwnCalls.{restarts-table, restarts-kept}
 use Rattle.version_tables.proofs.tables.VersionTable.forget_others.Given as given
 use Rattle.version_tables.proofs.tables.VersionTable.forget_others.Goals as goal
 
 module _ (g : given.Over) (c : goal.After-self-2-1 g) where
   abbrev old : VersionTableView
-  old = record {
-    node = c.self.inside.node;
-    nodes = c.self.inside.nodes;
-    keys = c.self.inside.keys;
-    generation = c.self.inside.generation;
-    cells = map g.N.Number.number c.self.inside.cells.items;
-    greatest = map g.N.Number.number c.self.inside.greatest.items;
-  }
+  old = seen c.self.view_is
 
   own_cells : ArePlanesChanged (λ r k x y. y ≡ (if r == old.node then x else 0)) old.nodes old.keys old.cells (map g.N.Number.number (with_items c.self.inside.cells c.keep_owner.new.cells).items)
   own_cells =

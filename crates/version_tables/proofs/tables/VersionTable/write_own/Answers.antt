@@ -3,20 +3,14 @@ use Rattle.std.proofs.lemmas.List.{map-set}
 use Rattle.version_tables.specs.Views.{VersionTableView}
 use Rattle.version_tables.specs.Writes.{IsNextWrite, HasOwnWrite}
 use Rattle.version_tables.specs.inner.Laid.{IsVersionTable}
+use Rattle.version_tables.proofs.Laid.{seen}
 use Rattle.version_tables.proofs.OwnCalls.{writes-table, writes-kept}
 use Rattle.version_tables.proofs.tables.VersionTable.write_own.Given as given
 use Rattle.version_tables.proofs.tables.VersionTable.write_own.Goals as goal
 
 module _ (g : given.Over) (c : goal.After-self-2-1 g) where
   abbrev old : VersionTableView
-  old = record {
-    node = c.self.inside.node;
-    nodes = c.self.inside.nodes;
-    keys = c.self.inside.keys;
-    generation = c.self.inside.generation;
-    cells = map g.N.Number.number c.self.inside.cells.items;
-    greatest = map g.N.Number.number c.self.inside.greatest.items;
-  }
+  old = seen c.self.view_is
 
   abbrev index : ℕ
   index = c.args.key * c.self.inside.nodes + c.self.inside.node

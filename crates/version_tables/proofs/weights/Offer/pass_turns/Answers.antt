@@ -1,5 +1,5 @@
 use Rattle.std.proofs.Common.{◌<◌, length, set, sym, ap, ◌∙◌, subst, arith}
-use Rattle.std.proofs.lemmas.List.{length-set}
+use Rattle.std.proofs.lemmas.List.{length-map, length-set}
 use Rattle.version_tables.specs.inner.Offered.{cells_in, marks, weights_in}
 use Rattle.version_tables.specs.inner.Turns.{part_between, AreTurnsPassed}
 use Rattle.version_tables.proofs.TurnSteps.{turns-first, turns-next, turns-end, put-here, put-other, part-few, count_on-few}
@@ -90,3 +90,27 @@ unreachable-requires g c =
     let level = c.args.level.now in
     turns-end number g.N.Number.most c.args.self.now c.requires.offer c.args.mode c.args.rotation c.requires.rotation (marks number level.near.items) (marks number level.far.items) c.requires.level.farther
     (marks number c.loop-turn.mark) c.loop-turn.turn c.loop-turn.left c.loop-turn.sent c.loop-turn.invariant.so_far c.requires.level.beyond c.loop-turn-test.false
+
+pub number_at-near-requires : goal.number_at-near-requires
+number_at-near-requires g c = (
+  c.type_bounds.send-N,
+  (c.type_bounds.sync-N, subst (λ n. c.owner_of_turn-owner.result < n) (sym (ap length c.deref.ensures.value ∙ c.requires.level.near)) c.owner_of_turn-owner.ensures.below),
+)
+
+pub number_at-far-requires : goal.number_at-far-requires
+number_at-far-requires g c = (
+  c.type_bounds.send-N,
+  (c.type_bounds.sync-N, subst (λ n. c.owner_of_turn-owner.result < n) (sym (ap length c.deref-in-loop-turn.ensures.value ∙ c.requires.level.far)) c.owner_of_turn-owner.ensures.below),
+)
+
+pub number_at-requires : goal.number_at-requires
+number_at-requires g c = (
+  c.type_bounds.send-N,
+  (c.type_bounds.sync-N, subst (λ n. c.owner_of_turn-owner.result < n) (sym (sym (length-map c.args.counts.now g.N.Number.number) ∙ c.requires.counts.size)) c.owner_of_turn-owner.ensures.below),
+)
+
+pub weight_of_part-weight-requires-clause-owner : goal.weight_of_part-weight-requires-clause-owner
+weight_of_part-weight-requires-clause-owner g c κs out = c.owner_of_turn-owner.ensures.below
+
+pub loop-turn-smaller : goal.loop-turn-smaller
+loop-turn-smaller g c = omega (arith, c.loop-turn-test.true)

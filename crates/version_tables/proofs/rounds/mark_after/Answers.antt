@@ -1,0 +1,38 @@
+use Rattle.std.proofs.Common.{◌≡◌, ◌+◌, ◌*◌, ◌≤◌, length, map, ap, sym, subst, ◌∙◌}
+use Rattle.std.specs.Vec.{with_items}
+use Rattle.std.proofs.lemmas.List.{with_items_is}
+use Rattle.bench_types.specs.declared.limits.TheConstants.{MOST_NODES}
+use Rattle.planes.specs.Planes.{HasEach}
+use Rattle.version_tables.specs.inner.Offered.{marks}
+use Rattle.version_tables.specs.inner.RoundLevels.{round_at, end_mark}
+use Rattle.version_tables.proofs.rounds.mark_after.Given as given
+use Rattle.version_tables.proofs.rounds.mark_after.Goals as goal
+use Rattle.version_tables.proofs.rounds.mark_after.Goals.{then-newest, else-newest}
+
+size : (g : given.Over) (c : goal.After-deref_mut g) → length c.deref_mut.result.now ≡ c.args.offer.now.nodes
+size g c = ap length c.deref_mut.ensures.value ∙ ap length c.in_ok-mark.ensures.items ∙ c.requires.offer.low
+
+pub raise_to_end-requires-clause-nodes : goal.raise_to_end-requires-clause-nodes
+raise_to_end-requires-clause-nodes g c κs out = subst (λ n. n ≤ MOST_NODES) (sym (size g c)) c.requires.offer.grid.few_nodes
+
+pub raise_to_end-requires-clause-ends : goal.raise_to_end-requires-clause-ends
+raise_to_end-requires-clause-ends g c κs out = c.requires.ends ∙ ap (λ n. (c.args.rounds + 1) * n) (sym (size g c))
+
+pub returns-clause-marks : goal.returns-clause-marks
+returns-clause-marks g c =
+    let number = g.N.Number.number in
+    let offer = c.args.offer.now in
+    let ends = map number c.args.ends.now in
+    let low = marks number offer.low.now in
+    let size = ap length c.deref_mut.ensures.value ∙ ap length c.in_ok-mark.ensures.items ∙ c.requires.offer.low in
+    let round : c.if-newest.round ≡ round_at c.args.newest c.args.rounds c.args.count =
+    elim c.if-newest.branch [
+      | then-newest w ↦ w.round-is ∙ (λ i. round_at (sym w.if-newest.true i) c.args.rounds c.args.count)
+      | else-newest w ↦ w.round-is ∙ (λ i. round_at (sym w.if-newest.false i) c.args.rounds c.args.count)
+    ]
+    in
+    let whole = with_items_is c.in_ok-mark.mark c.raise_to_end.new.marks (c.raise_to_end.auto.marks ∙ c.deref_mut.ensures.len) in
+    subst (λ at. HasEach offer.nodes (λ r n. n ≡ end_mark ends offer.nodes low at r) (map number (with_items c.in_ok-mark.mark c.raise_to_end.new.marks).items)) round
+    (subst (λ xs. HasEach offer.nodes (λ r n. n ≡ end_mark ends offer.nodes low c.if-newest.round r) (map number xs)) (sym whole)
+    (subst (λ xs. HasEach offer.nodes (λ r n. n ≡ end_mark ends offer.nodes (marks number xs) c.if-newest.round r) (map number c.raise_to_end.new.marks)) (c.deref_mut.ensures.value ∙ c.in_ok-mark.ensures.items)
+    (subst (λ nodes. HasEach nodes (λ r n. n ≡ end_mark ends nodes (marks number c.deref_mut.result.now) c.if-newest.round r) (map number c.raise_to_end.new.marks)) size c.raise_to_end.ensures)))

@@ -1,0 +1,12 @@
+use Rattle.std.proofs.Common.{slice_index, map}
+use Rattle.owner_lists.specs.OwnerListView.{all_writes}
+use Rattle.planes.specs.Planes.{ArePlanesChanged}
+use Rattle.planes.proofs.ByOwner.{owners_changed}
+use Rattle.version_tables.specs.inner.Taken.{drop_start, number_kept}
+use Rattle.version_tables.proofs.taking.drop_older.Given as goal
+
+abbrev pub invariant-loop-owner : goal.invariant-loop-owner
+invariant-loop-owner g l =
+    ArePlanesChanged
+    (owners_changed (λ r k. number_kept (drop_start (all_writes l.lists r) (slice_index (map g.N.Number.number l.before) r) (slice_index (map g.N.Number.number l.bases) r) (slice_index (map g.N.Number.number l.greatest) r))) l.owner)
+    l.nodes l.keys (map g.N.Number.number l.initial.cells) (map g.N.Number.number l.cells)

@@ -1,8 +1,0 @@
-use Rattle.std.proofs.Common.{◌≡◌, min, slice_index, map}
-use Rattle.planes.specs.inner.Elementwise.{AreChangedUpto}
-use Rattle.version_tables.proofs.told_marks.lower.Given as goal
-
-abbrev pub invariant-loop-r : goal.invariant-loop-r
-invariant-loop-r g l =
-    AreChangedUpto (λ r x y. y ≡ min x (slice_index (map g.N.Number.number l.bounds) r)) (map g.N.Number.number l.initial.numbers)
-    (map g.N.Number.number l.numbers) l.r

@@ -48,57 +48,24 @@ fn expect_counts(
     rt: &impl Abort,
     (tables, records): (Vec<NodeTable>, Vec<Record>),
     count: u32,
-    exchanges: usize,
+    exchanges: u32,
 ) {
     assert!(rt; tables.iter().all(|table| table.count() == count));
-    assert_eq!(rt; records.len(), exchanges);
+    assert_eq!(rt; records.len(), exchanges as usize);
 }
 
-fn meets<R: Abort + AllocGlobal + Threads + Wait + Sync>(rt: &R) -> Result<(), Fault> {
-    let gate = Meeting::new();
-    let list = list_of(rt, 4, TWICE);
-    let left = run_fresh(rt, &list, 1, &ONE_ENTRY, 2, &gate)?;
-    assert!(rt; gate.has_met());
-    expect_counts(rt, left, 2, 4);
-    Ok(())
-}
-
-fn steals<R: Abort + AllocGlobal + Threads + Wait + Sync>(rt: &R) -> Result<(), Fault> {
-    let gate = Theft::new();
-    let list = list_of(rt, 8, FOUR_PAIRS);
-    let left = run_fresh(rt, &list, 1, &ONE_ENTRY, 2, &gate)?;
-    assert!(rt; gate.has_happened());
-    expect_counts(rt, left, 2, 4);
-    Ok(())
-}
-
-fn runs_nothing<R: Abort + AllocGlobal + Threads + Wait + Sync>(
+// Workers carry out a list, and each node then holds so many entries.
+fn expect_run<R: Abort + AllocGlobal + Threads + Wait + Sync, G: Gate + Sync>(
     rt: &R,
+    list: &RoundList,
     workers: u32,
+    gate: &G,
+    count: u32,
 ) -> Result<(), Fault>
     requires workers { (1 ≤ workers) × (workers ≤ MOST_WORKERS) }
 {
-    let list = list_of(rt, 2, &[]);
-    let left = run_fresh(rt, &list, 1, &ONE_ENTRY, workers, &FreeGate)?;
-    expect_counts(rt, left, 1, 0);
-    Ok(())
-}
-
-fn hands_over<R: Abort + AllocGlobal + Threads + Wait + Sync>(rt: &R) -> Result<(), Fault> {
-    let gate = Handover::new();
-    let list = list_of(rt, 4, BRIDGED);
-    let (tables, records) = run_fresh(rt, &list, 1, &ONE_ENTRY, 2, &gate)?;
-    assert!(rt; gate.has_happened());
-    assert!(rt; tables.len() == 4 && records.len() == 3);
-    Ok(())
-}
-
-fn gathers<R: Abort + AllocGlobal + Threads + Wait + Sync>(rt: &R) -> Result<(), Fault> {
-    let gate = Gathering::of(3);
-    let list = list_of(rt, 6, THREE_PAIRS);
-    let left = run_fresh(rt, &list, 1, &ONE_ENTRY, 3, &gate)?;
-    assert!(rt; gate.has_gathered());
-    expect_counts(rt, left, 2, 3);
+    let left = run_fresh(rt, list, 1, &ONE_ENTRY, workers, gate)?;
+    expect_counts(rt, left, count, list.len());
     Ok(())
 }
 
@@ -110,71 +77,91 @@ fn calls_of<R: Abort + AllocGlobal + Threads + Wait + Sync>(
     requires workers { (1 ≤ workers) × (workers ≤ MOST_WORKERS) }
 {
     let gate = Notes::new(rt);
-    let list = list_of(rt, 8, CROSSING);
-    let left = run_fresh(rt, &list, 1, &ONE_ENTRY, workers, &gate)?;
-    expect_counts(rt, left, 3, 8);
+    expect_run(rt, &list_of(rt, 8, CROSSING), workers, &gate, 3)?;
     Ok(gate.into_calls())
 }
 
 // Of each of the eight exchanges a gate was told that it is entered, and then that it is left.
-fn expect_each_once(rt: &(impl Abort + AllocGlobal), calls: &[Call]) {
+fn expect_each_once(rt: &impl Abort, calls: &[Call]) {
     assert_eq!(rt; calls.len(), 16);
     for i in 0..8 {
-        let mut of_one = Vec::new(rt.alloc());
-        for call in calls.iter().filter(|call| call.place() == i) {
-            of_one.push(*call).expect(rt, "memory");
-        }
-        assert_eq!(rt;
-            of_one.as_slice(),
-            [Call::Enter(i), Call::Leave(i)].as_slice()
-        );
+        expect_once(rt, calls, i);
     }
+}
+
+fn expect_once(rt: &impl Abort, calls: &[Call], i: u32) {
+    let mut of_one = calls.iter().copied().filter(|call| call.place() == i);
+    let found = (of_one.next(), of_one.next(), of_one.next());
+    assert_eq!(rt; found, (Some(Call::Enter(i)), Some(Call::Leave(i)), None));
 }
 
 // They were entered and left one behind the other, in list order.
 fn expect_in_list_order(rt: &impl Abort, calls: &[Call]) {
     assert_eq!(rt; calls.len(), 16);
-    for (i, pair) in (0..8).zip(calls.chunks(2)) {
-        assert_eq!(rt; pair, [Call::Enter(i), Call::Leave(i)].as_slice());
+    for (place, call) in (0..16).zip(calls) {
+        let i = place / 2;
+        let wanted = if place % 2 == 0 {
+            Call::Enter(i)
+        } else {
+            Call::Leave(i)
+        };
+        assert_eq!(rt; *call, wanted);
     }
 }
 
 #[test]
-fn one_worker_tells_the_gate_in_list_order(rt: HostRuntime) {
-    let calls = calls_of(&rt, 1).expect(&rt, "memory");
-    expect_in_list_order(&rt, &calls);
+fn one_worker_tells_the_gate_in_list_order(rt: HostRuntime) -> Result<(), Fault> {
+    expect_in_list_order(&rt, &calls_of(&rt, 1)?);
+    Ok(())
 }
 
 #[test]
-fn each_exchange_is_entered_and_then_left_once(rt: HostRuntime) {
+fn each_exchange_is_entered_and_then_left_once(rt: HostRuntime) -> Result<(), Fault> {
     for workers in [1, 2, 3, MOST_WORKERS] {
-        let calls = calls_of(&rt, workers).expect(&rt, "memory and threads");
-        expect_each_once(&rt, &calls);
+        expect_each_once(&rt, &calls_of(&rt, workers)?);
     }
+    Ok(())
 }
 
 #[test]
-fn an_exchange_is_put_back_before_it_is_left(rt: HostRuntime) {
-    hands_over(&rt).expect(&rt, "memory and threads");
+fn an_exchange_is_put_back_before_it_is_left(rt: HostRuntime) -> Result<(), Fault> {
+    let gate = Handover::new();
+    let list = list_of(&rt, 4, BRIDGED);
+    let (tables, records) = run_fresh(&rt, &list, 1, &ONE_ENTRY, 2, &gate)?;
+    assert!(rt; gate.has_happened());
+    assert!(rt; tables.len() == 4 && records.len() == 3);
+    Ok(())
 }
 
 #[test]
-fn as_many_threads_as_workers(rt: HostRuntime) {
-    gathers(&rt).expect(&rt, "memory and threads");
+fn as_many_threads_as_workers(rt: HostRuntime) -> Result<(), Fault> {
+    let gate = Gathering::of(3);
+    expect_run(&rt, &list_of(&rt, 6, THREE_PAIRS), 3, &gate, 2)?;
+    assert!(rt; gate.has_gathered());
+    Ok(())
 }
 
 #[test]
-fn two_exchanges_at_once(rt: HostRuntime) {
-    meets(&rt).expect(&rt, "memory and threads");
+fn two_exchanges_at_once(rt: HostRuntime) -> Result<(), Fault> {
+    let gate = Meeting::new();
+    expect_run(&rt, &list_of(&rt, 4, TWICE), 2, &gate, 2)?;
+    assert!(rt; gate.has_met());
+    Ok(())
 }
 
 #[test]
-fn stealing_from_the_other_deque(rt: HostRuntime) {
-    steals(&rt).expect(&rt, "memory and threads");
+fn stealing_from_the_other_deque(rt: HostRuntime) -> Result<(), Fault> {
+    let gate = Theft::new();
+    expect_run(&rt, &list_of(&rt, 8, FOUR_PAIRS), 2, &gate, 2)?;
+    assert!(rt; gate.has_happened());
+    Ok(())
 }
 
 #[test]
-fn an_empty_list(rt: HostRuntime) {
-    runs_nothing(&rt, 1).expect(&rt, "memory");
-    runs_nothing(&rt, MOST_WORKERS).expect(&rt, "memory and threads");
+fn an_empty_list(rt: HostRuntime) -> Result<(), Fault> {
+    let list = list_of(&rt, 2, &[]);
+    for workers in [1, MOST_WORKERS] {
+        expect_run(&rt, &list, workers, &FreeGate, 1)?;
+    }
+    Ok(())
 }

@@ -116,19 +116,19 @@ fn expect_pairs(rt: &impl Abort, tables: &[NodeTable]) {
     }
 }
 
-fn share_a_board<R: Abort + AllocGlobal + Threads + Wait + Sync>(rt: &R) -> Result<(), Fault> {
-    let (job, mut first) = Job::new(rt, list_of(rt, 4, TWICE), 1, ONE_ENTRY)?;
-    let second = job.board.split(&mut first);
-    let Worked { mut seat, mut made } = do_all(rt, &job, first, second);
+fn expect_each_once(rt: &impl Abort, mut made: Vec<u32>) {
     made.sort_unstable();
     assert_eq!(rt; made.as_slice(), [0, 1, 2, 3].as_slice());
-    assert_eq!(rt; job.board.look(&mut seat).finished, 4);
-    let Job { board, .. } = job;
-    expect_pairs(rt, &board.close(seat)?);
-    Ok(())
 }
 
 #[test]
-fn two_scoped_threads_on_one_board(rt: HostRuntime) {
-    share_a_board(&rt).expect(&rt, "memory");
+fn two_scoped_threads_on_one_board(rt: HostRuntime) -> Result<(), Fault> {
+    let (job, mut first) = Job::new(&rt, list_of(&rt, 4, TWICE), 1, ONE_ENTRY)?;
+    let second = job.board.split(&mut first);
+    let Worked { mut seat, made } = do_all(&rt, &job, first, second);
+    expect_each_once(&rt, made);
+    assert_eq!(rt; job.board.look(&mut seat).finished, 4);
+    let Job { board, .. } = job;
+    expect_pairs(&rt, &board.close(seat)?);
+    Ok(())
 }

@@ -56,27 +56,30 @@ fn expect_unfinished(rt: &impl Abort, board: Board, seat: Seat)
     }
 }
 
-fn claims(rt: &(impl Abort + AllocGlobal)) -> Result<(), Fault> {
-    let (board, mut first) = board_of(rt, &list_of(rt, 4, TWICE), 1, &ONE_ENTRY)?;
+#[test]
+fn claims_of_two_seats(rt: HostRuntime) -> Result<(), Fault> {
+    let (board, mut first) = board_of(&rt, &list_of(&rt, 4, TWICE), 1, &ONE_ENTRY)?;
     let mut second = board.split(&mut first);
-    expect_fresh(rt, &board, &mut first, 0, (0, 2));
-    expect_fresh(rt, &board, &mut second, 1, (1, 3));
-    expect_claim(rt, &board, &mut second, 0, "taken");
-    expect_claim(rt, &board, &mut second, 2, "not ready");
-    expect_claim(rt, &board, &mut second, 3, "not ready");
+    expect_fresh(&rt, &board, &mut first, 0, (0, 2));
+    expect_fresh(&rt, &board, &mut second, 1, (1, 3));
+    expect_claim(&rt, &board, &mut second, 0, "taken");
+    expect_claim(&rt, &board, &mut second, 2, "not ready");
+    expect_claim(&rt, &board, &mut second, 3, "not ready");
     board.join(&mut first, second);
-    expect_unfinished(rt, board, first);
+    expect_unfinished(&rt, board, first);
     Ok(())
 }
 
-fn closes_a_fresh_board(rt: &(impl Abort + AllocGlobal)) -> Result<(), Fault> {
-    let (board, seat) = board_of(rt, &list_of(rt, 4, TWICE), 1, &ONE_ENTRY)?;
-    expect_unfinished(rt, board, seat);
+#[test]
+fn a_fresh_board_is_unfinished(rt: HostRuntime) -> Result<(), Fault> {
+    let (board, seat) = board_of(&rt, &list_of(&rt, 4, TWICE), 1, &ONE_ENTRY)?;
+    expect_unfinished(&rt, board, seat);
     Ok(())
 }
 
-fn stops(rt: &(impl Abort + AllocGlobal)) -> Result<(), Fault> {
-    let (board, mut first) = board_of(rt, &list_of(rt, 4, TWICE), 1, &ONE_ENTRY)?;
+#[test]
+fn a_stop_is_seen(rt: HostRuntime) -> Result<(), Fault> {
+    let (board, mut first) = board_of(&rt, &list_of(&rt, 4, TWICE), 1, &ONE_ENTRY)?;
     let mut second = board.split(&mut first);
     board.stop(&mut first);
     let progress = Progress {
@@ -84,21 +87,6 @@ fn stops(rt: &(impl Abort + AllocGlobal)) -> Result<(), Fault> {
         stopped: true,
     };
     assert_eq!(rt; board.look(&mut second), progress);
-    expect_claim(rt, &board, &mut second, 0, "held");
+    expect_claim(&rt, &board, &mut second, 0, "held");
     Ok(())
-}
-
-#[test]
-fn claims_of_two_seats(rt: HostRuntime) {
-    claims(&rt).expect(&rt, "memory");
-}
-
-#[test]
-fn a_fresh_board_is_unfinished(rt: HostRuntime) {
-    closes_a_fresh_board(&rt).expect(&rt, "memory");
-}
-
-#[test]
-fn a_stop_is_seen(rt: HostRuntime) {
-    stops(&rt).expect(&rt, "memory");
 }

@@ -67,9 +67,12 @@ pub(crate) fn board_of(
 /// A table that holds the first keys of these owners, and nothing else.
 pub(crate) fn expect_owners(rt: &impl Abort, table: &NodeTable, owners: &[u32]) {
     let node = table.node();
-    for owner in 0..table.nodes() {
-        let wanted = owners.contains(&owner).then_some(WRITTEN);
-        assert_eq!(rt; table.get(owner, 0), wanted, "owner {owner} at node {node}");
-    }
     assert_eq!(rt; table.count() as usize, owners.len(), "node {node}");
+    for owner in owners {
+        assert_eq!(rt;
+            table.get(*owner, 0),
+            Some(WRITTEN),
+            "owner {owner} at node {node}"
+        );
+    }
 }

@@ -173,17 +173,13 @@ pub(crate) fn work_in_four<R: Abort + AllocGlobal + Threads + Sync>(
     together(rt, &job.board, one, two)
 }
 
-fn share_a_board<R: Abort + AllocGlobal + Threads + Sync>(rt: &R) -> Result<(), Fault> {
-    let (job, mut first) = Job::new(rt, list_of(rt, 8, CROSSING), 1, ONE_ENTRY)?;
+#[test]
+fn two_threads_on_one_board(rt: HostRuntime) -> Result<(), Fault> {
+    let (job, mut first) = Job::new(&rt, list_of(&rt, 8, CROSSING), 1, ONE_ENTRY)?;
     let second = job.board.split(&mut first);
-    let worked = work_in_two(rt, &job, (first, second), Order::Ascending);
+    let worked = work_in_two(&rt, &job, (first, second), Order::Ascending);
     let Job { board, .. } = job;
     let tables = board.close(worked.seat)?;
     assert!(rt; tables.len() == 8 && tables.iter().all(|table| table.count() == 3));
     Ok(())
-}
-
-#[test]
-fn two_threads_on_one_board(rt: HostRuntime) {
-    share_a_board(&rt).expect(&rt, "memory");
 }

@@ -1,7 +1,8 @@
 //! Two seats that take turns.
 
-ghost use Rattle.std.specs.Prelude.{◌≡◌, ◌<◌, length};
+ghost use Rattle.std.specs.Prelude.{◌≡◌, ◌<◌, length, IfOk};
 ghost use Rattle.board.specs.Weights.{Has};
+ghost use Rattle.board.specs.SeatView.{first_seat};
 ghost use Rattle.exchange.specs.Exchanging.{kept_table};
 ghost use Rattle.board.specs.Boards.{plan_of, exchanges_of, IsSeatOf, IsHoldOf, seat_view};
 
@@ -52,21 +53,31 @@ pub(crate) fn expect_next(
     Ok(())
 }
 
-fn takes_turns(rt: &(impl Abort + AllocGlobal)) -> Result<(), Fault> {
-    let (job, mut first) = Job::new(rt, list_of(rt, 2, PAIR), 1, ONE_ENTRY)?;
-    expect_claim(rt, &job.board, &mut first, 1, "not ready");
-    let hold = held(rt, &job.board, &mut first, 0);
-    expect_claim(rt, &job.board, &mut first, 0, "taken");
-    let mut second = job.board.split(&mut first);
-    expect_next(rt, &job, &mut first, hold, Some(1))?;
-    assert_eq!(rt; job.board.look(&mut first).finished, 1);
-    let hold = held(rt, &job.board, &mut second, 1);
+// The first exchange, whose end makes the second ready for a seat that was split off before.
+fn first_of_two(rt: &(impl Abort + AllocGlobal), job: &Job, first: &mut Seat) -> Result<Seat, Fault>
+    requires two { length (exchanges_of job.now.board) ≡ 2 }
+    requires first { IsSeatOf kept_table first.old job.now.board }
+    requires fresh { seat_view first.old ≡ first_seat }
+    ensures first { IsSeatOf kept_table first.new job.now.board }
+    ensures second { IfOk result (λ second. IsSeatOf kept_table second job.now.board) }
+{
+    expect_claim(rt, &job.board, first, 1, "not ready");
+    let hold = held(rt, &job.board, first, 0);
+    expect_claim(rt, &job.board, first, 0, "taken");
+    let second = job.board.split(first);
+    expect_next(rt, job, first, hold, Some(1))?;
+    Ok(second)
+}
+
+// The second exchange, of nodes that each hold both entries.
+fn second_of_two(rt: &(impl Abort + AllocGlobal), job: &Job, second: &mut Seat) -> Result<(), Fault>
+    requires two { length (exchanges_of job.now.board) ≡ 2 }
+    requires second { IsSeatOf kept_table second.old job.now.board }
+    ensures second { IsSeatOf kept_table second.new job.now.board }
+{
+    let hold = held(rt, &job.board, second, 1);
     assert!(rt; hold.initiator.count() == 2 && hold.responder.count() == 2);
-    expect_next(rt, &job, &mut second, hold, None)?;
-    let Job { board, .. } = job;
-    assert_eq!(rt; board.look(&mut first).finished, 2);
-    board.join(&mut first, second);
-    expect_both_entries(rt, board, first)
+    expect_next(rt, job, second, hold, None)
 }
 
 fn expect_both_entries(rt: &impl Abort, board: Board, seat: Seat) -> Result<(), Fault>
@@ -78,6 +89,13 @@ fn expect_both_entries(rt: &impl Abort, board: Board, seat: Seat) -> Result<(), 
 }
 
 #[test]
-fn two_seats_on_one_board(rt: HostRuntime) {
-    takes_turns(&rt).expect(&rt, "memory");
+fn two_seats_on_one_board(rt: HostRuntime) -> Result<(), Fault> {
+    let (job, mut first) = Job::new(&rt, list_of(&rt, 2, PAIR), 1, ONE_ENTRY)?;
+    let mut second = first_of_two(&rt, &job, &mut first)?;
+    assert_eq!(rt; job.board.look(&mut first).finished, 1);
+    second_of_two(&rt, &job, &mut second)?;
+    let Job { board, .. } = job;
+    assert_eq!(rt; board.look(&mut first).finished, 2);
+    board.join(&mut first, second);
+    expect_both_entries(&rt, board, first)
 }

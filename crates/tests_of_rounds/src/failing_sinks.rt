@@ -75,108 +75,96 @@ fn expect_held(
     expect_at(rt, writer.bytes.as_slice(), held.as_slice(), calls);
 }
 
+// What is written of a run of two nodes.
+#[derive(Clone, Copy)]
+enum Lines {
+    ReportHeader,
+    ReportRow,
+    TraceHeader,
+    TraceRows,
+    CompareHeader,
+    CompareRow(Mode),
+}
+
 // The headers and rows of both formats.
-const REPORT_HEADERS: [(u32, &[u8]); 2] = [
-    (1, REPORT_HEADER),
+const TEXTS: [(u32, Lines, &[u8]); 13] = [
+    (1, Lines::ReportHeader, REPORT_HEADER),
     (
         2,
+        Lines::ReportHeader,
         b"round,exchanges,unreached,lost,entries,cut,stale,greatest,leftover\n",
     ),
-];
-
-const REPORT_ROWS: [(u32, &[u8]); 2] = [(1, TWO_NODES_LINE), (2, b"1,2,0,0,2,0,0,0,7\n")];
-
-const COMPARE_HEADERS: [(u32, &[u8]); 2] = [
+    (1, Lines::ReportRow, TWO_NODES_LINE),
+    (2, Lines::ReportRow, b"1,2,0,0,2,0,0,0,7\n"),
     (
         1,
+        Lines::CompareHeader,
         b"mode,round,exchanges,unreached,lost,entries,cut,stale,greatest\n",
     ),
     (
         2,
+        Lines::CompareHeader,
         b"mode,round,exchanges,unreached,lost,entries,cut,stale,greatest,leftover\n",
     ),
-];
-
-const COMPARE_ROWS: [(u32, Mode, &[u8]); 5] = [
     (
         1,
-        Mode::ScuttleBreadth,
+        Lines::CompareRow(Mode::ScuttleBreadth),
         b"scuttle-breadth,1,2,0,0,2,0,0,0\n",
     ),
-    (1, Mode::ScuttleDepth, b"scuttle-depth,1,2,0,0,2,0,0,0\n"),
-    (1, Mode::PreciseOldest, b"precise-oldest,1,2,0,0,2,0,0,0\n"),
-    (1, Mode::PreciseNewest, b"precise-newest,1,2,0,0,2,0,0,0\n"),
+    (
+        1,
+        Lines::CompareRow(Mode::ScuttleDepth),
+        b"scuttle-depth,1,2,0,0,2,0,0,0\n",
+    ),
+    (
+        1,
+        Lines::CompareRow(Mode::PreciseOldest),
+        b"precise-oldest,1,2,0,0,2,0,0,0\n",
+    ),
+    (
+        1,
+        Lines::CompareRow(Mode::PreciseNewest),
+        b"precise-newest,1,2,0,0,2,0,0,0\n",
+    ),
     (
         2,
-        Mode::PreciseNewest,
+        Lines::CompareRow(Mode::PreciseNewest),
         b"precise-newest,1,2,0,0,2,0,0,0,7\n",
     ),
+    (1, Lines::TraceHeader, TRACE_HEADER),
+    (1, Lines::TraceRows, TWO_NODES_TRACE),
 ];
 
-#[test]
-fn report_headers_to_sinks_that_fail(rt: HostRuntime) {
-    for (format, text) in REPORT_HEADERS {
-        assert!(rt; format == 1 || format == 2);
-        for calls in 0..text.len() + 2 {
-            let mut report = Push::new(Fragile::new(&rt, calls));
-            let answer = report_header(rt.alloc(), &mut report, format);
-            expect_held(&rt, report, answer, text, calls);
-        }
+fn write(
+    rt: &(impl Abort + AllocGlobal),
+    sink: &mut Push<Fragile>,
+    format: u32,
+    lines: Lines,
+) -> Result<(), Fault> {
+    assert!(rt; format == 1 || format == 2);
+    match lines {
+        Lines::ReportHeader => report_header(rt.alloc(), sink, format),
+        Lines::ReportRow => write_report_row(rt.alloc(), sink, format, &TWO_NODES),
+        Lines::TraceHeader => trace_header(rt.alloc(), sink),
+        Lines::TraceRows => write_trace(rt, sink),
+        Lines::CompareHeader => compare_header(rt.alloc(), sink, format),
+        Lines::CompareRow(mode) => write_compare_row(rt.alloc(), sink, format, mode, &TWO_NODES),
     }
 }
 
-#[test]
-fn report_rows_to_sinks_that_fail(rt: HostRuntime) {
-    for (format, text) in REPORT_ROWS {
-        assert!(rt; format == 1 || format == 2);
-        for calls in 0..text.len() + 2 {
-            let mut report = Push::new(Fragile::new(&rt, calls));
-            let answer = write_report_row(rt.alloc(), &mut report, format, &TWO_NODES);
-            expect_held(&rt, report, answer, text, calls);
-        }
-    }
-}
-
-#[test]
-fn compare_headers_to_sinks_that_fail(rt: HostRuntime) {
-    for (format, text) in COMPARE_HEADERS {
-        assert!(rt; format == 1 || format == 2);
-        for calls in 0..text.len() + 2 {
-            let mut comparison = Push::new(Fragile::new(&rt, calls));
-            let answer = compare_header(rt.alloc(), &mut comparison, format);
-            expect_held(&rt, comparison, answer, text, calls);
-        }
-    }
-}
-
-#[test]
-fn compare_rows_to_sinks_that_fail(rt: HostRuntime) {
-    for (format, mode, text) in COMPARE_ROWS {
-        assert!(rt; format == 1 || format == 2);
-        for calls in 0..text.len() + 2 {
-            let mut comparison = Push::new(Fragile::new(&rt, calls));
-            let answer = write_compare_row(rt.alloc(), &mut comparison, format, mode, &TWO_NODES);
-            expect_held(&rt, comparison, answer, text, calls);
-        }
-    }
-}
-
-#[test]
-fn trace_headers_to_sinks_that_fail(rt: HostRuntime) {
-    for calls in 0..TRACE_HEADER.len() + 2 {
-        let mut trace = Push::new(Fragile::new(&rt, calls));
-        let answer = trace_header(rt.alloc(), &mut trace);
-        expect_held(&rt, trace, answer, TRACE_HEADER, calls);
-    }
-}
-
-#[test]
-fn trace_rows_to_sinks_that_fail(rt: HostRuntime) {
-    let list = list_of(&rt, 2, PAIR);
+fn write_trace(rt: &(impl Abort + AllocGlobal), sink: &mut Push<Fragile>) -> Result<(), Fault> {
+    let list = list_of(rt, 2, PAIR);
     assert!(rt; list.len() == 2);
-    for calls in 0..TWO_NODES_TRACE.len() + 2 {
-        let mut trace = Push::new(Fragile::new(&rt, calls));
-        let answer = write_trace_rows(rt.alloc(), &mut trace, 1, &list, &two_nodes_records());
-        expect_held(&rt, trace, answer, TWO_NODES_TRACE, calls);
+    write_trace_rows(rt.alloc(), sink, 1, &list, &two_nodes_records())
+}
+
+#[test]
+fn lines_to_sinks_that_fail(rt: HostRuntime) {
+    for (format, lines, text) in TEXTS {
+        for calls in 0..text.len() + 2 {
+            let mut sink = Push::new(Fragile::new(&rt, calls));
+            let answer = write(&rt, &mut sink, format, lines);
+            expect_held(&rt, sink, answer, text, calls);
+        }
     }
 }

@@ -1,66 +1,48 @@
 //! Schedules of lists of four nodes, carried out.
 
-ghost use Rattle.std.specs.Prelude.{IfOk};
-ghost use Rattle.cluster.specs.Tables.{tables_in, IsCluster};
-
 use crate::comparing::{expect, expect_at};
 use crate::exchange_lists::{CROSSING, TWICE, list_of};
-use bench_types::{Budget, Entry, Fate, Fault, Item, Mode, Record, Rules};
+use bench_types::{Budget, Fate, Fault, Mode, Record, Rules};
+use fixtures::{WRITTEN, Writers, tables_of};
 use node_table::NodeTable;
-use planner::{Event, play};
+use planner::Event::{self, Finish, Start};
+use planner::play;
 use round_plan::RoundList;
-use std::alloc::{AllocGlobal, Global};
+use std::alloc::AllocGlobal;
 use std::process::Abort;
 
 const CROSSING_EVENTS: &[Event] = &[
-    Event::Start(1),
-    Event::Start(0),
-    Event::Finish(0),
-    Event::Finish(1),
-    Event::Start(3),
-    Event::Start(2),
-    Event::Finish(2),
-    Event::Finish(3),
+    Start(1),
+    Start(0),
+    Finish(0),
+    Finish(1),
+    Start(3),
+    Start(2),
+    Finish(2),
+    Finish(3),
 ];
 
 const TWICE_EVENTS: &[Event] = &[
-    Event::Start(0),
-    Event::Finish(0),
-    Event::Start(2),
-    Event::Start(1),
-    Event::Finish(2),
-    Event::Finish(1),
-    Event::Start(3),
-    Event::Finish(3),
+    Start(0),
+    Finish(0),
+    Start(2),
+    Start(1),
+    Finish(2),
+    Finish(1),
+    Start(3),
+    Finish(3),
 ];
 
 // Schedules of the crossing list that are refused, and by which fault.
 const REFUSED: &[(&[Event], Fault)] = &[
-    (
-        &[Event::Start(0), Event::Finish(0), Event::Start(2)],
-        Fault::NotAllowed,
-    ),
-    (&[Event::Finish(0)], Fault::NotRunning),
+    (&[Start(0), Finish(0), Start(2)], Fault::NotAllowed),
+    (&[Finish(0)], Fault::NotRunning),
     (&[], Fault::Unfinished),
-    (&[Event::Start(4)], Fault::NotAllowed),
+    (&[Start(4)], Fault::NotAllowed),
 ];
 
-// The tables of four nodes, each of which has written its one key once.
-fn four_tables(rt: &impl Abort, alloc: Global) -> Result<Vec<NodeTable>, Fault>
-    ensures { IfOk result (λ tables. IsCluster 4 (tables_in tables.items)) }
-{
-    let mut tables = Vec::new(alloc);
-    for node in 0..4 {
-        let mut table = NodeTable::new(alloc, node, 4, 1)?;
-        assert_eq!(rt; table.greatest(node).version, 0);
-        table.write_own(0, 7, 1)?;
-        assert_eq!(rt; table.node(), node);
-        tables.push(table)?;
-    }
-    Ok(tables)
-}
-
-// Plays a schedule of a list of four nodes in scuttle-breadth, with a budget for all entries.
+// Plays a schedule of a list of four nodes, each of which has written its one key once, in scuttle-breadth with a
+// budget for all entries.
 fn played(
     rt: &(impl Abort + AllocGlobal),
     list: &RoundList,
@@ -71,7 +53,7 @@ fn played(
         mode: Mode::ScuttleBreadth,
         budget: Budget::Entries(10),
     };
-    let tables = four_tables(rt, rt.alloc())?;
+    let tables = tables_of(rt.alloc(), Writers::all(4, 1))?;
     play(rt.alloc(), list, tables, events, &rules)
 }
 
@@ -88,52 +70,43 @@ fn whole(digest: u32, entries: u32) -> Record {
     }
 }
 
-fn own_entry(owner: u32) -> Item {
-    let entry = Entry {
-        key: 0,
-        generation: 0,
-        version: 1,
-        value: 7,
-        born: 1,
-    };
-    Item { owner, entry }
+// Compares all that a table holds: what these owners have written.
+fn expect_owners(rt: &impl Abort, table: &NodeTable, owners: &[u32]) {
+    for owner in owners {
+        expect_at(rt, table.get(*owner, 0), Some(WRITTEN), table.node());
+    }
+    expect(rt, table.count() as usize, owners.len());
 }
 
-// Compares all that a table holds.
-fn expect_held(rt: &impl Abort, table: &NodeTable, wanted: &[Item]) {
-    for item in wanted {
-        let found = table.get(item.owner, item.entry.key);
-        expect_at(rt, found, Some(item.entry), table.node());
+// Plays a schedule, and compares the records, in list order, and by node the owners of what it then holds.
+fn expect_play(
+    rt: &(impl Abort + AllocGlobal),
+    list: &RoundList,
+    events: &[Event],
+    records: [Record; 4],
+    owners: [&[u32]; 4],
+) {
+    let (tables, found) = played(rt, list, events).expect(rt, "a whole play");
+    expect(rt, found.as_slice(), &records);
+    expect(rt, tables.len(), 4);
+    for (table, owners) in tables.iter().zip(owners) {
+        expect_owners(rt, table, owners);
     }
-    expect(rt, table.count() as usize, wanted.len());
 }
 
 #[test]
 fn play_of_a_crossing_list(rt: HostRuntime) {
     let list = list_of(&rt, 4, CROSSING);
-    let (tables, records) = played(&rt, &list, CROSSING_EVENTS).expect(&rt, "a whole play");
-    let wanted = [whole(1, 1), whole(1, 1), whole(2, 2), whole(2, 2)];
-    expect(&rt, records.as_slice(), &wanted);
-    expect(&rt, tables.len(), 4);
-    let all = [own_entry(0), own_entry(1), own_entry(2), own_entry(3)];
-    for table in &tables {
-        expect_held(&rt, table, &all);
-    }
+    let records = [whole(1, 1), whole(1, 1), whole(2, 2), whole(2, 2)];
+    expect_play(&rt, &list, CROSSING_EVENTS, records, [&[0, 1, 2, 3]; 4]);
 }
 
 #[test]
 fn records_stand_in_list_order(rt: HostRuntime) {
     let list = list_of(&rt, 4, TWICE);
-    let (tables, records) = played(&rt, &list, TWICE_EVENTS).expect(&rt, "a whole play");
-    let wanted = [whole(1, 1), whole(1, 1), whole(2, 0), whole(2, 0)];
-    expect(&rt, records.as_slice(), &wanted);
-    assert!(rt; tables.len() == 4);
-    let even = [own_entry(0), own_entry(2)];
-    let odd = [own_entry(1), own_entry(3)];
-    let both = [even, odd];
-    for i in 0..4 {
-        expect_held(&rt, &tables[i], &both[i % 2]);
-    }
+    let records = [whole(1, 1), whole(1, 1), whole(2, 0), whole(2, 0)];
+    let (even, odd) = ([0, 2].as_slice(), [1, 3].as_slice());
+    expect_play(&rt, &list, TWICE_EVENTS, records, [even, odd, even, odd]);
 }
 
 #[test]

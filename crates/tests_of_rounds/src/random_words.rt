@@ -3,7 +3,7 @@
 use crate::comparing::{expect, expect_at};
 use crate::exchange_lists::between;
 use crate::small_scenarios::{PLAIN, RANDOM, expect_counts, listed, scenario_of};
-use crate::word_tables::{PLACES, WORDS};
+use crate::word_tables::{NODES, PLACES, SEEDS, WORDS};
 use bench_types::Exchange;
 use bench_types::limits::MOST_ROUNDS;
 use round_plan::{OwnWrite, ROUND_WORDS, RunWords, draw, peer, round_list_by, writes_of};
@@ -75,10 +75,12 @@ fn expect_word(rt: &impl Abort, scenario: &Scenario, node: u32, place: u32, word
     expect_at(rt, found, word, (node, place));
 }
 
-// The words at the places of the table.
-fn expect_words(rt: &impl Abort, scenario: &Scenario, node: u32, words: &[u32; 8]) {
+// The words of a seed, by place and by node.
+fn expect_words(rt: &impl Abort, scenario: &Scenario, words: &[[u32; 5]; 8]) {
     for i in 0..8 {
-        expect_word(rt, scenario, node, PLACES[i], words[i]);
+        for j in 0..5 {
+            expect_word(rt, scenario, NODES[j], PLACES[i], words[i][j]);
+        }
     }
 }
 
@@ -112,11 +114,9 @@ fn expect_block(rt: &impl Abort, words: &[u32; ROUND_WORDS as usize], block: usi
 #[test]
 fn words_of_another_program(rt: HostRuntime) {
     let rest = "nodes = 4096\nkeys = 1\nloss_ppm = 0\nwrites = 0\nseed = ";
-    for (seed, of_seed) in WORDS {
+    for (seed, words) in SEEDS.iter().zip(&WORDS) {
         let scenario = scenario_of(&rt, &[RANDOM, rest, seed]);
-        for (node, words) in *of_seed {
-            expect_words(&rt, &scenario, *node, words);
-        }
+        expect_words(&rt, &scenario, words);
     }
 }
 

@@ -4,6 +4,7 @@
 ghost use Rattle.simulation.specs.Simulation.{MayWriteAll};
 ghost use Rattle.bench.specs.inner.Writes.{AreWrittenIn, HasWritesBelow};
 
+use crate::steps::{begin, step};
 use crate::workers::expect_same_round;
 use bench::{FreeGate, Sim};
 use bench_types::limits::MOST_WRITES;
@@ -99,7 +100,25 @@ fn numbers_of(alloc: Global, counts: &Counts, table: &NodeTable) -> Result<Vec<u
     Ok(numbers)
 }
 
-// Tables with entries and tables with versions hold the same.
+// A table with versions and one with entries hold the same.
+fn expect_same_table<T: Versions>(
+    rt: &(impl Abort + AllocGlobal),
+    counts: &Counts,
+    table: &T,
+    wanted: &NodeTable,
+) -> Result<(), AllocError> {
+    let head = [
+        wanted.node(),
+        wanted.nodes(),
+        wanted.keys(),
+        wanted.generation(),
+    ];
+    assert_eq!(rt; table.head(), head);
+    let numbers = table.numbers(rt.alloc())?;
+    assert_eq!(rt; numbers, numbers_of(rt.alloc(), counts, wanted)?);
+    Ok(())
+}
+
 fn expect_same_tables<T: Versions>(
     rt: &(impl Abort + AllocGlobal),
     counts: &Counts,
@@ -108,17 +127,7 @@ fn expect_same_tables<T: Versions>(
 ) -> Result<(), AllocError> {
     assert_eq!(rt; tables.len(), wanted.len());
     for (table, wanted) in tables.iter().zip(wanted) {
-        let head = [
-            wanted.node(),
-            wanted.nodes(),
-            wanted.keys(),
-            wanted.generation(),
-        ];
-        assert_eq!(rt; table.head(), head);
-        assert_eq!(rt;
-            table.numbers(rt.alloc())?,
-            numbers_of(rt.alloc(), counts, wanted)?
-        );
+        expect_same_table(rt, counts, table, wanted)?;
     }
     Ok(())
 }
@@ -128,14 +137,44 @@ fn scenario_of(alloc: Global, text: &str, mode: Mode) -> Result<Scenario, Fault>
     Ok(read(alloc, text.as_bytes())?.with_mode(mode))
 }
 
-fn opened<T: RoundTable>(answer: Result<Sim<T>, (Fault, Scenario)>) -> Result<Sim<T>, Fault> {
-    match answer {
+// Its simulation by tables of any representation.
+fn begin_with<T: RoundTable>(alloc: Global, scenario: Scenario) -> Result<Sim<T>, Fault>
+    requires { MayWriteAll T.may_write scenario }
+{
+    match Sim::of(alloc, scenario) {
         Ok(sim) => Ok(sim),
         Err((fault, _)) => Err(fault),
     }
 }
 
-// All rounds of a scenario, by two workers and by one.
+// A round of two simulations, by two workers and by one.
+fn expect_same_step<T: Versions>(
+    rt: &(impl Threads + Wait + Abort + AllocGlobal + Sync),
+    sim: &mut Sim<T>,
+    wanted: &mut Sim,
+    counts: &mut Counts,
+) -> Result<(), Fault> {
+    let round = sim.step(rt, 2, &FreeGate)?;
+    expect_same_round(rt, &round, &step(rt, wanted)?);
+    count_writes(rt.alloc(), counts, wanted.tables())?;
+    expect_same_tables(rt, counts, sim.tables(), wanted.tables())?;
+    Ok(())
+}
+
+// All of their rounds.
+fn expect_same_steps<T: Versions>(
+    rt: &(impl Threads + Wait + Abort + AllocGlobal + Sync),
+    sim: &mut Sim<T>,
+    wanted: &mut Sim,
+) -> Result<(), Fault> {
+    let mut counts = Vec::new(rt.alloc());
+    for _ in 0..wanted.rounds() {
+        expect_same_step(rt, sim, wanted, &mut counts)?;
+    }
+    Ok(())
+}
+
+// All rounds of a scenario.
 fn expect_same_rounds<T: Versions>(
     rt: &(impl Threads + Wait + Abort + AllocGlobal + Sync),
     scenario: Scenario,
@@ -143,62 +182,44 @@ fn expect_same_rounds<T: Versions>(
 ) -> Result<(), Fault>
     requires may_write { MayWriteAll T.may_write scenario }
 {
-    let mut sim = opened(Sim::<T>::of(rt.alloc(), scenario))?;
-    let mut wanted = opened(Sim::new(rt.alloc(), twin))?;
-    let mut counts = Vec::new(rt.alloc());
-    for _ in 0..wanted.rounds() {
-        let round = sim.step(rt, 2, &FreeGate)?;
-        expect_same_round(rt, &round, &wanted.step(rt, 1, &FreeGate)?);
-        count_writes(rt.alloc(), &mut counts, wanted.tables())?;
-        expect_same_tables(rt, &counts, sim.tables(), wanted.tables())?;
-    }
-    Ok(())
+    let mut sim = begin_with::<T>(rt.alloc(), scenario)?;
+    let mut wanted = begin(rt.alloc(), twin)?;
+    expect_same_steps(rt, &mut sim, &mut wanted)
 }
 
-// By tables whose numbers have 16 bits.
-fn expect_same_short<L: Written + Send + Sync>(
+// How many bits the numbers of a table have.
+#[derive(Clone, Copy)]
+enum Bits {
+    Sixteen,
+    ThirtyTwo,
+}
+
+// By tables with numbers of so many bits.
+fn expect_same_numbers<L: Written + Send + Sync>(
     rt: &(impl Threads + Wait + Abort + AllocGlobal + Sync),
     scenario: Scenario,
     twin: Scenario,
+    bits: Bits,
 ) -> Result<(), Fault>
     requires written { AreWrittenIn L.lists scenario }
     requires below { HasWritesBelow 65535 scenario }
 {
-    expect_same_rounds::<VersionTable<u16, L>>(rt, scenario, twin)
+    match bits {
+        Bits::Sixteen => expect_same_rounds::<VersionTable<u16, L>>(rt, scenario, twin),
+        Bits::ThirtyTwo => expect_same_rounds::<VersionTable<u32, L>>(rt, scenario, twin),
+    }
 }
 
-fn expect_short(
+fn expect_same(
     rt: &(impl Threads + Wait + Abort + AllocGlobal + Sync),
     text: &str,
     mode: Mode,
+    bits: Bits,
 ) -> Result<(), Fault> {
     let scenario = scenario_of(rt.alloc(), text, mode)?;
     let twin = scenario_of(rt.alloc(), text, mode)?;
     assert!(rt; MOST_WRITES * scenario.rounds() < u32::from(u16::MAX));
-    expect_same_short::<Brand>(rt, scenario, twin)
-}
-
-// By tables whose numbers have 32 bits.
-fn expect_same_long<L: Written + Send + Sync>(
-    rt: &(impl Threads + Wait + Abort + AllocGlobal + Sync),
-    scenario: Scenario,
-    twin: Scenario,
-) -> Result<(), Fault>
-    requires written { AreWrittenIn L.lists scenario }
-    requires below { HasWritesBelow 4294967295 scenario }
-{
-    expect_same_rounds::<VersionTable<u32, L>>(rt, scenario, twin)
-}
-
-fn expect_long(
-    rt: &(impl Threads + Wait + Abort + AllocGlobal + Sync),
-    text: &str,
-    mode: Mode,
-) -> Result<(), Fault> {
-    let scenario = scenario_of(rt.alloc(), text, mode)?;
-    let twin = scenario_of(rt.alloc(), text, mode)?;
-    assert!(rt; MOST_WRITES * scenario.rounds() < u32::MAX);
-    expect_same_long::<Brand>(rt, scenario, twin)
+    expect_same_numbers::<Brand>(rt, scenario, twin, bits)
 }
 
 // Six nodes in eight rounds, which lose a fifth of the messages.
@@ -250,8 +271,8 @@ fn both_kinds_of_tables(rt: HostRuntime) -> Result<(), Fault> {
     for case in CASES {
         let text = text_of(rt.alloc(), case)?;
         for mode in Mode::ALL {
-            expect_short(&rt, text.as_str(), mode)?;
-            expect_long(&rt, text.as_str(), mode)?;
+            expect_same(&rt, text.as_str(), mode, Bits::Sixteen)?;
+            expect_same(&rt, text.as_str(), mode, Bits::ThirtyTwo)?;
         }
     }
     Ok(())

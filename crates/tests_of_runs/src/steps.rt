@@ -4,16 +4,27 @@ use bench::{FreeGate, Round, Sim};
 use bench_types::{Fault, Figures, Mark};
 use fixtures::{RING_OF_FOUR, TWO_NODES, between, row, sent};
 use node_table::NodeTable;
-use scenario::read;
+use scenario::{Scenario, read};
 use std::alloc::Global;
 use std::process::Abort;
+use std::sync::Wait;
+use std::thread::Threads;
 
-// The simulation of a text, before its first round.
-pub(crate) fn sim_of(alloc: Global, text: &str) -> Result<Sim, Fault> {
-    match Sim::new(alloc, read(alloc, text.as_bytes())?) {
+// The simulation of a scenario, before its first round.
+pub(crate) fn begin(alloc: Global, scenario: Scenario) -> Result<Sim, Fault> {
+    match Sim::new(alloc, scenario) {
         Ok(sim) => Ok(sim),
         Err((fault, _)) => Err(fault),
     }
+}
+
+pub(crate) fn sim_of(alloc: Global, text: &str) -> Result<Sim, Fault> {
+    begin(alloc, read(alloc, text.as_bytes())?)
+}
+
+// The next round by one worker.
+pub(crate) fn step(rt: &(impl Threads + Wait + Sync), sim: &mut Sim) -> Result<Round, Fault> {
+    sim.step(rt, 1, &FreeGate)
 }
 
 // Two nodes that hold so many entries each.
@@ -32,7 +43,8 @@ fn expect_exchanges(rt: &impl Abort, round: &Round) {
     assert_eq!(rt; round.records(), records.as_slice());
 }
 
-fn expect_row(rt: &impl Abort, round: &Round) {
+fn expect_round(rt: &impl Abort, round: &Round) {
+    expect_exchanges(rt, round);
     assert_eq!(rt; round.row(), row!(1, 2, 0, 0, 2, 0, 0, 0, 0));
     let figures = Figures {
         stale: 0,
@@ -47,15 +59,14 @@ fn two_nodes(rt: HostRuntime) -> Result<(), Fault> {
     let mut sim = sim_of(rt.alloc(), TWO_NODES)?;
     assert_eq!(rt; sim.rounds_done(), 0);
     expect_counts(&rt, &sim, 0);
-    let round = sim.step(&rt, 1, &FreeGate)?;
-    expect_exchanges(&rt, &round);
-    expect_row(&rt, &round);
+    expect_round(&rt, &step(&rt, &mut sim)?);
     expect_counts(&rt, &sim, 2);
     Ok(())
 }
 
-fn expect_finished(rt: &impl Abort, sim: &Sim, answer: Option<Fault>) {
-    assert_eq!(rt; answer, Some(Fault::Finished));
+// No round is left behind the first.
+fn expect_finished(rt: &(impl Threads + Wait + Abort + Sync), sim: &mut Sim) {
+    assert_eq!(rt; step(rt, sim).err(), Some(Fault::Finished));
     assert_eq!(rt; sim.rounds_done(), 1);
     assert!(rt; !sim.is_broken());
 }
@@ -63,10 +74,9 @@ fn expect_finished(rt: &impl Abort, sim: &Sim, answer: Option<Fault>) {
 #[test]
 fn steps_behind_the_last_round(rt: HostRuntime) -> Result<(), Fault> {
     let mut sim = sim_of(rt.alloc(), TWO_NODES)?;
-    sim.step(&rt, 1, &FreeGate)?;
+    step(&rt, &mut sim)?;
     for _ in 0..2 {
-        let answer = sim.step(&rt, 1, &FreeGate).err();
-        expect_finished(&rt, &sim, answer);
+        expect_finished(&rt, &mut sim);
         expect_counts(&rt, &sim, 2);
     }
     let scenario = sim.into_scenario();
@@ -83,15 +93,19 @@ fn expect_missed(rt: &impl Abort, table: &NodeTable, missed: u32) {
     }
 }
 
+fn expect_all_missed(rt: &impl Abort, tables: &[NodeTable], missed: &[u32]) {
+    assert_eq!(rt; tables.len(), missed.len());
+    for (table, missed) in tables.iter().zip(missed) {
+        expect_missed(rt, table, *missed);
+    }
+}
+
 // At the end each node misses one owner.
 #[test]
 fn ring_of_four(rt: HostRuntime) -> Result<(), Fault> {
     let mut sim = sim_of(rt.alloc(), RING_OF_FOUR.scenario)?;
-    sim.step(&rt, 1, &FreeGate)?;
-    assert_eq!(rt; sim.step(&rt, 1, &FreeGate).err(), Some(Fault::Finished));
-    assert_eq!(rt; sim.tables().len(), 4);
-    for (table, missed) in sim.tables().iter().zip([2, 3, 1, 2]) {
-        expect_missed(&rt, table, missed);
-    }
+    step(&rt, &mut sim)?;
+    expect_finished(&rt, &mut sim);
+    expect_all_missed(&rt, sim.tables(), &[2, 3, 1, 2]);
     Ok(())
 }

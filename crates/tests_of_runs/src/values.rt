@@ -1,7 +1,7 @@
 //! What an accepted scenario says.
 
-use bench_types::{Budget, Fault, Field, Mode};
-use fixtures::changed;
+use bench_types::{Budget, Fault, Mode};
+use fixtures::{changed, changed_in_bytes};
 use scenario::{Choice, Load, Partition, Peers, Restart, Rotation, Scenario, read};
 use std::process::Abort;
 
@@ -148,16 +148,18 @@ const LOADS: [Load; 1] = [Load {
     writes: 0,
 }];
 
+fn expect_partitions(rt: &impl Abort, found: &[Partition]) {
+    assert!(rt; found.len() == 2);
+    expect_partition(rt, &found[0], 1, 3, &[0, 2, 4]);
+    expect_partition(rt, &found[1], 5, 5, &[]);
+}
+
 #[test]
 fn values_of_the_elements(rt: HostRuntime) -> Result<(), Fault> {
     for tables in [SECTIONS, INLINE] {
         let text = changed(rt.alloc(), &[("nodes = 2", "nodes = 5")], tables)?;
         let scenario = read(rt.alloc(), text.as_bytes())?;
-        let [first, second] = scenario.partitions() else {
-            return Err(Fault::OutOfRange(Field::Partition));
-        };
-        expect_partition(&rt, first, 1, 3, &[0, 2, 4]);
-        expect_partition(&rt, second, 5, 5, &[]);
+        expect_partitions(&rt, scenario.partitions());
         assert_eq!(rt; scenario.restarts(), RESTARTS.as_slice());
         assert_eq!(rt; scenario.loads(), LOADS.as_slice());
     }
@@ -165,17 +167,8 @@ fn values_of_the_elements(rt: HostRuntime) -> Result<(), Fault> {
 }
 
 // In format 2, a restart that forgets and one that says nothing of it.
-const FORGETTING: &str = "\
-[[restart]]
-node = 1
-round = 3
-down = 1
-forget = true
-[[restart]]
-node = 0
-round = 3
-down = 0
-";
+const FORGETTING: &str = "[[restart]]\nnode = 1\nround = 3\ndown = 1\nforget = true\n\
+    [[restart]]\nnode = 0\nround = 3\ndown = 0\n";
 
 const FORGETTING_RESTARTS: [Restart; 2] = [
     Restart {
@@ -194,11 +187,7 @@ const FORGETTING_RESTARTS: [Restart; 2] = [
 
 #[test]
 fn restarts_that_forget(rt: HostRuntime) -> Result<(), Fault> {
-    let changes = [
-        ("format = 1", "format = 2"),
-        ("budget = 1", "budget_bytes = 1023"),
-    ];
-    let text = changed(rt.alloc(), &changes, FORGETTING)?;
+    let text = changed_in_bytes(rt.alloc(), &[], FORGETTING)?;
     let scenario = read(rt.alloc(), text.as_bytes())?;
     assert_eq!(rt; scenario.restarts(), FORGETTING_RESTARTS.as_slice());
     Ok(())

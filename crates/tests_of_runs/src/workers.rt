@@ -3,12 +3,13 @@
 ghost use Rattle.std.specs.Prelude.{◌≤◌};
 ghost use Rattle.bench_types.specs.declared.limits.TheConstants.{MOST_WORKERS};
 
-use crate::steps::sim_of;
+use crate::steps::{sim_of, step};
 use bench::{FreeGate, Round, Sim};
-use bench_types::Fault;
 use bench_types::limits::MOST_WORKERS;
+use bench_types::{Fault, Row};
 use fixtures::{
-    A_NODE_DOWN, RESTART_WITHOUT_DOWNTIME, RING_OF_FOUR, TWO_NODES, TWO_NODES_CUT, changed, row,
+    A_NODE_DOWN, RESTART_WITHOUT_DOWNTIME, RING_OF_FOUR, TWO_NODES, TWO_NODES_CUT, changed,
+    changed_in_bytes, row,
 };
 use node_table::NodeTable;
 use std::alloc::AllocGlobal;
@@ -41,6 +42,24 @@ fn expect_same_tables(rt: &impl Abort, sim: &Sim, alone: &Sim) {
     }
 }
 
+// All rounds of two simulations, by so many workers and by one.
+fn expect_same_steps(
+    rt: &(impl Threads + Wait + Abort + AllocGlobal + Sync),
+    sim: &mut Sim,
+    alone: &mut Sim,
+    workers: u32,
+) -> Result<(), Fault>
+    requires few { 1 ≤ workers }
+    requires many { workers ≤ MOST_WORKERS }
+{
+    for _ in 0..sim.rounds() {
+        let round = sim.step(rt, workers, &FreeGate)?;
+        expect_same_round(rt, &round, &step(rt, alone)?);
+        expect_same_tables(rt, sim, alone);
+    }
+    Ok(())
+}
+
 // All rounds of a text, with so many workers beside one.
 fn expect_same(
     rt: &(impl Threads + Wait + Abort + AllocGlobal + Sync),
@@ -52,12 +71,7 @@ fn expect_same(
 {
     let mut sim = sim_of(rt.alloc(), text)?;
     let mut alone = sim_of(rt.alloc(), text)?;
-    for _ in 0..sim.rounds() {
-        let round = sim.step(rt, workers, &FreeGate)?;
-        expect_same_round(rt, &round, &alone.step(rt, 1, &FreeGate)?);
-        expect_same_tables(rt, &sim, &alone);
-    }
-    Ok(())
+    expect_same_steps(rt, &mut sim, &mut alone, workers)
 }
 
 fn expect_same_with_any(
@@ -98,25 +112,24 @@ const FORGETTING: &str = "restart = [\
 
 #[test]
 fn nodes_that_forget_with_workers(rt: HostRuntime) -> Result<(), Fault> {
-    let lines = [
-        ("format = 1", "format = 2"),
-        ("nodes = 2", "nodes = 4"),
-        ("rounds = 1", "rounds = 5"),
-        ("budget = 1", "budget_bytes = 1023"),
-    ];
-    let text = changed(rt.alloc(), &lines, FORGETTING)?;
+    let lines = [("nodes = 2", "nodes = 4"), ("rounds = 1", "rounds = 5")];
+    let text = changed_in_bytes(rt.alloc(), &lines, FORGETTING)?;
     expect_same_with_any(&rt, text.as_str())
 }
 
 const BOTH_DOWN: &str =
     "restart = [{ node = 0, round = 1, down = 1 }, { node = 1, round = 1, down = 1 }]\n";
 
+fn first_row(rt: &(impl Threads + Wait + AllocGlobal + Sync), text: &str) -> Result<Row, Fault> {
+    let mut sim = sim_of(rt.alloc(), text)?;
+    Ok(sim.step(rt, MOST_WORKERS, &FreeGate)?.row())
+}
+
 // No node is up, so no exchange is made and nothing is written.
 #[test]
 fn all_nodes_down_with_workers(rt: HostRuntime) -> Result<(), Fault> {
     let text = changed(rt.alloc(), &[], BOTH_DOWN)?;
-    let mut sim = sim_of(rt.alloc(), text.as_str())?;
-    let round = sim.step(&rt, MOST_WORKERS, &FreeGate)?;
-    assert_eq!(rt; round.row(), row!(1, 0, 0, 0, 0, 0, 0, 0, 0));
+    let row = first_row(&rt, text.as_str())?;
+    assert_eq!(rt; row, row!(1, 0, 0, 0, 0, 0, 0, 0, 0));
     expect_same(&rt, text.as_str(), MOST_WORKERS)
 }

@@ -1,7 +1,7 @@
 //! What a table holds of an owner above a mark.
 
 use crate::deltas::{NEW, OLD, sender};
-use crate::fixtures::{item, new_table, take};
+use crate::fixtures::{expect_entries, item, new_table, take};
 use bench_types::{Item, Mark};
 use node_table::NodeTable;
 use std::process::Abort;
@@ -13,9 +13,7 @@ fn expect_above(rt: &impl Abort, table: &NodeTable, owner: u32, version: u32, wa
         generation: 0,
         version,
     };
-    let above = table.above(owner, mark).iter().copied();
-    let wanted = wanted.iter().map(|item| item.entry);
-    assert!(rt; above.eq(wanted), "owner {owner} above {version}");
+    expect_entries(rt, "above", table.above(owner, mark), wanted);
 }
 
 #[test]

@@ -4,7 +4,7 @@
 use crate::fixtures::{
     expect_items, expect_mark, expect_number, item, lawful, new_table, next, take,
 };
-use crate::model::{NODES, Turn, count_before, is_sent, lacked, list_of, small_table};
+use crate::model::{BUDGETS, NODES, Turn, count_before, is_sent, lacked, list_of, small_table};
 use bench_types::{Budget, Item, Mode};
 use node_table::NodeTable;
 use reconcile::{Delta, Digest, delta};
@@ -190,20 +190,6 @@ fn compare_by_counting(rt: &impl Abort, delta: &Delta, all: &[Item], turn: Turn)
     expect_number(rt, "cut", delta.cut(), cut);
 }
 
-// Budgets around the number of candidates, and around their sizes.
-const BUDGETS: [Budget; 10] = [
-    Budget::Entries(1),
-    Budget::Entries(2),
-    Budget::Entries(3),
-    Budget::Entries(5),
-    Budget::Entries(12),
-    Budget::Bytes(1023),
-    Budget::Bytes(1500),
-    Budget::Bytes(2500),
-    Budget::Bytes(4000),
-    Budget::Bytes(9300),
-];
-
 // Compares the deltas of a mode at each rotation and with each budget.
 fn expect_deltas(rt: &impl Abort, alloc: Global, from: &NodeTable, to: &NodeTable, mode: Mode) {
     let (sender, receiver) = (list_of(rt, alloc, from), list_of(rt, alloc, to));
@@ -227,10 +213,9 @@ fn expect_small(rt: &impl Abort, alloc: Global, state: &mut u64) {
     let from = small_table(rt, alloc, state, node, 8);
     let other = next(state, NODES);
     let to = small_table(rt, alloc, state, other, 3);
-    expect_deltas(rt, alloc, &from, &to, Mode::ScuttleBreadth);
-    expect_deltas(rt, alloc, &from, &to, Mode::ScuttleDepth);
-    expect_deltas(rt, alloc, &from, &to, Mode::PreciseOldest);
-    expect_deltas(rt, alloc, &from, &to, Mode::PreciseNewest);
+    for mode in Mode::ALL {
+        expect_deltas(rt, alloc, &from, &to, mode);
+    }
 }
 
 #[test]

@@ -169,3 +169,11 @@ pub(crate) fn expect_same(rt: &impl Abort, name: &str, table: &NodeTable, other:
 pub(crate) fn expect_items(rt: &impl Abort, name: &str, found: &[Item], wanted: &[Item]) {
     assert_eq!(rt; found, wanted, "{name}");
 }
+
+/// Compares entries with those of items.
+pub(crate) fn expect_entries(rt: &impl Abort, name: &str, found: &[Entry], wanted: &[Item]) {
+    assert!(rt; found.len() == wanted.len(), "{name}");
+    for (entry, item) in found.iter().zip(wanted) {
+        assert_eq!(rt; *entry, item.entry, "{name}");
+    }
+}

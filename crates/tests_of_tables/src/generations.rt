@@ -2,10 +2,11 @@
 
 use crate::deltas::answer;
 use crate::fixtures::{
-    expect_held, expect_items, expect_mark, expect_number, forget, item, new_table, take, write,
+    expect_entries, expect_held, expect_items, expect_mark, expect_number, forget, item, new_table,
+    take, write,
 };
 use crate::model::Turn;
-use bench_types::{Budget, Entry, Item, Mark, Mode};
+use bench_types::{Budget, Item, Mark, Mode};
 use node_table::NodeTable;
 use reconcile::Digest;
 use std::alloc::Global;
@@ -115,11 +116,19 @@ const ABOVE: [((u32, u32), &[Item]); 6] = [
     ((2, 0), &[]),
 ];
 
-// Compares entries with those of items.
-fn expect_entries(rt: &impl Abort, name: &str, found: &[Entry], wanted: &[Item]) {
-    assert!(rt; found.len() == wanted.len());
-    for (entry, item) in found.iter().zip(wanted) {
-        assert_eq!(rt; *entry, item.entry, "{name}");
+fn expect_row(rt: &impl Abort, table: &NodeTable, row: &[Item]) {
+    assert!(rt; table.nodes() == 4);
+    expect_entries(rt, "row", table.entries_of(1), row);
+}
+
+fn expect_above(rt: &impl Abort, table: &NodeTable) {
+    assert!(rt; table.nodes() == 4);
+    for ((generation, version), entries) in ABOVE {
+        let mark = Mark {
+            generation,
+            version,
+        };
+        expect_entries(rt, "above", table.above(1, mark), entries);
     }
 }
 
@@ -128,17 +137,9 @@ fn entries_above_a_mark(rt: HostRuntime) {
     let mut table = new_table(&rt, rt.alloc(), 0, 4, 2);
     for (item, row) in ENTERING {
         take(&rt, &mut table, &[item]);
-        assert!(rt; table.nodes() == 4);
-        expect_entries(&rt, "row", table.entries_of(1), row);
+        expect_row(&rt, &table, row);
     }
-    for ((generation, version), entries) in ABOVE {
-        let mark = Mark {
-            generation,
-            version,
-        };
-        assert!(rt; table.nodes() == 4);
-        expect_entries(&rt, "above", table.above(1, mark), entries);
-    }
+    expect_above(&rt, &table);
 }
 
 // What node 0 holds in generation 1, and its greatest mark of each owner and that of each key.

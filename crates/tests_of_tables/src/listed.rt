@@ -2,8 +2,10 @@
 
 use crate::exchanges::{Plan, expect_sent};
 use crate::fixtures::next;
-use crate::model::{NODES, Turn, expect_listed, is_sent, lacked, list_of, merge, small_table};
-use bench_types::{Budget, Fate, Item, Mode};
+use crate::model::{
+    BUDGETS, NODES, Turn, expect_listed, is_sent, lacked, list_of, merge, small_table,
+};
+use bench_types::{Fate, Item, Mode};
 use node_table::NodeTable;
 use std::alloc::Global;
 use std::process::Abort;
@@ -117,17 +119,7 @@ fn expect_meeting(
     expect_taken(rt, alloc, second, &responder, &forth, came);
 }
 
-const BUDGETS: [Budget; 7] = [
-    Budget::Entries(1),
-    Budget::Entries(2),
-    Budget::Entries(4),
-    Budget::Entries(12),
-    Budget::Bytes(1023),
-    Budget::Bytes(2500),
-    Budget::Bytes(9300),
-];
-
-// They meet with each loss and with budgets around the number of candidates and around their sizes.
+// They meet with each loss and with each budget.
 fn expect_mode(
     rt: &impl Abort,
     alloc: Global,
@@ -157,10 +149,9 @@ fn expect_pair(rt: &impl Abort, alloc: Global, state: &mut u64) {
     let first = small_table(rt, alloc, state, node, full);
     let second = small_table(rt, alloc, state, other, fuller);
     let rotation = next(state, NODES);
-    expect_mode(rt, alloc, &first, &second, rotation, Mode::ScuttleBreadth);
-    expect_mode(rt, alloc, &first, &second, rotation, Mode::ScuttleDepth);
-    expect_mode(rt, alloc, &first, &second, rotation, Mode::PreciseOldest);
-    expect_mode(rt, alloc, &first, &second, rotation, Mode::PreciseNewest);
+    for mode in Mode::ALL {
+        expect_mode(rt, alloc, &first, &second, rotation, mode);
+    }
 }
 
 #[test]

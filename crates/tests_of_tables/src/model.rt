@@ -11,6 +11,21 @@ use std::process::Abort;
 /// How many nodes the small tables have.
 pub(crate) const NODES: u32 = 4;
 
+/// Budgets around the number of candidates of small tables, and around their sizes.
+pub(crate) const BUDGETS: [Budget; 11] = [
+    Budget::Entries(1),
+    Budget::Entries(2),
+    Budget::Entries(3),
+    Budget::Entries(4),
+    Budget::Entries(5),
+    Budget::Entries(12),
+    Budget::Bytes(1023),
+    Budget::Bytes(1500),
+    Budget::Bytes(2500),
+    Budget::Bytes(4000),
+    Budget::Bytes(9300),
+];
+
 /// How a delta is ordered and cut.
 #[derive(Clone, Copy)]
 pub(crate) struct Turn {

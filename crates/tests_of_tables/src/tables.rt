@@ -80,34 +80,25 @@ fn several_items_of_one_place(rt: HostRuntime) {
     expect_entry(&rt, &table, 1, 1, None);
 }
 
+// The versions of a row of entries, ascending, and the keys.
+type Row = (&'static [u32], &'static [u32]);
+
 // Entries of owner 1 of two, with four keys, as they come, and the row that they make: ascending by
 // version and then by key.
-const ENTERING: [Item; 7] = [
-    item!(1, 0, 5, 10, 1),
-    item!(1, 3, 9, 11, 1),
-    item!(1, 1, 3, 12, 1),
-    item!(1, 2, 5, 13, 1),
-    item!(1, 1, 7, 14, 1),
-    item!(1, 3, 8, 15, 1),
-    item!(1, 2, 9, 16, 1),
-];
-
-// The versions of the row once so many have come, and its keys.
-const ROWS: [(&[u32], &[u32]); 8] = [
-    (&[], &[]),
-    (&[5], &[0]),
-    (&[5, 9], &[0, 3]),
-    (&[3, 5, 9], &[1, 0, 3]),
-    (&[3, 5, 5, 9], &[1, 0, 2, 3]),
-    (&[5, 5, 7, 9], &[0, 2, 1, 3]),
-    (&[5, 5, 7, 9], &[0, 2, 1, 3]),
-    (&[5, 7, 9, 9], &[0, 1, 2, 3]),
+const ENTERING: [(Item, Row); 7] = [
+    (item!(1, 0, 5, 10, 1), (&[5], &[0])),
+    (item!(1, 3, 9, 11, 1), (&[5, 9], &[0, 3])),
+    (item!(1, 1, 3, 12, 1), (&[3, 5, 9], &[1, 0, 3])),
+    (item!(1, 2, 5, 13, 1), (&[3, 5, 5, 9], &[1, 0, 2, 3])),
+    (item!(1, 1, 7, 14, 1), (&[5, 5, 7, 9], &[0, 2, 1, 3])),
+    (item!(1, 3, 8, 15, 1), (&[5, 5, 7, 9], &[0, 2, 1, 3])),
+    (item!(1, 2, 9, 16, 1), (&[5, 7, 9, 9], &[0, 1, 2, 3])),
 ];
 
 // Compares the entries of owner 1 above a version with the end of a row.
-fn expect_above(rt: &impl Abort, table: &NodeTable, version: u32, row: (&[u32], &[u32])) {
+fn expect_above(rt: &impl Abort, table: &NodeTable, version: u32, row: Row) {
     assert!(rt; table.nodes() > 1);
-    let (versions, keys) = row;
+    let (versions, _keys) = row;
     let front = versions.iter().filter(|held| **held <= version).count();
     let mark = Mark {
         generation: 0,
@@ -115,20 +106,21 @@ fn expect_above(rt: &impl Abort, table: &NodeTable, version: u32, row: (&[u32], 
     };
     let above = table.above(1, mark);
     for (index, entry) in above.iter().enumerate() {
-        let at = front.saturating_add(index);
-        assert_eq!(rt;
-            Some(entry.version),
-            versions.get(at).copied(),
-            "above {version}"
-        );
-        assert_eq!(rt; Some(entry.key), keys.get(at).copied(), "above {version}");
-        assert_eq!(rt; table.get(1, entry.key), Some(*entry), "above {version}");
+        expect_place(rt, table, *entry, front.saturating_add(index), row);
     }
     assert!(rt; above.len() == versions.len().saturating_sub(front));
 }
 
+// Compares an entry with what stands at a place of the row, and with what is held of its key.
+fn expect_place(rt: &impl Abort, table: &NodeTable, entry: Entry, at: usize, row: Row) {
+    let (versions, keys) = row;
+    let wanted = (versions.get(at).copied(), keys.get(at).copied());
+    assert_eq!(rt; (Some(entry.version), Some(entry.key)), wanted);
+    expect_entry(rt, table, 1, entry.key, Some(entry));
+}
+
 // Compares the row of owner 1, from each version on, and the greatest versions.
-fn expect_row(rt: &impl Abort, table: &NodeTable, row: (&[u32], &[u32])) {
+fn expect_row(rt: &impl Abort, table: &NodeTable, row: Row) {
     assert!(rt; table.nodes() > 1);
     for version in 0..11 {
         expect_above(rt, table, version, row);
@@ -141,10 +133,10 @@ fn expect_row(rt: &impl Abort, table: &NodeTable, row: (&[u32], &[u32])) {
 #[test]
 fn entries_above_a_version(rt: HostRuntime) {
     let mut table = new_table(&rt, rt.alloc(), 0, 2, 4);
-    expect_row(&rt, &table, ROWS[0]);
-    for come in 0..7 {
-        take(&rt, &mut table, &[ENTERING[come]]);
-        expect_row(&rt, &table, ROWS[come + 1]);
+    expect_row(&rt, &table, (&[], &[]));
+    for (item, row) in ENTERING {
+        take(&rt, &mut table, &[item]);
+        expect_row(&rt, &table, row);
     }
 }
 

@@ -1,6 +1,0 @@
-use Rattle.std.proofs.Common.{◌≡◌, ◌<◌, ℕ, length}
-use Rattle.cluster.specs.Tables.{tables_in, table_of_node, IsTableOf}
-use Rattle.tests_of_rounds.proofs.played_lists.four_tables.Given as goal
-
-abbrev pub invariant-loop-node : goal.invariant-loop-node
-invariant-loop-node g l = (length l.tables.items ≡ l.node-counter) × ((n : ℕ) → n < l.node-counter → IsTableOf 4 1 n (table_of_node (tables_in l.tables.items) n))

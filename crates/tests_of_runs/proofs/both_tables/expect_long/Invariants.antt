@@ -1,5 +1,0 @@
-use Rattle.round_plan.specs.Writes.{written_upto}
-use Rattle.tests_of_runs.proofs.both_tables.expect_long.Given as goal
-
-abbrev pub ghosts-expect_same_long : goal.ghosts-expect_same_long
-ghosts-expect_same_long g a = record { lists = λ owner. written_upto a.scenario owner a.scenario.rounds }

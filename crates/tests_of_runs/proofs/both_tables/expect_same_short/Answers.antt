@@ -1,6 +1,0 @@
-use Rattle.bench.proofs.Numbers.{may_write_all}
-use Rattle.tests_of_runs.proofs.both_tables.expect_same_short.Goals as goal
-
-pub expect_same_rounds-requires-clause-may_write : goal.expect_same_rounds-requires-clause-may_write
-expect_same_rounds-requires-clause-may_write g c lives within =
-    may_write_all c.args.scenario 65535 g.L.Written.lists c.requires.written c.requires.below

@@ -37,10 +37,12 @@ pub record IsScheduled (plan : BoardPlan) (s : State Slot View) : Type 0 where
 abbrev pub EachKeepsASchedule : Type 0
 EachKeepsASchedule = (plan : BoardPlan) (s : State Slot View) → Orderly plan s → IsScheduled plan s
 
--- a whole seat was told of nothing but what it has made or holds, and knows of nothing but what it has made
+-- a whole seat was told of nothing but what it has made or holds, knows of nothing but what it has made, and knows of
+-- no stop but one that it has called for
 pub record KnowsItsOwn (v : SeatView) : Type 0 where
   pub told : (i : ℕ) → Has v.told i → Has (v.made ++ v.held) i
   pub known : (i : ℕ) → Has v.known i → Has v.made i
+  pub halted : v.is_stopped ≡ true → v.is_halted ≡ true
 
 abbrev pub EachWholeSeatKnowsItsOwn : Type 0
 EachWholeSeatKnowsItsOwn = (plan : BoardPlan) (s : State Slot View) (k : ℕ) (v : SeatView) → Orderly plan s

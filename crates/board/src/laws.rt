@@ -10,8 +10,8 @@ pub fn every_board_keeps_a_schedule()
     ensures { EachKeepsASchedule }
 {}
 
-/// A seat that has all parts was told that exchanges are taken only of such as it has put back or holds, and
-/// what it knows to be put back it has put back itself.
+/// A seat that has all parts was told that exchanges are taken only of such as it has put back or holds. What
+/// it knows to be put back it has put back itself, and a stop that it knows of it has called for itself.
 pub fn every_whole_seat_knows_its_own()
     ensures { EachWholeSeatKnowsItsOwn }
 {}

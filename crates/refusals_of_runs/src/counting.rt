@@ -56,7 +56,7 @@ impl Counts {
         self.entered as usize == exchanges && self.left as usize == exchanges
     }
 
-    /// Whether no exchange but the one that met want of memory was entered and not left. One worker ends with
+    /// Whether no exchange but the one that met lack of memory was entered and not left. One worker ends with
     /// that one, if it has entered any.
     pub(crate) fn are_broken_off(self, workers: u32) -> bool {
         let missing = self.entered.saturating_sub(self.left);

@@ -12,7 +12,7 @@ use bench_types::{Fault, Mode, Row, Sink};
 use std::alloc::Global;
 
 /// Writes the header of a comparison in a format, the names of its columns, and flushes. An error is
-/// lack of memory (`OutOfMemory`), before anything is written, or what the writer answers (`WriteFailed`).
+/// lack of memory (`OutOfMemory`), before anything is written, or that the sink failed (`WriteFailed`).
 pub fn compare_header<W: Sink>(alloc: Global, writer: &mut W, format: u32) -> Result<(), Fault>
     requires { IsFormat format }
     ensures written { OnOk result
@@ -27,7 +27,7 @@ pub fn compare_header<W: Sink>(alloc: Global, writer: &mut W, format: u32) -> Re
 }
 
 /// Writes the row of one round under a mode in a format, and flushes. An error is
-/// lack of memory (`OutOfMemory`), before anything is written, or what the writer answers (`WriteFailed`).
+/// lack of memory (`OutOfMemory`), before anything is written, or that the sink failed (`WriteFailed`).
 pub fn write_compare_row<W: Sink>(
     alloc: Global,
     writer: &mut W,

@@ -11,7 +11,7 @@ use bench_types::{Fault, Row, Sink};
 use std::alloc::Global;
 
 /// Writes the header of the report in a format, the names of its columns, and flushes. An error is
-/// lack of memory (`OutOfMemory`), before anything is written, or what the writer answers (`WriteFailed`).
+/// lack of memory (`OutOfMemory`), before anything is written, or that the sink failed (`WriteFailed`).
 pub fn report_header<W: Sink>(alloc: Global, writer: &mut W, format: u32) -> Result<(), Fault>
     requires { IsFormat format }
     ensures written { OnOk result
@@ -25,7 +25,7 @@ pub fn report_header<W: Sink>(alloc: Global, writer: &mut W, format: u32) -> Res
 }
 
 /// Writes the row of one round in a format, and flushes. An error is
-/// lack of memory (`OutOfMemory`), before anything is written, or what the writer answers (`WriteFailed`).
+/// lack of memory (`OutOfMemory`), before anything is written, or that the sink failed (`WriteFailed`).
 pub fn write_report_row<W: Sink>(
     alloc: Global,
     writer: &mut W,

@@ -14,7 +14,7 @@ use round_plan::RoundList;
 use std::alloc::Global;
 
 /// Writes the header of the trace, the names of its columns, and flushes. An error is
-/// lack of memory (`OutOfMemory`), before anything is written, or what the writer answers (`WriteFailed`).
+/// lack of memory (`OutOfMemory`), before anything is written, or that the sink failed (`WriteFailed`).
 pub fn trace_header<W: Sink>(alloc: Global, writer: &mut W) -> Result<(), Fault>
     ensures written { OnOk result (IsWritten W.Sink writer.old writer.new trace_header_line) }
     ensures fault { IfErr result (IsWriteFault W.Sink writer.old writer.new trace_header_line) }
@@ -37,7 +37,7 @@ pub fn trace_header<W: Sink>(alloc: Global, writer: &mut W) -> Result<(), Fault>
 
 /// Writes the rows of one round, one for each exchange of its list, in order, and flushes. All rows
 /// are made in memory first, and none for a sink that drops all. An error is
-/// lack of memory (`OutOfMemory`), before anything is written, or what the writer answers (`WriteFailed`).
+/// lack of memory (`OutOfMemory`), before anything is written, or that the sink failed (`WriteFailed`).
 pub fn write_trace_rows<W: Sink>(
     alloc: Global,
     writer: &mut W,

@@ -43,7 +43,7 @@ impl Round {
         }
     }
 
-    /// The round's line of the report.
+    /// The round's row of the report.
     pub fn row(&self) -> Row
         ensures { result ≡ self.now.row }
     {

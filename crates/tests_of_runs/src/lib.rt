@@ -1,6 +1,6 @@
 //! Tests of whole runs that need code: readers and writers that go byte by byte, fail or never end, a
-//! simulation step by step, and what an accepted scenario says. The cases of the crate `acceptance` go
-//! from text to text.
+//! simulation step by step, tables of both kinds beside each other, and what an accepted scenario says. The
+//! cases of the crate `acceptance` go from text to text.
 #![tactic(auto)]
 
 #[cfg(test)]

@@ -20,7 +20,7 @@ pub enum DigestKind {
 pub enum Mode {
     /// What is above the receiver's greatest mark of the owner, one entry of each owner in turn.
     ScuttleBreadth,
-    /// What is above the receiver's greatest mark of the owner, the longest list of an owner first.
+    /// What is above the receiver's greatest mark of the owner, the owner with the most of it first.
     ScuttleDepth,
     /// What is newer than the receiver's entry, and of no older generation than its copy of the owner, by
     /// the round of its write.

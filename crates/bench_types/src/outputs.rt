@@ -7,7 +7,7 @@ use crate::faults::Fault;
 use crate::sinks::Sink;
 use crate::sources::Failed;
 
-/// Writes all of the text, and flushes. An error is what the writer answers (`WriteFailed`).
+/// Writes all of the text, and flushes. An error says that the sink failed (`WriteFailed`).
 pub fn write_text<W: Sink>(writer: &mut W, text: &[u8]) -> Result<(), Fault>
     ensures written { OnOk result (IsWritten W.Sink writer.old writer.new text.now) }
     ensures cut { OnErr result (IsBrokenOff W.Sink writer.old writer.new text.now) }

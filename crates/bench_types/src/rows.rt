@@ -11,7 +11,7 @@ pub struct Figures {
     pub leftover: u64,
 }
 
-/// One line of the report.
+/// What a round came to, in numbers.
 #[derive(Clone, Copy, Debug, PartialEq, Eq)]
 pub struct Row {
     pub round: u32,

@@ -83,7 +83,6 @@ fn answer_words<W: Sink, E: Sink>(reason: NoJob, out: &mut W, err: &mut E) -> u8
     }
 }
 
-// Prints help.
 fn print<W: Sink>(help: &str, out: &mut W) -> Result<(), Fault>
     ensures written { OnOk result (HelpIsWritten W.Sink out.old out.new) }
     ensures fault { IfErr result (HelpIsFaulty W.Sink out.old out.new) }

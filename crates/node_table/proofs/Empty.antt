@@ -12,11 +12,12 @@ use Rattle.node_table.specs.declared.layouts.Row.{Row}
 use Rattle.node_table.specs.declared.layouts.Layout.{Layout}
 use Rattle.node_table.specs.Table.{place_cmp, Table, entry_at, greatest_mark, IsProper}
 use Rattle.node_table.specs.Entries.{AreGenerations, AreGreatest}
-use Rattle.node_table.specs.inner.Layouts.{entries_in_row, rows_of, row_at, held_by_rows, row_len, block_len, entry_in, table_laid, IsInSlots, AreLaid, IsLayout}
+use Rattle.node_table.specs.Held.{held_by_lists}
+use Rattle.node_table.specs.inner.Layouts.{entries_in_row, rows_of, row_at, row_len, block_len, entry_in, table_laid, IsInSlots, AreLaid, IsLayout}
 use Rattle.node_table.proofs.Laws.{same_table}
 use Rattle.node_table.proofs.Laid.{row_at-get_or, row_at-past}
 use Rattle.node_table.proofs.Greatest.{greatest_mark-none}
-use Rattle.node_table.proofs.InRows.{get-held_by_rows}
+use Rattle.node_table.proofs.InRows.{get-held_by_lists}
 use Rattle.node_table.proofs.Forgotten.{empty_row, empty_is_row, sum_none}
 
 module _ (nodes keys : ℕ) where
@@ -55,8 +56,8 @@ module _ (node nodes keys generation : ℕ) where
     row_none : (owner : ℕ) → row_at slots rows owner ≡ []
     row_none owner = ap (λ xs. row_at xs rows owner) no_slots ∙ ap (λ xs. row_at [] xs owner) no_entries ∙ row_at-empty nodes keys owner
 
-    pub table_bare : ◌≡◌ {A = Table} (record { node = node; nodes = nodes; keys = keys; generation = generation; held = held_by_rows (rows_of slots rows) }) (bare node nodes keys generation)
-    table_bare = same_table _ (bare node nodes keys generation) refl refl refl refl (λ owner key. get-held_by_rows (rows_of slots rows) owner key ∙ ap (λ row. entry_in row key) (row_none owner) ∙ sym (entry_at-bare owner key))
+    pub table_bare : ◌≡◌ {A = Table} (record { node = node; nodes = nodes; keys = keys; generation = generation; held = held_by_lists (rows_of slots rows) }) (bare node nodes keys generation)
+    table_bare = same_table _ (bare node nodes keys generation) refl refl refl refl (λ owner key. get-held_by_lists (rows_of slots rows) owner key ∙ ap (λ row. entry_in row key) (row_none owner) ∙ sym (entry_at-bare owner key))
 
 module _ (l : Layout) (slots : l.slots.items ≡ []) (rows : l.rows.items ≡ replicate l.nodes empty_row) where
   bare_in : table_laid l ≡ bare l.node l.nodes l.keys l.generation

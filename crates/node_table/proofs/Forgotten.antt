@@ -12,11 +12,12 @@ use Rattle.node_table.specs.declared.layouts.Layout.{Layout}
 use Rattle.bench_types.specs.declared.entries.Mark.{Mark}
 use Rattle.node_table.specs.Table.{Table, without_others, entry_at, generation_held, greatest_version}
 use Rattle.node_table.specs.Entries.{AreGenerations, AreGreatest}
-use Rattle.node_table.specs.inner.Layouts.{entries_in_row, rows_of, row_at, row_len, held_by_rows, block_len, entry_in, table_laid, IsRow, IsInSlots, AreApart, AreLaid, AreOthersKept}
+use Rattle.node_table.specs.Held.{held_by_lists}
+use Rattle.node_table.specs.inner.Layouts.{entries_in_row, rows_of, row_at, row_len, block_len, entry_in, table_laid, IsRow, IsInSlots, AreApart, AreLaid, AreOthersKept}
 use Rattle.node_table.proofs.Laws.{same_table, entry_at-without_others_own, entry_at-without_others_other}
 use Rattle.node_table.proofs.MarkLaws.{greatest_mark-without_others_own, greatest_mark-without_others_other}
 use Rattle.node_table.proofs.Laid.{row_at-get_or, row_at-past, block_len-some}
-use Rattle.node_table.proofs.InRows.{get-held_by_rows}
+use Rattle.node_table.proofs.InRows.{get-held_by_lists}
 use Rattle.node_table.proofs.InLayout.{entry_at-in}
 
 abbrev pub empty_row : Row
@@ -90,8 +91,8 @@ module _ (nodes keys owner : ℕ) (r : Row) (slots slots' : List Entry) (below :
   ]
 
 -- with one row left the table is that of its owner's entries
-pub table_one : (l : Layout) (slots' : List Entry) (rows' : List Row) → row_at slots' rows' l.node ≡ row_at l.slots.items l.rows.items l.node → ((k : ℕ) → k ≢ l.node → row_at slots' rows' k ≡ []) → ◌≡◌ {A = Table} (record { node = l.node; nodes = l.nodes; keys = l.keys; generation = l.generation; held = held_by_rows (rows_of slots' rows') }) (without_others (table_laid l))
-table_one l slots' rows' own others = same_table _ (without_others (table_laid l)) refl refl refl refl (λ owner key. get-held_by_rows (rows_of slots' rows') owner key ∙ elim (cases_eq owner l.node) [
+pub table_one : (l : Layout) (slots' : List Entry) (rows' : List Row) → row_at slots' rows' l.node ≡ row_at l.slots.items l.rows.items l.node → ((k : ℕ) → k ≢ l.node → row_at slots' rows' k ≡ []) → ◌≡◌ {A = Table} (record { node = l.node; nodes = l.nodes; keys = l.keys; generation = l.generation; held = held_by_lists (rows_of slots' rows') }) (without_others (table_laid l))
+table_one l slots' rows' own others = same_table _ (without_others (table_laid l)) refl refl refl refl (λ owner key. get-held_by_lists (rows_of slots' rows') owner key ∙ elim (cases_eq owner l.node) [
   | inl is ↦ subst (λ o. entry_in (row_at slots' rows' o) key ≡ entry_at (without_others (table_laid l)) o key) (sym is)
       (ap (λ row. entry_in row key) own ∙ sym (entry_at-in l l.node key) ∙ sym (entry_at-without_others_own (table_laid l) key))
   | inr other ↦ ap (λ row. entry_in row key) (others owner other) ∙ sym (entry_at-without_others_other (table_laid l) owner key other)

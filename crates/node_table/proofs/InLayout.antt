@@ -15,11 +15,12 @@ use Rattle.node_table.specs.declared.layouts.Row.{Row}
 use Rattle.node_table.specs.declared.layouts.Layout.{Layout}
 use Rattle.node_table.specs.Table.{Table, entry_at, greatest_mark, generation_held, greatest_version, count_of, taken}
 use Rattle.node_table.specs.Entries.{StandsBefore, AreAbove}
-use Rattle.node_table.specs.inner.Layouts.{entries_in_row, rows_of, row_at, row_len, entry_in, held_by_rows, table_laid, with_entry, HaveTwoKeys, IsRow, IsInSlots, AreLaid, IsLayout, IsIndexOf, IsRankAbove, IsPlaced, IsRenewed}
+use Rattle.node_table.specs.Held.{held_by_lists}
+use Rattle.node_table.specs.inner.Layouts.{entries_in_row, rows_of, row_at, row_len, entry_in, table_laid, with_entry, HaveTwoKeys, IsRow, IsInSlots, AreLaid, IsLayout, IsIndexOf, IsRankAbove, IsPlaced, IsRenewed}
 use Rattle.node_table.proofs.Greatest.{greatest_mark-none, place_less}
 use Rattle.node_table.proofs.Laws.{same_table, entry_at-taken_other, entry_at-taken_newer, frame-taken}
 use Rattle.node_table.proofs.InRow.{rank_place, absent_from_end}
-use Rattle.node_table.proofs.InRows.{get-held_by_rows, len-held_by_rows, held_by_rows-put, entry_in-none}
+use Rattle.node_table.proofs.InRows.{get-held_by_lists, len-held_by_lists, held_by_lists-put, entry_in-none}
 use Rattle.node_table.proofs.Laid.{row_at-get_or, row_at-past, total-rows, length-entries_in_row}
 
 -- the entry of a key is the first that has it
@@ -50,7 +51,7 @@ entry_in-Contains row e apart (k, lt, is) =
     ∙ ap (λ (y : Entry). Some y) is
 
 pub entry_at-in : (l : Layout) (owner key : ℕ) → entry_at (table_laid l) owner key ≡ entry_in (row_at l.slots.items l.rows.items owner) key
-entry_at-in l owner key = get-held_by_rows (rows_of l.slots.items l.rows.items) owner key
+entry_at-in l owner key = get-held_by_lists (rows_of l.slots.items l.rows.items) owner key
 
 -- of an owner without a row nothing is held
 nothing_held : (l : Layout) (owner : ℕ) → row_at l.slots.items l.rows.items owner ≡ [] → greatest_mark (table_laid l) owner ≡ absent
@@ -77,7 +78,7 @@ module _ (l : Layout) (sound : IsLayout l) where
 
   pub count_is : count_of (table_laid l) ≡ l.count
   count_is =
-      len-held_by_rows (rows_of l.slots.items l.rows.items) (All-map (AllPairs HaveTwoKeys) (entries_in_row l.slots.items) l.rows.items (λ k d lt. (sound.laid.each k d lt).row.apart))
+      len-held_by_lists (rows_of l.slots.items l.rows.items) (All-map (AllPairs HaveTwoKeys) (entries_in_row l.slots.items) l.rows.items (λ k d lt. (sound.laid.each k d lt).row.apart))
       ∙ total-rows l.keys l.slots.items l.rows.items sound.laid.each ∙ sym sound.counted
 
   -- an owner that is no node has no mark
@@ -147,9 +148,9 @@ module _ (l : Layout) (sound : IsLayout l) where
         ]
 
 -- what an entry that came into an owner's row makes of the table
-pub table_placed : (l : Layout) (slots' : List Entry) (rows' : List Row) (owner : ℕ) (entry : Entry) → IsPlaced l.keys owner entry l.slots.items slots' l.rows.items rows' → ◌≡◌ {A = Table} (record { node = l.node; nodes = l.nodes; keys = l.keys; generation = l.generation; held = held_by_rows (rows_of slots' rows') }) (with_entry (table_laid l) owner entry)
+pub table_placed : (l : Layout) (slots' : List Entry) (rows' : List Row) (owner : ℕ) (entry : Entry) → IsPlaced l.keys owner entry l.slots.items slots' l.rows.items rows' → ◌≡◌ {A = Table} (record { node = l.node; nodes = l.nodes; keys = l.keys; generation = l.generation; held = held_by_lists (rows_of slots' rows') }) (with_entry (table_laid l) owner entry)
 table_placed l slots' rows' owner entry placed =
-    let held = held_by_rows-put (rows_of l.slots.items l.rows.items) (rows_of slots' rows') owner entry placed.others placed.put.here placed.put.others in
+    let held = held_by_lists-put (rows_of l.slots.items l.rows.items) (rows_of slots' rows') owner entry placed.others placed.put.here placed.put.others in
     λ i. record { node = l.node; nodes = l.nodes; keys = l.keys; generation = l.generation; held = held i }
 
 -- the count of it
@@ -164,11 +165,11 @@ count_placed keys owner nodes entry slots slots' rows rows' r r' placed laid lai
     (omega (arith, placed.counted, placed.put.grows, len, len'), omega (arith, placed.put.grows, len, len'))
 
 -- what an entry of a newer generation, which became its owner's row, makes of the table
-pub table_renewed : (l : Layout) (slots' : List Entry) (rows' : List Row) (item : Item) → generation_held (table_laid l) item.owner < item.entry.generation → IsRenewed item.owner item.entry l.slots.items slots' l.rows.items rows' → ◌≡◌ {A = Table} (record { node = l.node; nodes = l.nodes; keys = l.keys; generation = l.generation; held = held_by_rows (rows_of slots' rows') }) (taken (table_laid l) item)
+pub table_renewed : (l : Layout) (slots' : List Entry) (rows' : List Row) (item : Item) → generation_held (table_laid l) item.owner < item.entry.generation → IsRenewed item.owner item.entry l.slots.items slots' l.rows.items rows' → ◌≡◌ {A = Table} (record { node = l.node; nodes = l.nodes; keys = l.keys; generation = l.generation; held = held_by_lists (rows_of slots' rows') }) (taken (table_laid l) item)
 table_renewed l slots' rows' item newer renewed =
     let frame = frame-taken (table_laid l) item in
     let own = entry_at-taken_newer (table_laid l) item newer in
-    same_table _ (taken (table_laid l) item) (sym frame.node) (sym frame.nodes) (sym frame.keys) (sym frame.generation) (λ owner key. get-held_by_rows (rows_of slots' rows') owner key ∙ elim (cases_eq owner item.owner) [
+    same_table _ (taken (table_laid l) item) (sym frame.node) (sym frame.nodes) (sym frame.keys) (sym frame.generation) (λ owner key. get-held_by_lists (rows_of slots' rows') owner key ∙ elim (cases_eq owner item.owner) [
       | inl is ↦ subst (λ o. entry_in (row_at slots' rows' o) key ≡ entry_at (taken (table_laid l) item) o key) (sym is) (ap (λ row. entry_in row key) renewed.alone ∙ elim (cases_eq item.entry.key key) [
         | inl here ↦ ap (λ b. cond b (Some item.entry) None) (eq-eqb item.entry.key key here) ∙ sym (subst (λ k. entry_at (taken (table_laid l) item) item.owner k ≡ Some item.entry) here own.0)
         | inr off ↦ ap (λ b. cond b (Some item.entry) None) (ne_eqb item.entry.key key off) ∙ sym (own.1 key off)

@@ -11,7 +11,8 @@ use Rattle.std.proofs.lemmas.List.Elements.{All-head, All-tail}
 use Rattle.std.proofs.lemmas.List.Sums.{sum_by-cons}
 use Rattle.bench_types.specs.declared.entries.Entry.{Entry}
 use Rattle.node_table.specs.Table.{Place, place_cmp}
-use Rattle.node_table.specs.inner.Layouts.{entry_in, placed, placed_from, held_by_rows, HaveTwoKeys}
+use Rattle.node_table.specs.Held.{placed, placed_from, held_by_lists}
+use Rattle.node_table.specs.inner.Layouts.{entry_in, HaveTwoKeys}
 use Rattle.node_table.proofs.Order.{place_total, place_same}
 use Rattle.node_table.proofs.Laws.{tied-stands_at}
 
@@ -45,9 +46,9 @@ find-placed (row ∷ rows) first (suc index) owner key is =
     find-others owner key first row (placed_from (suc first) rows) (omega arith) ∙ find-placed rows (suc first) index owner key (omega arith)
 
 -- what is held at a place is the key's entry in the owner's row
-pub get-held_by_rows : (rows : List (List Entry)) (owner key : ℕ) → get (held_by_rows rows) (owner, key) ≡ entry_in (get_or rows owner []) key
-unfolding held_by_rows
-get-held_by_rows rows owner key = get-from_entries place_total (placed_from 0 rows) (owner, key) ∙ find-placed rows 0 owner owner key (omega arith)
+pub get-held_by_lists : (rows : List (List Entry)) (owner key : ℕ) → get (held_by_lists rows) (owner, key) ≡ entry_in (get_or rows owner []) key
+unfolding held_by_lists
+get-held_by_lists rows owner key = get-from_entries place_total (placed_from 0 rows) (owner, key) ∙ find-placed rows 0 owner owner key (omega arith)
 
 pub entry_in-none : (es : List Entry) (key : ℕ) → All (λ e. e.key ≢ key) es → entry_in es key ≡ None
 entry_in-none [] key absent = refl
@@ -71,9 +72,9 @@ len-placed first (row ∷ rows) apart =
     omega (arith, len-row first row rows (All-head (AllPairs HaveTwoKeys) row rows apart), len-placed (suc first) rows (All-tail (AllPairs HaveTwoKeys) row rows apart), sum_by-cons length row rows)
 
 -- there are as many as all rows have
-pub len-held_by_rows : (rows : List (List Entry)) → All (AllPairs HaveTwoKeys) rows → len (held_by_rows rows) ≡ sum_by length rows
-unfolding held_by_rows
-len-held_by_rows rows apart = len-placed 0 rows apart
+pub len-held_by_lists : (rows : List (List Entry)) → All (AllPairs HaveTwoKeys) rows → len (held_by_lists rows) ≡ sum_by length rows
+unfolding held_by_lists
+len-held_by_lists rows apart = len-placed 0 rows apart
 
 -- an entry that comes into one row comes in at its place
 module _ (before after : List (List Entry)) (owner : ℕ) (e : Entry) (same : (other : ℕ) → other ≢ owner → get_or after other [] ≡ get_or before other []) (here : entry_in (get_or after owner []) e.key ≡ Some e) (others : (key : ℕ) → key ≢ e.key → entry_in (get_or after owner []) key ≡ entry_in (get_or before owner []) key) where
@@ -87,9 +88,9 @@ module _ (before after : List (List Entry)) (owner : ℕ) (e : Entry) (same : (o
         ]))
   ]
 
-  pub held_by_rows-put : held_by_rows after ≡ insert (held_by_rows before) (owner, e.key) e
-  held_by_rows-put = same_map place_total place_same _ _ (λ q.
-      get-held_by_rows after q.0 q.1 ∙ looked q.0 q.1
-      ∙ ap (cond ((owner == q.0) && (e.key == q.1)) (Some e)) (sym (get-held_by_rows before q.0 q.1))
-      ∙ ap (λ b. cond b (Some e) (get (held_by_rows before) q)) (sym (placed_tied q.0 q.1 owner e))
-      ∙ sym (get-insert place_total (held_by_rows before) (owner, e.key) e q))
+  pub held_by_lists-put : held_by_lists after ≡ insert (held_by_lists before) (owner, e.key) e
+  held_by_lists-put = same_map place_total place_same _ _ (λ q.
+      get-held_by_lists after q.0 q.1 ∙ looked q.0 q.1
+      ∙ ap (cond ((owner == q.0) && (e.key == q.1)) (Some e)) (sym (get-held_by_lists before q.0 q.1))
+      ∙ ap (λ b. cond b (Some e) (get (held_by_lists before) q)) (sym (placed_tied q.0 q.1 owner e))
+      ∙ sym (get-insert place_total (held_by_lists before) (owner, e.key) e q))

@@ -3,9 +3,7 @@
 -- project.
 use Rattle.std.specs.Prelude.{◌≢◌, ℕ, zero, suc, ◌+◌, ◌≤◌, ◌==◌, ◌&&◌, Bool, List, All, if◌then◌else◌}
 use Rattle.std.specs.List.{list_any}
-use Rattle.std.specs.FinMap as finite
 use Rattle.bench_types.specs.declared.entries.Item.{Item}
-use Rattle.bench_types.specs.contracts.entries.Entry as entry
 use Rattle.node_table.specs.Table.{Table, greatest_version, IsItemInPlace}
 
 pub record NodeTableView : Type 0 where

@@ -40,7 +40,7 @@ pub(crate) fn all_of<N: Number>(alloc: Global, count: usize, number: N) -> Resul
     Ok(numbers)
 }
 
-/// So many times 0.
+/// So many times 0. An error is lack of memory (`OutOfMemory`).
 pub fn zeros<N: Number>(alloc: Global, count: usize) -> Result<Vec<N>, Fault>
     ensures zeros { IfOk result (λ v. HasEach count (λ r n. n ≡ 0) (map N.number v.items)) }
     ensures only { IsOkUnless result OutOfMemory }
@@ -48,7 +48,7 @@ pub fn zeros<N: Number>(alloc: Global, count: usize) -> Result<Vec<N>, Fault>
     all_of(alloc, count, N::zero())
 }
 
-/// For each owner how many of its numbers are above a mark.
+/// For each owner how many of its numbers are above a mark. An error is lack of memory (`OutOfMemory`).
 pub fn counts_above<N: Number>(
     alloc: Global,
     cells: &[N],
@@ -72,7 +72,8 @@ pub fn counts_above<N: Number>(
     Ok(counts)
 }
 
-/// For each owner how many of its numbers are above one mark and up to another.
+/// For each owner how many of its numbers are above one mark and up to another. An error is lack of memory
+/// (`OutOfMemory`).
 pub fn counts_between<N: Number>(
     alloc: Global,
     cells: &[N],
@@ -98,7 +99,8 @@ pub fn counts_between<N: Number>(
     Ok(counts)
 }
 
-/// For each owner the least of its numbers above a mark, or `N::greatest()` where there is none.
+/// For each owner the least of its numbers above a mark, or `N::greatest()` where there is none. An error is lack of
+/// memory (`OutOfMemory`).
 pub fn least_above<N: Number>(
     alloc: Global,
     cells: &[N],
@@ -150,7 +152,7 @@ fn keep_planes_ahead<N: Number>(
 }
 
 /// The numbers that are above both the peer's and their owner's mark, and 0 in place of the others. One pass masks them
-/// and counts those that it keeps.
+/// and counts those that it keeps. An error is lack of memory (`OutOfMemory`).
 pub fn ahead<N: Number>(
     alloc: Global,
     cells: &[N],

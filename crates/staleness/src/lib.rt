@@ -1,5 +1,6 @@
 //! How far the copies lag behind their owners: the figures of a round, which are how many keys of copies
-//! are stale and the most rounds that one has been so.
+//! are stale, the most rounds that one has been so, and how many entries are left over of generations that their
+//! owners have ended.
 #![tactic(auto)]
 
 mod copies;

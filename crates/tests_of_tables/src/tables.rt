@@ -179,8 +179,7 @@ const WRITTEN_AND_ADDED: [Item; 6] = [
     item!(3, 0, 9, 10, 1),
 ];
 
-// Where memory is refused once, each call that asks for some leaves the table and then goes through.
-// To be run with each allocation refused in turn, by `rt try --test --fail-alloc N`.
+// Where a call is tried again until memory suffices, the table is what one call makes of it.
 #[test]
 fn a_refusal_leaves_the_table(rt: HostRuntime) {
     let mut table = new_table(&rt, rt.alloc(), 1, NODES, KEYS);

@@ -24,7 +24,7 @@ use Rattle.version_tables.specs.SentSets.{HasSet}
 use Rattle.version_tables.specs.Views.{VersionTableView, HistoriesView, table_in, IsKept}
 use Rattle.version_tables.specs.inner.Deltas.{is_taken_at, AreMarksOf}
 use Rattle.version_tables.specs.inner.Histories.{IsWrittenSoFar, FitsHistories}
-use Rattle.version_tables.specs.inner.Laid.{AreNumbers}
+use Rattle.version_tables.specs.Laid.{AreNumbers}
 use Rattle.version_tables.specs.inner.Marked.{HasShape, LetAll, ShareLevel, KeepsLow, AreMarked, AreOffered, low_list, high_list}
 use Rattle.version_tables.specs.inner.Offered.{cells_in, marks, weights_in, count_in, IsOffer}
 use Rattle.version_tables.specs.inner.Offers.{IsHistory, Offers, offered_by, told_by, told_number}

@@ -11,11 +11,11 @@ use Rattle.node_table.specs.Table.{Table, entry_at, empty_table, IsProper}
 use Rattle.node_table.proofs.Laws.{same_table, entry_at-empty_table}
 use Rattle.node_table.proofs.ProperLaws.{proper-empty_table}
 use Rattle.node_table.specs.inner.Layouts.{entry_in}
-use Rattle.node_table.proofs.InRows.{get-held_by_rows}
+use Rattle.node_table.proofs.InRows.{get-held_by_lists}
 use Rattle.version_tables.specs.inner.Offers.{HasCells}
 use Rattle.owner_lists.specs.Numbers.{write_numbered}
 use Rattle.planes.specs.Planes.{Cells}
-use Rattle.version_tables.specs.inner.Laid.{entry_list, row_below, table_of_cells, AreNumbers}
+use Rattle.version_tables.specs.Laid.{entry_list, entries_below, table_of_cells, AreNumbers}
 
 -- an entry in one of two rows, where the first has none of its key
 entry_in-append_none : (xs ys : List Entry) (key : ℕ) → entry_in xs key ≡ None → entry_in (xs ++ ys) key ≡ entry_in ys key
@@ -51,28 +51,28 @@ module _ (writes : List Entry) (numbers : ℕ → ℕ) (keys : ℕ) (keyed : (ke
     | Some e ↦ λ is. ap (λ b. cond b (Some e) None) (eq-eqb e.key key (keyed key e lt is))
   ] refl
 
-  row-none : (bound key : ℕ) → bound ≤ keys → bound ≤ key → entry_in (row_below writes numbers bound) key ≡ None
+  row-none : (bound key : ℕ) → bound ≤ keys → bound ≤ key → entry_in (entries_below writes numbers bound) key ≡ None
   row-none zero key le past = refl
   row-none (suc bound) key le past =
-      entry_in-append_none (row_below writes numbers bound) (entry_list (write_numbered writes (numbers bound))) key (row-none bound key (omega (arith, le)) (omega (arith, past)))
+      entry_in-append_none (entries_below writes numbers bound) (entry_list (write_numbered writes (numbers bound))) key (row-none bound key (omega (arith, le)) (omega (arith, past)))
       ∙ here-in bound key (omega (arith, le)) (λ e. omega (arith, e, past))
 
-  row-at : (bound key : ℕ) → bound ≤ keys → key < bound → entry_in (row_below writes numbers bound) key ≡ write_numbered writes (numbers key)
+  row-at : (bound key : ℕ) → bound ≤ keys → key < bound → entry_in (entries_below writes numbers bound) key ≡ write_numbered writes (numbers key)
   row-at zero key le lt = absurd (omega (arith, lt))
   row-at (suc bound) key le lt = elim (cases_lt key bound) [
     | inl before ↦ in_front before (row-at bound key (omega (arith, le)) before)
     | inr not_before ↦
         let same : bound ≡ key = omega (arith, lt, not_before) in
-        entry_in-append_none (row_below writes numbers bound) (entry_list (write_numbered writes (numbers bound))) key (row-none bound key (omega (arith, le)) (omega (arith, same)))
+        entry_in-append_none (entries_below writes numbers bound) (entry_list (write_numbered writes (numbers bound))) key (row-none bound key (omega (arith, le)) (omega (arith, same)))
         ∙ subst (λ k. entry_in (entry_list (write_numbered writes (numbers k))) key ≡ write_numbered writes (numbers key)) (sym same) (here-of key (omega (arith, le, lt)))
   ]
     where
-      in_front : key < bound → entry_in (row_below writes numbers bound) key ≡ write_numbered writes (numbers key) → entry_in (row_below writes numbers bound ++ entry_list (write_numbered writes (numbers bound))) key ≡ write_numbered writes (numbers key)
-      in_front front is = elim (write_numbered writes (numbers key)) as (λ o. entry_in (row_below writes numbers bound) key ≡ o → entry_in (row_below writes numbers bound ++ entry_list (write_numbered writes (numbers bound))) key ≡ o) [
+      in_front : key < bound → entry_in (entries_below writes numbers bound) key ≡ write_numbered writes (numbers key) → entry_in (entries_below writes numbers bound ++ entry_list (write_numbered writes (numbers bound))) key ≡ write_numbered writes (numbers key)
+      in_front front is = elim (write_numbered writes (numbers key)) as (λ o. entry_in (entries_below writes numbers bound) key ≡ o → entry_in (entries_below writes numbers bound ++ entry_list (write_numbered writes (numbers bound))) key ≡ o) [
         | None ↦ λ none.
-            entry_in-append_none (row_below writes numbers bound) (entry_list (write_numbered writes (numbers bound))) key none
+            entry_in-append_none (entries_below writes numbers bound) (entry_list (write_numbered writes (numbers bound))) key none
             ∙ here-in bound key (omega (arith, le)) (λ e. omega (arith, e, lt, front))
-        | Some e ↦ λ some. entry_in-append_some (row_below writes numbers bound) (entry_list (write_numbered writes (numbers bound))) key e some
+        | Some e ↦ λ some. entry_in-append_some (entries_below writes numbers bound) (entry_list (write_numbered writes (numbers bound))) key e some
       ] is
 
 module _ (lists : ℕ → List Entry) (node nodes keys generation : ℕ) (cells : Cells) (are : AreNumbers lists nodes keys cells) where
@@ -80,23 +80,23 @@ module _ (lists : ℕ → List Entry) (node nodes keys generation : ℕ) (cells 
   t = table_of_cells lists node nodes keys generation cells
 
   abbrev row : ℕ → List Entry
-  row owner = row_below (lists owner) (cells owner) keys
+  row owner = entries_below (lists owner) (cells owner) keys
 
   pub has_cells : HasCells lists cells t
   has_cells owner key in_nodes in_keys =
-      get-held_by_rows (map row (range_with_len 0 nodes)) owner key
+      get-held_by_lists (map row (range_with_len 0 nodes)) owner key
       ∙ ap (λ r. entry_in r key) (get_or-map-range_with_len row 0 nodes owner owner [] in_nodes (omega arith))
       ∙ row-at (lists owner) (cells owner) keys (λ k e lt is. are.keyed owner k e in_nodes lt is) keys key (omega arith) in_keys
 
   -- nothing is held past the bounds
   outside-owner : (owner key : ℕ) → nodes ≤ owner → entry_at t owner key ≡ None
   outside-owner owner key past =
-      get-held_by_rows (map row (range_with_len 0 nodes)) owner key
+      get-held_by_lists (map row (range_with_len 0 nodes)) owner key
       ∙ ap (λ r. entry_in r key) (get_or_past (map row (range_with_len 0 nodes)) owner [] (omega (arith, past, length-map-range_with_len row 0 nodes)))
 
   outside-key : (owner key : ℕ) → owner < nodes → keys ≤ key → entry_at t owner key ≡ None
   outside-key owner key in_nodes past =
-      get-held_by_rows (map row (range_with_len 0 nodes)) owner key
+      get-held_by_lists (map row (range_with_len 0 nodes)) owner key
       ∙ ap (λ r. entry_in r key) (get_or-map-range_with_len row 0 nodes owner owner [] in_nodes (omega arith))
       ∙ row-none (lists owner) (cells owner) keys (λ k e lt is. are.keyed owner k e in_nodes lt is) keys key (omega arith) past
 

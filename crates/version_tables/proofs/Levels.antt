@@ -143,7 +143,7 @@ module _ (mode : Mode) (from to : Table) (proper : IsProper from) (lists : ℕ �
         numbers-born (lists x.owner) (histories x.owner) (item_number cells x) (item_number cells y) x.entry y.entry (candidate-number x in_x).1 y_number (omega (arith, lt)),
       )
 
-  -- the one with the lower number comes first, or in the last mode the other
+  -- the one with the lower number comes first, or in `PreciseNewest` the other
   abbrev ahead : Mode → Ordering
   ahead ScuttleBreadth = Less
   ahead ScuttleDepth = Less

@@ -16,7 +16,7 @@ use Rattle.planes.specs.Planes.{cell}
 use Rattle.version_tables.specs.Views.{VersionTableView, table_in, IsKept}
 use Rattle.version_tables.specs.Writes.{IsNextWrite}
 use Rattle.version_tables.specs.inner.Histories.{IsBeginning, IsWriteUnder}
-use Rattle.version_tables.specs.inner.Laid.{IsFirst}
+use Rattle.version_tables.specs.Laid.{IsFirst}
 use Rattle.version_tables.proofs.Laid.{has_cells}
 use Rattle.version_tables.proofs.Numbers.{numbered-some}
 use Rattle.version_tables.proofs.Offers.{write_from-at}

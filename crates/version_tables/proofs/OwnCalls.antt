@@ -20,7 +20,7 @@ use Rattle.planes.specs.inner.Elementwise.{AreChanged}
 use Rattle.version_tables.specs.Views.{VersionTableView, table_in, IsKept}
 use Rattle.version_tables.specs.Writes.{IsNextWrite, HasOwnWrite}
 use Rattle.version_tables.specs.inner.Histories.{IsBeginning}
-use Rattle.version_tables.specs.inner.Laid.{table_of_cells, AreNumbers, IsFirst, IsGreatest, IsVersionTable}
+use Rattle.version_tables.specs.Laid.{table_of_cells, AreNumbers, IsFirst, IsGreatest, IsVersionTable}
 use Rattle.version_tables.specs.inner.Offers.{IsHistory}
 use Rattle.version_tables.proofs.Laid.{has_cells, cells_table}
 use Rattle.version_tables.proofs.Numbers.{numbered-some, numbered-within}

@@ -5,7 +5,7 @@ use Rattle.std.proofs.lemmas.Bool.{cases_lt, lt-ltb, le-leb, lt-leb, ltb-true, a
 use Rattle.planes.specs.Planes.{number_taken}
 use Rattle.bench_types.specs.declared.entries.Entry.{Entry}
 use Rattle.version_tables.specs.Views.{VersionTableView}
-use Rattle.version_tables.specs.inner.Laid.{IsVersionTable}
+use Rattle.version_tables.specs.Laid.{IsVersionTable}
 use Rattle.version_tables.specs.inner.Taken.{is_taken, number_kept, IsTaken, HasTaken, HasTakenUnless, StaysOne}
 
 -- a number that is taken is the one that is sent

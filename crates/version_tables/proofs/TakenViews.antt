@@ -14,7 +14,7 @@ use Rattle.planes.specs.Planes.{Cells, cell, number_taken, numbers_taken}
 use Rattle.version_tables.specs.Views.{VersionTableView, HistoriesView, table_in, IsKept}
 use Rattle.version_tables.specs.inner.Deltas.{delta_of_views, is_taken_at}
 use Rattle.version_tables.specs.inner.Histories.{bases_in, IsWrittenSoFar, FitsHistories}
-use Rattle.version_tables.specs.inner.Laid.{table_of_cells, AreNumbers, IsFirst, IsGreatest, IsVersionTable}
+use Rattle.version_tables.specs.Laid.{table_of_cells, AreNumbers, IsFirst, IsGreatest, IsVersionTable}
 use Rattle.version_tables.specs.inner.Offers.{HasCells}
 use Rattle.version_tables.specs.inner.Taken.{is_taken, drop_start, number_kept, AreSent, SendsNoNewer, SendsNewer, AreTakenCells, IsTaken}
 use Rattle.version_tables.proofs.Fitting.{fits-upto, fits-cells}

@@ -18,7 +18,7 @@ use Rattle.reconcile.specs.Candidates.{known_mark}
 use Rattle.owner_lists.specs.Numbers.{write_numbered}
 use Rattle.planes.specs.Planes.{Cells, number_ahead}
 use Rattle.version_tables.specs.inner.Offers.{IsHistory, IsNumberedHistory, HasCells, Offers, is_lacked, start_before, start_of, told_by, told_number, offered_by}
-use Rattle.version_tables.specs.inner.Laid.{AreNumbers, IsGreatest}
+use Rattle.version_tables.specs.Laid.{AreNumbers, IsGreatest}
 use Rattle.version_tables.proofs.Offers.{numbers-before}
 use Rattle.version_tables.proofs.Numbers.{numbered-none, numbered-some, numbered-within, numbers-up_to, numbers-compare}
 

@@ -1,3 +1,4 @@
+pub mod Laid
 pub mod SentSets
 pub mod Views
 pub mod Writes

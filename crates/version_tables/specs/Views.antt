@@ -5,7 +5,7 @@ use Rattle.bench_types.specs.declared.entries.Entry.{Entry}
 use Rattle.node_table.specs.Table.{Table}
 use Rattle.owner_lists.specs.OwnerListView.{OwnerListView}
 use Rattle.planes.specs.Planes.{cell}
-use Rattle.version_tables.specs.inner.Laid.{table_of_cells, IsVersionTable}
+use Rattle.version_tables.specs.Laid.{table_of_cells, IsVersionTable}
 
 -- a plane for each key, with a number for each owner, and the greatest number of each owner
 pub record VersionTableView : Type 0 where

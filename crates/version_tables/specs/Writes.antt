@@ -4,7 +4,7 @@ use Rattle.bench_types.specs.declared.entries.Entry.{Entry}
 use Rattle.node_table.specs.Table.{own_write, with_own_write}
 use Rattle.owner_lists.specs.Numbers.{write_numbered}
 use Rattle.version_tables.specs.Views.{VersionTableView, table_in}
-use Rattle.version_tables.specs.inner.Laid.{IsFirst}
+use Rattle.version_tables.specs.Laid.{IsFirst}
 
 -- under a number above all that a table holds of its node stands what the node writes next of a key
 pub record IsNextWrite (written : ℕ → List Entry) (v : VersionTableView) (key number : ℕ) : Type 0 where

@@ -14,6 +14,7 @@ use crate::breadths::breadth;
 use crate::depths::depth;
 use crate::rounds::rounds;
 use crate::sharing::share;
+use crate::stops::First;
 use crate::weights::{Level, Offer};
 use bench_types::{Fault, Mode};
 use planes::Number;
@@ -104,7 +105,7 @@ fn level_of<N: Number>(
     match mode {
         Mode::ScuttleBreadth => breadth(alloc, offer),
         Mode::ScuttleDepth => depth(alloc, offer),
-        Mode::PreciseOldest => rounds(alloc, offer, ends, last, found, false),
-        Mode::PreciseNewest => rounds(alloc, offer, ends, last, found, true),
+        Mode::PreciseOldest => rounds(alloc, offer, ends, last, found, First::Oldest),
+        Mode::PreciseNewest => rounds(alloc, offer, ends, last, found, First::Newest),
     }
 }

@@ -51,7 +51,8 @@ impl<N: Number, H: Written> VersionTable<N, H> {
     ghost use Rattle.version_tables.specs.Views.{table_in};
     ghost use Rattle.version_tables.specs.Writes.{IsNextWrite, HasOwnWrite};
 
-    /// The empty table of a node, in its generation 0. An error is lack of memory (`OutOfMemory`).
+    /// The empty table of a node, in its generation 0. It has a number for each
+    /// owner and key. An error is lack of memory (`OutOfMemory`).
     pub fn new(alloc: Global, node: u32, nodes: u32, keys: u32) -> Result<VersionTable<N, H>, Fault>
         requires node { node < nodes }
         requires nodes { nodes ≤ MOST_NODES }
@@ -73,7 +74,7 @@ impl<N: Number, H: Written> VersionTable<N, H> {
         })
     }
 
-    /// The node writes one of its keys: what is held of it is the write of this number.
+    /// The node writes one of its keys: what is held of it is the write of this number. Two numbers change.
     pub fn write_own(&mut self, key: u32, number: N)
         requires key { key < self.old.keys }
         requires next { IsNextWrite H.lists self.old key (N.number number) }
@@ -85,7 +86,7 @@ impl<N: Number, H: Written> VersionTable<N, H> {
         self.greatest[owner] = number;
     }
 
-    /// Drops the entries of all other owners, as a restart does.
+    /// Drops the entries of all other owners, as a restart does. The cost is one pass over the table.
     pub fn forget_others(&mut self)
         ensures { table_in H.lists self.new ≡ without_others (table_in H.lists self.old) }
     {
@@ -97,6 +98,7 @@ impl<N: Number, H: Written> VersionTable<N, H> {
     }
 
     /// Drops all entries, the node's own too, and begins the node's next generation, as a restart does that forgets.
+    /// The cost is one pass over the table.
     pub fn forget_all(&mut self)
         requires { self.old.generation + 1 < 2 ^ 32 }
         ensures { table_in H.lists self.new ≡ without_all (table_in H.lists self.old) }

@@ -12,7 +12,9 @@ ghost use Rattle.version_tables.specs.inner.Offered.{marks, weight_in, count_in,
 ghost use Rattle.version_tables.specs.inner.Plans.{weight_on, count_on, IsLevel};
 ghost use Rattle.version_tables.specs.inner.RoundLevels.{round_mode, round_at, end_mark, round_mark, AreFewAndEnough, AreRounds};
 ghost use Rattle.version_tables.specs.inner.Rounds.{AreEnds};
+ghost use Rattle.version_tables.specs.inner.Stops.{is_newest};
 
+use crate::stops::First;
 use crate::weights::{Level, Offer};
 use bench_types::Fault;
 use planes::Number;
@@ -39,7 +41,7 @@ pub(crate) fn rounds<N: Number>(
     ends: &[N],
     rounds: u32,
     found: u32,
-    newest: bool,
+    first: First,
 ) -> Result<Level<N>, Fault>
     requires offer { IsOffer N.number N.most offer.now }
     requires ends { AreEnds (all_writes offer.now.lists.now) offer.now.nodes rounds (map N.number ends.now) }
@@ -48,13 +50,13 @@ pub(crate) fn rounds<N: Number>(
         ≡ count_in N.number offer.now (marks N.number offer.now.low.now) (marks N.number offer.now.high.now) }
     requires beyond { amount_of offer.now.budget
         < weight_in N.number offer.now (marks N.number offer.now.low.now) (marks N.number offer.now.high.now) }
-    ensures level { IfOk result (IsLevel (round_mode newest) N.number offer.now) }
-    ensures rounds { IfOk result (AreRounds newest N.number offer.now) }
+    ensures level { IfOk result (IsLevel (round_mode (is_newest first)) N.number offer.now) }
+    ensures rounds { IfOk result (AreRounds (is_newest first) N.number offer.now) }
     ensures only { IsOkUnless result OutOfMemory }
 {
-    let few = few_rounds(alloc, offer, ends, rounds, found, newest)?;
-    let near = mark_after(alloc, offer, ends, rounds, few.rounds, newest)?;
-    let far = mark_after(alloc, offer, ends, rounds, few.rounds + 1, newest)?;
+    let few = few_rounds(alloc, offer, ends, rounds, found, first)?;
+    let near = mark_after(alloc, offer, ends, rounds, few.rounds, first)?;
+    let far = mark_after(alloc, offer, ends, rounds, few.rounds + 1, first)?;
     Ok(Level {
         near,
         far,
@@ -69,7 +71,7 @@ fn few_rounds<N: Number>(
     ends: &[N],
     rounds: u32,
     found: u32,
-    newest: bool,
+    first: First,
 ) -> Result<Few, Fault>
     requires offer { IsOffer N.number N.most offer.now }
     requires ends { AreEnds (all_writes offer.now.lists.now) offer.now.nodes rounds (map N.number ends.now) }
@@ -78,8 +80,8 @@ fn few_rounds<N: Number>(
         ≡ count_in N.number offer.now (marks N.number offer.now.low.now) (marks N.number offer.now.high.now) }
     requires beyond { amount_of offer.now.budget
         < weight_in N.number offer.now (marks N.number offer.now.low.now) (marks N.number offer.now.high.now) }
-    ensures few { IfOk result (λ few. AreFewAndEnough newest N.number offer.now
-        (round_mark newest rounds (map N.number ends.now) offer.now.nodes (marks N.number offer.now.low.now))
+    ensures few { IfOk result (λ few. AreFewAndEnough (is_newest first) N.number offer.now
+        (round_mark (is_newest first) rounds (map N.number ends.now) offer.now.nodes (marks N.number offer.now.low.now))
         rounds few.rounds (few.rounds + 1) few.whole) }
     ensures only { IsOkUnless result OutOfMemory }
 {
@@ -89,8 +91,8 @@ fn few_rounds<N: Number>(
     let mut step = 1;
     while few + 1 < enough {
         let by = ((enough - few) / 2).min(step);
-        let mark = mark_after(alloc, offer, ends, rounds, few + by, newest)?;
-        let found_there = look(offer, &mark, found, newest);
+        let mark = mark_after(alloc, offer, ends, rounds, few + by, first)?;
+        let found_there = look(offer, &mark, found, first);
         if found_there.fits {
             few += by;
             whole = found_there.count;
@@ -103,24 +105,29 @@ fn few_rounds<N: Number>(
 }
 
 // What marks let through.
-fn look<N: Number>(offer: &Offer<N>, mark: &[N], found: u32, newest: bool) -> Found
+fn look<N: Number>(offer: &Offer<N>, mark: &[N], found: u32, first: First) -> Found
     requires offer { IsOffer N.number N.most offer.now }
     requires mark { length mark.now ≡ offer.now.nodes }
     requires above { (r : ℕ) → r < offer.now.nodes → marks N.number offer.now.low.now r ≤ marks N.number mark.now r }
     requires found { found
         ≡ count_in N.number offer.now (marks N.number offer.now.low.now) (marks N.number offer.now.high.now) }
-    ensures count { result.count ≡ count_on (round_mode newest) N.number offer.now (marks N.number mark.now) }
+    ensures count { result.count
+        ≡ count_on (round_mode (is_newest first)) N.number offer.now (marks N.number mark.now) }
     ensures fits { IsTrue result.fits
-        ↔ (weight_on (round_mode newest) N.number offer.now (marks N.number mark.now) ≤ amount_of offer.now.budget) }
+        ↔ (weight_on (round_mode (is_newest first)) N.number offer.now (marks N.number mark.now)
+        ≤ amount_of offer.now.budget) }
 {
     let above = planes::total_above(offer.cells, offer.nodes, offer.keys, mark, offer.high);
-    if newest {
-        let fits = offer.fits(above, mark, offer.high);
-        Found { count: above, fits }
-    } else {
-        let count = found - above;
-        let fits = offer.fits(count, offer.low, mark);
-        Found { count, fits }
+    match first {
+        First::Oldest => {
+            let count = found - above;
+            let fits = offer.fits(count, offer.low, mark);
+            Found { count, fits }
+        }
+        First::Newest => {
+            let fits = offer.fits(above, mark, offer.high);
+            Found { count: above, fits }
+        }
     }
 }
 
@@ -131,18 +138,22 @@ fn mark_after<N: Number>(
     ends: &[N],
     rounds: u32,
     count: u32,
-    newest: bool,
+    first: First,
 ) -> Result<Vec<N>, Fault>
     requires offer { IsOffer N.number N.most offer.now }
     requires ends { length ends.now ≡ (rounds + 1) * offer.now.nodes }
     requires count { count ≤ rounds }
     ensures marks { IfOk result (λ v. HasEach offer.now.nodes
         (λ r n. n
-        ≡ round_mark newest rounds (map N.number ends.now) offer.now.nodes (marks N.number offer.now.low.now) count r)
+        ≡ round_mark (is_newest first) rounds (map N.number ends.now) offer.now.nodes (marks N.number offer.now.low.now)
+        count r)
         (map N.number v.items)) }
     ensures only { IsOkUnless result OutOfMemory }
 {
-    let round = if newest { rounds - count } else { count };
+    let round = match first {
+        First::Oldest => count,
+        First::Newest => rounds - count,
+    };
     let mut mark = Vec::from_slice(alloc, offer.low)?;
     raise_to_end(&mut mark, ends, rounds, round);
     Ok(mark)

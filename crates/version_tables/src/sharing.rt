@@ -10,7 +10,7 @@ ghost use Rattle.version_tables.specs.inner.Plans.{weight_on, IsLevel};
 ghost use Rattle.version_tables.specs.inner.Sharing.{AreShared};
 ghost use Rattle.version_tables.specs.inner.Turns.{part_between, AreTurnsPassed, ArePartCounts, IsStop};
 
-use crate::stops::Stop;
+use crate::stops::{First, Stop};
 use crate::weights::{Level, Offer, Share, number_at};
 use bench_types::{Budget, Fault, Mode};
 use planes::{Number, counts_between};
@@ -71,9 +71,9 @@ impl<'a, N: Number> Offer<'a, N> {
             (N.number near) (N.number far) room (N.number result.mark) result.sent }
     {
         match mode {
-            Mode::PreciseNewest => self.stop_from(true, owner, near, far, room),
+            Mode::PreciseNewest => self.stop_from(First::Newest, owner, near, far, room),
             Mode::ScuttleBreadth | Mode::ScuttleDepth | Mode::PreciseOldest => {
-                self.stop_from(false, owner, near, far, room)
+                self.stop_from(First::Oldest, owner, near, far, room)
             }
         }
     }

@@ -2,10 +2,17 @@
 
 ghost use Rattle.std.specs.Prelude.{◌≡◌, ℕ, ◌+◌, ◌-◌, ◌*◌, ◌<◌, ◌≤◌, length};
 ghost use Rattle.version_tables.specs.inner.Offered.{cells_in, weights_in, IsOffer};
-ghost use Rattle.version_tables.specs.inner.Stops.{weight_from, HasBetween, HasNext, IsNext, IsNextUp, IsNextDown, IsPast, IsStopFrom};
+ghost use Rattle.version_tables.specs.inner.Stops.{is_newest, weight_from, HasBetween, HasNext, IsNext, IsNextUp, IsNextDown, IsPast, IsStopFrom};
 
 use crate::weights::Offer;
 use planes::Number;
+
+/// What is sent first.
+#[derive(Clone, Copy)]
+pub(crate) enum First {
+    Oldest,
+    Newest,
+}
 
 /// The mark where an owner's part stops, and how many numbers it lets through of it.
 #[derive(Clone, Copy)]
@@ -52,25 +59,24 @@ impl<'a, N: Number> Offer<'a, N> {
     }
 
     // Of those between a near and a far mark the least, or from the newest on the greatest.
-    fn next(&self, newest: bool, owner: usize, near: N, far: N) -> N
+    fn next(&self, first: First, owner: usize, near: N, far: N) -> N
         requires offer { IsOffer N.number N.most self.now }
         requires owner { owner < self.now.nodes }
-        requires some { HasNext newest (cells_in N.number self.now) self.now.keys owner
+        requires some { HasNext (is_newest first) (cells_in N.number self.now) self.now.keys owner
             (N.number near) (N.number far) }
-        ensures { IsNext newest (cells_in N.number self.now) self.now.keys owner (N.number near) (N.number far)
-            (N.number result) }
+        ensures { IsNext (is_newest first) (cells_in N.number self.now) self.now.keys owner
+            (N.number near) (N.number far) (N.number result) }
     {
-        if newest {
-            self.next_down(owner, far, near)
-        } else {
-            self.next_up(owner, near, far)
+        match first {
+            First::Oldest => self.next_up(owner, near, far),
+            First::Newest => self.next_down(owner, far, near),
         }
     }
 
     /// One after another from the near mark on, as long as they fit.
     pub(crate) fn stop_from(
         &self,
-        newest: bool,
+        first: First,
         owner: usize,
         near: N,
         far: N,
@@ -78,21 +84,21 @@ impl<'a, N: Number> Offer<'a, N> {
     ) -> Stop<N>
         requires offer { IsOffer N.number N.most self.now }
         requires owner { owner < self.now.nodes }
-        requires beyond { room < weight_from newest (weights_in self.now owner) (cells_in N.number self.now)
+        requires beyond { room < weight_from (is_newest first) (weights_in self.now owner) (cells_in N.number self.now)
             self.now.keys owner (N.number near) (N.number far) }
-        ensures { IsStopFrom newest (weights_in self.now owner) (cells_in N.number self.now) self.now.keys owner
-            (N.number near) (N.number far) room (N.number result.mark) result.sent }
+        ensures { IsStopFrom (is_newest first) (weights_in self.now owner) (cells_in N.number self.now)
+            self.now.keys owner (N.number near) (N.number far) room (N.number result.mark) result.sent }
     {
         let mut mark = near;
         let mut sent = 0;
         let mut left = room;
-        let mut next = self.next(newest, owner, mark, far);
+        let mut next = self.next(first, owner, mark, far);
         let mut weight = self.weight_of_number(owner, next);
         while weight <= left {
             left -= weight;
             sent += 1;
-            mark = mark_past(newest, next);
-            next = self.next(newest, owner, mark, far);
+            mark = mark_past(first, next);
+            next = self.next(first, owner, mark, far);
             weight = self.weight_of_number(owner, next);
         }
         Stop { mark, sent }
@@ -100,14 +106,13 @@ impl<'a, N: Number> Offer<'a, N> {
 }
 
 // The nearest mark that is past a number.
-fn mark_past<N: Number>(newest: bool, number: N) -> N
+fn mark_past<N: Number>(first: First, number: N) -> N
     requires some { 0 < N.number number }
     requires fits { N.number number ≤ N.most }
-    ensures { IsPast newest (N.number number) (N.number result) }
+    ensures { IsPast (is_newest first) (N.number number) (N.number result) }
 {
-    if newest {
-        N::narrow(number.widen() - 1)
-    } else {
-        number
+    match first {
+        First::Oldest => number,
+        First::Newest => N::narrow(number.widen() - 1),
     }
 }

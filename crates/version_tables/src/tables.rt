@@ -31,7 +31,7 @@ impl<N: Number, H: Written> Model for VersionTable<N, H> {
     ghost use Rattle.std.specs.Prelude.{map};
     ghost use Rattle.version_tables.specs.Views.{VersionTableView};
     ghost use Rattle.version_tables.specs.inner.Codes.{table_view_code};
-    ghost use Rattle.version_tables.specs.inner.Laid.{IsVersionTable};
+    ghost use Rattle.version_tables.specs.Laid.{IsVersionTable};
 
     ghost Value = { VersionTableView };
 

@@ -31,7 +31,7 @@ pub(crate) struct Level<N: Number> {
     pub(crate) whole: u32,
 }
 
-/// Marks up to which is sent, or in the last mode above which, and how many numbers these are.
+/// Marks up to which is sent, or above which where the newest goes first, and how many numbers these are.
 #[derive(Drop)]
 pub(crate) struct Share<N: Number> {
     pub(crate) mark: Vec<N>,

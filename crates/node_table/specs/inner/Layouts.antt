@@ -1,12 +1,13 @@
 -- How a table lies in memory. Each owner of whom something is held has a block of slots, one for each key; the
 -- front of the block is the owner's row. Blocks don't overlap. Source: this project.
-use Rattle.std.specs.Prelude.{◌≡◌, ◌≢◌, ℕ, suc, ◌+◌, ◌-◌, ◌/◌, ◌<◌, ◌≤◌, ◌==◌, ◌⊎◌, Bool, not, false, List, [], ◌∷◌, ◌++◌, Option, None, Some, length, map, take, drop, All, AllPairs, sum_by, slice_index, slice_index_or, vec_len, vec_capacity, if◌then◌else◌}
-use Rattle.std.specs.FinMap.{from_entries, insert}
+use Rattle.std.specs.Prelude.{◌≡◌, ◌≢◌, ℕ, ◌+◌, ◌-◌, ◌/◌, ◌<◌, ◌≤◌, ◌==◌, ◌⊎◌, Bool, not, false, List, [], ◌∷◌, Option, None, Some, length, map, take, drop, All, AllPairs, sum_by, slice_index, slice_index_or, vec_len, vec_capacity, if◌then◌else◌}
+use Rattle.std.specs.FinMap.{insert}
 use Rattle.std.specs.Ordering.{is_lt}
 use Rattle.bench_types.specs.declared.entries.Entry.{Entry}
 use Rattle.node_table.specs.declared.layouts.Row.{Row}
 use Rattle.node_table.specs.declared.layouts.Layout.{Layout}
-use Rattle.node_table.specs.Table.{Place, Held, Table, greatest_version, IsProper}
+use Rattle.node_table.specs.Table.{Held, Table, greatest_version, IsProper}
+use Rattle.node_table.specs.Held.{held_by_lists}
 use Rattle.node_table.specs.Entries.{entry_cmp, StandsBefore, AreGenerations, AreGreatest}
 
 -- the entries of a row
@@ -25,21 +26,8 @@ abbrev pub entry_in : List Entry → ℕ → Option Entry
 entry_in [] key = None
 entry_in (e ∷ es) key = if e.key == key then Some e else entry_in es key
 
--- an owner's entry, at its place
-abbrev pub placed : ℕ → Entry → Place × Entry
-placed owner e = ((owner, e.key), e)
-
--- the entries of the rows of an owner and those after it
-abbrev pub placed_from : ℕ → List (List Entry) → List (Place × Entry)
-placed_from owner [] = []
-placed_from owner (row ∷ rows) = map (placed owner) row ++ placed_from (suc owner) rows
-
--- what rows hold, the first row being that of owner 0
-unfoldable pub held_by_rows : List (List Entry) → Held
-held_by_rows rows = from_entries (placed_from 0 rows)
-
 abbrev pub held_by : Layout → Held
-held_by l = held_by_rows (rows_of l.slots.items l.rows.items)
+held_by l = held_by_lists (rows_of l.slots.items l.rows.items)
 
 -- the table that lies in memory
 abbrev pub table_laid : Layout → Table

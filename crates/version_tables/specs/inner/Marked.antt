@@ -56,7 +56,7 @@ pub record ShareLevel {N : Type 0} (mode : Mode) (rotation : ℕ) (number : N �
   pub past_far : (r : ℕ) → offer.nodes ≤ r → mark r ≡ far r
   pub shared : AreShared mode rotation number offer near far mark sent
 
--- in the last mode no mark is below the low one
+-- in `PreciseNewest` no mark is below the low one
 abbrev pub KeepsLow : Mode → ℕ → (ℕ → ℕ) → (ℕ → ℕ) → Type 0
 KeepsLow ScuttleBreadth nodes low mark = Unit {0}
 KeepsLow ScuttleDepth nodes low mark = Unit {0}
@@ -71,14 +71,14 @@ pub record AreMarked {N : Type 0} (mode : Mode) (rotation : ℕ) (number : N →
   pub left : sent + cut ≡ count_in number offer (marks number offer.low.now) (marks number offer.high.now)
   pub how : LetAll mode number offer mark ⊎ ShareLevel mode rotation number offer mark sent
 
--- the marks that let all through: the high ones, or in the last mode the low ones
+-- the marks that let all through: the high ones, or in `PreciseNewest` the low ones
 abbrev pub whole_marks : {N : Type 0} → Mode → (N → ℕ) → Offer N → List ℕ
 whole_marks ScuttleBreadth number offer = map number offer.high.now
 whole_marks ScuttleDepth number offer = map number offer.high.now
 whole_marks PreciseOldest number offer = map number offer.high.now
 whole_marks PreciseNewest number offer = map number offer.low.now
 
--- the marks of a delta: low ones and those of what is sent, or in the last mode those and the high ones
+-- the marks of a delta: low ones and those of what is sent, or in `PreciseNewest` those and the high ones
 abbrev pub low_list : {A : Type 0} → Mode → A → A → A
 low_list ScuttleBreadth low mark = low
 low_list ScuttleDepth low mark = low

@@ -21,7 +21,7 @@ IsNextMark cells keys owner mark next =
 abbrev pub raised : ℕ → (ℕ → ℕ) → (ℕ → ℕ) → ℕ
 raised nodes mark next = sum_below nodes (λ owner. if nat_lt (mark owner) (next owner) then 1 else 0)
 
--- what marks let through: what is up to them, or in the last mode above them
+-- what marks let through: what is up to them, or in `PreciseNewest` above them
 abbrev pub weight_on : {N : Type 0} → Mode → (N → ℕ) → Offer N → (ℕ → ℕ) → ℕ
 weight_on ScuttleBreadth number offer mark = weight_in number offer (marks number offer.low.now) mark
 weight_on ScuttleDepth number offer mark = weight_in number offer (marks number offer.low.now) mark

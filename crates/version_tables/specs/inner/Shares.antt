@@ -14,7 +14,7 @@ use Rattle.owner_lists.specs.Numbers.{write_numbered}
 use Rattle.planes.specs.Planes.{Cells, count_above, count_between, HasNoneAbove}
 use Rattle.version_tables.specs.inner.Levels.{level_cmp, item_number, comes_first}
 
--- a mark lets a number through that is up to it, or in the last mode above it
+-- a mark lets a number through that is up to it, or in `PreciseNewest` above it
 abbrev pub lets_through : Mode → ℕ → ℕ → Bool
 lets_through ScuttleBreadth mark number = nat_le number mark
 lets_through ScuttleDepth mark number = nat_le number mark

@@ -1,7 +1,14 @@
 -- Where an owner's part of a level stops: at the first of its numbers that doesn't fit. Source: this project.
 use Rattle.std.specs.Prelude.{◌≡◌, ℕ, ◌+◌, ◌<◌, ◌≤◌, Bool, true, false}
 use Rattle.planes.specs.Planes.{Cells}
+use Rattle.version_tables.specs.declared.stops.First.{First}
+use Rattle.version_tables.specs.declared.stops.First.TheVariants.{Oldest, Newest}
 use Rattle.version_tables.specs.inner.Weights.{weight_of}
+
+-- the newest is sent first, not the oldest
+abbrev pub is_newest : First → Bool
+is_newest Oldest = false
+is_newest Newest = true
 
 -- a key's number is above one mark and up to another
 pub record HasBetween (cells : Cells) (keys owner low high : ℕ) : Type 0 where

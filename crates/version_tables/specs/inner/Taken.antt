@@ -5,7 +5,7 @@ use Rattle.bench_types.specs.declared.entries.Item.{Item}
 use Rattle.node_table.specs.Table.{Table, entry_at, generation_held}
 use Rattle.planes.specs.Planes.{Cells, cell, numbers_taken, IsRaised}
 use Rattle.version_tables.specs.Views.{VersionTableView}
-use Rattle.version_tables.specs.inner.Laid.{IsVersionTable}
+use Rattle.version_tables.specs.Laid.{IsVersionTable}
 use Rattle.version_tables.specs.inner.Offers.{start_of}
 
 -- a sent number is taken that is above the receiver's and one mark, and up to another

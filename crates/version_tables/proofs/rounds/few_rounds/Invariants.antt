@@ -1,12 +1,13 @@
 use Rattle.std.proofs.Common.{◌-◌, ◌<◌, map}
 use Rattle.version_tables.specs.inner.Offered.{marks}
 use Rattle.version_tables.specs.inner.RoundLevels.{round_mark, AreFewAndEnough}
+use Rattle.version_tables.specs.inner.Stops.{is_newest}
 use Rattle.version_tables.proofs.rounds.few_rounds.Given as goal
 
 abbrev pub invariant-loop-few : goal.invariant-loop-few
 invariant-loop-few g l = record {
-  found : AreFewAndEnough l.newest g.N.Number.number l.offer
-      (round_mark l.newest l.rounds (map g.N.Number.number l.ends) l.offer.nodes (marks g.N.Number.number l.offer.low.now))
+  found : AreFewAndEnough (is_newest l.first) g.N.Number.number l.offer
+      (round_mark (is_newest l.first) l.rounds (map g.N.Number.number l.ends) l.offer.nodes (marks g.N.Number.number l.offer.low.now))
       l.rounds l.few l.enough l.whole;
   step : 0 < l.step;
 }

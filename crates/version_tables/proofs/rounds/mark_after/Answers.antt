@@ -5,9 +5,10 @@ use Rattle.bench_types.specs.declared.limits.TheConstants.{MOST_NODES}
 use Rattle.planes.specs.Planes.{HasEach}
 use Rattle.version_tables.specs.inner.Offered.{marks}
 use Rattle.version_tables.specs.inner.RoundLevels.{round_at, end_mark}
+use Rattle.version_tables.specs.inner.Stops.{is_newest}
 use Rattle.version_tables.proofs.rounds.mark_after.Given as given
 use Rattle.version_tables.proofs.rounds.mark_after.Goals as goal
-use Rattle.version_tables.proofs.rounds.mark_after.Goals.{then-newest, else-newest}
+use Rattle.version_tables.proofs.rounds.mark_after.Goals.{in-Oldest, in-Newest}
 
 size : (g : given.Over) (c : goal.After-deref_mut g) → length c.deref_mut.result.now ≡ c.args.offer.now.nodes
 size g c = ap length c.deref_mut.ensures.value ∙ ap length c.in_ok-mark.ensures.items ∙ c.requires.offer.low
@@ -25,14 +26,14 @@ returns-clause-marks g c =
     let ends = map number c.args.ends.now in
     let low = marks number offer.low.now in
     let size = ap length c.deref_mut.ensures.value ∙ ap length c.in_ok-mark.ensures.items ∙ c.requires.offer.low in
-    let round : c.if-newest.round ≡ round_at c.args.newest c.args.rounds c.args.count =
-    elim c.if-newest.branch [
-      | then-newest w ↦ w.round-is ∙ (λ i. round_at (sym w.if-newest.true i) c.args.rounds c.args.count)
-      | else-newest w ↦ w.round-is ∙ (λ i. round_at (sym w.if-newest.false i) c.args.rounds c.args.count)
+    let round : c.match-first.round ≡ round_at (is_newest c.args.first) c.args.rounds c.args.count =
+    elim c.match-first.branch [
+      | in-Newest w ↦ w.round-is ∙ (λ i. round_at (is_newest (sym w.in-Newest.is i)) c.args.rounds c.args.count)
+      | in-Oldest w ↦ w.round-is ∙ (λ i. round_at (is_newest (sym w.in-Oldest.is i)) c.args.rounds c.args.count)
     ]
     in
     let whole = with_items_is c.in_ok-mark.mark c.raise_to_end.new.marks (c.raise_to_end.auto.marks ∙ c.deref_mut.ensures.len) in
     subst (λ at. HasEach offer.nodes (λ r n. n ≡ end_mark ends offer.nodes low at r) (map number (with_items c.in_ok-mark.mark c.raise_to_end.new.marks).items)) round
-    (subst (λ xs. HasEach offer.nodes (λ r n. n ≡ end_mark ends offer.nodes low c.if-newest.round r) (map number xs)) (sym whole)
-    (subst (λ xs. HasEach offer.nodes (λ r n. n ≡ end_mark ends offer.nodes (marks number xs) c.if-newest.round r) (map number c.raise_to_end.new.marks)) (c.deref_mut.ensures.value ∙ c.in_ok-mark.ensures.items)
-    (subst (λ nodes. HasEach nodes (λ r n. n ≡ end_mark ends nodes (marks number c.deref_mut.result.now) c.if-newest.round r) (map number c.raise_to_end.new.marks)) size c.raise_to_end.ensures)))
+    (subst (λ xs. HasEach offer.nodes (λ r n. n ≡ end_mark ends offer.nodes low c.match-first.round r) (map number xs)) (sym whole)
+    (subst (λ xs. HasEach offer.nodes (λ r n. n ≡ end_mark ends offer.nodes (marks number xs) c.match-first.round r) (map number c.raise_to_end.new.marks)) (c.deref_mut.ensures.value ∙ c.in_ok-mark.ensures.items)
+    (subst (λ nodes. HasEach nodes (λ r n. n ≡ end_mark ends nodes (marks number c.deref_mut.result.now) c.match-first.round r) (map number c.raise_to_end.new.marks)) size c.raise_to_end.ensures)))

@@ -5,7 +5,8 @@ use Rattle.node_table.specs.declared.layouts.Row.{Row}
 use Rattle.node_table.specs.declared.layouts.Layout.{Layout}
 use Rattle.node_table.specs.Table.{Table, without_others, greatest_version, IsProper}
 use Rattle.node_table.specs.Entries.{AreGenerations, AreGreatest}
-use Rattle.node_table.specs.inner.Layouts.{entries_in_row, rows_of, row_at, held_by_rows, table_laid, block_len, count_in_rows, IsInSlots, AreLaid, AreOthersKept, IsLayout}
+use Rattle.node_table.specs.Held.{held_by_lists}
+use Rattle.node_table.specs.inner.Layouts.{entries_in_row, rows_of, row_at, table_laid, block_len, count_in_rows, IsInSlots, AreLaid, AreOthersKept, IsLayout}
 use Rattle.node_table.proofs.ProperLaws.{proper-without_others}
 use Rattle.node_table.proofs.Laid.{row_at-get_or, len-le-keys}
 use Rattle.node_table.proofs.Forgotten.{empty_row, one_row, laid_one, counted_one, row_at-one_own, row_at-one_other, table_one, greatest_one, generations_none, generations_one}
@@ -13,7 +14,7 @@ use Rattle.node_table.proofs.layouts.Layout.forget_others.Goals as goal
 
 -- the table of a layout with other slots and rows
 abbrev table_of : Layout → List Entry → List Row → Table
-table_of l slots rows = record { node = l.node; nodes = l.nodes; keys = l.keys; generation = l.generation; held = held_by_rows (rows_of slots rows) }
+table_of l slots rows = record { node = l.node; nodes = l.nodes; keys = l.keys; generation = l.generation; held = held_by_lists (rows_of slots rows) }
 
 -- what is left of a layout of which its node's row was moved to the front
 record IsLeft (l : Layout) (slots : List Entry) (rows : List Row) (versions : List ℕ) (count : ℕ) : Type 0 where

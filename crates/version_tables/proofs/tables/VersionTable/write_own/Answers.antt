@@ -2,7 +2,7 @@ use Rattle.std.proofs.Common.{ℕ, List, ◌+◌, ◌*◌, ◌<◌, set, map, sy
 use Rattle.std.proofs.lemmas.List.{map-set}
 use Rattle.version_tables.specs.Views.{VersionTableView}
 use Rattle.version_tables.specs.Writes.{IsNextWrite, HasOwnWrite}
-use Rattle.version_tables.specs.inner.Laid.{IsVersionTable}
+use Rattle.version_tables.specs.Laid.{IsVersionTable}
 use Rattle.version_tables.proofs.Laid.{seen}
 use Rattle.version_tables.proofs.OwnCalls.{writes-table, writes-kept}
 use Rattle.version_tables.proofs.tables.VersionTable.write_own.Given as given

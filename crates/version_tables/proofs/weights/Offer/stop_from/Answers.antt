@@ -1,15 +1,16 @@
 use Rattle.std.proofs.Common.{◌+◌, sym, ap, ◌∙◌, arith}
 use Rattle.version_tables.specs.inner.Offered.{cells_in, weights_in}
+use Rattle.version_tables.specs.inner.Stops.{is_newest}
 use Rattle.version_tables.proofs.StopSteps.{past-next, past-rest, past-on, on-start, some-next, none-from, few-from, next-held}
 use Rattle.version_tables.proofs.weights.Offer.stop_from.Goals as goal
 
 pub next-next-requires-clause-some : goal.next-next-requires-clause-some
 next-next-requires-clause-some g c κs within =
-    some-next (cells_in g.N.Number.number c.args.self.now) c.args.self.now.keys c.args.owner c.args.newest (weights_in c.args.self.now c.args.owner) (g.N.Number.number c.args.near) (g.N.Number.number c.args.far) (omega (arith, c.requires.beyond))
+    some-next (cells_in g.N.Number.number c.args.self.now) c.args.self.now.keys c.args.owner (is_newest c.args.first) (weights_in c.args.self.now c.args.owner) (g.N.Number.number c.args.near) (g.N.Number.number c.args.far) (omega (arith, c.requires.beyond))
 
 pub loop-weight-init : goal.loop-weight-init
 loop-weight-init g c =
-    let newest = c.args.newest in
+    let newest = is_newest c.args.first in
     let cells = cells_in g.N.Number.number c.args.self.now in
     let keys = c.args.self.now.keys in
     let owner = c.args.owner in
@@ -25,16 +26,16 @@ loop-weight-init g c =
 
 pub mark_past-mark-requires-clause-some : goal.mark_past-mark-requires-clause-some
 mark_past-mark-requires-clause-some g c κs within =
-    (next-held (cells_in g.N.Number.number c.args.self.now) c.args.self.now.keys c.args.owner c.args.newest (g.N.Number.number c.loop-weight.mark) (g.N.Number.number c.args.far) (g.N.Number.number c.loop-weight.next) c.loop-weight.invariant.next).3
+    (next-held (cells_in g.N.Number.number c.args.self.now) c.args.self.now.keys c.args.owner (is_newest c.args.first) (g.N.Number.number c.loop-weight.mark) (g.N.Number.number c.args.far) (g.N.Number.number c.loop-weight.next) c.loop-weight.invariant.next).3
 
 pub mark_past-mark-requires-clause-fits : goal.mark_past-mark-requires-clause-fits
 mark_past-mark-requires-clause-fits g c κs within =
-    let held = next-held (cells_in g.N.Number.number c.args.self.now) c.args.self.now.keys c.args.owner c.args.newest (g.N.Number.number c.loop-weight.mark) (g.N.Number.number c.args.far) (g.N.Number.number c.loop-weight.next) c.loop-weight.invariant.next in
+    let held = next-held (cells_in g.N.Number.number c.args.self.now) c.args.self.now.keys c.args.owner (is_newest c.args.first) (g.N.Number.number c.loop-weight.mark) (g.N.Number.number c.args.far) (g.N.Number.number c.loop-weight.next) c.loop-weight.invariant.next in
     omega (arith, held.2, c.requires.offer.below c.args.owner held.0 c.requires.owner held.1)
 
 pub next-next-requires-in-loop-weight-clause-some : goal.next-next-requires-in-loop-weight-clause-some
 next-next-requires-in-loop-weight-clause-some g c κs within =
-    let newest = c.args.newest in
+    let newest = is_newest c.args.first in
     let cells = cells_in g.N.Number.number c.args.self.now in
     let keys = c.args.self.now.keys in
     let owner = c.args.owner in
@@ -46,7 +47,7 @@ next-next-requires-in-loop-weight-clause-some g c κs within =
 
 pub loop-weight-preserved : goal.loop-weight-preserved
 loop-weight-preserved g c =
-    let newest = c.args.newest in
+    let newest = is_newest c.args.first in
     let cells = cells_in g.N.Number.number c.args.self.now in
     let keys = c.args.self.now.keys in
     let owner = c.args.owner in
@@ -74,7 +75,7 @@ pub loop-weight-smaller : goal.loop-weight-smaller
 loop-weight-smaller g c =
     omega (
       arith,
-      past-rest (λ _. 1) (cells_in g.N.Number.number c.args.self.now) c.args.self.now.keys c.args.owner (c.requires.offer.differ c.args.owner c.requires.owner) c.args.newest (g.N.Number.number c.loop-weight.mark) (g.N.Number.number c.args.far)
+      past-rest (λ _. 1) (cells_in g.N.Number.number c.args.self.now) c.args.self.now.keys c.args.owner (c.requires.offer.differ c.args.owner c.requires.owner) (is_newest c.args.first) (g.N.Number.number c.loop-weight.mark) (g.N.Number.number c.args.far)
           (g.N.Number.number c.loop-weight.next) (g.N.Number.number c.mark_past-mark.result) c.loop-weight.invariant.next c.mark_past-mark.ensures,
     )
 
@@ -83,7 +84,7 @@ overflow_add-sent g c =
     omega (
       arith,
       c.loop-weight.invariant.sent,
-      few-from (cells_in g.N.Number.number c.args.self.now) c.args.self.now.keys c.args.owner c.args.newest (g.N.Number.number c.args.near) (g.N.Number.number c.loop-weight.mark),
+      few-from (cells_in g.N.Number.number c.args.self.now) c.args.self.now.keys c.args.owner (is_newest c.args.first) (g.N.Number.number c.args.near) (g.N.Number.number c.loop-weight.mark),
       c.requires.offer.grid.few_keys,
     )
 

@@ -1,17 +1,17 @@
 use Rattle.std.proofs.Common.{◌≡◌, ◌+◌, ◌<◌}
 use Rattle.version_tables.specs.inner.Offered.{cells_in, weights_in}
-use Rattle.version_tables.specs.inner.Stops.{weight_from, IsNext, IsOn}
+use Rattle.version_tables.specs.inner.Stops.{is_newest, weight_from, IsNext, IsOn}
 use Rattle.version_tables.proofs.weights.Offer.stop_from.Given as goal
 
 abbrev pub invariant-loop-weight : goal.invariant-loop-weight
 invariant-loop-weight g l = record {
-  next : IsNext l.newest (cells_in g.N.Number.number l.self) l.self.keys l.owner (g.N.Number.number l.mark) (g.N.Number.number l.far) (g.N.Number.number l.next);
-  on : IsOn l.newest (g.N.Number.number l.fn.near) (g.N.Number.number l.mark);
+  next : IsNext (is_newest l.first) (cells_in g.N.Number.number l.self) l.self.keys l.owner (g.N.Number.number l.mark) (g.N.Number.number l.far) (g.N.Number.number l.next);
+  on : IsOn (is_newest l.first) (g.N.Number.number l.fn.near) (g.N.Number.number l.mark);
   weight : l.weight ≡ weights_in l.self l.owner (g.N.Number.number l.next);
-  left : l.fn.room ≡ l.left + weight_from l.newest (weights_in l.self l.owner) (cells_in g.N.Number.number l.self) l.self.keys l.owner (g.N.Number.number l.fn.near) (g.N.Number.number l.mark);
-  rest : l.left < weight_from l.newest (weights_in l.self l.owner) (cells_in g.N.Number.number l.self) l.self.keys l.owner (g.N.Number.number l.mark) (g.N.Number.number l.far);
-  sent : l.sent ≡ weight_from l.newest (λ _. 1) (cells_in g.N.Number.number l.self) l.self.keys l.owner (g.N.Number.number l.fn.near) (g.N.Number.number l.mark);
+  left : l.fn.room ≡ l.left + weight_from (is_newest l.first) (weights_in l.self l.owner) (cells_in g.N.Number.number l.self) l.self.keys l.owner (g.N.Number.number l.fn.near) (g.N.Number.number l.mark);
+  rest : l.left < weight_from (is_newest l.first) (weights_in l.self l.owner) (cells_in g.N.Number.number l.self) l.self.keys l.owner (g.N.Number.number l.mark) (g.N.Number.number l.far);
+  sent : l.sent ≡ weight_from (is_newest l.first) (λ _. 1) (cells_in g.N.Number.number l.self) l.self.keys l.owner (g.N.Number.number l.fn.near) (g.N.Number.number l.mark);
 }
 
 abbrev pub decreases-loop-weight : goal.decreases-loop-weight
-decreases-loop-weight g l = weight_from l.newest (λ _. 1) (cells_in g.N.Number.number l.self) l.self.keys l.owner (g.N.Number.number l.mark) (g.N.Number.number l.far)
+decreases-loop-weight g l = weight_from (is_newest l.first) (λ _. 1) (cells_in g.N.Number.number l.self) l.self.keys l.owner (g.N.Number.number l.mark) (g.N.Number.number l.far)

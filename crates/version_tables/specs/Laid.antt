@@ -4,7 +4,7 @@ use Rattle.std.specs.Prelude.{◌≡◌, ◌≢◌, ℕ, zero, suc, ◌*◌, ◌
 use Rattle.std.specs.List.{range_with_len}
 use Rattle.bench_types.specs.declared.entries.Entry.{Entry}
 use Rattle.node_table.specs.Table.{Table, IsProper}
-use Rattle.node_table.specs.inner.Layouts.{held_by_rows}
+use Rattle.node_table.specs.Held.{held_by_lists}
 use Rattle.owner_lists.specs.Numbers.{write_numbered}
 use Rattle.planes.specs.Planes.{Cells, cell}
 
@@ -13,9 +13,9 @@ entry_list None = []
 entry_list (Some e) = e ∷ []
 
 -- the entries of an owner's keys below a bound
-abbrev pub row_below : List Entry → (ℕ → ℕ) → ℕ → List Entry
-row_below writes numbers zero = []
-row_below writes numbers (suc key) = row_below writes numbers key ++ entry_list (write_numbered writes (numbers key))
+abbrev pub entries_below : List Entry → (ℕ → ℕ) → ℕ → List Entry
+entries_below writes numbers zero = []
+entries_below writes numbers (suc key) = entries_below writes numbers key ++ entry_list (write_numbered writes (numbers key))
 
 -- the table that lies in cells
 abbrev pub table_of_cells : (ℕ → List Entry) → ℕ → ℕ → ℕ → ℕ → Cells → Table
@@ -24,7 +24,7 @@ table_of_cells lists node nodes keys generation cells = record {
   nodes = nodes;
   keys = keys;
   generation = generation;
-  held = held_by_rows (map (λ owner. row_below (lists owner) (cells owner) keys) (range_with_len 0 nodes));
+  held = held_by_lists (map (λ owner. entries_below (lists owner) (cells owner) keys) (range_with_len 0 nodes));
 }
 
 -- each number is that of a write of its key, or 0

@@ -14,7 +14,7 @@ use Rattle.cluster.specs.Tables.{table_of_node}
 use Rattle.staleness.specs.Figures.{generation_at, is_left_over, leftover_at}
 use Rattle.planes.specs.Sums.{sum_below}
 use Rattle.staleness.specs.inner.Copies.{has_key, copy_leftover, node_leftover, nodes_leftover}
-use Rattle.staleness.proofs.Rows.{row_apart, row_held, entries_below}
+use Rattle.staleness.proofs.Rows.{row_apart, row_held, row_below}
 use Rattle.staleness.proofs.Sums.{sum_below-le, sum_below-same, sum_below-none, sum_below-add}
 
 -- one number below a bound
@@ -93,7 +93,7 @@ module _ (tables : List Table) (p r : ℕ) where
         sum_below-same (λ k. leftover_at tables p r k) (λ k. if has_key row k then 1 else 0) t.keys (λ k lt.
         ap {B = ℕ} (λ b. if b then 0 else (if is_left_over generation (entry_at t r k) then 1 else 0)) (ne_eqb p r other)
         ∙ ap {B = ℕ} (λ b. if b then 1 else 0) (held k ∙ sym (row_held t r proper row entries k)))
-        ∙ keys_counted row t.keys (row_apart t r proper row entries) (λ i d lt. entries_below t r proper row entries i d lt)
+        ∙ keys_counted row t.keys (row_apart t r proper row entries) (λ i d lt. row_below t r proper row entries i d lt)
       where
         held : (k : ℕ) → is_left_over generation (entry_at t r k) ≡ is_some (entry_at t r k)
         held k = elim (entry_at t r k) as (λ o. entry_at t r k ≡ o → is_left_over generation o ≡ is_some o) [

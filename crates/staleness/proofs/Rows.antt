@@ -47,5 +47,5 @@ module _ (t : Table) (owner : ℕ) (proper : IsProper t) (row : List Entry) (are
   ] refl
 
   -- so keys stand below the table's bound
-  pub entries_below : (i : ℕ) (d : Entry) → i < length row → (get_or row i d).key < t.keys
-  entries_below i d lt = (proper.in_place owner (get_or row i d).key (get_or row i d) (row_at i d lt)).key_below
+  pub row_below : (i : ℕ) (d : Entry) → i < length row → (get_or row i d).key < t.keys
+  row_below i d lt = (proper.in_place owner (get_or row i d).key (get_or row i d) (row_at i d lt)).key_below

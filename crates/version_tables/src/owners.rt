@@ -51,8 +51,8 @@ impl<N: Number, H: Written> VersionTable<N, H> {
     ghost use Rattle.version_tables.specs.Views.{table_in};
     ghost use Rattle.version_tables.specs.Writes.{IsNextWrite, HasOwnWrite};
 
-    /// The empty table of a node, in its generation 0. It has a number for each
-    /// owner and key. An error is lack of memory (`OutOfMemory`).
+    /// The empty table of a node, in its generation 0. It has a number for each owner and key. An error is lack of
+    /// memory (`OutOfMemory`).
     pub fn new(alloc: Global, node: u32, nodes: u32, keys: u32) -> Result<VersionTable<N, H>, Fault>
         requires node { node < nodes }
         requires nodes { nodes ≤ MOST_NODES }

@@ -9,7 +9,7 @@ use Rattle.staleness.specs.inner.Copies.{has_key, at_least, with_version, with_c
 use Rattle.std.specs.Prelude.{is_some}
 use Rattle.node_table.specs.Table.{entry_at}
 use Rattle.staleness.specs.declared.copies.Copies.{Copies}
-use Rattle.staleness.proofs.Rows.{row_at, row_apart, row_held, entries_below}
+use Rattle.staleness.proofs.Rows.{row_at, row_apart, row_held, row_below}
 use Rattle.staleness.proofs.copies.see_row.Goals as goal
 
 -- Keys of a row that is gone over entry by entry.
@@ -55,7 +55,7 @@ loop-entry-init c = record {
 
 pub slice_copy_out-with_version : goal.slice_copy_out-with_version
 slice_copy_out-with_version c =
-    let below = entries_below c.args.table.now.table c.args.owner c.entries_of-entry-items.ensures.proper c.entries_of-entry-items.result.now c.entries_of-entry-items.ensures.entries c.loop-entry.entry-index no_entry c.loop-entry-test.true in
+    let below = row_below c.args.table.now.table c.args.owner c.entries_of-entry-items.ensures.proper c.entries_of-entry-items.result.now c.entries_of-entry-items.ensures.entries c.loop-entry.entry-index no_entry c.loop-entry-test.true in
     omega (arith, below, c.loop-entry.invariant.size, c.requires.within)
 
 pub with_version-requires : goal.with_version-requires
@@ -65,14 +65,14 @@ with_version-requires c =
     let i = c.loop-entry.entry-index in
     let key = (get_or row i no_entry).key in
     let before = get_or c.args.copies.now (c.args.start + key) zeros in
-    let below = entries_below t c.args.owner c.entries_of-entry-items.ensures.proper row c.entries_of-entry-items.ensures.entries i no_entry c.loop-entry-test.true in
+    let below = row_below t c.args.owner c.entries_of-entry-items.ensures.proper row c.entries_of-entry-items.ensures.entries i no_entry c.loop-entry-test.true in
     let new = new_key row (row_apart t c.args.owner c.entries_of-entry-items.ensures.proper row c.entries_of-entry-items.ensures.entries) i no_entry c.loop-entry-test.true in
     let same = c.loop-entry.invariant.seen key zeros below ∙ ap (λ b. if b then with_copy before (at_least c.args.least (entry_at t c.args.owner key)) else before) new in
     subst MayCountOne (sym same) (c.requires.room key zeros below)
 
 pub bounds-copies-at : goal.bounds-copies-at
 bounds-copies-at c =
-    let below = entries_below c.args.table.now.table c.args.owner c.entries_of-entry-items.ensures.proper c.entries_of-entry-items.result.now c.entries_of-entry-items.ensures.entries c.loop-entry.entry-index no_entry c.loop-entry-test.true in
+    let below = row_below c.args.table.now.table c.args.owner c.entries_of-entry-items.ensures.proper c.entries_of-entry-items.result.now c.entries_of-entry-items.ensures.entries c.loop-entry.entry-index no_entry c.loop-entry-test.true in
     omega (arith, below, c.loop-entry.invariant.size, c.requires.within)
 
 pub loop-entry-preserved : goal.loop-entry-preserved
@@ -92,7 +92,7 @@ loop-entry-preserved c =
     let seen = c.with_version.result in
     let proper = c.entries_of-entry-items.ensures.proper in
     let entries = c.entries_of-entry-items.ensures.entries in
-    let below = entries_below t owner proper row entries i no_entry lt in
+    let below = row_below t owner proper row entries i no_entry lt in
     let in_range : place < length copies = omega (arith, below, so_far.size, c.requires.within) in
     let new = new_key row (row_apart t owner proper row entries) i no_entry lt in
     record {

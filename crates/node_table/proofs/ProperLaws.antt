@@ -1,6 +1,7 @@
 -- The tables that start are proper, and what changes a table keeps it so.
 -- Serves the functions of `layouts` and `tables` and the crates above.
-use Rattle.std.proofs.Common.{◌≡◌, ◌≢◌, ℕ, ◌<◌, ◌≤◌, List, [], ◌∷◌, Some, None, All, ◌⊎◌, inl, inr, refl, sym, ap, ◌∙◌, subst, arith}
+use Rattle.std.proofs.Common.{◌≡◌, ◌≢◌, ◌==◌, ℕ, ◌+◌, ◌<◌, ◌≤◌, List, [], ◌∷◌, Some, None, All, ◌⊎◌, inl, inr, refl, sym, ap, ◌∙◌, subst, arith}
+use Rattle.std.specs.FinMap.{insert, retain_keys, empty}
 use Rattle.std.proofs.lemmas.Bool.{cases_eq}
 use Rattle.std.proofs.lemmas.List.Elements.{All-head, All-tail}
 use Rattle.std.proofs.lemmas.Option.{same_Some}
@@ -10,7 +11,7 @@ use Rattle.bench_types.specs.declared.entries.Mark.{Mark}
 use Rattle.bench_types.specs.declared.limits.TheConstants.{LEAST_KEYS, MOST_NODES, MOST_KEYS}
 use Rattle.bench_types.specs.Mark.{mark_of}
 use Rattle.bench_types.proofs.Marks.{cases_later}
-use Rattle.node_table.specs.Table.{Table, empty_table, entry_at, greatest_mark, generation_held, taken, applied, own_write, with_own_write, without_others, without_all, IsInPlace, IsProper}
+use Rattle.node_table.specs.Table.{Held, Table, empty_table, entry_at, greatest_mark, generation_held, taken, applied, own_write, with_own_write, without_others, without_all, IsInPlace, IsProper}
 use Rattle.node_table.specs.Table.{IsItemInPlace}
 use Rattle.node_table.specs.NodeTableView.{MayReceive}
 use Rattle.node_table.proofs.Laws.{KeepsFrame, cases_taken, entry_at-taken_other, entry_at-taken_newer, entry_at-taken_from, entry_at-own_write, entry_at-own_write_other, entry_at-without_others_own, entry_at-without_others_other, entry_at-without_all, entry_at-empty_table, frame-taken}
@@ -33,16 +34,24 @@ proper-empty_table n ns ks below limit some most = record {
     none : (owner key : ℕ) (e : Entry) → entry_at (empty_table n ns ks) owner key ≡ Some e → ⊥
     none owner key e found = nothing e (sym (entry_at-empty_table n ns ks owner key) ∙ found)
 
+-- a table of a proper one's sizes is proper where what it holds is
+module _ (t : Table) (generation : ℕ) (held : Held) (proper : IsProper t) where
+  abbrev with_held : Table
+  with_held = record t { generation = generation; held = held }
+
+  proper-held : ((owner key : ℕ) (e : Entry) → entry_at with_held owner key ≡ Some e → IsInPlace t.nodes t.keys owner key e × (e.generation ≡ generation_held with_held owner)) → ((key : ℕ) (e : Entry) → entry_at with_held t.node key ≡ Some e → e.generation ≡ generation) → IsProper with_held
+  proper-held each own = record {
+    node_below = proper.node_below;
+    nodes_limit = proper.nodes_limit;
+    some_key = proper.some_key;
+    keys_limit = proper.keys_limit;
+    in_place = λ owner key e found. (each owner key e found).0;
+    copies = λ owner key e found. (each owner key e found).1;
+    own = own;
+  }
+
 pub proper-without_all : (t : Table) → IsProper t → IsProper (without_all t)
-proper-without_all t proper = record {
-  node_below = proper.node_below;
-  nodes_limit = proper.nodes_limit;
-  some_key = proper.some_key;
-  keys_limit = proper.keys_limit;
-  in_place = λ owner key e found. absurd (none owner key e found);
-  copies = λ owner key e found. absurd (none owner key e found);
-  own = λ key e found. absurd (none t.node key e found);
-}
+proper-without_all t proper = proper-held t (t.generation + 1) empty proper (λ owner key e found. absurd (none owner key e found)) (λ key e found. absurd (none t.node key e found))
   where
     none : (owner key : ℕ) (e : Entry) → entry_at (without_all t) owner key ≡ Some e → ⊥
     none owner key e found = nothing e (sym (entry_at-without_all t owner key) ∙ found)
@@ -113,24 +122,7 @@ proper-applied t (i ∷ is) proper may =
     (subst (λ k. All (λ (x : Item). (x.owner ≢ t.node) × IsItemInPlace t.nodes k x) is) (sym (frame-taken t i).keys) (All-tail (MayReceive t) i is may))))
 
 pub proper-with_own_write : (t : Table) (k v b : ℕ) → IsProper t → k < t.keys → IsProper (with_own_write t k v b)
-proper-with_own_write t k v b proper below = record {
-  node_below = proper.node_below;
-  nodes_limit = proper.nodes_limit;
-  some_key = proper.some_key;
-  keys_limit = proper.keys_limit;
-  in_place = λ owner key e found. elim (from owner key e found) [
-    | inl held ↦ proper.in_place owner key e held
-    | inr is ↦ subst (λ n. IsInPlace t.nodes t.keys n key e) (sym is.0) (subst (λ j. IsInPlace t.nodes t.keys t.node j e) (sym is.1) (subst (IsInPlace t.nodes t.keys t.node k) is.2 written))
-  ];
-  copies = λ owner key e found. elim (cases_eq owner t.node) [
-    | inl own ↦ subst (λ o. e.generation ≡ generation_held (with_own_write t k v b) o) (sym own)
-        (in_own key e (subst (λ o. entry_at (with_own_write t k v b) o key ≡ Some e) own found) ∙ sym (ap (λ (m : Mark). m.generation) (greatest_mark-own_write t k v b proper below)))
-    | inr other ↦
-        proper.copies owner key e (sym (entry_at-own_write_other t k v b owner key (inl other)) ∙ found)
-        ∙ sym (ap (λ (m : Mark). m.generation) (greatest_mark-own_write_other t k v b owner other))
-  ];
-  own = in_own;
-}
+proper-with_own_write t k v b proper below = proper-held t t.generation (insert t.held (t.node, k) (own_write t k v b)) proper (λ owner key e found. (in_place owner key e found, copies owner key e found)) in_own
   where
     written : IsInPlace t.nodes t.keys t.node k (own_write t k v b)
     written = record { owner_below = proper.node_below; key_below = below; keyed = refl; written = omega arith }
@@ -150,22 +142,34 @@ proper-with_own_write t k v b proper below = record {
       | inr is ↦ sym (ap (λ (x : Entry). x.generation) is.2)
     ]
 
+    in_place : (owner key : ℕ) (e : Entry) → entry_at (with_own_write t k v b) owner key ≡ Some e → IsInPlace t.nodes t.keys owner key e
+    in_place owner key e found = elim (from owner key e found) [
+      | inl held ↦ proper.in_place owner key e held
+      | inr is ↦ subst (λ n. IsInPlace t.nodes t.keys n key e) (sym is.0) (subst (λ j. IsInPlace t.nodes t.keys t.node j e) (sym is.1) (subst (IsInPlace t.nodes t.keys t.node k) is.2 written))
+    ]
+
+    copies : (owner key : ℕ) (e : Entry) → entry_at (with_own_write t k v b) owner key ≡ Some e → e.generation ≡ generation_held (with_own_write t k v b) owner
+    copies owner key e found = elim (cases_eq owner t.node) [
+      | inl own ↦ subst (λ o. e.generation ≡ generation_held (with_own_write t k v b) o) (sym own)
+          (in_own key e (subst (λ o. entry_at (with_own_write t k v b) o key ≡ Some e) own found) ∙ sym (ap (λ (m : Mark). m.generation) (greatest_mark-own_write t k v b proper below)))
+      | inr other ↦
+          proper.copies owner key e (sym (entry_at-own_write_other t k v b owner key (inl other)) ∙ found)
+          ∙ sym (ap (λ (m : Mark). m.generation) (greatest_mark-own_write_other t k v b owner other))
+    ]
+
 pub proper-without_others : (t : Table) → IsProper t → IsProper (without_others t)
-proper-without_others t proper = record {
-  node_below = proper.node_below;
-  nodes_limit = proper.nodes_limit;
-  some_key = proper.some_key;
-  keys_limit = proper.keys_limit;
-  in_place = λ owner key e found. proper.in_place owner key e (was owner key e found);
-  copies = λ owner key e found. elim (cases_eq owner t.node) [
-    | inl own ↦ proper.copies owner key e (was owner key e found) ∙ sym (ap (λ (m : Mark). m.generation) (subst (λ o. greatest_mark (without_others t) o ≡ greatest_mark t o) (sym own) (greatest_mark-without_others_own t)))
-    | inr other ↦ absurd (nothing e (sym (entry_at-without_others_other t owner key other) ∙ found))
-  ];
-  own = λ key e found. proper.own key e (was t.node key e found);
-}
+proper-without_others t proper = proper-held t t.generation (retain_keys t.held (λ place. place.0 == t.node)) proper
+    (λ owner key e found. (proper.in_place owner key e (was owner key e found), copies owner key e found))
+    (λ key e found. proper.own key e (was t.node key e found))
   where
     was : (owner key : ℕ) (e : Entry) → entry_at (without_others t) owner key ≡ Some e → entry_at t owner key ≡ Some e
     was owner key e found = elim (cases_eq owner t.node) [
       | inl own ↦ subst (λ o. entry_at t o key ≡ Some e) (sym own) (sym (entry_at-without_others_own t key) ∙ subst (λ o. entry_at (without_others t) o key ≡ Some e) own found)
+      | inr other ↦ absurd (nothing e (sym (entry_at-without_others_other t owner key other) ∙ found))
+    ]
+
+    copies : (owner key : ℕ) (e : Entry) → entry_at (without_others t) owner key ≡ Some e → e.generation ≡ generation_held (without_others t) owner
+    copies owner key e found = elim (cases_eq owner t.node) [
+      | inl own ↦ proper.copies owner key e (was owner key e found) ∙ sym (ap (λ (m : Mark). m.generation) (subst (λ o. greatest_mark (without_others t) o ≡ greatest_mark t o) (sym own) (greatest_mark-without_others_own t)))
       | inr other ↦ absurd (nothing e (sym (entry_at-without_others_other t owner key other) ∙ found))
     ]

@@ -4,7 +4,7 @@
 ghost use Rattle.std.specs.Prelude.{◌≡◌, ◌≢◌, ◌+◌, ◌-◌, ◌<◌, ◌≤◌, All, filter, length, take, remove};
 ghost use Rattle.std.specs.Ordering.{is_lt};
 ghost use Rattle.node_table.specs.Entries.{entry_cmp};
-ghost use Rattle.node_table.specs.inner.Layouts.{entry_in, has_other_key, IsRow, IsIndexOf, IsRankOf, IsRankAbove, IsPut};
+ghost use Rattle.node_table.specs.inner.Layouts.{entry_in, has_other_key, HasRow, FitsRow, IsIndexOf, IsRankOf, IsRankAbove, IsPutInBlock};
 
 use bench_types::Entry;
 
@@ -65,13 +65,9 @@ fn stands_before(entry: Entry, other: Entry) -> bool
 
 // Puts an entry at its rank, over that of its key. The answer is how many entries the row has then.
 pub(crate) fn put_in(block: &mut [Entry], len: usize, entry: Entry) -> usize
-    requires within { len ≤ length block.old }
-    requires row { IsRow (length block.old) (take len block.old) }
-    requires key { entry.key < length block.old }
-    requires written { 1 ≤ entry.version }
-    ensures len { length block.new ≡ length block.old }
-    ensures within { result ≤ length block.new }
-    ensures put { IsPut (length block.old) entry (take len block.old) (take result block.new) }
+    requires row { HasRow block.old len }
+    requires entry { FitsRow (length block.old) entry }
+    ensures { IsPutInBlock entry block.old len block.new result }
 {
     if len > 0 && block[len - 1].version < entry.version {
         put_last(block, len, entry)
@@ -82,14 +78,10 @@ pub(crate) fn put_in(block: &mut [Entry], len: usize, entry: Entry) -> usize
 
 // Puts an entry behind all others, where it is newer than each of them.
 fn put_last(block: &mut [Entry], len: usize, entry: Entry) -> usize
-    requires within { len ≤ length block.old }
-    requires row { IsRow (length block.old) (take len block.old) }
+    requires row { HasRow block.old len }
     requires newest { All (λ e. e.version < entry.version) (take len block.old) }
-    requires key { entry.key < length block.old }
-    requires written { 1 ≤ entry.version }
-    ensures len { length block.new ≡ length block.old }
-    ensures within { result ≤ length block.new }
-    ensures put { IsPut (length block.old) entry (take len block.old) (take result block.new) }
+    requires entry { FitsRow (length block.old) entry }
+    ensures { IsPutInBlock entry block.old len block.new result }
 {
     let kept = keep_others(block, len, entry.key);
     block[kept] = entry;
@@ -117,13 +109,9 @@ fn keep_others(block: &mut [Entry], len: usize, key: u32) -> usize
 
 // Puts an entry at its rank, over that of its key, by a search for both.
 fn put_at_rank(block: &mut [Entry], len: usize, entry: Entry) -> usize
-    requires within { len ≤ length block.old }
-    requires row { IsRow (length block.old) (take len block.old) }
-    requires key { entry.key < length block.old }
-    requires written { 1 ≤ entry.version }
-    ensures len { length block.new ≡ length block.old }
-    ensures within { result ≤ length block.new }
-    ensures put { IsPut (length block.old) entry (take len block.old) (take result block.new) }
+    requires row { HasRow block.old len }
+    requires entry { FitsRow (length block.old) entry }
+    ensures { IsPutInBlock entry block.old len block.new result }
 {
     let index = index_of(&block[..len], entry.key);
     if index < len {
@@ -146,15 +134,11 @@ fn close_up(block: &mut [Entry], len: usize, index: usize)
 
 // Puts an entry into a row that has none of its key.
 fn insert(block: &mut [Entry], len: usize, entry: Entry) -> usize
-    requires within { len ≤ length block.old }
-    requires row { IsRow (length block.old) (take len block.old) }
+    requires row { HasRow block.old len }
     requires absent { All (λ e. e.key ≢ entry.key) (take len block.old) }
-    requires key { entry.key < length block.old }
-    requires written { 1 ≤ entry.version }
-    ensures len { length block.new ≡ length block.old }
+    requires entry { FitsRow (length block.old) entry }
     ensures one_more { result ≡ len + 1 }
-    ensures within { result ≤ length block.new }
-    ensures put { IsPut (length block.old) entry (take len block.old) (take result block.new) }
+    ensures put { IsPutInBlock entry block.old len block.new result }
 {
     let rank = rank_of(&block[..len], entry);
     if rank < len {

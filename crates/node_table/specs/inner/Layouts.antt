@@ -47,6 +47,16 @@ pub record IsRow (keys : ℕ) (row : List Entry) : Type 0 where
   pub keys_below : All (λ e. e.key < keys) row
   pub written : All (λ e. 1 ≤ e.version) row
 
+-- an entry that a row of so many keys may have
+pub record FitsRow (keys : ℕ) (entry : Entry) : Type 0 where
+  pub key : entry.key < keys
+  pub written : 1 ≤ entry.version
+
+-- a row of this length stands at the front of the block
+pub record HasRow (block : List Entry) (len : ℕ) : Type 0 where
+  pub within : len ≤ length block
+  pub row : IsRow (length block) (take len block)
+
 -- the row lies among the slots, with a block around it where it has entries
 pub record IsInSlots (keys : ℕ) (slots : List Entry) (r : Row) : Type 0 where
   pub within : r.start + r.len ≤ length slots
@@ -133,6 +143,12 @@ pub record IsPut (keys : ℕ) (entry : Entry) (before after : List Entry) : Type
   pub others : (key : ℕ) → key ≢ entry.key → entry_in after key ≡ entry_in before key
   pub some : 0 < length after
   pub grows : length before ≤ length after
+
+-- a block before and after an entry came into the row at its front
+pub record IsPutInBlock (entry : Entry) (before : List Entry) (len : ℕ) (after : List Entry) (len' : ℕ) : Type 0 where
+  pub as_long : length after ≡ length before
+  pub within : len' ≤ length after
+  pub put : IsPut (length before) entry (take len before) (take len' after)
 
 abbrev pub IsOutside : Row → ℕ → ℕ → Type 0
 IsOutside r start keys = (r.start + r.len ≤ start) ⊎ (start + keys ≤ r.start)

@@ -6,16 +6,12 @@ use Rattle.node_table.proofs.Blocks.{take-block, take-outside, length-block}
 use Rattle.node_table.proofs.Laid.{len-le-keys}
 use Rattle.node_table.proofs.layouts.put_among.Goals as goal
 
-pub put_in-len-requires-clause-within : goal.put_in-len-requires-clause-within
-put_in-len-requires-clause-within c =
-    omega (arith, length-block c.args.row.start c.args.keys c.args.slots.now (c.requires.row.block c.requires.held), len-le-keys c.args.keys c.args.slots.now c.args.row c.requires.row)
-
 pub put_in-len-requires-clause-row : goal.put_in-len-requires-clause-row
 put_in-len-requires-clause-row c =
     let len = length-block c.args.row.start c.args.keys c.args.slots.now (c.requires.row.block c.requires.held) in
     let fits = len-le-keys c.args.keys c.args.slots.now c.args.row c.requires.row in
     let front = take-take c.args.row.len (c.args.row.start + c.args.keys - c.args.row.start) (drop c.args.row.start c.args.slots.now) (omega arith) in
-    rw (len, front) c.requires.row.row
+    record { within = omega (arith, len, fits); row = rw (len, front) c.requires.row.row }
 
 pub returns-clause-put : goal.returns-clause-put
 returns-clause-put c =
@@ -31,4 +27,4 @@ returns-clause-others c = λ r outside.
     let len = length-block c.args.row.start c.args.keys c.args.slots.now (c.requires.row.block c.requires.held) in
     let keys_is : c.args.keys ≡ c.args.row.start + c.args.keys - c.args.row.start = omega arith in
     subst (λ k. take r.len (drop r.start (put_mid c.args.row.start k c.args.slots.now c.put_in-len.new.block)) ≡ entries_in_row c.args.slots.now r) keys_is
-    (take-outside c.args.row.start c.args.keys r.start r.len c.args.slots.now c.put_in-len.new.block (c.requires.row.block c.requires.held) (c.put_in-len.ensures.len ∙ len) outside)
+    (take-outside c.args.row.start c.args.keys r.start r.len c.args.slots.now c.put_in-len.new.block (c.requires.row.block c.requires.held) (c.put_in-len.ensures.as_long ∙ len) outside)

@@ -9,23 +9,18 @@ use Rattle.node_table.proofs.rows.insert.Goals.{then-rank-len, else-rank-len}
 
 pub copy_within-requires-clause-dest_in_bounds : goal.copy_within-requires-clause-dest_in_bounds
 copy_within-requires-clause-dest_in_bounds c =
-    let room = room_for_key _ _ c.args.entry c.requires.row c.requires.absent c.requires.key in
-    omega (arith, room, c.rank_of-rank.ensures.within, length-take-le c.args.len c.args.block.now c.requires.within)
+    let room = room_for_key _ _ c.args.entry c.requires.row.row c.requires.absent c.requires.entry.key in
+    omega (arith, room, c.rank_of-rank.ensures.within, length-take-le c.args.len c.args.block.now c.requires.row.within)
 
 pub bounds-block-rank : goal.bounds-block-rank
 bounds-block-rank c =
-    let room = room_for_key _ _ c.args.entry c.requires.row c.requires.absent c.requires.key in
-    omega (arith, room, c.rank_of-rank.ensures.within, c.if-rank-len.auto.block, length-take-le c.args.len c.args.block.now c.requires.within)
-
-pub returns-clause-within : goal.returns-clause-within
-returns-clause-within c =
-    let room = room_for_key _ _ c.args.entry c.requires.row c.requires.absent c.requires.key in
-    omega (arith, room, c.if-rank-len.auto.block, length-take-le c.args.len c.args.block.now c.requires.within, length-set c.if-rank-len.block c.rank_of-rank.result c.args.entry)
+    let room = room_for_key _ _ c.args.entry c.requires.row.row c.requires.absent c.requires.entry.key in
+    omega (arith, room, c.rank_of-rank.ensures.within, c.if-rank-len.auto.block, length-take-le c.args.len c.args.block.now c.requires.row.within)
 
 pub returns-clause-put : goal.returns-clause-put
 returns-clause-put c =
-    let room = room_for_key _ _ c.args.entry c.requires.row c.requires.absent c.requires.key in
-    let front = length-take-le c.args.len c.args.block.now c.requires.within in
+    let room = room_for_key _ _ c.args.entry c.requires.row.row c.requires.absent c.requires.entry.key in
+    let front = length-take-le c.args.len c.args.block.now c.requires.row.within in
     let rank = c.rank_of-rank.result in
     let done : take (c.args.len + 1) (set c.if-rank-len.block rank c.args.entry) ≡ insert (take c.args.len c.args.block.now) rank c.args.entry = elim c.if-rank-len.branch [
       | then-rank-len w ↦ ap (λ ys. take (c.args.len + 1) (set ys rank c.args.entry)) (w.block-is ∙ w.copy_within.ensures.after)
@@ -37,5 +32,9 @@ returns-clause-put c =
           ∙ let_in_last c.args.block.now c.args.len c.args.entry (omega arith)
           ∙ ap (λ n. insert (take c.args.len c.args.block.now) n c.args.entry) (sym at_end)
     ] in
-    subst (IsPut (length c.args.block.now) c.args.entry (take c.args.len c.args.block.now)) (sym done)
-    (put_at_rank _ _ _ _ c.requires.row c.requires.absent c.rank_of-rank.ensures c.requires.key c.requires.written)
+    record {
+      as_long = length-set c.if-rank-len.block rank c.args.entry ∙ c.if-rank-len.auto.block;
+      within = omega (arith, room, front, c.if-rank-len.auto.block, length-set c.if-rank-len.block rank c.args.entry);
+      put = subst (IsPut (length c.args.block.now) c.args.entry (take c.args.len c.args.block.now)) (sym done)
+          (put_at_rank _ _ _ _ c.requires.row.row c.requires.absent c.rank_of-rank.ensures c.requires.entry.key c.requires.entry.written);
+    }

@@ -1,7 +1,7 @@
 -- The entries of a rank, where entries stand by version: a stretch of one version.
 -- Serves `Parcel::add_entries`, `bytes_left`, `entries_ranked`, `push_entries` and `SuffixLayers`.
-use Rattle.std.proofs.Common.{◌≡◌, ◌≢◌, ℕ, zero, suc, ◌+◌, ◌-◌, ◌<◌, ◌≤◌, Bool, true, false, cond, eqb, ltb, List, [], ◌∷◌, length, take, drop, get_or, ◌⊎◌, inl, inr, refl, ap, ◌∙◌, arith}
-use Rattle.std.specs.Prelude.{filter, count_by}
+use Rattle.std.proofs.Common.{◌≡◌, ◌≢◌, ℕ, zero, suc, ◌+◌, ◌-◌, ◌<◌, ◌≤◌, Bool, true, false, eqb, ltb, List, [], ◌∷◌, length, take, drop, get_or, ◌⊎◌, inl, inr, refl, ap, ◌∙◌, arith}
+use Rattle.std.specs.Prelude.{count_by}
 use Rattle.std.specs.List.{AllPairs}
 use Rattle.std.specs.declared.cmp.Ordering.TheVariants.{Less, Equal, Greater}
 use Rattle.std.specs.Ordering.{nat_cmp, ordering_then}
@@ -10,38 +10,12 @@ use Rattle.std.proofs.lemmas.Bool.{cases_lt, eq-eqb, ne_eqb, lt-ltb, le-ltb}
 use Rattle.bench_types.specs.declared.entries.Entry.{Entry}
 use Rattle.node_table.specs.Entries.{StandsBefore}
 use Rattle.reconcile.specs.inner.Suffixes.{rank_in, entries_ranked}
-use Rattle.reconcile.proofs.Counts.{count_by-cons_true, count_by-cons_false}
+use Rattle.reconcile.proofs.Counts.{count_by-cons_true, count_by-cons_false, filter-stretch}
 
 abbrev pub no_entry : Entry
 no_entry = record { key = 0; generation = 0; version = 0; value = 0; born = 0 }
 
 module _ {X : Type 0} (p : X → Bool) where
-  -- what a test keeps that holds on one stretch
-  pub filter-stretch : (xs : List X) (a b : ℕ) → a ≤ b → b ≤ length xs → ((i : ℕ) (d : X) → a ≤ i → i < b → p (get_or xs i d) ≡ true) → ((i : ℕ) (d : X) → i < length xs → (i < a) ⊎ (b ≤ i) → p (get_or xs i d) ≡ false) → filter p xs ≡ take (b - a) (drop a xs)
-  filter-stretch [] zero zero le in_range holds fails = refl
-  filter-stretch [] zero (suc b) le in_range holds fails = absurd (omega arith)
-  filter-stretch [] (suc a) b le in_range holds fails = absurd (omega arith)
-  filter-stretch (x ∷ xs) zero zero le in_range holds fails =
-      ap (λ c. cond c (x ∷ filter p xs) (filter p xs)) (fails 0 x (omega arith) (inr (omega arith)))
-      ∙ filter-stretch xs 0 0 le (omega arith) (λ i d from to. absurd (omega arith)) (λ i d lt _. fails (suc i) d (omega arith) (inr (omega arith)))
-  filter-stretch (x ∷ xs) zero (suc b) le in_range holds fails =
-      ap (λ c. cond c (x ∷ filter p xs) (filter p xs)) (holds 0 x (omega arith) (omega arith))
-      ∙ ap (λ ys. x ∷ ys) (filter-stretch xs 0 b (omega arith) (omega arith) (λ i d from to. holds (suc i) d (omega arith) (omega arith)) (λ i d lt outside. fails (suc i) d (omega arith) (inr (later i b outside))))
-      ∙ ap (λ n. take n (x ∷ xs)) {x = suc (b - 0)} {y = suc b - 0} (omega arith)
-    where
-      later : (i b : ℕ) → (i < 0) ⊎ (b ≤ i) → suc b ≤ suc i
-      later i b (inl lt) = absurd (omega arith)
-      later i b (inr le) = omega arith
-  filter-stretch (x ∷ xs) (suc a) zero le in_range holds fails = absurd (omega arith)
-  filter-stretch (x ∷ xs) (suc a) (suc b) le in_range holds fails =
-      ap (λ c. cond c (x ∷ filter p xs) (filter p xs)) (fails 0 x (omega arith) (inl (omega arith)))
-      ∙ filter-stretch xs a b (omega arith) (omega arith) (λ i d from to. holds (suc i) d (omega arith) (omega arith)) (λ i d lt outside. fails (suc i) d (omega arith) (moved i a b outside))
-      ∙ ap (λ n. take n (drop a xs)) {x = b - a} {y = suc b - suc a} (omega arith)
-    where
-      moved : (i a b : ℕ) → (i < a) ⊎ (b ≤ i) → (suc i < suc a) ⊎ (suc b ≤ suc i)
-      moved i a b (inl lt) = inl (omega arith)
-      moved i a b (inr le) = inr (omega arith)
-
   -- as many pass at least as pass without a gap from the front on
   pub count_by-front_ge : (xs : List X) (b : ℕ) → b ≤ length xs → ((i : ℕ) (d : X) → i < b → p (get_or xs i d) ≡ true) → b ≤ count_by p xs
   count_by-front_ge xs zero in_range holds = omega arith

@@ -1,6 +1,6 @@
 -- A delta: what is sent of the candidates under a budget, in the order sent, and how many are cut.
 -- Source: this project; the word is the LADIS 2008 paper's.
-use Rattle.std.specs.Prelude.{◌≡◌, ◌≢◌, ℕ, ◌≤◌, List, All}
+use Rattle.std.specs.Prelude.{◌≡◌, ℕ, ◌≤◌, List}
 use Rattle.std.specs.List.{sum_by}
 use Rattle.bench_types.specs.declared.entries.Item.{Item}
 use Rattle.bench_types.specs.declared.exchanges.Mode.{Mode}

@@ -9,7 +9,7 @@ ghost use Rattle.node_table.specs.NodeTableView.{IsFor, MayReceive};
 ghost use Rattle.node_table.specs.Table.{applied};
 ghost use Rattle.reconcile.specs.Digests.{IsDigestOf, IsOfKind};
 ghost use Rattle.reconcile.specs.Deltas.{DeltaView};
-ghost use Rattle.exchange.specs.inner.Messages.{IsAnswer, after_message};
+ghost use Rattle.exchange.specs.inner.Messages.{IsAnswer, MayAnswerEachOther, after_message};
 ghost use Rattle.exchange.specs.Exchanged.{IsExchanged, BothTablesStay, last_fate, sent_until};
 
 use bench_types::{Exchange, Fate, Fault, Record, Rules};
@@ -47,7 +47,7 @@ pub fn exchange(
 {
     let digest1 = Digest::of(alloc, initiator, rules.mode)?;
     if plan.lost1 {
-        return Ok(sent_before_an_answer(&digest1));
+        return Ok(sent_before_an_answer(digest1.size()));
     }
     let digest2 = Digest::of(alloc, responder, rules.mode)?;
     exchange_deltas(alloc, initiator, responder, &digest1, &digest2, plan, rules)
@@ -67,9 +67,7 @@ fn exchange_deltas(
     requires digest2 { IsDigestOf (digest_kind rules.now.mode) responder.old.table digest2.now }
     requires came { plan.now.lost1 ≡ false }
     requires budget { IsLawfulBudget rules.now.budget }
-    requires nodes { initiator.old.table.nodes ≡ responder.old.table.nodes }
-    requires keys { initiator.old.table.keys ≡ responder.old.table.keys }
-    requires rotation { plan.now.rotation < initiator.old.table.nodes }
+    requires tables { MayAnswerEachOther plan.now initiator.old.table responder.old.table }
     ensures ok { IfOk result (IsExchanged rules.now plan.now initiator.old responder.old initiator.new responder.new) }
     ensures err { OnErr result (BothTablesStay initiator.old responder.old initiator.new responder.new) }
     ensures only { IsOkUnless result OutOfMemory }
@@ -139,12 +137,12 @@ fn answer(
     )
 }
 
-// The record where the first message was lost.
-fn sent_before_an_answer(digest1: &Digest) -> Record
-    ensures { (size2 : ℕ) (back forth : DeltaView) → result ≡ sent_until fate.Lost1 digest1.now.size size2 back forth }
+/// The record where the first message was lost, of which the size is given.
+pub fn sent_before_an_answer(digest1: u32) -> Record
+    ensures { (size2 : ℕ) (back forth : DeltaView) → result ≡ sent_until fate.Lost1 digest1 size2 back forth }
 {
     Record {
-        digest1: digest1.size(),
+        digest1,
         digest2: 0,
         back: 0,
         forth: 0,

@@ -5,5 +5,5 @@ mod exchanges;
 mod exchanging;
 pub mod laws;
 
-pub use exchanges::exchange;
+pub use exchanges::{exchange, sent_before_an_answer};
 pub use exchanging::{Exchanging, MemoryTable};

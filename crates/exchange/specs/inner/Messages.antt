@@ -1,10 +1,17 @@
 -- What the messages of an exchange bring. Source: this project.
-use Rattle.std.specs.Prelude.{ℕ, Bool, if◌then◌else◌}
+use Rattle.std.specs.Prelude.{◌≡◌, ◌<◌, ℕ, Bool, if◌then◌else◌}
 use Rattle.bench_types.specs.declared.exchanges.Exchange.{Exchange}
 use Rattle.bench_types.specs.declared.exchanges.Rules.{Rules}
 use Rattle.node_table.specs.Table.{Table, applied}
 use Rattle.reconcile.specs.Digests.{DigestView}
 use Rattle.reconcile.specs.Deltas.{DeltaView, IsDeltaToReceiver}
+
+-- two tables that may answer each other's digests: they have as many owners and keys each, and the rotation is one of
+-- the owners
+pub record MayAnswerEachOther (e : Exchange) (p q : Table) : Type 0 where
+  pub nodes : p.nodes ≡ q.nodes
+  pub keys : p.keys ≡ q.keys
+  pub rotation : e.rotation < p.nodes
 
 -- the delta that answers a receiver's digest in an exchange
 abbrev pub IsAnswer : Rules → Exchange → Table → ℕ → DigestView → DeltaView → Type 0

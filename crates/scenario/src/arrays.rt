@@ -1,9 +1,10 @@
 //! Reading an array of tables.
 
-ghost use Rattle.std.specs.Prelude.{◌≡◌, ◌≢◌, ◌≤◌, map, IfOk, IfErr};
+ghost use Rattle.std.specs.Prelude.{◌≡◌, ◌≢◌, ◌≤◌, length, map, IfOk, IfErr};
 ghost use Rattle.std.specs.List.{list_all};
 ghost use Rattle.toml.specs.View.{view, table_view};
 ghost use Rattle.scenario.specs.Elements.{array_of, table_of, elements_at, array_at, values_of, table_has_only, elements_have_only, only_elements};
+ghost use Rattle.scenario.specs.Settings.{AreLawful};
 
 use crate::fields::{found, has_only};
 use bench_types::limits::MOST_ELEMENTS;
@@ -19,10 +20,14 @@ pub(crate) trait Element: Drop {
 
     ghost checked: { ℕ → ℕ → Data → Result Self Fault };
 
+    // The limits of an element, in a scenario of a format and of so many nodes.
+    ghost lawful: { ℕ → ℕ → Self → Type 0 };
+
     /// The element that the value says, in a scenario of the format and of so many nodes.
     fn of(alloc: Global, value: &Value, format: u32, nodes: u32) -> Result<Self, Fault>
         requires { 2 ≤ nodes }
         ensures ok { IfOk result (λ element. checked format nodes (view value.now) ≡ Ok element) }
+        ensures lawful { IfOk result (lawful format nodes) }
         ensures refused { IfErr result (λ fault.
             fault ≢ Fault.OutOfMemory → checked format nodes (view value.now) ≡ Err fault) };
 }
@@ -52,6 +57,7 @@ pub(crate) fn table_of(value: &Value, field: Field) -> Result<&Table, Fault>
 fn elements_at(table: &Table, field: Field) -> Result<&[Value], Fault>
     ensures ok { IfOk result (λ values.
         elements_at field (table_view table.now) ≡ Ok (map view values.now)) }
+    ensures few { IfOk result (λ values. length values.now ≤ MOST_ELEMENTS) }
     ensures fault { IfErr result (λ fault. elements_at field (table_view table.now) ≡ Err fault) }
 {
     let Some(value) = found(table, field) else {
@@ -77,6 +83,7 @@ pub(crate) fn array_at<T: Element>(
     requires { 2 ≤ nodes }
     ensures ok { IfOk result (λ elements.
         array_at field (T.checked format nodes) (table_view table.now) ≡ Ok elements.items) }
+    ensures lawful { IfOk result (λ elements. AreLawful (T.lawful format nodes) elements.items) }
     ensures refused { IfErr result (λ fault. fault ≢ Fault.OutOfMemory →
         array_at field (T.checked format nodes) (table_view table.now) ≡ Err fault) }
 {

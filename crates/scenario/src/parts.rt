@@ -17,6 +17,7 @@ use bench_types::{Budget, Fault, Field, Mode};
 use toml::Table;
 
 /// How large a run is, and what its random words follow from.
+#[derive(Clone, Copy, Debug)]
 pub(crate) struct Basics {
     pub(crate) format: u32,
     pub(crate) nodes: u32,
@@ -26,6 +27,7 @@ pub(crate) struct Basics {
 }
 
 /// By which rules the nodes write and exchange.
+#[derive(Clone, Copy, Debug)]
 pub(crate) struct Conduct {
     pub(crate) mode: Mode,
     pub(crate) budget: Budget,

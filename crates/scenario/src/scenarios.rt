@@ -6,13 +6,13 @@ ghost use Rattle.bench_types.specs.Budget.{IsLawfulBudget};
 ghost use Rattle.scenario.specs.Checked.{checked, unknown_checked};
 ghost use Rattle.scenario.specs.Top.{top_fields};
 
-use crate::arrays::only_elements;
+use crate::arrays::{array_at, only_elements};
 use crate::budgets::budget_field;
 use crate::choices::{Choice, Peers, Rotation};
 use crate::elements::{Load, Partition, Restart};
 use crate::fields::only_fields;
 use crate::parts::{Basics, Conduct, basics_at, conduct_at};
-use crate::tables::{loads_at, partitions_at, restart_fields, restarts_at};
+use crate::tables::restart_fields;
 use bench_types::limits::{
     LEAST_KEYS, LEAST_NODES, MOST_ENTRIES, MOST_KEYS, MOST_LOSS, MOST_NODES, MOST_ROUNDS,
     MOST_SEED, MOST_WRITES,
@@ -33,18 +33,8 @@ const LOAD_FIELDS: [Field; 3] = [Field::LoadFrom, Field::LoadTo, Field::LoadWrit
 /// The description of a run: how many nodes and keys, for how many rounds, and by which rules.
 #[derive(Debug, Drop)]
 pub struct Scenario {
-    format: u32,
-    nodes: u32,
-    keys: u32,
-    rounds: u32,
-    seed: u64,
-    mode: Mode,
-    budget: Budget,
-    peers: Peers,
-    rotation: Rotation,
-    choice: Choice,
-    loss_ppm: u32,
-    writes: u32,
+    basics: Basics,
+    conduct: Conduct,
     partitions: Vec<Partition>,
     restarts: Vec<Restart>,
     loads: Vec<Load>,
@@ -113,39 +103,16 @@ impl Scenario {
         ensures refused { IfErr result (λ fault.
             fault ≢ Fault.OutOfMemory → checked (table_view table.now) ≡ Err fault) }
     {
-        let Basics {
-            format,
-            nodes,
-            keys,
-            rounds,
-            seed,
-        } = basics_at(table)?;
-        let Conduct {
-            mode,
-            budget,
-            peers,
-            rotation,
-            choice,
-            loss_ppm,
-            writes,
-        } = conduct_at(table, format)?;
-        let partitions = partitions_at(alloc, table, format, nodes)?;
-        let restarts = restarts_at(alloc, table, format, nodes)?;
-        let loads = loads_at(alloc, table, format, nodes)?;
+        let basics = basics_at(table)?;
+        let (format, nodes) = (basics.format, basics.nodes);
+        let conduct = conduct_at(table, format)?;
+        let partitions = array_at(alloc, table, Field::Partition, format, nodes)?;
+        let restarts = array_at(alloc, table, Field::Restart, format, nodes)?;
+        let loads = array_at(alloc, table, Field::Load, format, nodes)?;
         check_unknown(table, format)?;
         Ok(Scenario {
-            format,
-            nodes,
-            keys,
-            rounds,
-            seed,
-            mode,
-            budget,
-            peers,
-            rotation,
-            choice,
-            loss_ppm,
-            writes,
+            basics,
+            conduct,
             partitions,
             restarts,
             loads,
@@ -157,7 +124,7 @@ impl Scenario {
         ensures value { result ≡ self.now.format }
         ensures limits { (1 ≤ result) × (result ≤ 2) }
     {
-        self.format
+        self.basics.format
     }
 
     /// How many nodes there are, numbered from 0.
@@ -166,7 +133,7 @@ impl Scenario {
         ensures limits { (LEAST_NODES ≤ result) × (result ≤ MOST_NODES) }
         ensures entries { result * result * self.now.keys ≤ MOST_ENTRIES }
     {
-        self.nodes
+        self.basics.nodes
     }
 
     /// How many keys each node has, numbered from 0.
@@ -175,7 +142,7 @@ impl Scenario {
         ensures limits { (LEAST_KEYS ≤ result) × (result ≤ MOST_KEYS) }
         ensures entries { self.now.nodes * self.now.nodes * result ≤ MOST_ENTRIES }
     {
-        self.keys
+        self.basics.keys
     }
 
     /// How many rounds the run has, numbered from 1.
@@ -184,7 +151,7 @@ impl Scenario {
         ensures lawful { IsLawfulScenario self.now }
         ensures limits { (1 ≤ result) × (result ≤ MOST_ROUNDS) }
     {
-        self.rounds
+        self.basics.rounds
     }
 
     /// What the random words of all nodes follow from.
@@ -192,14 +159,14 @@ impl Scenario {
         ensures value { result ≡ self.now.seed }
         ensures limits { result ≤ MOST_SEED }
     {
-        self.seed
+        self.basics.seed
     }
 
     /// Which entries are sent, and in which order.
     pub fn mode(&self) -> Mode
         ensures { result ≡ self.now.mode }
     {
-        self.mode
+        self.conduct.mode
     }
 
     /// How much one message may carry: so many entries in format 1, so many bytes in format 2.
@@ -208,28 +175,28 @@ impl Scenario {
         ensures limits { IsBudgetOf self.now.format result }
         ensures lawful { IsLawfulBudget result }
     {
-        self.budget
+        self.conduct.budget
     }
 
     /// How a node picks its peer.
     pub fn peers(&self) -> Peers
         ensures { result ≡ self.now.peers }
     {
-        self.peers
+        self.conduct.peers
     }
 
     /// At which owner the order of an exchange's entries begins.
     pub fn rotation(&self) -> Rotation
         ensures { result ≡ self.now.rotation }
     {
-        self.rotation
+        self.conduct.rotation
     }
 
     /// How a write picks its key and its value.
     pub fn choice(&self) -> Choice
         ensures { result ≡ self.now.choice }
     {
-        self.choice
+        self.conduct.choice
     }
 
     /// How many of a million messages are lost.
@@ -237,7 +204,7 @@ impl Scenario {
         ensures value { result ≡ self.now.loss_ppm }
         ensures limits { result ≤ MOST_LOSS }
     {
-        self.loss_ppm
+        self.conduct.loss_ppm
     }
 
     /// How many writes a node makes in a round.
@@ -245,7 +212,7 @@ impl Scenario {
         ensures value { result ≡ self.now.writes }
         ensures limits { result ≤ MOST_WRITES }
     {
-        self.writes
+        self.conduct.writes
     }
 
     /// The partitions, in the order of the text.
@@ -276,6 +243,12 @@ impl Scenario {
     pub fn with_mode(self, mode: Mode) -> Scenario
         ensures { result ≡ with_mode self mode }
     {
-        Scenario { mode, ..self }
+        Scenario {
+            conduct: Conduct {
+                mode,
+                ..self.conduct
+            },
+            ..self
+        }
     }
 }

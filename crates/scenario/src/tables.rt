@@ -2,9 +2,8 @@
 
 ghost use Rattle.std.specs.Prelude.{◌≡◌, ◌≢◌, ◌≤◌, IfOk, IfErr};
 ghost use Rattle.toml.specs.View.{table_view};
-ghost use Rattle.scenario.specs.Elements.{has_generations, restart_fields, apart_at, forget_at, partitions_at, restarts_at, loads_at};
+ghost use Rattle.scenario.specs.Elements.{has_generations, restart_fields, apart_at, forget_at};
 ghost use Rattle.scenario.specs.Fields.{number_at};
-ghost use Rattle.scenario.specs.Settings.{AreLawful, IsLawfulPartition, IsLawfulRestart, IsLawfulLoad};
 
 use crate::arrays::{Element, array_at, array_of, table_of};
 use crate::elements::{Load, Partition, Restart};
@@ -23,8 +22,11 @@ const RESTART_FIELDS: [Field; 4] = [
 
 impl Element for Partition {
     ghost use Rattle.scenario.specs.Elements.{partition_of};
+    ghost use Rattle.scenario.specs.Settings.{IsLawfulPartition};
 
     ghost checked = { λ _. partition_of };
+
+    ghost lawful = { λ _. IsLawfulPartition };
 
     fn of(alloc: Global, value: &Value, _format: u32, nodes: u32) -> Result<Partition, Fault> {
         let table = table_of(value, Field::Partition)?;
@@ -37,8 +39,11 @@ impl Element for Partition {
 
 impl Element for Restart {
     ghost use Rattle.scenario.specs.Elements.{restart_of};
+    ghost use Rattle.scenario.specs.Settings.{IsLawfulRestart};
 
     ghost checked = { restart_of };
+
+    ghost lawful = { IsLawfulRestart };
 
     fn of(_alloc: Global, value: &Value, format: u32, nodes: u32) -> Result<Restart, Fault> {
         let table = table_of(value, Field::Restart)?;
@@ -57,8 +62,11 @@ impl Element for Restart {
 
 impl Element for Load {
     ghost use Rattle.scenario.specs.Elements.{load_of};
+    ghost use Rattle.scenario.specs.Settings.{IsLawfulLoad};
 
     ghost checked = { λ _ _. load_of };
+
+    ghost lawful = { λ _ _. IsLawfulLoad };
 
     fn of(_alloc: Global, value: &Value, _format: u32, _nodes: u32) -> Result<Load, Fault> {
         let table = table_of(value, Field::Load)?;
@@ -123,58 +131,4 @@ fn apart_at(alloc: Global, table: &Table, nodes: u32) -> Result<Vec<u32>, Fault>
         least = node + 1;
     }
     Ok(apart)
-}
-
-/// The partitions of a text, in order.
-pub(crate) fn partitions_at(
-    alloc: Global,
-    table: &Table,
-    format: u32,
-    nodes: u32,
-) -> Result<Vec<Partition>, Fault>
-    requires { 2 ≤ nodes }
-    ensures ok { IfOk result (λ partitions.
-        partitions_at nodes (table_view table.now) ≡ Ok partitions.items) }
-    ensures lawful { IfOk result (λ partitions.
-        AreLawful (IsLawfulPartition nodes) partitions.items) }
-    ensures refused { IfErr result (λ fault.
-        fault ≢ Fault.OutOfMemory → partitions_at nodes (table_view table.now) ≡ Err fault) }
-{
-    array_at(alloc, table, Field::Partition, format, nodes)
-}
-
-/// The restarts of a text, in order.
-pub(crate) fn restarts_at(
-    alloc: Global,
-    table: &Table,
-    format: u32,
-    nodes: u32,
-) -> Result<Vec<Restart>, Fault>
-    requires { 2 ≤ nodes }
-    ensures ok { IfOk result (λ restarts.
-        restarts_at format nodes (table_view table.now) ≡ Ok restarts.items) }
-    ensures lawful { IfOk result (λ restarts.
-        AreLawful (IsLawfulRestart format nodes) restarts.items) }
-    ensures refused { IfErr result (λ fault.
-        fault ≢ Fault.OutOfMemory → restarts_at format nodes (table_view table.now) ≡ Err fault) }
-{
-    array_at(alloc, table, Field::Restart, format, nodes)
-}
-
-/// The loads of a text, in order.
-pub(crate) fn loads_at(
-    alloc: Global,
-    table: &Table,
-    format: u32,
-    nodes: u32,
-) -> Result<Vec<Load>, Fault>
-    requires { 2 ≤ nodes }
-    ensures ok { IfOk result (λ loads.
-        loads_at (table_view table.now) ≡ Ok loads.items) }
-    ensures lawful { IfOk result (λ loads.
-        AreLawful IsLawfulLoad loads.items) }
-    ensures refused { IfErr result (λ fault.
-        fault ≢ Fault.OutOfMemory → loads_at (table_view table.now) ≡ Err fault) }
-{
-    array_at(alloc, table, Field::Load, format, nodes)
 }

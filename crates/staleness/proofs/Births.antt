@@ -1,12 +1,12 @@
 -- Lists whose writes stand in the order of their rounds: a copy with a greater version isn't staler.
 -- Serves `Seen`.
-use Rattle.std.proofs.Common.{◌≡◌, ◌≢◌, ℕ, zero, suc, ◌+◌, ◌-◌, ◌<◌, ◌≤◌, Bool, true, false, cond, eqb, ltb, leb, ◌&&◌, List, [], ◌∷◌, ◌++◌, length, get_or, Option, Some, None, All, option_map, inl, inr, refl, sym, ap, ◌∙◌, subst, arith, leb-true, lt-ltb, le-ltb}
+use Rattle.std.proofs.Common.{◌≡◌, ◌≢◌, ℕ, zero, suc, ◌+◌, ◌-◌, ◌<◌, ◌≤◌, Bool, true, false, cond, eqb, ltb, leb, ◌&&◌, List, [], ◌∷◌, Option, Some, None, All, option_map, inl, inr, refl, sym, ap, ◌∙◌, subst, arith, leb-true, lt-ltb, le-ltb}
 use Rattle.std.specs.List.{find}
 use Rattle.std.proofs.lemmas.Bool.{cases_lt}
 use Rattle.std.proofs.lemmas.List.Elements.{All-head, All-tail}
 use Rattle.owner_lists.specs.declared.lists.Write.{Write}
 use Rattle.owner_lists.specs.Writes.{IsNumbered, last_write}
-use Rattle.owner_lists.specs.Missed.{is_missed, first_missed, last_born, in_order_from, born_in_order}
+use Rattle.owner_lists.specs.Missed.{is_missed, first_missed, in_order_from, born_in_order}
 use Rattle.owner_lists.specs.inner.Linked.{version_or_zero}
 use Rattle.staleness.specs.inner.Copies.{version_staleness}
 use Rattle.staleness.specs.Figures.{stale_count, rounds_behind}

@@ -14,32 +14,26 @@ use Rattle.planes.specs.Sums.{sum_below}
 use Rattle.staleness.specs.inner.Copies.{owner_staleness, node_leftover, part_figures}
 use Rattle.staleness.specs.inner.Parts.{AreFewTriples, IsCounted, AreCounted, found_at}
 use Rattle.staleness.proofs.Places.{one_more}
-use Rattle.staleness.proofs.Sums.{sum_below-same, most_below-same, sum_below-swap, most_below-swap, sum_below-parts, most_below-parts}
+use Rattle.staleness.proofs.Sums.{IsFoldBelow, sums, greatest, fold_below-same, fold_below-swap, fold_below-parts}
 
 -- by owner, by key and then by node they are the same
 module _ (round : ℕ) (tables : List Table) (lists : List (List Write)) (cluster : IsCluster (length tables) tables) where
   abbrev keys : ℕ
   keys = (table_of_node tables 0).keys
 
-  abbrev stale : ℕ → ℕ → ℕ → ℕ
-  stale p r k = stale_count (staleness_at round tables lists p r k)
+  by_owner : {op : ℕ → ℕ → ℕ} {fold : ℕ → (ℕ → ℕ) → ℕ} → IsFoldBelow op fold → (f : ℕ → ℕ → ℕ → ℕ)
+      → fold (length tables) (λ r. fold keys (λ k. fold (length tables) (λ p. f p r k))) ≡ fold (length tables) (λ p. fold (length tables) (λ r. fold (table_of_node tables p).keys (f p r)))
+  by_owner {op} {fold} is f =
+      fold_below-same is (λ r. fold keys (λ k. fold (length tables) (λ p. f p r k))) (λ r. fold (length tables) (λ p. fold keys (f p r))) (length tables) (λ r lt. sym (fold_below-swap is (λ p k. f p r k) (length tables) keys))
+      ∙ fold_below-swap is (λ r p. fold keys (f p r)) (length tables) (length tables)
+      ∙ fold_below-same is (λ p. fold (length tables) (λ r. fold keys (f p r))) (λ p. fold (length tables) (λ r. fold (table_of_node tables p).keys (f p r))) (length tables)
+      (λ p lt. ap (λ n. fold (length tables) (λ r. fold n (f p r))) (sym (cluster.tables p lt).keys))
 
-  abbrev rounds : ℕ → ℕ → ℕ → ℕ
-  rounds p r k = rounds_behind (staleness_at round tables lists p r k)
+  pub stale_by_owner : sum_below (length tables) (λ r. (owner_staleness round tables lists r).stale) ≡ sum_below (length tables) (λ p. sum_below (length tables) (λ r. sum_below (table_of_node tables p).keys (λ k. stale_count (staleness_at round tables lists p r k))))
+  stale_by_owner = by_owner sums (λ p r k. stale_count (staleness_at round tables lists p r k))
 
-  pub stale_by_owner : sum_below (length tables) (λ r. (owner_staleness round tables lists r).stale) ≡ sum_below (length tables) (λ p. sum_below (length tables) (λ r. sum_below (table_of_node tables p).keys (stale p r)))
-  stale_by_owner =
-      sum_below-same (λ r. sum_below keys (λ k. sum_below (length tables) (λ p. stale p r k))) (λ r. sum_below (length tables) (λ p. sum_below keys (stale p r))) (length tables) (λ r lt. sym (sum_below-swap (λ p k. stale p r k) (length tables) keys))
-      ∙ sum_below-swap (λ r p. sum_below keys (stale p r)) (length tables) (length tables)
-      ∙ sum_below-same (λ p. sum_below (length tables) (λ r. sum_below keys (stale p r))) (λ p. sum_below (length tables) (λ r. sum_below (table_of_node tables p).keys (stale p r))) (length tables)
-      (λ p lt. ap (λ n. sum_below (length tables) (λ r. sum_below n (stale p r))) (sym (cluster.tables p lt).keys))
-
-  pub most_by_owner : most_below (length tables) (λ r. (owner_staleness round tables lists r).greatest) ≡ most_below (length tables) (λ p. most_below (length tables) (λ r. most_below (table_of_node tables p).keys (rounds p r)))
-  most_by_owner =
-      most_below-same (λ r. most_below keys (λ k. most_below (length tables) (λ p. rounds p r k))) (λ r. most_below (length tables) (λ p. most_below keys (rounds p r))) (length tables) (λ r lt. sym (most_below-swap (λ p k. rounds p r k) (length tables) keys))
-      ∙ most_below-swap (λ r p. most_below keys (rounds p r)) (length tables) (length tables)
-      ∙ most_below-same (λ p. most_below (length tables) (λ r. most_below keys (rounds p r))) (λ p. most_below (length tables) (λ r. most_below (table_of_node tables p).keys (rounds p r))) (length tables)
-      (λ p lt. ap (λ n. most_below (length tables) (λ r. most_below n (rounds p r))) (sym (cluster.tables p lt).keys))
+  pub most_by_owner : most_below (length tables) (λ r. (owner_staleness round tables lists r).greatest) ≡ most_below (length tables) (λ p. most_below (length tables) (λ r. most_below (table_of_node tables p).keys (λ k. rounds_behind (staleness_at round tables lists p r k))))
+  most_by_owner = by_owner greatest (λ p r k. rounds_behind (staleness_at round tables lists p r k))
 
 -- what a list has for each number of a range stands at its place
 pub at_place : {X : Type 0} (R : ℕ → X → Type 0) (from n : ℕ) (parts : List X) → AllZip R (range_with_len from n) parts → (k : ℕ) (d : X) → k < n → R (from + k) (get_or parts k d)
@@ -64,31 +58,25 @@ module _ (round : ℕ) (tables : List Table) (lists : List (List Write)) (size c
   found : (k : ℕ) → k < count → found_at parts k ≡ part_figures round tables lists size k
   found k lt = (counted k (record { stale = 0; greatest = 0; leftover = 0 }) lt).figures
 
-  -- a figure that is a sum over owners, or over nodes, is one over all parts
-  summed : (figure : Figures → ℕ) (f : ℕ → ℕ) → ((k : ℕ) → figure (part_figures round tables lists size k) ≡ sum_below (min size (length tables - k * size)) (λ i. f (k * size + i))) → length tables ≤ count * size → sum_below (length parts) (λ i. figure (found_at parts i)) ≡ sum_below (length tables) f
-  summed figure f is all =
+  -- a figure that is a fold over owners, or over nodes, is one over all parts
+  folded : {op : ℕ → ℕ → ℕ} {fold : ℕ → (ℕ → ℕ) → ℕ} → IsFoldBelow op fold → (figure : Figures → ℕ) (f : ℕ → ℕ) → ((k : ℕ) → figure (part_figures round tables lists size k) ≡ fold (min size (length tables - k * size)) (λ i. f (k * size + i))) → length tables ≤ count * size → fold (length parts) (λ i. figure (found_at parts i)) ≡ fold (length tables) f
+  folded {op} {fold} fold_is figure f is all =
       let whole : min (count * size) (length tables) ≡ length tables = omega arith in
-      ap (λ n. sum_below n (λ i. figure (found_at parts i))) as_many
-      ∙ sum_below-same (λ i. figure (found_at parts i)) (λ k. sum_below (min size (length tables - k * size)) (λ i. f (k * size + i))) count (λ k lt. ap figure (found k lt) ∙ is k)
-      ∙ sum_below-parts f (length tables) size count
-      ∙ ap (λ n. sum_below n f) whole
+      ap (λ n. fold n (λ i. figure (found_at parts i))) as_many
+      ∙ fold_below-same fold_is (λ i. figure (found_at parts i)) (λ k. fold (min size (length tables - k * size)) (λ i. f (k * size + i))) count (λ k lt. ap figure (found k lt) ∙ is k)
+      ∙ fold_below-parts fold_is f (length tables) size count
+      ∙ ap (λ n. fold n f) whole
 
   -- so do their sum and the greatest of them
   pub figures_of_all : IsCluster (length tables) tables → length tables ≤ count * size → (total : Figures) → total.stale ≡ sum_below (length parts) (λ i. (found_at parts i).stale) → total.greatest ≡ most_below (length parts) (λ i. (found_at parts i).greatest) → total.leftover ≡ sum_below (length parts) (λ i. (found_at parts i).leftover) → total ≡ figures_of round tables lists
   unfolding figures_of
   figures_of_all cluster all total stale_is greatest_is leftover_is =
-      let whole : min (count * size) (length tables) ≡ length tables = omega arith in
       let stale_all : total.stale ≡ (figures_of round tables lists).stale =
-      stale_is ∙ summed (λ f. f.stale) (λ r. (owner_staleness round tables lists r).stale) (λ k. refl) all ∙ stale_by_owner round tables lists cluster in
+      stale_is ∙ folded sums (λ f. f.stale) (λ r. (owner_staleness round tables lists r).stale) (λ k. refl) all ∙ stale_by_owner round tables lists cluster in
       let greatest_all : total.greatest ≡ (figures_of round tables lists).greatest =
-      greatest_is
-      ∙ ap (λ n. most_below n (λ i. (found_at parts i).greatest)) as_many
-      ∙ most_below-same (λ i. (found_at parts i).greatest) (λ i. (part_figures round tables lists size i).greatest) count (λ k lt. ap (λ (f : Figures). f.greatest) (found k lt))
-      ∙ most_below-parts (λ r. (owner_staleness round tables lists r).greatest) (length tables) size count
-      ∙ ap (λ n. most_below n (λ r. (owner_staleness round tables lists r).greatest)) whole
-      ∙ most_by_owner round tables lists cluster in
+      greatest_is ∙ folded greatest (λ f. f.greatest) (λ r. (owner_staleness round tables lists r).greatest) (λ k. refl) all ∙ most_by_owner round tables lists cluster in
       let leftover_all : total.leftover ≡ (figures_of round tables lists).leftover =
-      leftover_is ∙ summed (λ f. f.leftover) (node_leftover tables) (λ k. refl) all in
+      leftover_is ∙ folded sums (λ f. f.leftover) (node_leftover tables) (λ k. refl) all in
       λ i. record { stale = stale_all i; greatest = greatest_all i; leftover = leftover_all i }
 
 -- so many parts of a size are enough

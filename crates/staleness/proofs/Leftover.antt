@@ -15,7 +15,7 @@ use Rattle.staleness.specs.Figures.{generation_at, is_left_over, leftover_at}
 use Rattle.planes.specs.Sums.{sum_below}
 use Rattle.staleness.specs.inner.Copies.{has_key, copy_leftover, node_leftover, nodes_leftover}
 use Rattle.staleness.proofs.Rows.{row_apart, row_held, row_below}
-use Rattle.staleness.proofs.Sums.{sum_below-le, sum_below-same, sum_below-none, sum_below-add}
+use Rattle.staleness.proofs.Sums.{sum_below-le, sums, fold_below-same, fold_below-none, fold_below-both}
 
 -- one number below a bound
 sum_one : (a n : ℕ) → a < n → sum_below n (λ k. if eqb a k then 1 else 0) ≡ 1
@@ -36,12 +36,12 @@ one_or_other false false not = refl
 
 -- as many keys as entries, where no two have one key
 keys_counted : (row : List Entry) (bound : ℕ) → AllPairs (λ x y. x.key ≢ y.key) row → All (λ e. e.key < bound) row → sum_below bound (λ k. if has_key row k then 1 else 0) ≡ length row
-keys_counted [] bound apart below = sum_below-none (λ k. 0) bound (λ k. refl)
+keys_counted [] bound apart below = fold_below-none sums (λ k. 0) bound (λ k. refl)
 keys_counted (e ∷ es) bound apart below =
     omega (
       arith,
-      sum_below-same (λ k. if has_key (e ∷ es) k then 1 else 0) (λ k. (if eqb e.key k then 1 else 0) + (if has_key es k then 1 else 0)) bound (λ k lt. one_or_other (eqb e.key k) (has_key es k) (apart_from k)),
-      sum_below-add (λ k. if eqb e.key k then 1 else 0) (λ k. if has_key es k then 1 else 0) bound,
+      fold_below-same sums (λ k. if has_key (e ∷ es) k then 1 else 0) (λ k. (if eqb e.key k then 1 else 0) + (if has_key es k then 1 else 0)) bound (λ k lt. one_or_other (eqb e.key k) (has_key es k) (apart_from k)),
+      fold_below-both sums (λ k. if eqb e.key k then 1 else 0) (λ k. if has_key es k then 1 else 0) bound,
       sum_one e.key bound (All-head (λ (x : Entry). x.key < bound) e es below),
       keys_counted es bound (λ i j d lt in_range. apart (suc i) (suc j) d (omega arith) (omega arith)) (All-tail (λ (x : Entry). x.key < bound) e es below),
     )
@@ -64,10 +64,10 @@ module _ (tables : List Table) (p r : ℕ) where
 
   -- of a node's own entries nothing is left over
   pub copy_leftover-own : p ≡ r → copy_leftover tables p r ≡ 0
-  copy_leftover-own same = sum_below-none (λ k. leftover_at tables p r k) t.keys (λ k. ap {B = ℕ} (λ b. if b then 0 else (if is_left_over generation (entry_at t r k) then 1 else 0)) (eq-eqb p r same))
+  copy_leftover-own same = fold_below-none sums (λ k. leftover_at tables p r k) t.keys (λ k. ap {B = ℕ} (λ b. if b then 0 else (if is_left_over generation (entry_at t r k) then 1 else 0)) (eq-eqb p r same))
 
   none_left : ((k : ℕ) → is_left_over generation (entry_at t r k) ≡ false) → copy_leftover tables p r ≡ 0
-  none_left none = sum_below-none (λ k. leftover_at tables p r k) t.keys (λ k. elim (eqb p r) as (λ b. ◌≡◌ {A = ℕ} (if b then 0 else (if is_left_over generation (entry_at t r k) then 1 else 0)) 0) [
+  none_left none = fold_below-none sums (λ k. leftover_at tables p r k) t.keys (λ k. elim (eqb p r) as (λ b. ◌≡◌ {A = ℕ} (if b then 0 else (if is_left_over generation (entry_at t r k) then 1 else 0)) 0) [
     | true ↦ refl
     | false ↦ ap {B = ℕ} (λ b. if b then 1 else 0) (none k)
   ])
@@ -90,7 +90,7 @@ module _ (tables : List Table) (p r : ℕ) where
     -- in an older one everything is
     pub copy_leftover-older : copied < generation → p ≢ r → (row : List Entry) → AreAbove t r absent row → copy_leftover tables p r ≡ length row
     copy_leftover-older older other row entries =
-        sum_below-same (λ k. leftover_at tables p r k) (λ k. if has_key row k then 1 else 0) t.keys (λ k lt.
+        fold_below-same sums (λ k. leftover_at tables p r k) (λ k. if has_key row k then 1 else 0) t.keys (λ k lt.
         ap {B = ℕ} (λ b. if b then 0 else (if is_left_over generation (entry_at t r k) then 1 else 0)) (ne_eqb p r other)
         ∙ ap {B = ℕ} (λ b. if b then 1 else 0) (held k ∙ sym (row_held t r proper row entries k)))
         ∙ keys_counted row t.keys (row_apart t r proper row entries) (λ i d lt. row_below t r proper row entries i d lt)
@@ -107,6 +107,6 @@ module _ (tables : List Table) (p r : ℕ) where
 -- where all generations are the first nothing is
 pub nodes_leftover-none : (tables : List Table) (from nodes : ℕ) → ((r : ℕ) → r < length tables → generation_at tables r ≡ 0) → nodes_leftover tables from nodes ≡ 0
 nodes_leftover-none tables from nodes first =
-    sum_below-none (λ at. node_leftover tables (from + at)) nodes (λ at.
-    sum_below-same (λ r. copy_leftover tables (from + at) r) (λ r. 0) (length tables) (λ r lt. copy_leftover-first tables (from + at) r (first r lt))
-    ∙ sum_below-none (λ r. 0) (length tables) (λ r. refl))
+    fold_below-none sums (λ at. node_leftover tables (from + at)) nodes (λ at.
+    fold_below-same sums (λ r. copy_leftover tables (from + at) r) (λ r. 0) (length tables) (λ r lt. copy_leftover-first tables (from + at) r (first r lt))
+    ∙ fold_below-none sums (λ r. 0) (length tables) (λ r. refl))

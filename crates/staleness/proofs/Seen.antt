@@ -14,7 +14,7 @@ use Rattle.staleness.specs.Figures.{most_below, writes_of_owner, generation_at, 
 use Rattle.planes.specs.Sums.{sum_below}
 use Rattle.staleness.specs.inner.Copies.{version_known, version_staleness, with_copy, current_of, copies_of, least_of, stale_of}
 use Rattle.owner_lists.proofs.Linking.{last_placed}
-use Rattle.staleness.proofs.Sums.{sum_below-none}
+use Rattle.staleness.proofs.Sums.{sums, fold_below-none}
 use Rattle.staleness.proofs.Births.{staleness_falls, not_stale, is_stale}
 use Rattle.staleness.proofs.Known.{staleness_known}
 
@@ -163,7 +163,7 @@ module _ (round : ℕ) (tables : List Table) (lists : List (List Write)) (r k : 
         let rest : (if current == 0 then 0 else others p - c.fresh) ≡ stale_of c (others p) = sym (ap (λ n. if n == 0 then 0 else others p - c.fresh) so_far.current_is) in
         elim (cases_eq current 0) [
           | inl none ↦
-              sum_below-none (λ q. stale_count (staleness_at round tables lists q r k)) p (λ q. ap stale_count (never q none))
+              fold_below-none sums (λ q. stale_count (staleness_at round tables lists q r k)) p (λ q. ap stale_count (never q none))
               ∙ sym (ap (λ b. if b then 0 else others p - c.fresh) (eq-eqb current 0 none)) ∙ rest
           | inr some ↦ omega (arith, so_far.stale (omega arith)) ∙ sym (ap (λ b. if b then 0 else others p - c.fresh) (ne_eqb current 0 some)) ∙ rest
         ]

@@ -10,81 +10,110 @@ pub sum_below-le : (f : ℕ → ℕ) (n most : ℕ) → ((k : ℕ) → k < n →
 sum_below-le f zero most le = omega arith
 sum_below-le f (suc n) most le = omega (arith, le n (omega arith), sum_below-le f n most (λ k lt. le k (omega arith)))
 
-pub sum_below-same : (f g : ℕ → ℕ) (n : ℕ) → ((k : ℕ) → k < n → f k ≡ g k) → sum_below n f ≡ sum_below n g
-sum_below-same f g zero same = refl
-sum_below-same f g (suc n) same = omega (arith, same n (omega arith), sum_below-same f g n (λ k lt. same k (omega arith)))
-
-pub most_below-same : (f g : ℕ → ℕ) (n : ℕ) → ((k : ℕ) → k < n → f k ≡ g k) → most_below n f ≡ most_below n g
-most_below-same f g zero same = refl
-most_below-same f g (suc n) same = omega (arith, same n (omega arith), most_below-same f g n (λ k lt. same k (omega arith)))
-
--- where nothing is counted
-pub sum_below-none : (f : ℕ → ℕ) (n : ℕ) → ((k : ℕ) → f k ≡ 0) → sum_below n f ≡ 0
-sum_below-none f zero none = refl
-sum_below-none f (suc n) none = omega (arith, none n, sum_below-none f n none)
-
-pub most_below-none : (f : ℕ → ℕ) (n : ℕ) → ((k : ℕ) → f k ≡ 0) → most_below n f ≡ 0
-most_below-none f zero none = refl
-most_below-none f (suc n) none = omega (arith, none n, most_below-none f n none)
-
 -- a triple counts once at most
 pub stale_count-le : (staleness : Option ℕ) → stale_count staleness ≤ 1
 stale_count-le None = omega arith
 stale_count-le (Some n) = omega arith
 
--- the order of two sums bears on nothing
-pub sum_below-add : (f g : ℕ → ℕ) (n : ℕ) → sum_below n (λ k. f k + g k) ≡ sum_below n f + sum_below n g
-sum_below-add f g zero = refl
-sum_below-add f g (suc n) = omega (arith, sum_below-add f g n)
+-- what f gives below a bound, taken together by an operation that passes over 0 and whose order and brackets bear on nothing
+pub record IsFoldBelow (op : ℕ → ℕ → ℕ) (fold : ℕ → (ℕ → ℕ) → ℕ) : Type 0 where
+  start : (f : ℕ → ℕ) → fold zero f ≡ 0
+  more : (f : ℕ → ℕ) (n : ℕ) → fold (suc n) f ≡ op (fold n f) (f n)
+  alone : (a : ℕ) → op a 0 ≡ a
+  grouped : (a b c : ℕ) → op a (op b c) ≡ op (op a b) c
+  crossed : (a b c d : ℕ) → op (op a b) (op c d) ≡ op (op a c) (op b d)
 
-pub sum_below-swap : (f : ℕ → ℕ → ℕ) (n m : ℕ) → sum_below n (λ i. sum_below m (f i)) ≡ sum_below m (λ j. sum_below n (λ i. f i j))
-sum_below-swap f zero m = sym (sum_below-none (λ j. 0) m (λ k. refl))
-sum_below-swap f (suc n) m = omega (arith, sum_below-swap f n m, sum_below-add (λ j. sum_below n (λ i. f i j)) (f n) m)
+pub sums : IsFoldBelow (λ a b. a + b) sum_below
+sums = record {
+  start = λ f. refl;
+  more = λ f n. refl;
+  alone = λ a. omega arith;
+  grouped = λ a b c. omega arith;
+  crossed = λ a b c d. omega arith;
+}
 
-most_below-add : (f g : ℕ → ℕ) (n : ℕ) → most_below n (λ k. max (f k) (g k)) ≡ max (most_below n f) (most_below n g)
-most_below-add f g zero = refl
-most_below-add f g (suc n) = omega (arith, most_below-add f g n)
+pub greatest : IsFoldBelow max most_below
+greatest = record {
+  start = λ f. refl;
+  more = λ f n. refl;
+  alone = λ a. omega arith;
+  grouped = λ a b c. omega arith;
+  crossed = λ a b c d. omega arith;
+}
 
-pub most_below-swap : (f : ℕ → ℕ → ℕ) (n m : ℕ) → most_below n (λ i. most_below m (f i)) ≡ most_below m (λ j. most_below n (λ i. f i j))
-most_below-swap f zero m = sym (most_below-none (λ j. 0) m (λ k. refl))
-most_below-swap f (suc n) m = omega (arith, most_below-swap f n m, most_below-add (λ j. most_below n (λ i. f i j)) (f n) m)
+module _ {op : ℕ → ℕ → ℕ} {fold : ℕ → (ℕ → ℕ) → ℕ} (is : IsFoldBelow op fold) where
+  pub fold_below-same : (f g : ℕ → ℕ) (n : ℕ) → ((k : ℕ) → k < n → f k ≡ g k) → fold n f ≡ fold n g
+  fold_below-same f g zero same = is.start f ∙ sym (is.start g)
+  fold_below-same f g (suc n) same =
+      is.more f n
+      ∙ (λ i. op (fold_below-same f g n (λ k lt. same k (omega arith)) i) (same n (omega arith) i))
+      ∙ sym (is.more g n)
 
--- one range behind another
-sum_below-join : (f : ℕ → ℕ) (a b : ℕ) → sum_below a f + sum_below b (λ k. f (a + k)) ≡ sum_below (a + b) f
-sum_below-join f a zero = let same : a ≡ a + 0 = omega arith in omega (arith, ap (λ n. sum_below n f) same)
-sum_below-join f a (suc b) = let same : suc (a + b) ≡ a + suc b = omega arith in omega (arith, sum_below-join f a b, ap (λ n. sum_below n f) same)
+  -- where nothing is counted
+  pub fold_below-none : (f : ℕ → ℕ) (n : ℕ) → ((k : ℕ) → f k ≡ 0) → fold n f ≡ 0
+  fold_below-none f zero none = is.start f
+  fold_below-none f (suc n) none = is.more f n ∙ ap (op (fold n f)) (none n) ∙ is.alone (fold n f) ∙ fold_below-none f n none
 
-most_below-join : (f : ℕ → ℕ) (a b : ℕ) → max (most_below a f) (most_below b (λ k. f (a + k))) ≡ most_below (a + b) f
-most_below-join f a zero = let same : a ≡ a + 0 = omega arith in omega (arith, ap (λ n. most_below n f) same)
-most_below-join f a (suc b) = let same : suc (a + b) ≡ a + suc b = omega arith in omega (arith, most_below-join f a b, ap (λ n. most_below n f) same)
+  -- the order of two folds bears on nothing
+  pub fold_below-both : (f g : ℕ → ℕ) (n : ℕ) → fold n (λ k. op (f k) (g k)) ≡ op (fold n f) (fold n g)
+  fold_below-both f g zero =
+      is.start (λ k. op (f k) (g k)) ∙ sym (is.alone 0) ∙ (λ i. op (sym (is.start f) i) (sym (is.start g) i))
+  fold_below-both f g (suc n) =
+      is.more (λ k. op (f k) (g k)) n
+      ∙ ap (λ m. op m (op (f n) (g n))) (fold_below-both f g n)
+      ∙ is.crossed (fold n f) (fold n g) (f n) (g n)
+      ∙ (λ i. op (sym (is.more f n) i) (sym (is.more g n) i))
 
--- parts of one size, up to an end
-module _ (f : ℕ → ℕ) (n size : ℕ) where
-  next : (i : ℕ) → suc i * size ≡ i * size + size
-  next i = let same : i + 1 ≡ suc i = omega arith in ap (λ m. m * size) (sym same) ∙ one_more i size
+  pub fold_below-swap : (f : ℕ → ℕ → ℕ) (n m : ℕ) → fold n (λ i. fold m (f i)) ≡ fold m (λ j. fold n (λ i. f i j))
+  fold_below-swap f zero m =
+      is.start (λ i. fold m (f i)) ∙ sym (fold_below-none (λ j. fold zero (λ i. f i j)) m (λ j. is.start (λ i. f i j)))
+  fold_below-swap f (suc n) m =
+      is.more (λ i. fold m (f i)) n
+      ∙ ap (λ k. op k (fold m (f n))) (fold_below-swap f n m)
+      ∙ sym (fold_below-both (λ j. fold n (λ i. f i j)) (f n) m)
+      ∙ fold_below-same (λ j. op (fold n (λ i. f i j)) (f n j)) (λ j. fold (suc n) (λ i. f i j)) m (λ j lt. sym (is.more (λ i. f i j) n))
 
-  pub sum_below-parts : (i : ℕ) → sum_below i (λ j. sum_below (min size (n - j * size)) (λ k. f (j * size + k))) ≡ sum_below (min (i * size) n) f
-  sum_below-parts zero = let none : 0 ≡ min (0 * size) n = omega arith in ap (λ m. sum_below m f) none
-  sum_below-parts (suc i) = elim (cases_lt n (i * size)) [
-    | inl past ↦
-        let none : min size (n - i * size) ≡ 0 = omega arith in
-        let same : min (i * size) n ≡ min (suc i * size) n = omega (arith, next i) in
-        omega (arith, sum_below-parts i, ap (λ m. sum_below m (λ k. f (i * size + k))) none, ap (λ m. sum_below m f) same)
-    | inr within ↦
-        let here : min (i * size) n ≡ i * size = omega arith in
-        let then : i * size + min size (n - i * size) ≡ min (suc i * size) n = omega (arith, next i) in
-        omega (arith, sum_below-parts i, ap (λ m. sum_below m f) here, sum_below-join f (i * size) (min size (n - i * size)), ap (λ m. sum_below m f) then)
-  ]
+  -- one range behind another
+  pub fold_below-join : (f : ℕ → ℕ) (a b : ℕ) → op (fold a f) (fold b (λ k. f (a + k))) ≡ fold (a + b) f
+  fold_below-join f a zero =
+      let same : a ≡ a + 0 = omega arith in
+      ap (op (fold a f)) (is.start (λ k. f (a + k))) ∙ is.alone (fold a f) ∙ ap (λ n. fold n f) same
+  fold_below-join f a (suc b) =
+      let same : suc (a + b) ≡ a + suc b = omega arith in
+      ap (op (fold a f)) (is.more (λ k. f (a + k)) b)
+      ∙ is.grouped (fold a f) (fold b (λ k. f (a + k))) (f (a + b))
+      ∙ ap (λ m. op m (f (a + b))) (fold_below-join f a b)
+      ∙ sym (is.more f (a + b))
+      ∙ ap (λ n. fold n f) same
 
-  pub most_below-parts : (i : ℕ) → most_below i (λ j. most_below (min size (n - j * size)) (λ k. f (j * size + k))) ≡ most_below (min (i * size) n) f
-  most_below-parts zero = let none : 0 ≡ min (0 * size) n = omega arith in ap (λ m. most_below m f) none
-  most_below-parts (suc i) = elim (cases_lt n (i * size)) [
-    | inl past ↦
-        let none : min size (n - i * size) ≡ 0 = omega arith in
-        let same : min (i * size) n ≡ min (suc i * size) n = omega (arith, next i) in
-        omega (arith, most_below-parts i, ap (λ m. most_below m (λ k. f (i * size + k))) none, ap (λ m. most_below m f) same)
-    | inr within ↦
-        let here : min (i * size) n ≡ i * size = omega arith in
-        let then : i * size + min size (n - i * size) ≡ min (suc i * size) n = omega (arith, next i) in
-        omega (arith, most_below-parts i, ap (λ m. most_below m f) here, most_below-join f (i * size) (min size (n - i * size)), ap (λ m. most_below m f) then)
-  ]
+  -- parts of one size, up to an end
+  module _ (f : ℕ → ℕ) (n size : ℕ) where
+    next : (i : ℕ) → suc i * size ≡ i * size + size
+    next i = let same : i + 1 ≡ suc i = omega arith in ap (λ m. m * size) (sym same) ∙ one_more i size
+
+    abbrev part : ℕ → ℕ
+    part i = fold (min size (n - i * size)) (λ k. f (i * size + k))
+
+    pub fold_below-parts : (i : ℕ) → fold i (λ j. fold (min size (n - j * size)) (λ k. f (j * size + k))) ≡ fold (min (i * size) n) f
+    fold_below-parts zero = let none : 0 ≡ min (0 * size) n = omega arith in is.start part ∙ sym (is.start f) ∙ ap (λ m. fold m f) none
+    fold_below-parts (suc i) =
+        is.more part i
+        ∙ ap (λ m. op m (part i)) (fold_below-parts i)
+        ∙ elim (cases_lt n (i * size)) [
+          | inl past ↦
+              let none : min size (n - i * size) ≡ 0 = omega arith in
+              let same : min (i * size) n ≡ min (suc i * size) n = omega (arith, next i) in
+              ap (λ m. op (fold (min (i * size) n) f) (fold m (λ k. f (i * size + k)))) none
+              ∙ ap (op (fold (min (i * size) n) f)) (is.start (λ k. f (i * size + k)))
+              ∙ is.alone (fold (min (i * size) n) f)
+              ∙ ap (λ m. fold m f) same
+          | inr within ↦
+              let here : min (i * size) n ≡ i * size = omega arith in
+              let then : i * size + min size (n - i * size) ≡ min (suc i * size) n = omega (arith, next i) in
+              ap (λ m. op (fold m f) (part i)) here
+              ∙ fold_below-join f (i * size) (min size (n - i * size))
+              ∙ ap (λ m. fold m f) then
+        ]
+
+pub most_below-same : (f g : ℕ → ℕ) (n : ℕ) → ((k : ℕ) → k < n → f k ≡ g k) → most_below n f ≡ most_below n g
+most_below-same = fold_below-same greatest

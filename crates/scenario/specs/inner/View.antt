@@ -4,18 +4,18 @@ use Rattle.scenario.specs.declared.scenarios.Scenario.TheInside.{Inside}
 
 abbrev pub settings_of : Inside → Settings
 settings_of s = record {
-  format = s.format;
-  nodes = s.nodes;
-  keys = s.keys;
-  rounds = s.rounds;
-  seed = s.seed;
-  mode = s.mode;
-  budget = s.budget;
-  peers = s.peers;
-  rotation = s.rotation;
-  choice = s.choice;
-  loss_ppm = s.loss_ppm;
-  writes = s.writes;
+  format = s.basics.format;
+  nodes = s.basics.nodes;
+  keys = s.basics.keys;
+  rounds = s.basics.rounds;
+  seed = s.basics.seed;
+  mode = s.conduct.mode;
+  budget = s.conduct.budget;
+  peers = s.conduct.peers;
+  rotation = s.conduct.rotation;
+  choice = s.conduct.choice;
+  loss_ppm = s.conduct.loss_ppm;
+  writes = s.conduct.writes;
   partitions = s.partitions.items;
   restarts = s.restarts.items;
   loads = s.loads.items;

@@ -1,4 +1,4 @@
-use Rattle.std.proofs.Common.{◌≡◌, map, drop}
+use Rattle.std.proofs.Common.{◌≡◌, length, map, drop, All}
 use Rattle.toml.specs.View.{view}
 use Rattle.scenario.specs.Elements.{each}
 use Rattle.scenario.proofs.Walks.{joined}
@@ -6,4 +6,9 @@ use Rattle.scenario.proofs.arrays.array_at.Given as goal
 
 abbrev pub invariant-loop-value : goal.invariant-loop-value
 invariant-loop-value g l =
-    each (g.T.Element.checked l.format l.nodes) (map view l.values) ≡ joined l.elements.items (each (g.T.Element.checked l.format l.nodes) (map view (drop l.value-index l.values)))
+    let checked = g.T.Element.checked l.format l.nodes in
+    record {
+      read : each checked (map view l.values) ≡ joined l.elements.items (each checked (map view (drop l.value-index l.values)));
+      as_many : length l.elements.items ≡ l.value-index;
+      lawful : All (g.T.Element.lawful l.format l.nodes) l.elements.items;
+    }

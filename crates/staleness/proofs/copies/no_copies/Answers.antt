@@ -3,7 +3,7 @@ use Rattle.std.proofs.lemmas.Bool.{cases_lt}
 use Rattle.owner_lists.specs.Writes.{last_write}
 use Rattle.owner_lists.specs.inner.Linked.{version_or_zero}
 use Rattle.owner_lists.specs.OwnerListView.{written, lists_in}
-use Rattle.owner_lists.proofs.Owners.{length-lists_in, list_read}
+use Rattle.owner_lists.proofs.Owners.{list_read}
 use Rattle.staleness.specs.Figures.{writes_of_owner}
 use Rattle.staleness.specs.inner.Copies.{no_copies}
 use Rattle.staleness.proofs.Places.{within, one_more}

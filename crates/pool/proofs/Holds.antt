@@ -40,7 +40,7 @@ module _ {T G S : Type 0} (table : T → Table) (fits : S → Table → Type 0) 
     of_round = subst IsRoundPlan (sym is.same_list) round
 
     of_cluster : IsCluster plan.list.nodes plan.tables
-    of_cluster = subst (λ (l : RoundListView). IsCluster l.nodes plan.tables) (sym is.same_list) is.cluster
+    of_cluster = subst (λ (l : RoundListView). IsCluster l.nodes plan.tables) (sym is.same_list) is.tables.cluster
 
     pub hold_meets : MayBeExchanged (exchange_at es hold.index) (table hold.initiator) (table hold.responder)
     hold_meets = subst (λ (e : Exchange). MayBeExchanged e (table hold.initiator) (table hold.responder)) same_exchange (may_be_exchanged table plan hold.index hold of_round of_cluster within found)
@@ -52,7 +52,7 @@ module _ {T G S : Type 0} (table : T → Table) (fits : S → Table → Type 0) 
         let keys = (table_of_node plan.tables 0).keys in
         let planned : IsPlanned nodes (exchange_at plan.list.exchanges hold.index) = of_round.planned hold.index no_exchange within in
         let before = before_tables plan.rules nodes keys plan.list.exchanges plan.tables of_round.planned of_cluster hold.index in
-        let each = before_keeps_each plan.rules nodes keys plan.list.exchanges plan.tables of_round.planned of_cluster (fits shop.shared.now) kept is.each_fits hold.index in (
+        let each = before_keeps_each plan.rules nodes keys plan.list.exchanges plan.tables of_round.planned of_cluster (fits shop.shared.now) kept is.tables.each_fits hold.index in (
           subst (fits shop.shared.now) (sym found.initiator) (each (initiator_of plan hold.index) (omega (arith, planned.initiator, before.size))),
           subst (fits shop.shared.now) (sym found.responder) (each (responder_of plan hold.index) (omega (arith, planned.responder, before.size))),
         )

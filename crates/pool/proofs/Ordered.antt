@@ -11,11 +11,9 @@ use Rattle.std.proofs.lemmas.Bool.{cases_Bool}
 use Rattle.bench_types.specs.declared.exchanges.Exchange.{Exchange}
 use Rattle.bench_types.specs.declared.exchanges.Record.{Record}
 use Rattle.bench_types.specs.declared.exchanges.Rules.{Rules}
-use Rattle.bench_types.specs.Budget.{IsLawfulBudget}
 use Rattle.node_table.specs.Table.{Table}
 use Rattle.round_plan.specs.Plan.{RoundListView}
 use Rattle.cluster.specs.Folds.{fold_of}
-use Rattle.cluster.specs.Tables.{IsCluster, HoldsOfEach}
 use Rattle.cluster.proofs.FoldLaws.{fold_counts_records}
 use Rattle.dependencies.specs.Neighbours.{is_first_ready, first_ready_of}
 use Rattle.dependencies.proofs.Moves.{record_kept}
@@ -24,6 +22,7 @@ use Rattle.board.specs.Weights.{times}
 use Rattle.board.specs.Plan.{BoardPlan, exchanged_at}
 use Rattle.board.specs.Boards.{AreLeft, HasMadeAll, IsMadeOf}
 use Rattle.collector.specs.declared.collectors.Stamped.{Stamped}
+use Rattle.pool.specs.Runs.{MayCarryOut}
 use Rattle.pool.specs.inner.Deques.{AllBelow}
 use Rattle.pool.specs.inner.Returns.{AreRecordsOf}
 use Rattle.pool.specs.inner.Gathering.{IsEachOnce, AreInListOrder}
@@ -87,12 +86,9 @@ all_ended table plan new v stamps records n size of_seat all ordered left =
 
 -- the board of a workshop was made of its list and these tables
 pub is_workshop : {T G S : Type 0} (table : T → Table) (fits : S → Table → Type 0) (shop : Workshop T G S) (tables : List T) → IsMadeOf table shop.rules.now shop.list.now tables shop.board.now
-    → IsCluster shop.list.now.nodes (map table tables) → HoldsOfEach (fits shop.shared.now) (map table tables) → IsLawfulBudget shop.rules.now.budget → IsWorkshop table fits shop
-is_workshop table fits shop tables made cluster fit budget =
-    let same_tables = ap (λ (p : BoardPlan). p.tables) made in record {
-      same_list = ap (λ (p : BoardPlan). p.list) made;
-      same_rules = ap (λ (p : BoardPlan). p.rules) made;
-      cluster = subst (IsCluster shop.list.now.nodes) (sym same_tables) cluster;
-      each_fits = subst (HoldsOfEach (fits shop.shared.now)) (sym same_tables) fit;
-      budget = budget;
-    }
+    → MayCarryOut (fits shop.shared.now) shop.rules.now shop.list.now.nodes (map table tables) → IsWorkshop table fits shop
+is_workshop table fits shop tables made may = record {
+  same_list = ap (λ (p : BoardPlan). p.list) made;
+  same_rules = ap (λ (p : BoardPlan). p.rules) made;
+  tables = subst (MayCarryOut (fits shop.shared.now) shop.rules.now shop.list.now.nodes) (sym (ap (λ (p : BoardPlan). p.tables) made)) may;
+}

@@ -5,8 +5,16 @@ use Rattle.bench_types.specs.declared.exchanges.Record.{Record}
 use Rattle.bench_types.specs.declared.exchanges.Rules.{Rules}
 use Rattle.bench_types.specs.declared.faults.Fault.{Fault}
 use Rattle.bench_types.specs.declared.faults.Fault.TheVariants.{OutOfMemory, NoThread}
+use Rattle.bench_types.specs.Budget.{IsLawfulBudget}
 use Rattle.node_table.specs.Table.{Table}
 use Rattle.cluster.specs.Folds.{fold_of}
+use Rattle.cluster.specs.Tables.{IsCluster, HoldsOfEach}
+
+-- the tables of so many nodes, each of which fits what all read, and rules: exchanges of the nodes may be carried out
+pub record MayCarryOut (fits : Table → Type 0) (rules : Rules) (nodes : ℕ) (tables : List Table) : Type 0 where
+  pub cluster : IsCluster nodes tables
+  pub each_fits : HoldsOfEach fits tables
+  pub budget : IsLawfulBudget rules.budget
 
 -- these are the tables and the records of list order
 abbrev pub AreExchanged : {T : Type 0} → (T → Table) → Rules → List Exchange → List T → List T → List Record → Type 0

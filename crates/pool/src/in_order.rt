@@ -2,11 +2,9 @@
 
 ghost use Rattle.std.specs.Prelude.{length, map, IfOk, IsOkUnless};
 ghost use Rattle.bench_types.specs.declared.faults.Fault.TheVariants.{OutOfMemory};
-ghost use Rattle.bench_types.specs.Budget.{IsLawfulBudget};
 ghost use Rattle.bench_types.specs.Exchange.{IsPlanned};
-ghost use Rattle.cluster.specs.Tables.{IsCluster, HoldsOfEach};
 ghost use Rattle.pool.specs.inner.Turns.{IsPairExchanged};
-ghost use Rattle.pool.specs.Runs.{AreExchanged};
+ghost use Rattle.pool.specs.Runs.{MayCarryOut, AreExchanged};
 
 use crate::gates::Gate;
 use bench_types::{Exchange, Fault, Record, Rules};
@@ -23,9 +21,7 @@ pub(crate) fn exchange_all<T: Exchanging, G: Gate>(
     gate: &G,
     rules: &Rules,
 ) -> Result<Vec<Record>, Fault>
-    requires budget { IsLawfulBudget rules.now.budget }
-    requires tables { IsCluster list.now.nodes (map T.table tables.old) }
-    requires fits { HoldsOfEach (T.fits shared.now) (map T.table tables.old) }
+    requires tables { MayCarryOut (T.fits shared.now) rules.now list.now.nodes (map T.table tables.old) }
     ensures exchanged { IfOk result
         (λ v. AreExchanged T.table rules.now list.now.exchanges tables.old tables.new v.items) }
     ensures only { IsOkUnless result OutOfMemory }
@@ -48,9 +44,7 @@ fn exchange_pair<T: Exchanging>(
     plan: &Exchange,
     rules: &Rules,
 ) -> Result<Record, Fault>
-    requires budget { IsLawfulBudget rules.now.budget }
-    requires tables { IsCluster (length tables.old) (map T.table tables.old) }
-    requires fits { HoldsOfEach (T.fits shared.now) (map T.table tables.old) }
+    requires tables { MayCarryOut (T.fits shared.now) rules.now (length tables.old) (map T.table tables.old) }
     requires planned { IsPlanned (length tables.old) plan.now }
     ensures exchanged { IfOk result (IsPairExchanged T.table rules.now plan.now tables.old tables.new) }
     ensures only { IsOkUnless result OutOfMemory }

@@ -2,9 +2,9 @@
 
 ghost use Rattle.std.specs.Prelude.{◌≤◌, map, IfOk, IfErr};
 ghost use Rattle.bench_types.specs.Budget.{IsLawfulBudget};
-ghost use Rattle.cluster.specs.Tables.{tables_in, IsCluster, HoldsOfEach};
+ghost use Rattle.cluster.specs.Tables.{tables_in, IsCluster};
 ghost use Rattle.exchange.specs.Exchanging.{kept_table};
-ghost use Rattle.pool.specs.Runs.{AreExchanged, IsPoolFault};
+ghost use Rattle.pool.specs.Runs.{MayCarryOut, AreExchanged, IsPoolFault};
 ghost use Rattle.bench_types.specs.declared.limits.TheConstants.{MOST_WORKERS};
 
 use crate::gates::Gate;
@@ -67,9 +67,7 @@ pub fn run_list_with<R: Threads + Wait + Sync, T: Exchanging + Send + Sync, G: G
 ) -> Result<(Vec<T>, Vec<Record>), Fault>
     requires few { 1 ≤ workers }
     requires many { workers ≤ MOST_WORKERS }
-    requires cluster { IsCluster list.now.nodes (map T.table tables.items) }
-    requires fits { HoldsOfEach (T.fits shared.now) (map T.table tables.items) }
-    requires budget { IsLawfulBudget rules.now.budget }
+    requires tables { MayCarryOut (T.fits shared.now) rules.now list.now.nodes (map T.table tables.items) }
     ensures exchanged { IfOk result
         (λ p. AreExchanged T.table rules.now list.now.exchanges tables.items p.0.items p.1.items) }
     ensures fault { IfErr result (IsPoolFault workers) }

@@ -2,13 +2,11 @@
 
 ghost use Rattle.std.specs.Prelude.{◌≡◌, ◌+◌, ◌<◌, ◌≤◌, [], All, length, map, IfOk, IfErr, IsOk, IsOkUnless, OnOk, vec_len, vec_capacity};
 ghost use Rattle.bench_types.specs.declared.faults.Fault.TheVariants.{OutOfMemory, NoThread};
-ghost use Rattle.bench_types.specs.declared.limits.TheConstants.{MOST_WORKERS};
-ghost use Rattle.bench_types.specs.Budget.{IsLawfulBudget};
-ghost use Rattle.cluster.specs.Tables.{IsCluster, HoldsOfEach};
+ghost use Rattle.cluster.specs.Tables.{IsCluster};
 ghost use Rattle.board.specs.Boards.{plan_of, seat_view, IsMadeOf, IsSeatOf};
-ghost use Rattle.pool.specs.Runs.{AreExchanged, IsPoolFault};
+ghost use Rattle.pool.specs.Runs.{MayCarryOut, AreExchanged, IsPoolFault};
 ghost use Rattle.pool.specs.inner.Returns.{IsFreshSeat, IsReturned};
-ghost use Rattle.pool.specs.inner.Starts.{MaySplit};
+ghost use Rattle.pool.specs.inner.Starts.{AreSeveral, MaySplit};
 ghost use Rattle.pool.specs.inner.Workshops.{IsWorkshop};
 ghost use Rattle.pool.specs.inner.Joined.{HasTakenIn, HasSeenAll, IsEndOf, IsOfBoard, AreTogether};
 
@@ -16,7 +14,6 @@ use crate::deques::{Limit, Tasks, deal};
 use crate::gates::Gate;
 use crate::gathering::in_list_order;
 use crate::workers::{Returned, Workshop};
-use bench_types::limits::MOST_WORKERS;
 use bench_types::{Fault, Record, Rules};
 use board::{Board, Seat};
 use collector::Stamped;
@@ -56,11 +53,8 @@ pub(crate) fn exchange_in_threads<
     rules: &Rules,
 ) -> Result<(Vec<T>, Vec<Record>), Fault>
     requires limit { L.limit ≡ length list.now.exchanges }
-    requires several { 2 ≤ workers }
-    requires many { workers ≤ MOST_WORKERS }
-    requires cluster { IsCluster list.now.nodes (map T.table tables.items) }
-    requires fits { HoldsOfEach (T.fits shared.now) (map T.table tables.items) }
-    requires budget { IsLawfulBudget rules.now.budget }
+    requires several { AreSeveral workers }
+    requires tables { MayCarryOut (T.fits shared.now) rules.now list.now.nodes (map T.table tables.items) }
     ensures exchanged { IfOk result
         (λ p. AreExchanged T.table rules.now list.now.exchanges tables.items p.0.items p.1.items) }
     ensures fault { IfErr result (IsPoolFault workers) }
@@ -87,8 +81,7 @@ fn begin<L: Limit, T: MemoryTable>(
     rules: &Rules,
 ) -> Result<(Board<T>, Seat<T>, Vec<Tasks<L>>), Fault>
     requires limit { L.limit ≡ length list.now.exchanges }
-    requires several { 2 ≤ workers }
-    requires many { workers ≤ MOST_WORKERS }
+    requires several { AreSeveral workers }
     requires cluster { IsCluster list.now.nodes (map T.table tables.items) }
     ensures board { IfOk result (λ begun. IsMadeOf T.table rules.now list.now tables.items begun.0) }
     ensures first { IfOk result (λ begun. MaySplit T.table begun.0 begun.1 (vec_len begun.2)) }
@@ -130,7 +123,7 @@ fn run_workers<
 >(
     rt: &R,
     shop: &Workshop<T, G>,
-    seat: Seat<T>,
+    mut seat: Seat<T>,
     tasks: Vec<Tasks<L>>,
 ) -> Result<(Seat<T>, Vec<Stamped>), Fault>
     requires shop { IsWorkshop T.table T.fits shop.now }
@@ -148,41 +141,19 @@ fn run_workers<
             requires begin { MaySplit T.table shop.now.board.now seat (vec_len tasks) }
             ensures made { IfOk result (λ p. HasSeenAll T.table shop.entry.now.board.now p.0 p.1.items) }
             ensures fault { IfErr result (IsPoolFault (vec_len tasks)) }
-        { run_in_scope(scope, rt, shop, seat, tasks) },
+        {
+            let mut handles = Vec::with_capacity(shop.alloc, tasks.len())?;
+            let started = start_all(scope, rt, shop, &mut seat, tasks, &mut handles);
+            if started.is_err() {
+                shop.board.stop(&mut seat);
+            }
+            let joined = join_all(rt, shop.alloc, shop.board, &mut seat, handles);
+            let stamps = outcome_of(started, joined)?;
+            // A whole seat, so it learns that all exchanges are put back.
+            shop.board.look(&mut seat);
+            Ok((seat, stamps))
+        },
     )
-}
-
-// The same, in an open scope.
-fn run_in_scope<
-    's,
-    'e: 's,
-    L: Limit + Send + Sync + 'e,
-    R: Threads + Wait + Sync,
-    T: Exchanging + Send + Sync,
-    G: Gate + Sync,
->(
-    scope: &Scope<'s, &'e ()>,
-    rt: &'e R,
-    shop: &'e Workshop<'e, T, G>,
-    mut seat: Seat<T>,
-    tasks: Vec<Tasks<L>>,
-) -> Result<(Seat<T>, Vec<Stamped>), Fault>
-    requires shop { IsWorkshop T.table T.fits shop.now }
-    requires limit { L.limit ≡ length shop.now.list.now.exchanges }
-    requires begin { MaySplit T.table shop.now.board.now seat (vec_len tasks) }
-    ensures made { IfOk result (λ p. HasSeenAll T.table shop.now.board.now p.0 p.1.items) }
-    ensures fault { IfErr result (IsPoolFault (vec_len tasks)) }
-{
-    let mut handles = Vec::with_capacity(shop.alloc, tasks.len())?;
-    let started = start_all(scope, rt, shop, &mut seat, tasks, &mut handles);
-    if started.is_err() {
-        shop.board.stop(&mut seat);
-    }
-    let joined = join_all(rt, shop.alloc, shop.board, &mut seat, handles);
-    let stamps = outcome_of(started, joined)?;
-    // A whole seat, so it learns that all exchanges are put back.
-    shop.board.look(&mut seat);
-    Ok((seat, stamps))
 }
 
 // What both came to. That a thread couldn't be started goes before what the others met.

@@ -28,8 +28,16 @@ exchange_pair-requires-clause-tables g c =
     let old = map g.T.MemoryTable.table c.args.tables.now in
     let keys = (table_of_node old 0).keys in
     let new = c.loop-i.tables in
-    let still = still_tables c.args.rules.now nodes keys c.args.list.now.exchanges old (map g.T.MemoryTable.table new) c.loop-i.records.items c.exchanges-plan-items.ensures.kept.planned c.requires.tables c.loop-i.i c.loop-i.invariant in
-    λ _ _. subst (λ n. IsCluster n (map g.T.MemoryTable.table new)) (sym still.size ∙ length-map new g.T.MemoryTable.table) (cluster_of nodes keys (map g.T.MemoryTable.table new) still)
+    let fits = g.T.Exchanging.fits c.args.shared.now in
+    let may = c.requires.tables in
+    let planned = c.exchanges-plan-items.ensures.kept.planned in
+    let still = still_tables c.args.rules.now nodes keys c.args.list.now.exchanges old (map g.T.MemoryTable.table new) c.loop-i.records.items planned may.cluster c.loop-i.i c.loop-i.invariant in
+    λ _ _. record {
+      cluster = subst (λ n. IsCluster n (map g.T.MemoryTable.table new)) (sym still.size ∙ length-map new g.T.MemoryTable.table) (cluster_of nodes keys (map g.T.MemoryTable.table new) still);
+      each_fits = subst (λ (s : Folded). HoldsOfEach fits s.tables) c.loop-i.invariant.folded
+          (before_keeps_each c.args.rules.now nodes keys c.args.list.now.exchanges old planned may.cluster fits (g.met.T.Exchanging.stays_fit c.args.shared.now) may.each_fits c.loop-i.i);
+      budget = may.budget;
+    }
 
 pub loop-i-init : goal.loop-i-init
 loop-i-init g c =
@@ -44,11 +52,3 @@ returns-clause-exchanged g c =
     let i = c.loop-i.i in
     let all : take i es ≡ es = take_all i es (omega (arith, c.loop-i-test.false, ap length c.exchanges-plan-items.ensures.value)) in
     sym (ap (fold_of c.args.rules.now (map g.T.MemoryTable.table c.args.tables.now)) all) ∙ c.loop-i.invariant.folded
-
-pub exchange_pair-requires-clause-fits : goal.exchange_pair-requires-clause-fits
-exchange_pair-requires-clause-fits g c =
-    let old = map g.T.MemoryTable.table c.args.tables.now in
-    let keys = (table_of_node old 0).keys in
-    let shared = c.args.shared.now in
-    λ _ _. subst (λ (s : Folded). HoldsOfEach (g.T.Exchanging.fits shared) s.tables) c.loop-i.invariant.folded
-    (before_keeps_each c.args.rules.now c.args.list.now.nodes keys c.args.list.now.exchanges old c.exchanges-plan-items.ensures.kept.planned c.requires.tables (g.T.Exchanging.fits shared) (g.met.T.Exchanging.stays_fit shared) c.requires.fits c.loop-i.i)

@@ -1,4 +1,4 @@
-use Rattle.std.proofs.Common.{◌<◌, length, map, sym, ◌∙◌, subst, arith}
+use Rattle.std.proofs.Common.{length, map, arith}
 use Rattle.std.proofs.lemmas.Result.{IfOk-weaker}
 use Rattle.cluster.specs.Tables.{table_of_node}
 use Rattle.pool.proofs.Pairs.{front_table, back_table, front_fits, back_fits, may_be_exchanged, exchanged_low, exchanged_high}
@@ -26,14 +26,14 @@ exchange-requires g c =
     let fits = g.T.Exchanging.fits c.args.shared.now in
     let nodes = length xs in
     let keys = (table_of_node (map g.T.MemoryTable.table xs) 0).keys in
-    let first = front_table g.T.MemoryTable.table xs split.result.0.now split.result.1.now split.ensures.value nodes keys c.requires.tables c.index-below-initiator.result c.args.plan.now.initiator (omega (arith, split.ensures.front_len, c.if-initiator-responder.true)) c.requires.planned.initiator in
-    let second = back_table g.T.MemoryTable.table xs split.result.0.now split.result.1.now split.ensures.value nodes keys c.requires.tables c.index-from-0.result c.args.plan.now.responder split.ensures.front_len (omega (arith, split.ensures.back_len, c.requires.planned.responder)) c.requires.planned.responder in
+    let first = front_table g.T.MemoryTable.table xs split.result.0.now split.result.1.now split.ensures.value nodes keys c.requires.tables.cluster c.index-below-initiator.result c.args.plan.now.initiator (omega (arith, split.ensures.front_len, c.if-initiator-responder.true)) c.requires.planned.initiator in
+    let second = back_table g.T.MemoryTable.table xs split.result.0.now split.result.1.now split.ensures.value nodes keys c.requires.tables.cluster c.index-from-0.result c.args.plan.now.responder split.ensures.front_len (omega (arith, split.ensures.back_len, c.requires.planned.responder)) c.requires.planned.responder in
     record {
-      budget = c.requires.budget;
+      budget = c.requires.tables.budget;
       tables = may_be_exchanged nodes keys c.args.plan.now _ _ first second c.requires.planned.rotation;
       fits = (
-        front_fits g.T.MemoryTable.table xs split.result.0.now split.result.1.now split.ensures.value fits c.requires.fits c.index-below-initiator.result c.args.plan.now.initiator (omega (arith, split.ensures.front_len, c.if-initiator-responder.true)) c.requires.planned.initiator,
-        back_fits g.T.MemoryTable.table xs split.result.0.now split.result.1.now split.ensures.value fits c.requires.fits c.index-from-0.result c.args.plan.now.responder split.ensures.front_len (omega (arith, split.ensures.back_len, c.requires.planned.responder)) c.requires.planned.responder,
+        front_fits g.T.MemoryTable.table xs split.result.0.now split.result.1.now split.ensures.value fits c.requires.tables.each_fits c.index-below-initiator.result c.args.plan.now.initiator (omega (arith, split.ensures.front_len, c.if-initiator-responder.true)) c.requires.planned.initiator,
+        back_fits g.T.MemoryTable.table xs split.result.0.now split.result.1.now split.ensures.value fits c.requires.tables.each_fits c.index-from-0.result c.args.plan.now.responder split.ensures.front_len (omega (arith, split.ensures.back_len, c.requires.planned.responder)) c.requires.planned.responder,
       );
     }
 
@@ -44,13 +44,13 @@ exchange-requires-else-initiator-responder g c =
     let fits = g.T.Exchanging.fits c.args.shared.now in
     let nodes = length xs in
     let keys = (table_of_node (map g.T.MemoryTable.table xs) 0).keys in
-    let first = back_table g.T.MemoryTable.table xs split.result.0.now split.result.1.now split.ensures.value nodes keys c.requires.tables c.index-from-0-else-initiator-responder.result c.args.plan.now.initiator split.ensures.front_len (omega (arith, split.ensures.back_len, c.requires.planned.initiator)) c.requires.planned.initiator in
-    let second = front_table g.T.MemoryTable.table xs split.result.0.now split.result.1.now split.ensures.value nodes keys c.requires.tables c.index-below-responder.result c.args.plan.now.responder (omega (arith, split.ensures.front_len, c.if-initiator-responder.false, c.requires.planned.apart)) c.requires.planned.responder in
+    let first = back_table g.T.MemoryTable.table xs split.result.0.now split.result.1.now split.ensures.value nodes keys c.requires.tables.cluster c.index-from-0-else-initiator-responder.result c.args.plan.now.initiator split.ensures.front_len (omega (arith, split.ensures.back_len, c.requires.planned.initiator)) c.requires.planned.initiator in
+    let second = front_table g.T.MemoryTable.table xs split.result.0.now split.result.1.now split.ensures.value nodes keys c.requires.tables.cluster c.index-below-responder.result c.args.plan.now.responder (omega (arith, split.ensures.front_len, c.if-initiator-responder.false, c.requires.planned.apart)) c.requires.planned.responder in
     record {
-      budget = c.requires.budget;
+      budget = c.requires.tables.budget;
       tables = may_be_exchanged nodes keys c.args.plan.now _ _ first second c.requires.planned.rotation;
       fits = (
-        back_fits g.T.MemoryTable.table xs split.result.0.now split.result.1.now split.ensures.value fits c.requires.fits c.index-from-0-else-initiator-responder.result c.args.plan.now.initiator split.ensures.front_len (omega (arith, split.ensures.back_len, c.requires.planned.initiator)) c.requires.planned.initiator,
-        front_fits g.T.MemoryTable.table xs split.result.0.now split.result.1.now split.ensures.value fits c.requires.fits c.index-below-responder.result c.args.plan.now.responder (omega (arith, split.ensures.front_len, c.if-initiator-responder.false, c.requires.planned.apart)) c.requires.planned.responder,
+        back_fits g.T.MemoryTable.table xs split.result.0.now split.result.1.now split.ensures.value fits c.requires.tables.each_fits c.index-from-0-else-initiator-responder.result c.args.plan.now.initiator split.ensures.front_len (omega (arith, split.ensures.back_len, c.requires.planned.initiator)) c.requires.planned.initiator,
+        front_fits g.T.MemoryTable.table xs split.result.0.now split.result.1.now split.ensures.value fits c.requires.tables.each_fits c.index-below-responder.result c.args.plan.now.responder (omega (arith, split.ensures.front_len, c.if-initiator-responder.false, c.requires.planned.apart)) c.requires.planned.responder,
       );
     }

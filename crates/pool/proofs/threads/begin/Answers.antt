@@ -1,8 +1,8 @@
-use Rattle.std.proofs.Common.{◌≤◌, length, map, sym, ap, subst, ◌∙◌}
-use Rattle.bench_types.specs.declared.limits.TheConstants.{MOST_WORKERS}
+use Rattle.std.proofs.Common.{length, map, sym, ap, subst, ◌∙◌}
 use Rattle.cluster.specs.Tables.{IsCluster}
 use Rattle.dependencies.specs.Neighbours.{first_ready_of}
 use Rattle.pool.specs.inner.Deques.{AllBelow}
+use Rattle.pool.specs.inner.Starts.{AreSeveral}
 use Rattle.pool.proofs.Ordered.{ready_below}
 use Rattle.pool.proofs.threads.begin.Goals as goal
 
@@ -22,8 +22,7 @@ pub returns-clause-first : goal.returns-clause-first
 returns-clause-first g c = record {
   of_board = c.in_ok-board.ensures.seat.0;
   first = c.in_ok-board.ensures.seat.1;
-  several = subst (λ n. 2 ≤ n) (sym c.in_ok-tasks.ensures.one_each) c.requires.several;
-  many = subst (λ n. n ≤ MOST_WORKERS) (sym c.in_ok-tasks.ensures.one_each) c.requires.many;
+  several = subst AreSeveral (sym c.in_ok-tasks.ensures.one_each) c.requires.several;
 }
 
 pub returns-clause-one_each : goal.returns-clause-one_each

@@ -6,13 +6,7 @@ use Rattle.pool.proofs.threads.exchange_in_threads.Goals as goal
 
 pub run_workers-requires-clause-shop : goal.run_workers-requires-clause-shop
 run_workers-requires-clause-shop g c = λ κs out.
-    is_workshop g.T.MemoryTable.table g.T.Exchanging.fits _ c.args.tables.items c.in_ok-board.ensures.board c.requires.cluster c.requires.fits c.requires.budget
-
-pub run_workers-requires-clause-limit : goal.run_workers-requires-clause-limit
-run_workers-requires-clause-limit g c = λ κs out. c.requires.limit
-
-pub run_workers-requires-clause-begin : goal.run_workers-requires-clause-begin
-run_workers-requires-clause-begin g c = λ κs out. c.in_ok-board.ensures.first
+    is_workshop g.T.MemoryTable.table g.T.Exchanging.fits _ c.args.tables.items c.in_ok-board.ensures.board c.requires.tables
 
 pub end-requires-clause-list : goal.end-requires-clause-list
 end-requires-clause-list g c = ap (λ (p : BoardPlan). p.list) c.in_ok-board.ensures.board

@@ -1,13 +1,10 @@
+use Rattle.std.proofs.Common.{ap}
+use Rattle.board.specs.SeatView.{SeatView}
 use Rattle.pool.proofs.threads.fn.run_workers.scope.Goals as goal
 
-pub run_in_scope-requires-clause-shop : goal.run_in_scope-requires-clause-shop
-run_in_scope-requires-clause-shop g c = λ κs out. c.requires.shop
-
-pub run_in_scope-requires-clause-limit : goal.run_in_scope-requires-clause-limit
-run_in_scope-requires-clause-limit g c = λ κs out. c.requires.limit
-
-pub run_in_scope-requires-clause-begin : goal.run_in_scope-requires-clause-begin
-run_in_scope-requires-clause-begin g c = λ κs out. c.requires.begin
-
-pub returns : goal.returns
-returns g c = record { made = c.run_in_scope.ensures.made; fault = c.run_in_scope.ensures.fault }
+pub start_all-started-requires-clause-seat : goal.start_all-started-requires-clause-seat
+start_all-started-requires-clause-seat g c = λ κs out. record {
+  of_board = c.requires.begin.of_board;
+  made = ap (λ (v : SeatView). v.made) c.requires.begin.first;
+  unhalted = ap (λ (v : SeatView). v.is_halted) c.requires.begin.first;
+}

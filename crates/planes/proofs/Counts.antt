@@ -4,7 +4,7 @@ use Rattle.std.proofs.Common.{◌≡◌, ℕ, zero, suc, ◌+◌, ◌<◌, ◌�
 use Rattle.bench_types.specs.declared.limits.TheConstants.{MOST_NODES}
 use Rattle.planes.specs.Sums.{sum_below}
 
-one_le : (b : Bool) → cond b 1 0 ≤ 1
+pub one_le : (b : Bool) → cond b 1 0 ≤ 1
 one_le true = omega arith
 one_le false = omega arith
 

@@ -30,6 +30,10 @@ module _ (changed : ℕ → ℕ → ℕ → Type 0) (old : List ℕ) where
   pub changed_none : AreChangedUpto changed old old 0
   changed_none = record { size = refl; below = λ r lt. absurd (omega (arith, lt)); from = λ r le. refl }
 
+  -- what is read at an index whose turn is still to come
+  pub number-waits : {N : Type 0} (number : N → ℕ) (new : List N) (r : ℕ) (x : N) → AreChangedUpto changed old (map number new) r → r < length new → x ≡ get_or new r x → number x ≡ get_or old r 0
+  number-waits number new r x before lt is = number-at number new r x lt is ∙ before.from r (omega arith)
+
   changed_next : (new : List ℕ) (bound x : ℕ) → AreChangedUpto changed old new bound → bound < length old → changed bound (get_or old bound 0) x → AreChangedUpto changed old (set new bound x) (bound + 1)
   changed_next new bound x is lt now = record {
     size = length-set new bound x ∙ is.size;
@@ -60,3 +64,7 @@ module _ (changed : ℕ → ℕ → ℕ → Type 0) (old : List ℕ) where
   pub written_next : {N : Type 0} (number : N → ℕ) (new : List N) (bound : ℕ) (x : N) → AreChangedUpto changed old (map number new) bound → bound < length old → changed bound (get_or old bound 0) (number x) → AreChangedUpto changed old (map number (set new bound x)) (bound + 1)
   written_next number new bound x is lt now =
       subst (λ xs. AreChangedUpto changed old xs (bound + 1)) (sym (map-set number new bound x)) (changed_next (map number new) bound (number x) is lt now)
+
+-- a change that says less
+pub changed-other : (changed other : ℕ → ℕ → ℕ → Type 0) (old new : List ℕ) → ((r x y : ℕ) → changed r x y → other r x y) → AreChanged changed old new → AreChanged other old new
+changed-other changed other old new step is = record { size = is.size; each = λ r lt. step r _ _ (is.each r lt) }

@@ -1,1 +1,2 @@
 pub mod Elementwise
+pub mod Tests

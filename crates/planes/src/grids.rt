@@ -1,12 +1,14 @@
 //! Loops over all planes of a table: `cells[key * nodes + owner]`. Where one answers an error, it is lack of memory
 //! (`OutOfMemory`).
 
-ghost use Rattle.std.specs.Prelude.{◌≡◌, ℕ, ◌+◌, ◌*◌, ◌<◌, ◌≤◌, ◌&&◌, length, map, max, nat_le, nat_lt, slice_index, IfOk, IsOkUnless};
+ghost use Rattle.std.specs.Prelude.{◌≡◌, ℕ, ◌+◌, ◌*◌, ◌<◌, ◌≤◌, ◌&&◌, Bool, length, map, max, nat_le, nat_lt, slice_index, IfOk, IsOkUnless, if◌then◌else◌};
 ghost use Rattle.bench_types.specs.declared.faults.Fault.TheVariants.{OutOfMemory};
 ghost use Rattle.bench_types.specs.declared.limits.TheConstants.{MOST_NODES, MOST_KEYS};
 ghost use Rattle.planes.specs.Planes.{count_above};
 ghost use Rattle.planes.specs.Planes.{cell, number_ahead, total_above, total_of, AreCovered, ArePlanesChanged, AreRaised, AreTaken, HasEach, HasEachPlace, IsGrid, IsNextAbove};
 ghost use Rattle.planes.specs.Planes.{count_between};
+ghost use Rattle.planes.specs.Sums.{sum_below};
+ghost use Rattle.planes.specs.inner.Tests.{IsTestBy};
 
 use crate::numbers::Number;
 use crate::{owners, planes};
@@ -48,6 +50,30 @@ pub fn zeros<N: Number>(alloc: Global, count: usize) -> Result<Vec<N>, Fault>
     all_of(alloc, count, N::zero())
 }
 
+// For each owner how many of its numbers pass a test of owner and number.
+fn counts<N: Number, F: Fn(usize, N) -> bool>(
+    alloc: Global,
+    cells: &[N],
+    nodes: usize,
+    keys: usize,
+    passes: F,
+) -> Result<Vec<N>, Fault>
+    requires grid { IsGrid nodes keys (length cells.now) }
+    requires passes { (r : ℕ) (n : N) → r < nodes → F.pre passes r n }
+    ensures counts { IfOk result (λ v. (test : ℕ → ℕ → Bool) → IsTestBy N.number (F.post passes) nodes test
+        → HasEach nodes (λ r n. n ≡ sum_below keys (λ key. if test r (cell (map N.number cells.now) nodes r key)
+        then 1 else 0)) (map N.number v.items)) }
+    ensures only { IsOkUnless result OutOfMemory }
+{
+    let mut counts = zeros(alloc, nodes)?;
+    let all: &mut [N] = &mut counts;
+    for key in 0..keys {
+        let plane = plane_of(cells, nodes, key);
+        planes::count(all, plane, &passes);
+    }
+    Ok(counts)
+}
+
 /// For each owner how many of its numbers are above a mark. An error is lack of memory (`OutOfMemory`).
 pub fn counts_above<N: Number>(
     alloc: Global,
@@ -63,13 +89,13 @@ pub fn counts_above<N: Number>(
         (map N.number v.items)) }
     ensures only { IsOkUnless result OutOfMemory }
 {
-    let mut counts = zeros(alloc, nodes)?;
-    let all: &mut [N] = &mut counts;
-    for key in 0..keys {
-        let plane = plane_of(cells, nodes, key);
-        planes::count_above(all, plane, low);
-    }
-    Ok(counts)
+    counts(
+        alloc,
+        cells,
+        nodes,
+        keys,
+        |r, number| number.is_above(low[r]),
+    )
 }
 
 /// For each owner how many of its numbers are above one mark and up to another. An error is lack of memory
@@ -90,13 +116,15 @@ pub fn counts_between<N: Number>(
         (slice_index (map N.number high.now) r)) (map N.number v.items)) }
     ensures only { IsOkUnless result OutOfMemory }
 {
-    let mut counts = zeros(alloc, nodes)?;
-    let all: &mut [N] = &mut counts;
-    for key in 0..keys {
-        let plane = plane_of(cells, nodes, key);
-        planes::count_between(all, plane, low, high);
-    }
-    Ok(counts)
+    counts(
+        alloc,
+        cells,
+        nodes,
+        keys,
+        |r, number|
+            requires { (r < length low.now) × (r < length high.now) }
+        { planes::is_between(number, low[r], high[r]) },
+    )
 }
 
 /// For each owner the least of its numbers above a mark, or `N::greatest()` where there is none. An error is lack of
@@ -176,6 +204,26 @@ pub fn ahead<N: Number>(
     Ok(Masked { numbers, count })
 }
 
+// How many numbers pass a test of owner and number.
+fn total<N: Number, F: Fn(usize, N) -> bool>(
+    cells: &[N],
+    nodes: usize,
+    keys: usize,
+    passes: F,
+) -> u32
+    requires grid { IsGrid nodes keys (length cells.now) }
+    requires passes { (r : ℕ) (n : N) → r < nodes → F.pre passes r n }
+    ensures { (test : ℕ → ℕ → Bool) → IsTestBy N.number (F.post passes) nodes test
+        → result ≡ total_of nodes keys (λ r k. test r (cell (map N.number cells.now) nodes r k)) }
+{
+    let mut total = 0;
+    for key in 0..keys {
+        let plane = plane_of(cells, nodes, key);
+        total += planes::how_many(plane, &passes);
+    }
+    total
+}
+
 /// How many numbers are above their owners' marks, where none is above its owner's high mark. It goes over all planes,
 /// or where only few owners' marks differ and there are many keys, over the keys of these owners.
 pub fn total_above<N: Number>(cells: &[N], nodes: usize, keys: usize, low: &[N], high: &[N]) -> u32
@@ -188,12 +236,7 @@ pub fn total_above<N: Number>(cells: &[N], nodes: usize, keys: usize, low: &[N],
     if owners::are_few(keys, low, high) {
         return owners::total_owners_above(cells, nodes, keys, low, high);
     }
-    let mut total = 0;
-    for key in 0..keys {
-        let plane = plane_of(cells, nodes, key);
-        total += planes::how_many_above(plane, low);
-    }
-    total
+    total(cells, nodes, keys, |r, number| number.is_above(low[r]))
 }
 
 /// How many numbers are not 0.
@@ -201,12 +244,7 @@ pub fn total_held<N: Number>(cells: &[N], nodes: usize, keys: usize) -> u32
     requires grid { IsGrid nodes keys (length cells.now) }
     ensures { result ≡ total_of nodes keys (λ r k. nat_lt 0 (cell (map N.number cells.now) nodes r k)) }
 {
-    let mut total = 0;
-    for key in 0..keys {
-        let plane = plane_of(cells, nodes, key);
-        total += planes::how_many_held(plane);
-    }
-    total
+    total(cells, nodes, keys, |_, number| number.is_above(N::zero()))
 }
 
 /// How many numbers are not 0 and up to their owners' marks.
@@ -216,12 +254,14 @@ pub fn total_upto<N: Number>(cells: &[N], nodes: usize, keys: usize, high: &[N])
     ensures { result ≡ total_of nodes keys (λ r k. nat_lt 0 (cell (map N.number cells.now) nodes r k)
         && nat_le (cell (map N.number cells.now) nodes r k) (slice_index (map N.number high.now) r)) }
 {
-    let mut total = 0;
-    for key in 0..keys {
-        let plane = plane_of(cells, nodes, key);
-        total += planes::how_many_upto(plane, high);
-    }
-    total
+    total(
+        cells,
+        nodes,
+        keys,
+        |r, number|
+            requires { r < length high.now }
+        { planes::is_between(number, N::zero(), high[r]) },
+    )
 }
 
 /// Raises each number to the one sent, where that is above its owner's one mark and up to the other, and each owner's

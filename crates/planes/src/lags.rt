@@ -1,6 +1,6 @@
 //! Loops over all planes of a table that compare its numbers with the last ones.
 
-ghost use Rattle.std.specs.Prelude.{◌≡◌, ℕ, ◌≤◌, length, map, min, nat_lt, slice_index, IfOk, IsOkUnless, if◌then◌else◌};
+ghost use Rattle.std.specs.Prelude.{◌≡◌, ℕ, ◌<◌, ◌≤◌, length, map, min, nat_lt, slice_index, IfOk, IsOkUnless, if◌then◌else◌};
 ghost use Rattle.bench_types.specs.declared.faults.Fault.TheVariants.{OutOfMemory};
 ghost use Rattle.bench_types.specs.declared.limits.TheConstants.{MOST_NODES};
 ghost use Rattle.planes.specs.inner.Elementwise.{AreChanged};
@@ -20,9 +20,7 @@ pub fn lower<N: Number>(least: &mut [N], plane: &[N])
     ensures least { AreChanged (λ r x y. y ≡ min x (slice_index (map N.number plane.now) r))
         (map N.number least.old) (map N.number least.new) }
 {
-    for r in 0..least.len() {
-        least[r] = least[r].min_with(plane[r]);
-    }
+    planes::lower_to(least, |r| plane[r]);
 }
 
 // How many numbers of a plane are below the last ones. Lowers each owner's number to the one in the plane.
@@ -52,13 +50,12 @@ fn lower_to_behind<N: Number>(least: &mut [N], plane: &[N], last: &[N])
     ensures least { AreChanged (λ r x y. IsLoweredBehind N.most (slice_index (map N.number last.now) r)
         (slice_index (map N.number plane.now) r) x y) (map N.number least.old) (map N.number least.new) }
 {
-    for r in 0..least.len() {
-        least[r] = least[r].min_with(planes::pick(
-            last[r].is_above(plane[r]),
-            plane[r],
-            N::greatest(),
-        ));
-    }
+    planes::lower_to(
+        least,
+        |r|
+            requires { (r < length plane.now) × (r < length last.now) }
+        { planes::pick(last[r].is_above(plane[r]), plane[r], N::greatest()) },
+    );
 }
 
 /// Lowers each number to another one.

@@ -1,8 +1,9 @@
 //! Loops over planes: for each owner one number.
 
-ghost use Rattle.std.specs.Prelude.{◌≡◌, ℕ, ◌+◌, ◌<◌, ◌≤◌, ◌&&◌, length, map, max, min, nat_le, nat_lt, slice_index, if◌then◌else◌};
+ghost use Rattle.std.specs.Prelude.{◌≡◌, ℕ, ◌+◌, ◌<◌, ◌≤◌, ◌&&◌, Bool, length, map, max, min, nat_le, nat_lt, slice_index, if◌then◌else◌};
 ghost use Rattle.bench_types.specs.declared.limits.TheConstants.{MOST_NODES};
 ghost use Rattle.planes.specs.inner.Elementwise.{AreChanged};
+ghost use Rattle.planes.specs.inner.Tests.{IsTestBy};
 ghost use Rattle.planes.specs.Sums.{sum_below};
 ghost use Rattle.planes.specs.Planes.{IsLowered, number_ahead, number_taken};
 
@@ -20,34 +21,30 @@ pub(crate) fn pick<N: Number>(test: bool, number: N, other: N) -> N
     if test { number } else { other }
 }
 
-/// Counts for each owner whether its number in a plane is above a mark.
-pub fn count_above<N: Number>(counts: &mut [N], plane: &[N], marks: &[N])
+/// Counts for each owner whether its number in a plane passes a test of owner and number.
+pub fn count<N: Number, F: Fn(usize, N) -> bool>(counts: &mut [N], plane: &[N], passes: F)
     requires plane { length plane.now ≡ length counts.old }
-    requires marks { length marks.now ≡ length counts.old }
+    requires passes { (r : ℕ) (n : N) → r < length counts.old → F.pre passes r n }
     requires room { (r : ℕ) → r < length counts.old → slice_index (map N.number counts.old) r < N.most }
-    ensures counts { AreChanged
-        (λ r x y. y ≡ x + (if nat_lt (slice_index (map N.number marks.now) r) (slice_index (map N.number plane.now) r)
-        then 1 else 0))
+    ensures upto { AreChanged (λ r x y. y ≤ x + 1) (map N.number counts.old) (map N.number counts.new) }
+    ensures counts { (test : ℕ → ℕ → Bool) → IsTestBy N.number (F.post passes) (length counts.old) test → AreChanged
+        (λ r x y. y ≡ x + (if test r (slice_index (map N.number plane.now) r) then 1 else 0))
         (map N.number counts.old) (map N.number counts.new) }
 {
     for r in 0..counts.len() {
-        counts[r] = counts[r].plus(plane[r].is_above(marks[r]));
+        counts[r] = counts[r].plus(passes(r, plane[r]));
     }
 }
 
-/// Counts for each owner whether its number in a plane is above one mark and up to another.
-pub fn count_between<N: Number>(counts: &mut [N], plane: &[N], low: &[N], high: &[N])
-    requires plane { length plane.now ≡ length counts.old }
-    requires low { length low.now ≡ length counts.old }
-    requires high { length high.now ≡ length counts.old }
-    requires room { (r : ℕ) → r < length counts.old → slice_index (map N.number counts.old) r < N.most }
-    ensures counts { AreChanged
-        (λ r x y. y ≡ x + (if nat_lt (slice_index (map N.number low.now) r) (slice_index (map N.number plane.now) r)
-        && nat_le (slice_index (map N.number plane.now) r) (slice_index (map N.number high.now) r) then 1 else 0))
-        (map N.number counts.old) (map N.number counts.new) }
+/// Lowers each owner's number to another one.
+pub fn lower_to<N: Number, F: Fn(usize) -> N>(least: &mut [N], to: F)
+    requires to { (r : ℕ) → r < length least.old → F.pre to r }
+    ensures least { (numbers : ℕ → ℕ) → ((r : ℕ) (n : N) → r < length least.old → F.post to r n → N.number n ≡ numbers r)
+        → AreChanged (λ r x y. (y ≡ min x (numbers r)) × (numbers r ≤ N.most))
+        (map N.number least.old) (map N.number least.new) }
 {
-    for r in 0..counts.len() {
-        counts[r] = counts[r].plus(is_between(plane[r], low[r], high[r]));
+    for r in 0..least.len() {
+        least[r] = least[r].min_with(to(r));
     }
 }
 
@@ -59,9 +56,12 @@ pub fn lower_to_next<N: Number>(least: &mut [N], plane: &[N], low: &[N])
         (λ r x y. IsLowered N.most (slice_index (map N.number low.now) r) (slice_index (map N.number plane.now) r) x y)
         (map N.number least.old) (map N.number least.new) }
 {
-    for r in 0..least.len() {
-        least[r] = least[r].min_with(pick(plane[r].is_above(low[r]), plane[r], N::greatest()));
-    }
+    lower_to(
+        least,
+        |r|
+            requires { (r < length plane.now) × (r < length low.now) }
+        { pick(plane[r].is_above(low[r]), plane[r], N::greatest()) },
+    );
 }
 
 /// Keeps the numbers that are above both the peer's and a mark, and puts 0 in place of the others. It answers how many
@@ -111,6 +111,21 @@ pub fn take_plane<N: Number>(plane: &mut [N], greatest: &mut [N], sent: &[N], lo
     }
 }
 
+/// How many numbers of a plane pass a test of owner and number.
+pub fn how_many<N: Number, F: Fn(usize, N) -> bool>(plane: &[N], passes: F) -> u32
+    requires room { length plane.now ≤ MOST_NODES }
+    requires passes { (r : ℕ) (n : N) → r < length plane.now → F.pre passes r n }
+    ensures upto { result ≤ length plane.now }
+    ensures count { (test : ℕ → ℕ → Bool) → IsTestBy N.number (F.post passes) (length plane.now) test
+        → result ≡ sum_below (length plane.now) (λ r. if test r (slice_index (map N.number plane.now) r) then 1 else 0) }
+{
+    let mut count = N::zero();
+    for r in 0..plane.len() {
+        count = count.plus(passes(r, plane[r]));
+    }
+    count.widen()
+}
+
 /// How many numbers of a plane are above their owners' marks.
 pub fn how_many_above<N: Number>(plane: &[N], low: &[N]) -> u32
     requires low { length low.now ≡ length plane.now }
@@ -118,36 +133,5 @@ pub fn how_many_above<N: Number>(plane: &[N], low: &[N]) -> u32
     ensures { result ≡ sum_below (length plane.now)
         (λ r. if nat_lt (slice_index (map N.number low.now) r) (slice_index (map N.number plane.now) r) then 1 else 0) }
 {
-    let mut count = N::zero();
-    for r in 0..plane.len() {
-        count = count.plus(plane[r].is_above(low[r]));
-    }
-    count.widen()
-}
-
-/// How many numbers of a plane are not 0.
-pub fn how_many_held<N: Number>(plane: &[N]) -> u32
-    requires room { length plane.now ≤ MOST_NODES }
-    ensures { result ≡ sum_below (length plane.now)
-        (λ r. if nat_lt 0 (slice_index (map N.number plane.now) r) then 1 else 0) }
-{
-    let mut count = N::zero();
-    for r in 0..plane.len() {
-        count = count.plus(plane[r].is_above(N::zero()));
-    }
-    count.widen()
-}
-
-/// How many numbers of a plane are not 0 and up to their owners' marks.
-pub fn how_many_upto<N: Number>(plane: &[N], high: &[N]) -> u32
-    requires high { length high.now ≡ length plane.now }
-    requires room { length plane.now ≤ MOST_NODES }
-    ensures { result ≡ sum_below (length plane.now) (λ r. if nat_lt 0 (slice_index (map N.number plane.now) r)
-        && nat_le (slice_index (map N.number plane.now) r) (slice_index (map N.number high.now) r) then 1 else 0) }
-{
-    let mut count = N::zero();
-    for r in 0..plane.len() {
-        count = count.plus(is_between(plane[r], N::zero(), high[r]));
-    }
-    count.widen()
+    how_many(plane, |r, number| number.is_above(low[r]))
 }

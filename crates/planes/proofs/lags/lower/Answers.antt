@@ -1,22 +1,10 @@
-use Rattle.std.proofs.Common.{min, ◌∙◌, arith, map}
-use Rattle.std.proofs.lemmas.List.{length-map}
-use Rattle.planes.proofs.Elementwise.{number-at, changed_none, changed_all, written_next}
+use Rattle.std.proofs.Common.{rules, slice_index, map}
+use Rattle.planes.proofs.Elementwise.{changed-other, number-at}
 use Rattle.planes.proofs.lags.lower.Goals as goal
-
-pub loop-r-init : goal.loop-r-init
-loop-r-init g c = changed_none _ (map g.N.Number.number c.args.least.now)
-
-pub loop-r-preserved : goal.loop-r-preserved
-loop-r-preserved g c =
-    let least = number-at g.N.Number.number c.loop-r.least c.loop-r.r c.index-least-r.result (omega (arith, c.loop-r-test.true, c.loop-r.auto.least)) c.index-least-r.is ∙ c.loop-r.invariant.from c.loop-r.r (omega arith) in
-    let cell = number-at g.N.Number.number c.args.plane.now c.loop-r.r c.index-plane-r.result (omega (arith, c.loop-r-test.true, c.requires.plane)) c.index-plane-r.is in
-    written_next _ (map g.N.Number.number c.args.least.now) g.N.Number.number c.loop-r.least c.loop-r.r c.min_with.result c.loop-r.invariant
-    (omega (arith, c.loop-r-test.true, length-map c.args.least.now g.N.Number.number))
-    (c.min_with.ensures.number ∙ (λ i. min (least i) (cell i)))
 
 pub returns : goal.returns
 returns g c = record {
   least =
-      changed_all _ (map g.N.Number.number c.args.least.now) (map g.N.Number.number c.loop-r.least) c.loop-r.r c.loop-r.invariant
-      (omega (arith, c.loop-r-test.false, length-map c.args.least.now g.N.Number.number));
+      changed-other _ _ _ _ (λ r x y is. is.0)
+      (c.lower_to.ensures.least (slice_index (map g.N.Number.number c.args.plane.now)) (λ r n lt answer. search (rules, number-at g.N.Number.number c.args.plane.now r)));
 }

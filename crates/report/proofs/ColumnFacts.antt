@@ -1,12 +1,12 @@
 -- The cells of a line, pushed column by column.
--- Serves the functions of `columns`, `comparisons` and `reports`.
+-- Serves the functions of `columns`.
 use Rattle.std.proofs.Common.{◌≡◌, Bor, ℕ, suc, ◌+◌, ◌<◌, ◌≤◌, Bool, true, false, ◌&&◌, nat_le, List, [], ◌∷◌, ◌++◌, length, take, map, filter, get_or, cond, refl, sym, ap, ◌∙◌, append-nil, append_assoc, length-append, decimal, arith}
 use Rattle.std.specs.List.{list_all, AllZip}
 use Rattle.std.proofs.lemmas.Bool.{and_parts, le-leb}
 use Rattle.std.proofs.lemmas.List.{map-append, take_all, length-map}
 use Rattle.std.proofs.lemmas.List.Elements.{filter_more}
 use Rattle.std.proofs.lemmas.List.Folds.{list_all-append}
-use Rattle.report.specs.inner.Cells.{cell_text, is_plain, is_plain_cell}
+use Rattle.report.specs.inner.Cells.{cell_text, is_plain, is_plain_cell, AddsCells}
 use Rattle.bench_types.specs.declared.rows.Row.{Row}
 use Rattle.report.specs.Columns.{Column, all_columns, columns}
 use Rattle.report.specs.inner.Cells.{IsColumn}
@@ -99,51 +99,30 @@ pushed_all format cell ts i old now pushed whole =
     pushed ∙ ap (λ xs. old ++ map cell (filter (is_in format) xs)) (take_all i ts whole)
 
 -- all columns are pushed
-module _ (row : Row) (format : ℕ) (some : 1 ≤ format) (ts : List Shown) (i : ℕ) (old now : List Cell) (zip : AllZip (ShowsColumn row) ts all_columns) (past : length all_columns ≤ i) where
-  whole : length ts ≤ i
-  whole = omega (arith, shown_length row ts all_columns zip, past)
-
-  more_cells : (cell : Shown → Cell) (texts : List (List ℕ)) → ArePushed (is_in format) cell ts i old now → map cell_text (map cell (filter (is_in format) ts)) ≡ texts → map cell_text now ≡ map cell_text old ++ texts
-  more_cells cell texts pushed is =
-      ap (map cell_text) (pushed_all format cell ts i old now pushed whole)
+module _ (row : Row) (format : ℕ) (some : 1 ≤ format) (ts : List Shown) (i : ℕ) (old now : List Cell) (zip : AllZip (ShowsColumn row) ts all_columns) (past : length all_columns ≤ i) (plain : list_all is_plain_cell old ≡ true) where
+  columns_added : (cell : Shown → Cell) (text : Column → List ℕ) → ((shown : Shown) (c : Column) → ShowsColumn row shown c → cell_text (cell shown) ≡ text c) → list_all is_plain_cell (map cell (filter (is_in format) ts)) ≡ true
+      → ArePushed (is_in format) cell ts i old now → AddsCells old now (map text (columns format))
+  unfolding columns
+  columns_added cell text same more pushed =
+      let whole : length ts ≤ i = omega (arith, shown_length row ts all_columns zip, past) in
+      let all = pushed_all format cell ts i old now pushed whole in
+      let shown : map cell_text now ≡ map cell_text old ++ map text (columns format) =
+      ap (map cell_text) all
       ∙ map-append cell_text old (map cell (filter (is_in format) ts))
-      ∙ ap (λ xs. map cell_text old ++ xs) is
+      ∙ ap (λ xs. map cell_text old ++ xs) (shown_texts row format cell text same ts all_columns zip) in
+      record {
+        shown = shown;
+        plain =
+            ap (list_all is_plain_cell) all
+            ∙ list_all-append is_plain_cell old (map cell (filter (is_in format) ts))
+            ∙ (λ i. plain i && more i);
+        some = omega (arith, length-map now cell_text, ap length shown, length-append (map cell_text old) (map text (columns format)), some_columns format some, length-map (columns format) text);
+      }
 
-  still_plain : (cell : Shown → Cell) → ArePushed (is_in format) cell ts i old now → list_all is_plain_cell old ≡ true → list_all is_plain_cell (map cell (filter (is_in format) ts)) ≡ true → list_all is_plain_cell now ≡ true
-  still_plain cell pushed first more =
-      ap (list_all is_plain_cell) (pushed_all format cell ts i old now pushed whole)
-      ∙ list_all-append is_plain_cell old (map cell (filter (is_in format) ts))
-      ∙ (λ i. first i && more i)
+  pub names_added : ArePushed (is_in format) name_cell ts i old now → AddsCells old now (names format)
+  names_added =
+      columns_added name_cell (λ c. c.name) (λ shown c is. is.0) (shown_plain row format name_cell (λ c. c.name) (λ shown c is. is.0) ts all_columns zip refl (λ _. refl))
 
-  some_cells : (texts : List (List ℕ)) → map cell_text now ≡ map cell_text old ++ texts → 0 < length texts → 0 < length now
-  some_cells texts is texts_some =
-      omega (arith, length-map now cell_text, ap length is, length-append (map cell_text old) texts, texts_some)
-
-  pub names_pushed : ArePushed (is_in format) name_cell ts i old now → map cell_text now ≡ map cell_text old ++ names format
-  unfolding columns
-  names_pushed pushed = more_cells name_cell (names format) pushed (shown_texts row format name_cell (λ c. c.name) (λ shown c is. is.0) ts all_columns zip)
-
-  pub names_plain : ArePushed (is_in format) name_cell ts i old now → list_all is_plain_cell old ≡ true → list_all is_plain_cell now ≡ true
-  names_plain pushed first = still_plain name_cell pushed first (shown_plain row format name_cell (λ c. c.name) (λ shown c is. is.0) ts all_columns zip refl (λ _. refl))
-
-  pub names_some : ArePushed (is_in format) name_cell ts i old now → 0 < length now
-  names_some pushed = some_cells (names format) (names_pushed pushed) (omega (arith, some_columns format some, length-map (columns format) (λ c. c.name)))
-
-  pub numbers_pushed : ArePushed (is_in format) number_cell ts i old now → map cell_text now ≡ map cell_text old ++ numbers format row
-  unfolding columns
-  numbers_pushed pushed = more_cells number_cell (numbers format row) pushed (shown_texts row format number_cell (λ c. decimal (c.number row)) (λ shown c is. ap decimal is.1) ts all_columns zip)
-
-  pub numbers_plain : ArePushed (is_in format) number_cell ts i old now → list_all is_plain_cell old ≡ true → list_all is_plain_cell now ≡ true
-  numbers_plain pushed first = still_plain number_cell pushed first (plain_numbers (filter (is_in format) ts))
-
-  pub numbers_some : ArePushed (is_in format) number_cell ts i old now → 0 < length now
-  numbers_some pushed = some_cells (numbers format row) (numbers_pushed pushed) (omega (arith, some_columns format some, length-map (columns format) (λ c. decimal (c.number row))))
-
--- the texts of a line, where the cells are read behind the pushes
-pub line_texts : (cells pushed before : List Cell) (front texts : List (List ℕ)) → cells ≡ pushed → map cell_text pushed ≡ map cell_text before ++ texts → map cell_text before ≡ front → map cell_text cells ≡ front ++ texts
-line_texts cells pushed before front texts read more first =
-    ap (map cell_text) read ∙ more ∙ ap (λ ts. ts ++ texts) first
-
--- the first cell of a line
-pub first_text : (cells none : List Cell) (cell : Cell) → cells ≡ none ++ cell ∷ [] → none ≡ [] → map cell_text cells ≡ cell_text cell ∷ []
-first_text cells none cell pushed empty = ap (map cell_text) pushed ∙ ap (λ cs. map cell_text (cs ++ cell ∷ [])) empty
+  pub numbers_added : ArePushed (is_in format) number_cell ts i old now → AddsCells old now (numbers format row)
+  numbers_added =
+      columns_added number_cell (λ c. decimal (c.number row)) (λ shown c is. ap decimal is.1) (plain_numbers (filter (is_in format) ts))

@@ -1,4 +1,5 @@
 pub mod Line
+pub mod Writing
 pub mod Columns
 pub mod Report
 pub mod Trace

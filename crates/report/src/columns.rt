@@ -1,14 +1,18 @@
 //! The columns of the report, in one list: its header, its rows and the comparison go by it.
 
-ghost use Rattle.std.specs.Prelude.{◌≡◌, ◌<◌, ◌++◌, length, map, IsTrue, OnOk, IsOkUnless};
+ghost use Rattle.std.specs.Prelude.{◌++◌, map, IsTrue, OnOk, IsOkUnless};
 ghost use Rattle.std.specs.List.{list_all, AllZip};
-ghost use Rattle.report.specs.inner.Cells.{cell_text, is_plain_cell};
+ghost use Rattle.report.specs.inner.Cells.{cell_text, is_plain_cell, AddsCells};
 ghost use Rattle.report.specs.Columns.{all_columns, IsFormat};
 ghost use Rattle.report.specs.inner.Cells.{IsColumn};
+ghost use Rattle.report.specs.Line.{line_of};
 ghost use Rattle.report.specs.Report.{names, numbers};
+ghost use Rattle.report.specs.Writing.{WritesText};
 
 use crate::cells::Cell;
-use bench_types::{Fault, Row};
+use crate::outputs::write_line;
+use bench_types::{Fault, Row, Sink};
+use std::alloc::Global;
 
 // The header has the names alone.
 const NO_ROW: Row = Row {
@@ -40,13 +44,27 @@ fn columns(row: &Row) -> [(&'static str, u64, u32); 9]
     ]
 }
 
-/// Adds the names of a format's columns to the cells of a line.
-pub(crate) fn push_names(cells: &mut Vec<Cell<'static>>, format: u32) -> Result<(), Fault>
+/// Writes a line of these cells and of the names of a format's columns, and flushes.
+pub(crate) fn write_names<W: Sink>(
+    alloc: Global,
+    writer: &mut W,
+    front: &[Cell<'static>],
+    format: u32,
+) -> Result<(), Fault>
+    requires format { IsFormat format }
+    requires plain { IsTrue (list_all is_plain_cell front.now) }
+    ensures { WritesText W.Sink writer.old writer.new (line_of (map cell_text front.now ++ names format)) result }
+{
+    let mut cells = Vec::from_slice(alloc, front)?;
+    push_names(&mut cells, format)?;
+    write_line(alloc, writer, &cells)
+}
+
+// Adds the names of a format's columns to the cells of a line.
+fn push_names(cells: &mut Vec<Cell<'static>>, format: u32) -> Result<(), Fault>
     requires format { IsFormat format }
     requires plain { IsTrue (list_all is_plain_cell cells.old.items) }
-    ensures names { OnOk result (map cell_text cells.new.items ≡ map cell_text cells.old.items ++ names format) }
-    ensures plain { OnOk result (IsTrue (list_all is_plain_cell cells.new.items)) }
-    ensures some { OnOk result (0 < length cells.new.items) }
+    ensures added { OnOk result (AddsCells cells.old.items cells.new.items (names format)) }
     ensures only { IsOkUnless result Fault.OutOfMemory }
 {
     for (name, _, since) in columns(&NO_ROW) {
@@ -57,18 +75,29 @@ pub(crate) fn push_names(cells: &mut Vec<Cell<'static>>, format: u32) -> Result<
     Ok(())
 }
 
-/// Adds what a row has in a format's columns.
-pub(crate) fn push_numbers(
-    cells: &mut Vec<Cell<'static>>,
+/// Writes a line of these cells and of what a row has in a format's columns, and flushes.
+pub(crate) fn write_numbers<W: Sink>(
+    alloc: Global,
+    writer: &mut W,
+    front: &[Cell<'static>],
     format: u32,
     row: &Row,
 ) -> Result<(), Fault>
     requires format { IsFormat format }
+    requires plain { IsTrue (list_all is_plain_cell front.now) }
+    ensures { WritesText W.Sink writer.old writer.new
+        (line_of (map cell_text front.now ++ numbers format row.now)) result }
+{
+    let mut cells = Vec::from_slice(alloc, front)?;
+    push_numbers(&mut cells, format, row)?;
+    write_line(alloc, writer, &cells)
+}
+
+// Adds what a row has in a format's columns to the cells of a line.
+fn push_numbers(cells: &mut Vec<Cell<'static>>, format: u32, row: &Row) -> Result<(), Fault>
+    requires format { IsFormat format }
     requires plain { IsTrue (list_all is_plain_cell cells.old.items) }
-    ensures numbers { OnOk result
-        (map cell_text cells.new.items ≡ map cell_text cells.old.items ++ numbers format row.now) }
-    ensures plain { OnOk result (IsTrue (list_all is_plain_cell cells.new.items)) }
-    ensures some { OnOk result (0 < length cells.new.items) }
+    ensures added { OnOk result (AddsCells cells.old.items cells.new.items (numbers format row.now)) }
     ensures only { IsOkUnless result Fault.OutOfMemory }
 {
     for (_, number, since) in columns(row) {

@@ -1,13 +1,11 @@
 //! The comparison of the modes: a header, and then for each mode a row for each round.
 
-ghost use Rattle.std.specs.Prelude.{OnOk, IfErr};
 ghost use Rattle.report.specs.Columns.{IsFormat};
 ghost use Rattle.report.specs.Compare.{compare_header_line, compare_line};
-ghost use Rattle.bench_types.specs.Output.{IsWritten, IsWriteFault};
+ghost use Rattle.report.specs.Writing.{WritesText};
 
 use crate::cells::Cell;
-use crate::columns::{push_names, push_numbers};
-use crate::outputs::write_line;
+use crate::columns::{write_names, write_numbers};
 use bench_types::{Fault, Mode, Row, Sink};
 use std::alloc::Global;
 
@@ -15,15 +13,9 @@ use std::alloc::Global;
 /// lack of memory (`OutOfMemory`), before anything is written, or that the sink failed (`WriteFailed`).
 pub fn compare_header<W: Sink>(alloc: Global, writer: &mut W, format: u32) -> Result<(), Fault>
     requires { IsFormat format }
-    ensures written { OnOk result
-        (IsWritten W.Sink writer.old writer.new (compare_header_line format)) }
-    ensures fault { IfErr result
-        (IsWriteFault W.Sink writer.old writer.new (compare_header_line format)) }
+    ensures { WritesText W.Sink writer.old writer.new (compare_header_line format) result }
 {
-    let mut names = Vec::new(alloc);
-    names.push(Cell::Text("mode"))?;
-    push_names(&mut names, format)?;
-    write_line(alloc, writer, &names)
+    write_names(alloc, writer, &[Cell::Text("mode")], format)
 }
 
 /// Writes the row of one round under a mode in a format, and flushes. An error is
@@ -36,13 +28,7 @@ pub fn write_compare_row<W: Sink>(
     row: &Row,
 ) -> Result<(), Fault>
     requires { IsFormat format }
-    ensures written { OnOk result
-        (IsWritten W.Sink writer.old writer.new (compare_line format mode row.now)) }
-    ensures fault { IfErr result
-        (IsWriteFault W.Sink writer.old writer.new (compare_line format mode row.now)) }
+    ensures { WritesText W.Sink writer.old writer.new (compare_line format mode row.now) result }
 {
-    let mut cells = Vec::new(alloc);
-    cells.push(Cell::Text(mode.name()))?;
-    push_numbers(&mut cells, format, row)?;
-    write_line(alloc, writer, &cells)
+    write_numbers(alloc, writer, &[Cell::Text(mode.name())], format, row)
 }

@@ -1,10 +1,10 @@
 //! Writing a line to a sink.
 
-ghost use Rattle.std.specs.Prelude.{◌<◌, length, map, IsTrue, OnOk, IfErr};
+ghost use Rattle.std.specs.Prelude.{◌<◌, length, map, IsTrue};
 ghost use Rattle.std.specs.List.{list_all};
 ghost use Rattle.report.specs.inner.Cells.{cell_text, is_plain_cell};
 ghost use Rattle.report.specs.Line.{line_of};
-ghost use Rattle.bench_types.specs.Output.{IsWritten, IsWriteFault};
+ghost use Rattle.report.specs.Writing.{WritesText};
 
 use crate::cells::{Cell, make_line};
 use bench_types::{Fault, Sink, write_text};
@@ -18,10 +18,7 @@ pub(crate) fn write_line<W: Sink>(
 ) -> Result<(), Fault>
     requires some { 0 < length cells.now }
     requires plain { IsTrue (list_all is_plain_cell cells.now) }
-    ensures written { OnOk result
-        (IsWritten W.Sink writer.old writer.new (line_of (map cell_text cells.now))) }
-    ensures fault { IfErr result
-        (IsWriteFault W.Sink writer.old writer.new (line_of (map cell_text cells.now))) }
+    ensures { WritesText W.Sink writer.old writer.new (line_of (map cell_text cells.now)) result }
 {
     let line = make_line(alloc, cells)?;
     write_text(writer, line.as_slice())

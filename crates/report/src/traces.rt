@@ -1,8 +1,8 @@
 //! The trace: a header, and then for each round a row for each of its exchanges.
 
-ghost use Rattle.std.specs.Prelude.{◌≡◌, ◌≤◌, ◌++◌, length, IsTrue, IfOk, OnOk, IfErr, IsOkUnless};
+ghost use Rattle.std.specs.Prelude.{◌≡◌, ◌≤◌, ◌++◌, length, IsTrue, IfOk, OnOk, IsOkUnless};
 ghost use Rattle.report.specs.inner.Cells.{is_plain, bytes_written, IsBetweenLines};
-ghost use Rattle.bench_types.specs.Output.{IsWritten, IsWriteFault};
+ghost use Rattle.report.specs.Writing.{WritesText};
 ghost use Rattle.round_plan.specs.declared.lists.TheConstants.{MOST_EXCHANGES};
 ghost use Rattle.report.specs.Trace.{trace_header_line, fate_name, trace_line, trace_lines};
 
@@ -16,8 +16,7 @@ use std::alloc::Global;
 /// Writes the header of the trace, the names of its columns, and flushes. An error is
 /// lack of memory (`OutOfMemory`), before anything is written, or that the sink failed (`WriteFailed`).
 pub fn trace_header<W: Sink>(alloc: Global, writer: &mut W) -> Result<(), Fault>
-    ensures written { OnOk result (IsWritten W.Sink writer.old writer.new trace_header_line) }
-    ensures fault { IfErr result (IsWriteFault W.Sink writer.old writer.new trace_header_line) }
+    ensures { WritesText W.Sink writer.old writer.new trace_header_line result }
 {
     let columns = [
         Cell::Text("round"),
@@ -46,10 +45,7 @@ pub fn write_trace_rows<W: Sink>(
     records: &[Record],
 ) -> Result<(), Fault>
     requires one_each { length records.now ≡ length list.now.exchanges }
-    ensures written { OnOk result
-        (IsWritten W.Sink writer.old writer.new (trace_lines round list.now.exchanges records.now)) }
-    ensures fault { IfErr result
-        (IsWriteFault W.Sink writer.old writer.new (trace_lines round list.now.exchanges records.now)) }
+    ensures { WritesText W.Sink writer.old writer.new (trace_lines round list.now.exchanges records.now) result }
 {
     if writer.drops_all() {
         return Ok(());

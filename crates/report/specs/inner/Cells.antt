@@ -1,5 +1,6 @@
 -- The text of a cell of a line, and what the writer of lines holds. Source: this project.
-use Rattle.std.specs.Prelude.{◌≡◌, ◌==◌, ◌<◌, ◌&&◌, not, Bool, true, false, ℕ, List, [], ◌∷◌, ◌++◌, if◌then◌else◌, length, decimal, Vec}
+use Rattle.std.specs.Prelude.{◌≡◌, ◌==◌, ◌<◌, ◌&&◌, not, Bool, true, false, ℕ, List, [], ◌∷◌, ◌++◌, if◌then◌else◌, length, map, decimal, Vec, IsTrue}
+use Rattle.std.specs.List.{list_all}
 use Rattle.std.specs.declared.alloc.Global.{Global}
 use Rattle.csv.specs.declared.writer.Writer.{Writer}
 use Rattle.csv.specs.Writing.{default_writer, needs_quotes, fields_written, has_written, writer_pending, writer_setup, writer_under}
@@ -46,3 +47,9 @@ pub record AddsField (old new : Writer (Vec ℕ Global)) (field : List ℕ) : Ty
 -- what stands for a column where a row is written: its name, the row's number in it, and the first format that has it
 abbrev pub IsColumn : Row → List ℕ → ℕ → ℕ → Column → Type 0
 IsColumn row name number since c = (name ≡ c.name) × (number ≡ c.number row) × (since ≡ c.since)
+
+-- cells of these texts stand behind the old ones; there are some cells, and each stands in a line as it is
+pub record AddsCells (old new : List Cell) (texts : List (List ℕ)) : Type 0 where
+  pub shown : map cell_text new ≡ map cell_text old ++ texts
+  pub plain : IsTrue (list_all is_plain_cell new)
+  pub some : 0 < length new

@@ -1,22 +1,6 @@
-use Rattle.std.proofs.Common.{◌≡◌, map, OnOk, IfErr, subst, ap}
-use Rattle.report.specs.inner.Cells.{cell_text}
-use Rattle.report.specs.Line.{line_of}
-use Rattle.bench_types.specs.Output.{IsWritten, IsWriteFault}
-use Rattle.report.specs.Report.{names, report_header_line}
-use Rattle.report.proofs.ColumnFacts.{line_texts}
-use Rattle.report.proofs.reports.report_header.Given as given
+use Rattle.report.specs.Report.{report_header_line}
 use Rattle.report.proofs.reports.report_header.Goals as goal
-use Rattle.report.proofs.reports.report_header.Goals.{After-write_line}
 
--- the line is that of these texts
-line : (g : given.Over) (c : After-write_line g) → line_of (map cell_text c.deref.result.now) ≡ report_header_line c.args.format
+pub returns : goal.returns
 unfolding report_header_line
-line g c =
-    ap line_of (line_texts c.deref.result.now c.push_names.new.cells.items _ _ (names c.args.format) c.deref.ensures.value c.in_ok-push_names.ensures.names
-    (ap (map cell_text) c.new-names.ensures.items))
-
-pub returns-clause-written : goal.returns-clause-written
-returns-clause-written g c = subst (λ bytes. OnOk c.write_line.result (IsWritten g.W.Sink c.args.writer.now c.write_line.new.writer bytes)) (line g (goal.at.returns-clause-written g c).After-write_line) c.write_line.ensures.written
-
-pub returns-clause-fault : goal.returns-clause-fault
-returns-clause-fault g c = subst (λ bytes. IfErr c.write_line.result (IsWriteFault g.W.Sink c.args.writer.now c.write_line.new.writer bytes)) (line g (goal.at.returns-clause-fault g c).After-write_line) c.write_line.ensures.fault
+returns g c = c.write_names.ensures

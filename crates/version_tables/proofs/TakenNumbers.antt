@@ -1,5 +1,5 @@
 -- A table that took a delta by marks is the one that took its items.
--- Serves `take_both`, `take_unless`, `TakenTables` and `TakenViews`.
+-- Serves `take_unless`, `TakenTables` and `TakenViews`.
 use Rattle.std.proofs.Common.{◌≡◌, ℕ, ◌<◌, ◌≤◌, ◌&&◌, Bool, true, false, cond, max, nat_lt, nat_le, List, inl, inr, refl, sym, ap, ◌∙◌, subst, arith}
 use Rattle.std.proofs.lemmas.Bool.{cases_lt, lt-ltb, le-leb, lt-leb, ltb-true, and_parts}
 use Rattle.planes.specs.Planes.{number_taken}
@@ -49,7 +49,3 @@ module _ (lists : ℕ → List Entry) (bases : ℕ → ℕ) (sent low high : Lis
   pub has-taken : (nothing : Bool) → nothing ≡ false → HasTakenUnless nothing lists bases v sent low high (record old { cells = cells; greatest = greatest })
   has-taken true some = cc
   has-taken false some = subst (λ w. HasTaken lists bases w sent low high (record old { cells = cells; greatest = greatest })) is (record { taken = taken; rest = refl })
-
--- what holds of three lists holds of the same ones
-pub along_three : (P : List ℕ → List ℕ → List ℕ → Type 0) (a b c d x y : List ℕ) → a ≡ b → c ≡ d → x ≡ y → P a c x → P b d y
-along_three P a b c d x y one two three holds = subst (λ s. P s d y) one (subst (λ s. P a s y) two (subst (λ s. P a c s) three holds))

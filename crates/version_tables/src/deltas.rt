@@ -15,6 +15,7 @@ ghost use Rattle.version_tables.specs.inner.Offers.{told_number};
 
 use crate::histories::Histories;
 use crate::marked::{Marked, planned};
+use crate::rounds::Ends;
 use crate::tables::{VersionTable, Written};
 use crate::told_marks::told;
 use crate::weights::Offer;
@@ -106,8 +107,10 @@ fn marks_sent<N: Number, H: Written>(
         lists: histories.lists(),
         budget: rules.budget,
     };
-    let ends = histories.ends();
-    let last = histories.rounds();
+    let ends = Ends {
+        numbers: histories.ends(),
+        rounds: histories.rounds(),
+    };
     let marked = planned(
         alloc,
         &offer,
@@ -115,7 +118,6 @@ fn marks_sent<N: Number, H: Written>(
         rules.mode,
         rotation as usize,
         ends,
-        last,
     )?;
     Ok(marked)
 }

@@ -1,18 +1,15 @@
 //! What is sent of an offer, as one mark for each owner.
 
 ghost use Rattle.std.specs.Prelude.{◌≡◌, ℕ, ◌<◌, ◌≤◌, length, map, IfOk, IsOkUnless};
-ghost use Rattle.bench_types.specs.Budget.{amount_of};
 ghost use Rattle.bench_types.specs.declared.faults.Fault.TheVariants.{OutOfMemory};
-ghost use Rattle.owner_lists.specs.OwnerListView.{all_writes};
-ghost use Rattle.version_tables.specs.inner.Histories.{AreMadeBy};
 ghost use Rattle.version_tables.specs.inner.Marked.{HasShapeIn, AreMarked, whole_marks};
-ghost use Rattle.version_tables.specs.inner.Offered.{marks, weight_in, count_in, IsOffer};
+ghost use Rattle.version_tables.specs.inner.Offered.{marks, IsFound, IsOffer, IsTooLarge};
 ghost use Rattle.version_tables.specs.inner.Plans.{IsLevel};
-ghost use Rattle.version_tables.specs.inner.Rounds.{AreEnds};
+ghost use Rattle.version_tables.specs.inner.RoundLevels.{AreEndsOf};
 
 use crate::breadths::breadth;
 use crate::depths::depth;
-use crate::rounds::rounds;
+use crate::rounds::{Ends, rounds};
 use crate::sharing::share;
 use crate::stops::First;
 use crate::weights::{Level, Offer};
@@ -36,15 +33,12 @@ pub(crate) fn planned<N: Number>(
     found: u32,
     mode: Mode,
     rotation: usize,
-    ends: &[N],
-    last: u32,
+    ends: Ends<N>,
 ) -> Result<Marked<N>, Fault>
     requires offer { IsOffer N.number N.most offer.now }
-    requires found { found
-        ≡ count_in N.number offer.now (marks N.number offer.now.low.now) (marks N.number offer.now.high.now) }
+    requires found { IsFound N.number offer.now found }
     requires rotation { rotation < offer.now.nodes }
-    requires ends { AreEnds (all_writes offer.now.lists.now) offer.now.nodes last (map N.number ends.now) }
-    requires made { (owner : ℕ) → AreMadeBy last (all_writes offer.now.lists.now owner) }
+    requires ends { AreEndsOf N.number offer.now ends }
     ensures size { IfOk result (λ m. length m.mark.items ≡ offer.now.nodes) }
     ensures marked { IfOk result
         (λ m. AreMarked mode rotation N.number offer.now (marks N.number m.mark.items) m.sent m.cut) }
@@ -58,7 +52,7 @@ pub(crate) fn planned<N: Number>(
             cut: 0,
         });
     }
-    let level = level_of(alloc, offer, mode, ends, last, found)?;
+    let level = level_of(alloc, offer, mode, ends, found)?;
     let share = share(alloc, offer, &level, mode, rotation)?;
     let cut = found - share.sent;
     Ok(Marked {
@@ -86,17 +80,12 @@ fn level_of<N: Number>(
     alloc: Global,
     offer: &Offer<N>,
     mode: Mode,
-    ends: &[N],
-    last: u32,
+    ends: Ends<N>,
     found: u32,
 ) -> Result<Level<N>, Fault>
-    requires offer { IsOffer N.number N.most offer.now }
-    requires ends { AreEnds (all_writes offer.now.lists.now) offer.now.nodes last (map N.number ends.now) }
-    requires made { (owner : ℕ) → AreMadeBy last (all_writes offer.now.lists.now owner) }
-    requires found { found
-        ≡ count_in N.number offer.now (marks N.number offer.now.low.now) (marks N.number offer.now.high.now) }
-    requires beyond { amount_of offer.now.budget
-        < weight_in N.number offer.now (marks N.number offer.now.low.now) (marks N.number offer.now.high.now) }
+    requires offer { IsTooLarge N.number N.most offer.now }
+    requires ends { AreEndsOf N.number offer.now ends }
+    requires found { IsFound N.number offer.now found }
     ensures level { IfOk result (λ l. IsLevel mode N.number offer.now l) }
     ensures shape { IfOk result
         (λ l. HasShapeIn mode N.number offer.now (marks N.number l.near.items) (marks N.number l.far.items)) }
@@ -105,7 +94,7 @@ fn level_of<N: Number>(
     match mode {
         Mode::ScuttleBreadth => breadth(alloc, offer),
         Mode::ScuttleDepth => depth(alloc, offer),
-        Mode::PreciseOldest => rounds(alloc, offer, ends, last, found, First::Oldest),
-        Mode::PreciseNewest => rounds(alloc, offer, ends, last, found, First::Newest),
+        Mode::PreciseOldest => rounds(alloc, offer, ends, found, First::Oldest),
+        Mode::PreciseNewest => rounds(alloc, offer, ends, found, First::Newest),
     }
 }

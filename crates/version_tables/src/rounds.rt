@@ -4,14 +4,11 @@ ghost use Rattle.std.specs.Prelude.{◌≡◌, ℕ, ◌+◌, ◌*◌, ◌<◌, �
 ghost use Rattle.bench_types.specs.Budget.{amount_of};
 ghost use Rattle.bench_types.specs.declared.faults.Fault.TheVariants.{OutOfMemory};
 ghost use Rattle.bench_types.specs.declared.limits.TheConstants.{MOST_NODES};
-ghost use Rattle.owner_lists.specs.OwnerListView.{all_writes};
 ghost use Rattle.planes.specs.Planes.{cell, HasEach};
 ghost use Rattle.planes.specs.inner.Elementwise.{AreChanged};
-ghost use Rattle.version_tables.specs.inner.Histories.{AreMadeBy};
-ghost use Rattle.version_tables.specs.inner.Offered.{marks, weight_in, count_in, IsOffer};
+ghost use Rattle.version_tables.specs.inner.Offered.{marks, IsFound, IsOffer, IsTooLarge};
 ghost use Rattle.version_tables.specs.inner.Plans.{weight_on, count_on, IsLevel};
-ghost use Rattle.version_tables.specs.inner.RoundLevels.{round_mode, round_at, end_mark, round_mark, AreFewAndEnough, AreRounds};
-ghost use Rattle.version_tables.specs.inner.Rounds.{AreEnds};
+ghost use Rattle.version_tables.specs.inner.RoundLevels.{round_mode, round_at, end_mark, round_mark, AreEndsOf, AreFewAndEnough, AreRounds};
 ghost use Rattle.version_tables.specs.inner.Stops.{is_newest};
 
 use crate::stops::First;
@@ -19,6 +16,13 @@ use crate::weights::{Level, Offer};
 use bench_types::Fault;
 use planes::Number;
 use std::alloc::Global;
+
+/// For each round from 0 on a row with how many writes each owner has made up to its end.
+#[derive(Clone, Copy)]
+pub(crate) struct Ends<'a, N: Number> {
+    pub(crate) numbers: &'a [N],
+    pub(crate) rounds: u32,
+}
 
 // So many rounds fit, and have so many numbers.
 #[derive(Clone, Copy)]
@@ -38,25 +42,20 @@ struct Found {
 pub(crate) fn rounds<N: Number>(
     alloc: Global,
     offer: &Offer<N>,
-    ends: &[N],
-    rounds: u32,
+    ends: Ends<N>,
     found: u32,
     first: First,
 ) -> Result<Level<N>, Fault>
-    requires offer { IsOffer N.number N.most offer.now }
-    requires ends { AreEnds (all_writes offer.now.lists.now) offer.now.nodes rounds (map N.number ends.now) }
-    requires made { (owner : ℕ) → AreMadeBy rounds (all_writes offer.now.lists.now owner) }
-    requires found { found
-        ≡ count_in N.number offer.now (marks N.number offer.now.low.now) (marks N.number offer.now.high.now) }
-    requires beyond { amount_of offer.now.budget
-        < weight_in N.number offer.now (marks N.number offer.now.low.now) (marks N.number offer.now.high.now) }
+    requires offer { IsTooLarge N.number N.most offer.now }
+    requires ends { AreEndsOf N.number offer.now ends }
+    requires found { IsFound N.number offer.now found }
     ensures level { IfOk result (IsLevel (round_mode (is_newest first)) N.number offer.now) }
     ensures rounds { IfOk result (AreRounds (is_newest first) N.number offer.now) }
     ensures only { IsOkUnless result OutOfMemory }
 {
-    let few = few_rounds(alloc, offer, ends, rounds, found, first)?;
-    let near = mark_after(alloc, offer, ends, rounds, few.rounds, first)?;
-    let far = mark_after(alloc, offer, ends, rounds, few.rounds + 1, first)?;
+    let few = few_rounds(alloc, offer, ends, found, first)?;
+    let near = ends.mark_after(alloc, offer, few.rounds, first)?;
+    let far = ends.mark_after(alloc, offer, few.rounds + 1, first)?;
     Ok(Level {
         near,
         far,
@@ -68,30 +67,26 @@ pub(crate) fn rounds<N: Number>(
 fn few_rounds<N: Number>(
     alloc: Global,
     offer: &Offer<N>,
-    ends: &[N],
-    rounds: u32,
+    ends: Ends<N>,
     found: u32,
     first: First,
 ) -> Result<Few, Fault>
-    requires offer { IsOffer N.number N.most offer.now }
-    requires ends { AreEnds (all_writes offer.now.lists.now) offer.now.nodes rounds (map N.number ends.now) }
-    requires made { (owner : ℕ) → AreMadeBy rounds (all_writes offer.now.lists.now owner) }
-    requires found { found
-        ≡ count_in N.number offer.now (marks N.number offer.now.low.now) (marks N.number offer.now.high.now) }
-    requires beyond { amount_of offer.now.budget
-        < weight_in N.number offer.now (marks N.number offer.now.low.now) (marks N.number offer.now.high.now) }
+    requires offer { IsTooLarge N.number N.most offer.now }
+    requires ends { AreEndsOf N.number offer.now ends }
+    requires found { IsFound N.number offer.now found }
     ensures few { IfOk result (λ few. AreFewAndEnough (is_newest first) N.number offer.now
-        (round_mark (is_newest first) rounds (map N.number ends.now) offer.now.nodes (marks N.number offer.now.low.now))
-        rounds few.rounds (few.rounds + 1) few.whole) }
+        (round_mark (is_newest first) ends.entry.rounds (map N.number ends.entry.numbers.now) offer.now.nodes
+        (marks N.number offer.now.low.now))
+        ends.entry.rounds few.rounds (few.rounds + 1) few.whole) }
     ensures only { IsOkUnless result OutOfMemory }
 {
     let mut few = 0;
-    let mut enough = rounds;
+    let mut enough = ends.rounds;
     let mut whole = 0;
     let mut step = 1;
     while few + 1 < enough {
         let by = ((enough - few) / 2).min(step);
-        let mark = mark_after(alloc, offer, ends, rounds, few + by, first)?;
+        let mark = ends.mark_after(alloc, offer, few + by, first)?;
         let found_there = look(offer, &mark, found, first);
         if found_there.fits {
             few += by;
@@ -109,8 +104,7 @@ fn look<N: Number>(offer: &Offer<N>, mark: &[N], found: u32, first: First) -> Fo
     requires offer { IsOffer N.number N.most offer.now }
     requires mark { length mark.now ≡ offer.now.nodes }
     requires above { (r : ℕ) → r < offer.now.nodes → marks N.number offer.now.low.now r ≤ marks N.number mark.now r }
-    requires found { found
-        ≡ count_in N.number offer.now (marks N.number offer.now.low.now) (marks N.number offer.now.high.now) }
+    requires found { IsFound N.number offer.now found }
     ensures count { result.count
         ≡ count_on (round_mode (is_newest first)) N.number offer.now (marks N.number mark.now) }
     ensures fits { IsTrue result.fits
@@ -131,32 +125,33 @@ fn look<N: Number>(offer: &Offer<N>, mark: &[N], found: u32, first: First) -> Fo
     }
 }
 
-// The marks between so many rounds and the others.
-fn mark_after<N: Number>(
-    alloc: Global,
-    offer: &Offer<N>,
-    ends: &[N],
-    rounds: u32,
-    count: u32,
-    first: First,
-) -> Result<Vec<N>, Fault>
-    requires offer { IsOffer N.number N.most offer.now }
-    requires ends { length ends.now ≡ (rounds + 1) * offer.now.nodes }
-    requires count { count ≤ rounds }
-    ensures marks { IfOk result (λ v. HasEach offer.now.nodes
-        (λ r n. n
-        ≡ round_mark (is_newest first) rounds (map N.number ends.now) offer.now.nodes (marks N.number offer.now.low.now)
-        count r)
-        (map N.number v.items)) }
-    ensures only { IsOkUnless result OutOfMemory }
-{
-    let round = match first {
-        First::Oldest => count,
-        First::Newest => rounds - count,
-    };
-    let mut mark = Vec::from_slice(alloc, offer.low)?;
-    raise_to_end(&mut mark, ends, rounds, round);
-    Ok(mark)
+impl<'a, N: Number> Ends<'a, N> {
+    // The marks between so many rounds and the others.
+    fn mark_after(
+        &self,
+        alloc: Global,
+        offer: &Offer<N>,
+        count: u32,
+        first: First,
+    ) -> Result<Vec<N>, Fault>
+        requires offer { IsOffer N.number N.most offer.now }
+        requires ends { length self.now.numbers.now ≡ (self.now.rounds + 1) * offer.now.nodes }
+        requires count { count ≤ self.now.rounds }
+        ensures marks { IfOk result (λ v. HasEach offer.now.nodes
+            (λ r n. n
+            ≡ round_mark (is_newest first) self.now.rounds (map N.number self.now.numbers.now) offer.now.nodes
+            (marks N.number offer.now.low.now) count r)
+            (map N.number v.items)) }
+        ensures only { IsOkUnless result OutOfMemory }
+    {
+        let round = match first {
+            First::Oldest => count,
+            First::Newest => self.rounds - count,
+        };
+        let mut mark = Vec::from_slice(alloc, offer.low)?;
+        raise_to_end(&mut mark, self.numbers, self.rounds, round);
+        Ok(mark)
+    }
 }
 
 // Raises each mark to the end of a round.

@@ -8,7 +8,7 @@ ghost use Rattle.reconcile.specs.Order.{rotated};
 ghost use Rattle.version_tables.specs.inner.Offered.{cells_in, marks, weights_in, IsOffer};
 ghost use Rattle.version_tables.specs.inner.Plans.{weight_on, IsLevel};
 ghost use Rattle.version_tables.specs.inner.Sharing.{AreShared};
-ghost use Rattle.version_tables.specs.inner.Turns.{part_between, AreTurnsPassed, ArePartCounts, IsStop};
+ghost use Rattle.version_tables.specs.inner.Turns.{part_between, AreTurnsOf, AreTurnsPassed, ArePartCounts, IsStop};
 
 use crate::stops::{First, Stop};
 use crate::weights::{Level, Offer, Share, number_at};
@@ -22,6 +22,15 @@ struct Passed {
     owner: usize,
     left: u32,
     sent: u32,
+}
+
+// A level that the owners share out in turn from the rotation on, and how many numbers each one's part has.
+#[derive(Drop)]
+struct Turns<'a, N: Number> {
+    mode: Mode,
+    rotation: usize,
+    level: &'a Level<N>,
+    counts: &'a [N],
 }
 
 // The owner whose turn it is.
@@ -124,39 +133,30 @@ impl<'a, N: Number> Offer<'a, N> {
     }
 
     // Gives the owners in turn the far mark as long as their parts fit. Answers whose part doesn't.
-    fn pass_turns(
-        &self,
-        mode: Mode,
-        rotation: usize,
-        level: &Level<N>,
-        counts: &[N],
-        mark: &mut [N],
-        room: u32,
-    ) -> Passed
+    fn pass_turns(&self, turns: &Turns<N>, mark: &mut [N], room: u32) -> Passed
         requires offer { IsOffer N.number N.most self.now }
-        requires rotation { rotation < self.now.nodes }
-        requires level { IsLevel mode N.number self.now level.now }
-        requires counts { ArePartCounts mode N.number self.now level.now (map N.number counts.now) }
-        requires mark { mark.old ≡ level.now.near.items }
-        requires room { weight_on mode N.number self.now (marks N.number level.now.near.items) + room
+        requires turns { AreTurnsOf N.number self.now turns.now }
+        requires mark { mark.old ≡ turns.now.level.now.near.items }
+        requires room { weight_on turns.now.mode N.number self.now (marks N.number turns.now.level.now.near.items) + room
             ≡ amount_of self.now.budget }
         ensures owner { result.owner < self.now.nodes }
         ensures size { length mark.new ≡ self.now.nodes }
-        ensures passed { AreTurnsPassed mode N.number self.now rotation (marks N.number level.now.near.items)
-            (marks N.number level.now.far.items)
-            (marks N.number mark.new) (rotated self.now.nodes rotation result.owner) result.left result.sent }
-        ensures beyond { result.left < part_between mode (weights_in self.now result.owner) (cells_in N.number self.now)
-            self.now.keys result.owner
-            (marks N.number level.now.near.items result.owner) (marks N.number level.now.far.items result.owner) }
+        ensures passed { AreTurnsPassed turns.now.mode N.number self.now turns.now.rotation
+            (marks N.number turns.now.level.now.near.items) (marks N.number turns.now.level.now.far.items)
+            (marks N.number mark.new) (rotated self.now.nodes turns.now.rotation result.owner) result.left result.sent }
+        ensures beyond { result.left < part_between turns.now.mode (weights_in self.now result.owner)
+            (cells_in N.number self.now) self.now.keys result.owner
+            (marks N.number turns.now.level.now.near.items result.owner)
+            (marks N.number turns.now.level.now.far.items result.owner) }
     {
         let mut left = room;
-        let mut sent = level.whole;
+        let mut sent = turns.level.whole;
         for turn in 0..self.nodes {
-            let owner = owner_of_turn(turn, self.nodes, rotation);
-            let near = number_at(&level.near, owner);
-            let far = number_at(&level.far, owner);
-            let count = number_at(counts, owner).widen();
-            let weight = self.weight_of_part(mode, owner, near, far, count);
+            let owner = owner_of_turn(turn, self.nodes, turns.rotation);
+            let near = number_at(&turns.level.near, owner);
+            let far = number_at(&turns.level.far, owner);
+            let count = number_at(turns.counts, owner).widen();
+            let weight = self.weight_of_part(turns.mode, owner, near, far, count);
             if left < weight {
                 return Passed { owner, left, sent };
             }
@@ -168,29 +168,21 @@ impl<'a, N: Number> Offer<'a, N> {
     }
 
     // Puts the marks that stop at the first number that doesn't fit. Answers how many numbers they let through.
-    fn share_into(
-        &self,
-        mode: Mode,
-        rotation: usize,
-        level: &Level<N>,
-        counts: &[N],
-        mark: &mut [N],
-    ) -> u32
+    fn share_into(&self, turns: &Turns<N>, mark: &mut [N]) -> u32
         requires offer { IsOffer N.number N.most self.now }
-        requires rotation { rotation < self.now.nodes }
-        requires level { IsLevel mode N.number self.now level.now }
-        requires counts { ArePartCounts mode N.number self.now level.now (map N.number counts.now) }
-        requires mark { mark.old ≡ level.now.near.items }
+        requires turns { AreTurnsOf N.number self.now turns.now }
+        requires mark { mark.old ≡ turns.now.level.now.near.items }
         ensures size { length mark.new ≡ self.now.nodes }
-        ensures shared { AreShared mode rotation N.number self.now (marks N.number level.now.near.items)
-            (marks N.number level.now.far.items) (marks N.number mark.new) result }
+        ensures shared { AreShared turns.now.mode turns.now.rotation N.number self.now
+            (marks N.number turns.now.level.now.near.items) (marks N.number turns.now.level.now.far.items)
+            (marks N.number mark.new) result }
     {
-        let room = self.budget.amount() - self.weight_of_whole(mode, level);
-        let passed = self.pass_turns(mode, rotation, level, counts, mark, room);
+        let room = self.budget.amount() - self.weight_of_whole(turns.mode, turns.level);
+        let passed = self.pass_turns(turns, mark, room);
         let owner = passed.owner;
-        let near = number_at(&level.near, owner);
-        let far = number_at(&level.far, owner);
-        let stop = self.stop(mode, owner, near, far, passed.left);
+        let near = number_at(&turns.level.near, owner);
+        let far = number_at(&turns.level.far, owner);
+        let stop = self.stop(turns.mode, owner, near, far, passed.left);
         mark[owner] = stop.mark;
         passed.sent + stop.sent
     }
@@ -214,6 +206,12 @@ pub(crate) fn share<N: Number>(
 {
     let counts = offer.parts(alloc, mode, level)?;
     let mut mark = Vec::from_slice(alloc, &level.near)?;
-    let sent = offer.share_into(mode, rotation, level, &counts, &mut mark);
+    let turns = Turns {
+        mode,
+        rotation,
+        level,
+        counts: &counts,
+    };
+    let sent = offer.share_into(&turns, &mut mark);
     Ok(Share { mark, sent })
 }

@@ -4,11 +4,12 @@ ghost use Rattle.std.specs.Prelude.{◌≡◌, ◌==◌, ℕ, ◌<◌, ◌≤◌
 ghost use Rattle.bench_types.specs.declared.entries.Entry.{Entry};
 ghost use Rattle.owner_lists.specs.OwnerListView.{OwnerListView, all_writes, entries_of};
 ghost use Rattle.owner_lists.specs.Numbers.{write_numbered};
-ghost use Rattle.planes.specs.Planes.{cell, AreCovered, ArePlanesChanged, HasEach, IsGrid};
+ghost use Rattle.planes.specs.Planes.{cell, ArePlanesChanged, HasEach, IsGrid};
 ghost use Rattle.version_tables.specs.inner.Offers.{start_of, IsNumberedHistory};
 ghost use Rattle.version_tables.specs.inner.Histories.{bases_in};
-ghost use Rattle.version_tables.specs.inner.Taken.{drop_start, number_kept, HasTakenUnless, IsTaken, StaysOne};
+ghost use Rattle.version_tables.specs.inner.Taken.{drop_start, number_kept, HasTakenUnless, IsTaken, MayTake, StaysOne};
 
+use crate::deltas::DeltaMarks;
 use crate::tables::{VersionTable, Written};
 use owner_lists::OwnerList;
 use planes::Number;
@@ -109,27 +110,23 @@ fn take_numbers<N: Number>(
     nodes: usize,
     keys: usize,
     sent: &[N],
-    low: &[N],
-    high: &[N],
+    marks: &DeltaMarks<N>,
     before: &[N],
     bases: &[N],
     lists: &[OwnerList],
 )
-    requires grid { IsGrid nodes keys (length cells.old) }
-    requires greatest { length greatest.old ≡ nodes }
-    requires sent { length sent.now ≡ length cells.old }
-    requires low { length low.now ≡ nodes }
-    requires high { length high.now ≡ nodes }
-    requires covered { AreCovered nodes keys (map N.number cells.old) (map N.number greatest.old) }
+    requires taken { MayTake N.number nodes keys cells.old greatest.old sent.now
+        marks.now.low.items marks.now.high.items }
     requires before { map N.number before.now ≡ map N.number greatest.old }
     requires bases { HasEach nodes (λ r n. n ≡ bases_in lists.now r) (map N.number bases.now) }
     requires lists { length lists.now ≡ nodes }
     requires numbered { (owner : ℕ) → IsNumberedHistory (all_writes lists.now owner) }
     ensures { IsTaken (all_writes lists.now) (bases_in lists.now) nodes keys (map N.number cells.old)
-        (map N.number greatest.old) (map N.number sent.now) (map N.number low.now) (map N.number high.now)
+        (map N.number greatest.old) (map N.number sent.now)
+        (map N.number marks.now.low.items) (map N.number marks.now.high.items)
         (map N.number cells.new) (map N.number greatest.new) }
 {
-    planes::take(cells, greatest, sent, nodes, keys, low, high);
+    planes::take(cells, greatest, sent, nodes, keys, &marks.low, &marks.high);
     drop_older(cells, nodes, keys, before, greatest, bases, lists);
 }
 
@@ -139,23 +136,22 @@ pub(crate) fn take_unless<N: Number, H: Written>(
     nothing: bool,
     table: &mut VersionTable<N, H>,
     sent: &[N],
-    low: &[N],
-    high: &[N],
+    marks: &DeltaMarks<N>,
     before: &[N],
     bases: &[N],
     lists: &[OwnerList],
 )
     requires sent { length sent.now ≡ length table.old.cells }
-    requires low { length low.now ≡ table.old.nodes }
-    requires high { length high.now ≡ table.old.nodes }
+    requires low { length marks.now.low.items ≡ table.old.nodes }
+    requires high { length marks.now.high.items ≡ table.old.nodes }
     requires before { map N.number before.now ≡ table.old.greatest }
     requires bases { HasEach table.old.nodes (λ r n. n ≡ bases_in lists.now r) (map N.number bases.now) }
     requires lists { length lists.now ≡ table.old.nodes }
     requires numbered { (owner : ℕ) → IsNumberedHistory (all_writes lists.now owner) }
     requires stays { StaysOne H.lists (all_writes lists.now) (bases_in lists.now) table.old (map N.number sent.now)
-        (map N.number low.now) (map N.number high.now) }
+        (map N.number marks.now.low.items) (map N.number marks.now.high.items) }
     ensures { HasTakenUnless nothing (all_writes lists.now) (bases_in lists.now) table.old (map N.number sent.now)
-        (map N.number low.now) (map N.number high.now) table.new }
+        (map N.number marks.now.low.items) (map N.number marks.now.high.items) table.new }
 {
     if nothing {
         return;
@@ -168,8 +164,7 @@ pub(crate) fn take_unless<N: Number, H: Written>(
         nodes,
         keys,
         sent,
-        low,
-        high,
+        marks,
         before,
         bases,
         lists,

@@ -1,5 +1,6 @@
 -- What is offered in memory: cells with marks for each owner, and the owners' lists. Source: this project.
 use Rattle.std.specs.Prelude.{◌≡◌, ℕ, ◌<◌, ◌≤◌, List, length, map, slice_index}
+use Rattle.bench_types.specs.Budget.{amount_of}
 use Rattle.owner_lists.specs.OwnerListView.{all_writes}
 use Rattle.planes.specs.Planes.{Cells, cell, count_above, IsGrid, HasNoneAbove}
 use Rattle.version_tables.specs.declared.weights.Offer.{Offer}
@@ -41,3 +42,13 @@ pub record IsOffer {N : Type 0} (number : N → ℕ) (most : ℕ) (offer : Offer
   pub differ : (owner : ℕ) → owner < offer.nodes → NumbersDiffer (cells_in number offer) offer.keys owner
   pub covered : (owner : ℕ) → owner < offer.nodes
       → HasNoneAbove (cells_in number offer) offer.keys owner (marks number offer.high.now owner)
+
+-- so many numbers are offered
+abbrev pub IsFound : {N : Type 0} → (N → ℕ) → Offer N → ℕ → Type 0
+IsFound number offer found = found ≡ count_in number offer (marks number offer.low.now) (marks number offer.high.now)
+
+-- an offer that weighs more than the budget
+pub record IsTooLarge {N : Type 0} (number : N → ℕ) (most : ℕ) (offer : Offer N) : Type 0 where
+  pub is_offer : IsOffer number most offer
+  pub beyond : amount_of offer.budget
+      < weight_in number offer (marks number offer.low.now) (marks number offer.high.now)

@@ -1,19 +1,27 @@
 -- Levels of rounds, as marks. Source: this project.
-use Rattle.std.specs.Prelude.{◌≡◌, ℕ, ◌+◌, ◌-◌, ◌<◌, ◌≤◌, Bool, true, false, max, List, if◌then◌else◌}
+use Rattle.std.specs.Prelude.{◌≡◌, ℕ, ◌+◌, ◌-◌, ◌<◌, ◌≤◌, Bool, true, false, max, map, List, if◌then◌else◌}
 use Rattle.bench_types.specs.declared.exchanges.Mode.{Mode}
 use Rattle.bench_types.specs.declared.exchanges.Mode.TheVariants.{PreciseOldest, PreciseNewest}
 use Rattle.bench_types.specs.Budget.{amount_of}
 use Rattle.owner_lists.specs.OwnerListView.{all_writes}
 use Rattle.planes.specs.Planes.{cell}
+use Rattle.version_tables.specs.declared.rounds.Ends.{Ends}
 use Rattle.version_tables.specs.declared.weights.Offer.{Offer}
 use Rattle.version_tables.specs.declared.weights.Level.{Level}
+use Rattle.version_tables.specs.inner.Histories.{AreMadeBy}
 use Rattle.version_tables.specs.inner.Offered.{marks}
 use Rattle.version_tables.specs.inner.Plans.{weight_on, count_on}
+use Rattle.version_tables.specs.inner.Rounds.{AreEnds}
 use Rattle.version_tables.specs.inner.Shares.{IsRoundMark}
 
 abbrev pub round_mode : Bool → Mode
 round_mode true = PreciseNewest
 round_mode false = PreciseOldest
+
+-- where the rounds end in which all that is offered was written
+pub record AreEndsOf {N : Type 0} (number : N → ℕ) (offer : Offer N) (ends : Ends N) : Type 0 where
+  pub are_ends : AreEnds (all_writes offer.lists.now) offer.nodes ends.rounds (map number ends.numbers.now)
+  pub made : (owner : ℕ) → AreMadeBy ends.rounds (all_writes offer.lists.now owner)
 
 -- the round that so many rounds from the oldest on end with, or before which so many from the newest on begin
 abbrev pub round_at : Bool → ℕ → ℕ → ℕ

@@ -1,9 +1,9 @@
 -- The cells of a table that has taken a delta. Source: this project.
-use Rattle.std.specs.Prelude.{◌≡◌, ℕ, ◌<◌, ◌≤◌, ◌↔◌, ◌⊎◌, ◌&&◌, Bool, true, false, max, nat_lt, nat_le, List, length, slice_index, Contains, Some, if◌then◌else◌}
+use Rattle.std.specs.Prelude.{◌≡◌, ℕ, ◌<◌, ◌≤◌, ◌↔◌, ◌⊎◌, ◌&&◌, Bool, true, false, max, nat_lt, nat_le, List, length, map, slice_index, Contains, Some, if◌then◌else◌}
 use Rattle.bench_types.specs.declared.entries.Entry.{Entry}
 use Rattle.bench_types.specs.declared.entries.Item.{Item}
 use Rattle.node_table.specs.Table.{Table, entry_at, generation_held}
-use Rattle.planes.specs.Planes.{Cells, cell, numbers_taken, IsRaised}
+use Rattle.planes.specs.Planes.{Cells, cell, numbers_taken, AreCovered, IsGrid, IsRaised}
 use Rattle.version_tables.specs.Views.{VersionTableView}
 use Rattle.version_tables.specs.Laid.{IsVersionTable}
 use Rattle.version_tables.specs.inner.Offers.{start_of}
@@ -46,6 +46,15 @@ drop_start writes old base new =
 -- a number that is above a mark, else 0
 abbrev pub number_kept : ℕ → ℕ → ℕ
 number_kept start number = if nat_le number start then 0 else number
+
+-- a receiver's numbers, of which none is above its owner's greatest one, may take what marks let through of those sent
+pub record MayTake {N : Type 0} (number : N → ℕ) (nodes keys : ℕ) (cells greatest sent low high : List N) : Type 0 where
+  pub grid : IsGrid nodes keys (length cells)
+  pub greatest_count : length greatest ≡ nodes
+  pub sent_count : length sent ≡ length cells
+  pub low_count : length low ≡ nodes
+  pub high_count : length high ≡ nodes
+  pub covered : AreCovered nodes keys (map number cells) (map number greatest)
 
 -- a receiver's numbers and greatest ones once it took them, and dropped what is of older generations
 pub record IsTaken (lists : ℕ → List Entry) (bases : ℕ → ℕ) (nodes keys : ℕ) (cells greatest sent low high new_cells new_greatest : List ℕ) : Type 0 where

@@ -1,15 +1,16 @@
 -- The owners' turns in a level, from the rotation on. Source: this project.
-use Rattle.std.specs.Prelude.{◌≡◌, ℕ, ◌+◌, ◌<◌, ◌≤◌, List, true, false}
+use Rattle.std.specs.Prelude.{◌≡◌, ℕ, ◌+◌, ◌<◌, ◌≤◌, List, map, true, false}
 use Rattle.bench_types.specs.declared.exchanges.Mode.{Mode}
 use Rattle.bench_types.specs.declared.exchanges.Mode.TheVariants.{ScuttleBreadth, ScuttleDepth, PreciseOldest, PreciseNewest}
 use Rattle.bench_types.specs.Budget.{amount_of}
 use Rattle.planes.specs.Planes.{Cells, HasEach}
 use Rattle.reconcile.specs.Order.{rotated}
+use Rattle.version_tables.specs.declared.sharing.Turns.{Turns}
 use Rattle.version_tables.specs.declared.weights.Level.{Level}
 use Rattle.version_tables.specs.declared.weights.Offer.{Offer}
 use Rattle.version_tables.specs.inner.Levels.{comes_first}
 use Rattle.version_tables.specs.inner.Offered.{cells_in, marks}
-use Rattle.version_tables.specs.inner.Plans.{weight_on, count_on, AreFarther}
+use Rattle.version_tables.specs.inner.Plans.{weight_on, count_on, AreFarther, IsLevel}
 use Rattle.version_tables.specs.inner.Shares.{lets_through}
 use Rattle.version_tables.specs.inner.Weights.{weight_of}
 
@@ -25,6 +26,12 @@ abbrev pub ArePartCounts : {N : Type 0} → Mode → (N → ℕ) → Offer N →
 ArePartCounts mode number offer level counts =
     HasEach offer.nodes (λ r n. n ≡ part_between mode (λ _. 1) (cells_in number offer) offer.keys r
     (marks number level.near.items r) (marks number level.far.items r)) counts
+
+-- a level that is shared out in turn from a rotation on
+pub record AreTurnsOf {N : Type 0} (number : N → ℕ) (offer : Offer N) (turns : Turns N) : Type 0 where
+  pub rotation : turns.rotation < offer.nodes
+  pub level : IsLevel turns.mode number offer turns.level.now
+  pub counts : ArePartCounts turns.mode number offer turns.level.now (map number turns.counts.now)
 
 -- owners whose turn has come have the far mark, and the others the near one
 pub record AreTurnsPassed {N : Type 0} (mode : Mode) (number : N → ℕ) (offer : Offer N) (rotation : ℕ)

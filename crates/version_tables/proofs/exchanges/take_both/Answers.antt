@@ -6,32 +6,30 @@ use Rattle.version_tables.specs.Views.{VersionTableView}
 use Rattle.owner_lists.specs.OwnerListView.{all_writes}
 use Rattle.version_tables.specs.inner.Histories.{bases_in}
 use Rattle.version_tables.specs.inner.Taken.{HasTakenUnless, StaysOne}
-use Rattle.version_tables.proofs.TakenNumbers.{along_three}
 use Rattle.version_tables.proofs.exchanges.take_both.Goals as goal
 
 pub take_unless-requires-2-clause-stays : goal.take_unless-requires-2-clause-stays
 take_unless-requires-2-clause-stays g c = λ κs out.
-    along_three (StaysOne g.H.Written.lists (all_writes c.args.lists.now) (bases_in c.args.lists.now) c.args.responder.now) _ _ _ _ _ _
-    (sym c.cells-came_forth.ensures.value) (ap (map g.N.Number.number) (sym c.deref-4.ensures.value)) (ap (map g.N.Number.number) (sym c.deref-5.ensures.value))
+    subst (λ sent. StaysOne g.H.Written.lists (all_writes c.args.lists.now) (bases_in c.args.lists.now) c.args.responder.now sent (map g.N.Number.number c.args.forth.now.low.items) (map g.N.Number.number c.args.forth.now.high.items))
+    (sym c.cells-came_forth.ensures.value)
     (c.requires.responder c.take_unless.new.table
-    (along_three (λ s l h. HasTakenUnless c.args.nothing_back (all_writes c.args.lists.now) (bases_in c.args.lists.now) c.args.initiator.now s l h c.take_unless.new.table) _ _ _ _ _ _
-    c.cells-came_back.ensures.value (ap (map g.N.Number.number) c.deref.ensures.value) (ap (map g.N.Number.number) c.deref-2.ensures.value) c.take_unless.ensures))
+    (subst (λ sent. HasTakenUnless c.args.nothing_back (all_writes c.args.lists.now) (bases_in c.args.lists.now) c.args.initiator.now sent (map g.N.Number.number c.args.back.now.low.items) (map g.N.Number.number c.args.back.now.high.items) c.take_unless.new.table)
+    c.cells-came_back.ensures.value c.take_unless.ensures))
 
 pub take_unless-requires-clause-stays : goal.take_unless-requires-clause-stays
 take_unless-requires-clause-stays g c = λ κs out.
-    along_three (StaysOne g.H.Written.lists (all_writes c.args.lists.now) (bases_in c.args.lists.now) c.args.initiator.now) _ _ _ _ _ _
-    (sym c.cells-came_back.ensures.value) (ap (map g.N.Number.number) (sym c.deref.ensures.value)) (ap (map g.N.Number.number) (sym c.deref-2.ensures.value))
-    c.requires.initiator
+    subst (λ sent. StaysOne g.H.Written.lists (all_writes c.args.lists.now) (bases_in c.args.lists.now) c.args.initiator.now sent (map g.N.Number.number c.args.back.now.low.items) (map g.N.Number.number c.args.back.now.high.items))
+    (sym c.cells-came_back.ensures.value) c.requires.initiator
 
 pub returns-clause-initiator : goal.returns-clause-initiator
 returns-clause-initiator g c =
-    along_three (λ s l h. HasTakenUnless c.args.nothing_back (all_writes c.args.lists.now) (bases_in c.args.lists.now) c.args.initiator.now s l h c.take_unless.new.table) _ _ _ _ _ _
-    c.cells-came_back.ensures.value (ap (map g.N.Number.number) c.deref.ensures.value) (ap (map g.N.Number.number) c.deref-2.ensures.value) c.take_unless.ensures
+    subst (λ sent. HasTakenUnless c.args.nothing_back (all_writes c.args.lists.now) (bases_in c.args.lists.now) c.args.initiator.now sent (map g.N.Number.number c.args.back.now.low.items) (map g.N.Number.number c.args.back.now.high.items) c.take_unless.new.table)
+    c.cells-came_back.ensures.value c.take_unless.ensures
 
 pub returns-clause-responder : goal.returns-clause-responder
 returns-clause-responder g c =
-    along_three (λ s l h. HasTakenUnless c.args.nothing_forth (all_writes c.args.lists.now) (bases_in c.args.lists.now) c.args.responder.now s l h c.take_unless-2.new.table) _ _ _ _ _ _
-    c.cells-came_forth.ensures.value (ap (map g.N.Number.number) c.deref-4.ensures.value) (ap (map g.N.Number.number) c.deref-5.ensures.value) c.take_unless-2.ensures
+    subst (λ sent. HasTakenUnless c.args.nothing_forth (all_writes c.args.lists.now) (bases_in c.args.lists.now) c.args.responder.now sent (map g.N.Number.number c.args.forth.now.low.items) (map g.N.Number.number c.args.forth.now.high.items) c.take_unless-2.new.table)
+    c.cells-came_forth.ensures.value c.take_unless-2.ensures
 
 pub take_unless-requires-clause-sent : goal.take_unless-requires-clause-sent
 take_unless-requires-clause-sent g c = λ κs out.
@@ -39,11 +37,11 @@ take_unless-requires-clause-sent g c = λ κs out.
 
 pub take_unless-requires-clause-low : goal.take_unless-requires-clause-low
 take_unless-requires-clause-low g c = λ κs out.
-    ap length c.deref.ensures.value ∙ sym (length-map c.args.back.now.low.items g.N.Number.number) ∙ c.requires.back_low
+    sym (length-map c.args.back.now.low.items g.N.Number.number) ∙ c.requires.back_low
 
 pub take_unless-requires-clause-high : goal.take_unless-requires-clause-high
 take_unless-requires-clause-high g c = λ κs out.
-    ap length c.deref-2.ensures.value ∙ sym (length-map c.args.back.now.high.items g.N.Number.number) ∙ c.requires.back_high
+    sym (length-map c.args.back.now.high.items g.N.Number.number) ∙ c.requires.back_high
 
 -- a table that takes, or doesn't, has as many numbers as before
 as_many : (nothing : Bool) (lists : ℕ → List Entry) (bases : ℕ → ℕ) (to new : VersionTableView) (sent low high : List ℕ)
@@ -60,11 +58,11 @@ take_unless-requires-2-clause-sent g c = λ κs out.
 
 pub take_unless-requires-2-clause-low : goal.take_unless-requires-2-clause-low
 take_unless-requires-2-clause-low g c = λ κs out.
-    ap length c.deref-4.ensures.value ∙ sym (length-map c.args.forth.now.low.items g.N.Number.number) ∙ c.requires.forth_low ∙ sym c.requires.nodes
+    sym (length-map c.args.forth.now.low.items g.N.Number.number) ∙ c.requires.forth_low ∙ sym c.requires.nodes
 
 pub take_unless-requires-2-clause-high : goal.take_unless-requires-2-clause-high
 take_unless-requires-2-clause-high g c = λ κs out.
-    ap length c.deref-5.ensures.value ∙ sym (length-map c.args.forth.now.high.items g.N.Number.number) ∙ c.requires.forth_high ∙ sym c.requires.nodes
+    sym (length-map c.args.forth.now.high.items g.N.Number.number) ∙ c.requires.forth_high ∙ sym c.requires.nodes
 
 pub take_unless-requires-2-clause-bases : goal.take_unless-requires-2-clause-bases
 take_unless-requires-2-clause-bases g c = λ κs out.

@@ -29,12 +29,15 @@ returns-clause-marked g c =
     c.args.mode c.in_ok-level.level c.in_ok-level.ensures.level.near c.in_ok-level.ensures.level.far c.in_ok-level.ensures.shape
     c.in_ok-share.share.mark.items c.in_ok-share.ensures.size c.in_ok-share.share.sent c.in_ok-share.ensures.shared
 
-pub level_of-requires-clause-beyond : goal.level_of-requires-clause-beyond
-level_of-requires-clause-beyond g c κs out =
-    elim (cases_lt (amount_of c.args.offer.now.budget) (weight_in g.N.Number.number c.args.offer.now (marks g.N.Number.number c.args.offer.now.low.now) (marks g.N.Number.number c.args.offer.now.high.now))) [
-      | inl over ↦ over
-      | inr within ↦ absurd (both_ways c.fits.result c.if-fits.false (c.fits.ensures.1 (omega (arith, within))))
-    ]
+pub level_of-requires-clause-offer : goal.level_of-requires-clause-offer
+level_of-requires-clause-offer g c κs out = record {
+  is_offer = c.requires.offer;
+  beyond =
+      elim (cases_lt (amount_of c.args.offer.now.budget) (weight_in g.N.Number.number c.args.offer.now (marks g.N.Number.number c.args.offer.now.low.now) (marks g.N.Number.number c.args.offer.now.high.now))) [
+        | inl over ↦ over
+        | inr within ↦ absurd (both_ways c.fits.result c.if-fits.false (c.fits.ensures.1 (omega (arith, within))))
+      ];
+}
 
 pub share-requires-clause-level : goal.share-requires-clause-level
 share-requires-clause-level g c κs out = c.in_ok-level.ensures.level

@@ -12,7 +12,7 @@ use Rattle.version_tables.proofs.rounds.few_rounds.Goals.{then-found_there, else
 
 pub loop-few-init : goal.loop-few-init
 loop-few-init g c = record {
-  found = begun g.N.Number.number g.N.Number.most c.args.offer.now c.requires.offer c.args.rounds (map g.N.Number.number c.args.ends.now) c.requires.ends c.requires.made (is_newest c.args.first) c.requires.beyond;
+  found = begun g.N.Number.number g.N.Number.most c.args.offer.now c.requires.offer.is_offer c.args.ends.rounds (map g.N.Number.number c.args.ends.numbers.now) c.requires.ends.are_ends c.requires.ends.made (is_newest c.args.first) c.requires.offer.beyond;
   step = omega arith;
 }
 
@@ -20,14 +20,14 @@ pub loop-few-preserved : goal.loop-few-preserved
 loop-few-preserved g c =
     let number = g.N.Number.number in
     let there : ℕ → ℕ = marks number c.deref.result.now in
-    let at : ℕ → ℕ → ℕ = λ k owner. round_mark (is_newest c.args.first) c.args.rounds (map number c.args.ends.now) c.args.offer.now.nodes (marks number c.args.offer.now.low.now) k owner in
+    let at : ℕ → ℕ → ℕ = λ k owner. round_mark (is_newest c.args.first) c.args.ends.rounds (map number c.args.ends.numbers.now) c.args.offer.now.nodes (marks number c.args.offer.now.low.now) k owner in
     let marks_are : (owner : ℕ) → owner < c.args.offer.now.nodes → there owner ≡ at (c.loop-few.few + c.min-by.result) owner =
     λ owner lt. ap (λ xs. get_or (map number xs) owner 0) c.deref.ensures.value ∙ c.in_ok-mark.ensures.marks.each owner lt in
     let some : 0 < c.min-by.result = omega (arith, c.min-by.ensures, c.loop-few.invariant.step, c.loop-few-test.true) in
     let less : c.loop-few.few + c.min-by.result < c.loop-few.enough = omega (arith, c.min-by.ensures, c.loop-few-test.true) in
     elim c.if-found_there.branch [
       | then-found_there w ↦ record {
-        found = further number g.N.Number.most c.args.offer.now c.requires.offer c.args.rounds (map number c.args.ends.now) c.requires.ends c.requires.made (is_newest c.args.first)
+        found = further number g.N.Number.most c.args.offer.now c.requires.offer.is_offer c.args.ends.rounds (map number c.args.ends.numbers.now) c.requires.ends.are_ends c.requires.ends.made (is_newest c.args.first)
             c.loop-few.few c.loop-few.enough c.loop-few.whole c.if-found_there.few c.if-found_there.enough c.if-found_there.whole there c.loop-few.invariant.found
             (omega (arith, w.few-is, less)) w.enough-is
             (λ owner lt. marks_are owner lt ∙ ap (λ k. at k owner) (sym w.few-is))
@@ -36,7 +36,7 @@ loop-few-preserved g c =
         step = omega (arith, w.step-is, some);
       }
       | else-found_there w ↦ record {
-        found = nearer number g.N.Number.most c.args.offer.now c.requires.offer c.args.rounds (map number c.args.ends.now) c.requires.ends c.requires.made (is_newest c.args.first)
+        found = nearer number g.N.Number.most c.args.offer.now c.requires.offer.is_offer c.args.ends.rounds (map number c.args.ends.numbers.now) c.requires.ends.are_ends c.requires.ends.made (is_newest c.args.first)
             c.loop-few.few c.loop-few.enough c.loop-few.whole c.if-found_there.few c.if-found_there.enough c.if-found_there.whole there c.loop-few.invariant.found
             (omega (arith, w.enough-is, some)) (omega (arith, w.enough-is, less)) w.few-is w.whole-is
             (λ owner lt. marks_are owner lt ∙ ap (λ k. at k owner) (sym w.enough-is))
@@ -49,7 +49,7 @@ loop-few-preserved g c =
     ]
 
 pub mark_after-requires-clause-ends : goal.mark_after-requires-clause-ends
-mark_after-requires-clause-ends g c κs out = sym (length-map c.args.ends.now g.N.Number.number) ∙ c.requires.ends.size
+mark_after-requires-clause-ends g c κs out = sym (length-map c.args.ends.numbers.now g.N.Number.number) ∙ c.requires.ends.are_ends.size
 
 pub mark_after-requires-clause-count : goal.mark_after-requires-clause-count
 mark_after-requires-clause-count g c κs out = omega (arith, c.min-by.ensures, c.loop-few-test.true, c.loop-few.invariant.found.bound)
@@ -63,19 +63,19 @@ look-found_there-requires-clause-above g c κs out = λ r lt.
     omega (arith, ap (λ xs. get_or (map g.N.Number.number xs) r 0) c.deref.ensures.value ∙ c.in_ok-mark.ensures.marks.each r lt)
 
 pub overflow_add-few : goal.overflow_add-few
-overflow_add-few g c = omega (arith, c.loop-few.invariant.found.below, c.loop-few.invariant.found.bound, c.ranges.rounds.fits)
+overflow_add-few g c = omega (arith, c.loop-few.invariant.found.below, c.loop-few.invariant.found.bound)
 
 pub overflow_add-few-in-loop-few : goal.overflow_add-few-in-loop-few
-overflow_add-few-in-loop-few g c = omega (arith, c.min-by.ensures, c.loop-few-test.true, c.loop-few.invariant.found.bound, c.ranges.rounds.fits)
+overflow_add-few-in-loop-few g c = omega (arith, c.min-by.ensures, c.loop-few-test.true, c.loop-few.invariant.found.bound)
 
 pub overflow_add-few-then-found_there : goal.overflow_add-few-then-found_there
-overflow_add-few-then-found_there g c = omega (arith, c.min-by.ensures, c.loop-few-test.true, c.loop-few.invariant.found.bound, c.ranges.rounds.fits)
+overflow_add-few-then-found_there g c = omega (arith, c.min-by.ensures, c.loop-few-test.true, c.loop-few.invariant.found.bound)
 
 pub overflow_add-enough : goal.overflow_add-enough
-overflow_add-enough g c = omega (arith, c.min-by.ensures, c.loop-few-test.true, c.loop-few.invariant.found.bound, c.ranges.rounds.fits)
+overflow_add-enough g c = omega (arith, c.min-by.ensures, c.loop-few-test.true, c.loop-few.invariant.found.bound)
 
 pub overflow_mul-step : goal.overflow_mul-step
-overflow_mul-step g c = omega (arith, c.min-by.ensures, c.loop-few-test.true, c.loop-few.invariant.found.bound, c.ranges.rounds.fits)
+overflow_mul-step g c = omega (arith, c.min-by.ensures, c.loop-few-test.true, c.loop-few.invariant.found.bound)
 
 pub overflow_sub-enough : goal.overflow_sub-enough
 overflow_sub-enough g c = omega (arith, c.loop-few.invariant.found.below)
@@ -91,5 +91,5 @@ loop-few-smaller g c =
 
 pub returns-clause-few : goal.returns-clause-few
 returns-clause-few g c =
-    subst (λ enough. AreFewAndEnough (is_newest c.args.first) g.N.Number.number c.args.offer.now (round_mark (is_newest c.args.first) c.args.rounds (map g.N.Number.number c.args.ends.now) c.args.offer.now.nodes (marks g.N.Number.number c.args.offer.now.low.now)) c.args.rounds c.loop-few.few enough c.loop-few.whole)
+    subst (λ enough. AreFewAndEnough (is_newest c.args.first) g.N.Number.number c.args.offer.now (round_mark (is_newest c.args.first) c.args.ends.rounds (map g.N.Number.number c.args.ends.numbers.now) c.args.offer.now.nodes (marks g.N.Number.number c.args.offer.now.low.now)) c.args.ends.rounds c.loop-few.few enough c.loop-few.whole)
     {x = c.loop-few.enough} {y = c.loop-few.few + 1} (omega (arith, c.loop-few-test.false, c.loop-few.invariant.found.below)) c.loop-few.invariant.found

@@ -7,8 +7,8 @@ use Rattle.version_tables.proofs.rounds.few_rounds.Given as goal
 abbrev pub invariant-loop-few : goal.invariant-loop-few
 invariant-loop-few g l = record {
   found : AreFewAndEnough (is_newest l.first) g.N.Number.number l.offer
-      (round_mark (is_newest l.first) l.rounds (map g.N.Number.number l.ends) l.offer.nodes (marks g.N.Number.number l.offer.low.now))
-      l.rounds l.few l.enough l.whole;
+      (round_mark (is_newest l.first) l.ends.rounds (map g.N.Number.number l.ends.numbers.now) l.offer.nodes (marks g.N.Number.number l.offer.low.now))
+      l.ends.rounds l.few l.enough l.whole;
   step : 0 < l.step;
 }
 

@@ -6,27 +6,27 @@ use Rattle.version_tables.proofs.rounds.rounds.Goals as goal
 
 pub returns-clause-level : goal.returns-clause-level
 returns-clause-level g c =
-    rounds-level g.N.Number.number g.N.Number.most c.args.offer.now c.requires.offer c.args.rounds (map g.N.Number.number c.args.ends.now) c.requires.ends c.requires.made (is_newest c.args.first)
+    rounds-level g.N.Number.number g.N.Number.most c.args.offer.now c.requires.offer.is_offer c.args.ends.rounds (map g.N.Number.number c.args.ends.numbers.now) c.requires.ends.are_ends c.requires.ends.made (is_newest c.args.first)
     (record { near = c.in_ok-near.near; far = c.in_ok-far.far; whole = c.in_ok-few.few.whole }) c.in_ok-few.few.rounds c.in_ok-few.few.whole c.in_ok-few.ensures.few refl
     c.in_ok-near.ensures.marks c.in_ok-far.ensures.marks
 
 pub returns-clause-rounds : goal.returns-clause-rounds
 returns-clause-rounds g c =
-    rounds-parts g.N.Number.number g.N.Number.most c.args.offer.now c.requires.offer c.args.rounds (map g.N.Number.number c.args.ends.now) c.requires.ends c.requires.made (is_newest c.args.first)
+    rounds-parts g.N.Number.number g.N.Number.most c.args.offer.now c.requires.offer.is_offer c.args.ends.rounds (map g.N.Number.number c.args.ends.numbers.now) c.requires.ends.are_ends c.requires.ends.made (is_newest c.args.first)
     (record { near = c.in_ok-near.near; far = c.in_ok-far.far; whole = c.in_ok-few.few.whole }) c.in_ok-few.few.rounds c.in_ok-few.few.whole c.in_ok-few.ensures.few refl
     c.in_ok-near.ensures.marks c.in_ok-far.ensures.marks
 
 pub mark_after-requires-clause-ends : goal.mark_after-requires-clause-ends
-mark_after-requires-clause-ends g c κs out = sym (length-map c.args.ends.now g.N.Number.number) ∙ c.requires.ends.size
+mark_after-requires-clause-ends g c κs out = sym (length-map c.args.ends.numbers.now g.N.Number.number) ∙ c.requires.ends.are_ends.size
 
 pub mark_after-requires-clause-count : goal.mark_after-requires-clause-count
 mark_after-requires-clause-count g c κs out = omega (arith, c.in_ok-few.ensures.few.below, c.in_ok-few.ensures.few.bound)
 
 pub mark_after-requires-2-clause-ends : goal.mark_after-requires-2-clause-ends
-mark_after-requires-2-clause-ends g c κs out = sym (length-map c.args.ends.now g.N.Number.number) ∙ c.requires.ends.size
+mark_after-requires-2-clause-ends g c κs out = sym (length-map c.args.ends.numbers.now g.N.Number.number) ∙ c.requires.ends.are_ends.size
 
 pub mark_after-requires-2-clause-count : goal.mark_after-requires-2-clause-count
 mark_after-requires-2-clause-count g c κs out = c.in_ok-few.ensures.few.bound
 
 pub overflow_add-few : goal.overflow_add-few
-overflow_add-few g c = omega (arith, c.in_ok-few.ensures.few.bound, c.ranges.rounds.fits)
+overflow_add-few g c = omega (arith, c.in_ok-few.ensures.few.bound)

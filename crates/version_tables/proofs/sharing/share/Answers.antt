@@ -5,9 +5,12 @@ use Rattle.version_tables.specs.inner.Sharing.{AreShared}
 use Rattle.version_tables.specs.inner.Turns.{ArePartCounts}
 use Rattle.version_tables.proofs.sharing.share.Goals as goal
 
-pub share_into-sent-requires-clause-counts : goal.share_into-sent-requires-clause-counts
-share_into-sent-requires-clause-counts g c κs out =
-    subst (λ xs. ArePartCounts c.args.mode g.N.Number.number c.args.offer.now c.args.level.now (map g.N.Number.number xs)) (sym c.deref-2.ensures.value) c.in_ok-counts.ensures.counts
+pub share_into-sent-requires-clause-turns : goal.share_into-sent-requires-clause-turns
+share_into-sent-requires-clause-turns g c κs out = record {
+  rotation = c.requires.rotation;
+  level = c.requires.level;
+  counts = subst (λ xs. ArePartCounts c.args.mode g.N.Number.number c.args.offer.now c.args.level.now (map g.N.Number.number xs)) (sym c.deref-2.ensures.value) c.in_ok-counts.ensures.counts;
+}
 
 pub share_into-sent-requires-clause-mark : goal.share_into-sent-requires-clause-mark
 share_into-sent-requires-clause-mark g c κs out = c.deref_mut.ensures.value ∙ c.in_ok-mark.ensures.items ∙ c.deref.ensures.value

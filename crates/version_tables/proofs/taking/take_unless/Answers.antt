@@ -16,19 +16,19 @@ module _ (g : given.Over) (c : goal.After-table-2-1 g) where
   old = seen c.table.view_is
 
   taken : IsTaken (all_writes c.args.lists.now) (bases_in c.args.lists.now) old.nodes old.keys old.cells old.greatest
-      (map g.N.Number.number c.args.sent.now) (map g.N.Number.number c.args.low.now) (map g.N.Number.number c.args.high.now)
+      (map g.N.Number.number c.args.sent.now) (map g.N.Number.number c.args.marks.now.low.items) (map g.N.Number.number c.args.marks.now.high.items)
       (map g.N.Number.number (with_items c.table.inside.cells c.take_numbers.new.cells).items) (map g.N.Number.number (with_items c.table.inside.greatest c.take_numbers.new.greatest).items)
   taken =
-      subst (λ xs. IsTaken (all_writes c.args.lists.now) (bases_in c.args.lists.now) old.nodes old.keys old.cells old.greatest (map g.N.Number.number c.args.sent.now) (map g.N.Number.number c.args.low.now) (map g.N.Number.number c.args.high.now)
+      subst (λ xs. IsTaken (all_writes c.args.lists.now) (bases_in c.args.lists.now) old.nodes old.keys old.cells old.greatest (map g.N.Number.number c.args.sent.now) (map g.N.Number.number c.args.marks.now.low.items) (map g.N.Number.number c.args.marks.now.high.items)
       (map g.N.Number.number xs) (map g.N.Number.number (with_items c.table.inside.greatest c.take_numbers.new.greatest).items))
       (sym (with_items_is c.table.inside.cells c.take_numbers.new.cells (c.take_numbers.auto.cells ∙ c.deref_mut.ensures.len)))
-      (subst (λ ys. IsTaken (all_writes c.args.lists.now) (bases_in c.args.lists.now) old.nodes old.keys old.cells old.greatest (map g.N.Number.number c.args.sent.now) (map g.N.Number.number c.args.low.now) (map g.N.Number.number c.args.high.now)
+      (subst (λ ys. IsTaken (all_writes c.args.lists.now) (bases_in c.args.lists.now) old.nodes old.keys old.cells old.greatest (map g.N.Number.number c.args.sent.now) (map g.N.Number.number c.args.marks.now.low.items) (map g.N.Number.number c.args.marks.now.high.items)
       (map g.N.Number.number c.take_numbers.new.cells) (map g.N.Number.number ys))
       (sym (with_items_is c.table.inside.greatest c.take_numbers.new.greatest (c.take_numbers.auto.greatest ∙ c.deref_mut-2.ensures.len)))
-      (subst (λ xs. IsTaken (all_writes c.args.lists.now) (bases_in c.args.lists.now) old.nodes old.keys (map g.N.Number.number xs) old.greatest (map g.N.Number.number c.args.sent.now) (map g.N.Number.number c.args.low.now) (map g.N.Number.number c.args.high.now)
+      (subst (λ xs. IsTaken (all_writes c.args.lists.now) (bases_in c.args.lists.now) old.nodes old.keys (map g.N.Number.number xs) old.greatest (map g.N.Number.number c.args.sent.now) (map g.N.Number.number c.args.marks.now.low.items) (map g.N.Number.number c.args.marks.now.high.items)
       (map g.N.Number.number c.take_numbers.new.cells) (map g.N.Number.number c.take_numbers.new.greatest))
       c.deref_mut.ensures.value
-      (subst (λ ys. IsTaken (all_writes c.args.lists.now) (bases_in c.args.lists.now) old.nodes old.keys (map g.N.Number.number c.deref_mut.result.now) (map g.N.Number.number ys) (map g.N.Number.number c.args.sent.now) (map g.N.Number.number c.args.low.now) (map g.N.Number.number c.args.high.now)
+      (subst (λ ys. IsTaken (all_writes c.args.lists.now) (bases_in c.args.lists.now) old.nodes old.keys (map g.N.Number.number c.deref_mut.result.now) (map g.N.Number.number ys) (map g.N.Number.number c.args.sent.now) (map g.N.Number.number c.args.marks.now.low.items) (map g.N.Number.number c.args.marks.now.high.items)
       (map g.N.Number.number c.take_numbers.new.cells) (map g.N.Number.number c.take_numbers.new.greatest))
       c.deref_mut-2.ensures.value
       c.take_numbers.ensures)))
@@ -39,37 +39,27 @@ invariant_of-table g c =
 
 pub returns : goal.returns
 returns g c =
-    has-taken (all_writes c.args.lists.now) (bases_in c.args.lists.now) (map g.N.Number.number c.args.sent.now) (map g.N.Number.number c.args.low.now) (map g.N.Number.number c.args.high.now)
+    has-taken (all_writes c.args.lists.now) (bases_in c.args.lists.now) (map g.N.Number.number c.args.sent.now) (map g.N.Number.number c.args.marks.now.low.items) (map g.N.Number.number c.args.marks.now.high.items)
     (old g c) c.args.table.now c.table.view_is _ _ (taken g c) c.args.nothing c.if-nothing.false
 
-pub take_numbers-requires-clause-grid : goal.take_numbers-requires-clause-grid
-take_numbers-requires-clause-grid g c κs out =
-    record {
-      whole = ap length c.deref_mut.ensures.value ∙ sym (length-map c.table.inside.cells.items g.N.Number.number) ∙ c.table.invariant.cell_count;
-      few_nodes = c.table.invariant.proper.nodes_limit;
-      few_keys = c.table.invariant.proper.keys_limit;
-    }
-
-pub take_numbers-requires-clause-greatest : goal.take_numbers-requires-clause-greatest
-take_numbers-requires-clause-greatest g c κs out =
-    ap length c.deref_mut-2.ensures.value ∙ sym (length-map c.table.inside.greatest.items g.N.Number.number) ∙ c.table.invariant.greatest_count
-
-pub take_numbers-requires-clause-sent : goal.take_numbers-requires-clause-sent
-take_numbers-requires-clause-sent g c κs out =
-    c.requires.sent ∙ sym (ap (λ (v : VersionTableView). length v.cells) c.table.view_is) ∙ length-map c.table.inside.cells.items g.N.Number.number ∙ sym (ap length c.deref_mut.ensures.value)
-
-pub take_numbers-requires-clause-low : goal.take_numbers-requires-clause-low
-take_numbers-requires-clause-low g c κs out = c.requires.low ∙ sym (ap (λ (v : VersionTableView). v.nodes) c.table.view_is)
-
-pub take_numbers-requires-clause-high : goal.take_numbers-requires-clause-high
-take_numbers-requires-clause-high g c κs out = c.requires.high ∙ sym (ap (λ (v : VersionTableView). v.nodes) c.table.view_is)
-
-pub take_numbers-requires-clause-covered : goal.take_numbers-requires-clause-covered
-take_numbers-requires-clause-covered g c κs out =
+pub take_numbers-requires-clause-taken : goal.take_numbers-requires-clause-taken
+take_numbers-requires-clause-taken g c κs out =
     let number = g.N.Number.number in
     let inside = c.table.inside in
-    subst (λ xs. AreCovered inside.nodes inside.keys (map number xs) (map number c.deref_mut-2.result.now)) (sym c.deref_mut.ensures.value)
-    (subst (λ xs. AreCovered inside.nodes inside.keys (map number inside.cells.items) (map number xs)) (sym c.deref_mut-2.ensures.value) (λ owner lt. (c.table.invariant.most owner lt).upto))
+    record {
+      grid = record {
+        whole = ap length c.deref_mut.ensures.value ∙ sym (length-map inside.cells.items number) ∙ c.table.invariant.cell_count;
+        few_nodes = c.table.invariant.proper.nodes_limit;
+        few_keys = c.table.invariant.proper.keys_limit;
+      };
+      greatest_count = ap length c.deref_mut-2.ensures.value ∙ sym (length-map inside.greatest.items number) ∙ c.table.invariant.greatest_count;
+      sent_count = c.requires.sent ∙ sym (ap (λ (v : VersionTableView). length v.cells) c.table.view_is) ∙ length-map inside.cells.items number ∙ sym (ap length c.deref_mut.ensures.value);
+      low_count = c.requires.low ∙ sym (ap (λ (v : VersionTableView). v.nodes) c.table.view_is);
+      high_count = c.requires.high ∙ sym (ap (λ (v : VersionTableView). v.nodes) c.table.view_is);
+      covered =
+          subst (λ xs. AreCovered inside.nodes inside.keys (map number xs) (map number c.deref_mut-2.result.now)) (sym c.deref_mut.ensures.value)
+          (subst (λ xs. AreCovered inside.nodes inside.keys (map number inside.cells.items) (map number xs)) (sym c.deref_mut-2.ensures.value) (λ owner lt. (c.table.invariant.most owner lt).upto));
+    }
 
 pub take_numbers-requires-clause-before : goal.take_numbers-requires-clause-before
 take_numbers-requires-clause-before g c κs out =

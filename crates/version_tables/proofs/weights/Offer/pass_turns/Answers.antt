@@ -8,13 +8,13 @@ use Rattle.version_tables.proofs.weights.Offer.pass_turns.Goals as goal
 pub loop-turn-init : goal.loop-turn-init
 loop-turn-init g c =
     let number = g.N.Number.number in
-    let level = c.args.level.now in
+    let level = c.args.turns.now.level.now in
     record {
-      size = ap length c.requires.mark ∙ c.requires.level.near;
+      size = ap length c.requires.mark ∙ c.requires.turns.level.near;
       so_far =
-          subst (λ xs. AreTurnsPassed c.args.mode number c.args.self.now c.args.rotation (marks number level.near.items) (marks number level.far.items) (marks number xs) 0 c.args.room level.whole) (sym c.requires.mark)
-          (turns-first number g.N.Number.most c.args.self.now c.requires.offer c.args.mode c.args.rotation c.requires.rotation (marks number level.near.items) (marks number level.far.items) c.requires.level.farther
-          c.args.room level.whole c.requires.room c.requires.level.whole);
+          subst (λ xs. AreTurnsPassed c.args.turns.now.mode number c.args.self.now c.args.turns.now.rotation (marks number level.near.items) (marks number level.far.items) (marks number xs) 0 c.args.room level.whole) (sym c.requires.mark)
+          (turns-first number g.N.Number.most c.args.self.now c.requires.offer c.args.turns.now.mode c.args.turns.now.rotation c.requires.turns.rotation (marks number level.near.items) (marks number level.far.items) c.requires.turns.level.farther
+          c.args.room level.whole c.requires.room c.requires.turns.level.whole);
     }
 
 pub weight_of_part-weight-requires-clause-count : goal.weight_of_part-weight-requires-clause-count
@@ -25,14 +25,14 @@ weight_of_part-weight-requires-clause-count g c κs within =
     let far = c.number_at-far.ensures ∙ ap (λ xs. marks number xs owner) c.deref-in-loop-turn.ensures.value in
     c.widen-count.ensures
     ∙ c.number_at.ensures
-    ∙ c.requires.counts.each owner c.owner_of_turn-owner.ensures.below
-    ∙ sym (λ i. part_between c.args.mode (λ _. 1) (cells_in number c.args.self.now) c.args.self.now.keys owner (near i) (far i))
+    ∙ c.requires.turns.counts.each owner c.owner_of_turn-owner.ensures.below
+    ∙ sym (λ i. part_between c.args.turns.now.mode (λ _. 1) (cells_in number c.args.self.now) c.args.self.now.keys owner (near i) (far i))
 
 pub loop-turn-preserved : goal.loop-turn-preserved
 loop-turn-preserved g c =
     let number = g.N.Number.number in
     let offer = c.args.self.now in
-    let level = c.args.level.now in
+    let level = c.args.turns.now.level.now in
     let owner = c.owner_of_turn-owner.result in
     let below = c.owner_of_turn-owner.ensures.below in
     let near = c.number_at-near.ensures ∙ ap (λ xs. marks number xs owner) c.deref.ensures.value in
@@ -41,11 +41,11 @@ loop-turn-preserved g c =
     record {
       size = length-set c.loop-turn.mark owner c.number_at-far.result ∙ c.loop-turn.invariant.size;
       so_far =
-          turns-next number g.N.Number.most offer c.requires.offer c.args.mode c.args.rotation c.requires.rotation (marks number level.near.items) (marks number level.far.items) c.requires.level.farther
+          turns-next number g.N.Number.most offer c.requires.offer c.args.turns.now.mode c.args.turns.now.rotation c.requires.turns.rotation (marks number level.near.items) (marks number level.far.items) c.requires.turns.level.farther
           (marks number c.loop-turn.mark) c.loop-turn.turn c.loop-turn.left c.loop-turn.sent c.loop-turn.invariant.so_far
           owner c.weight_of_part-weight.result c.widen-count.result (marks number (set c.loop-turn.mark owner c.number_at-far.result)) below c.owner_of_turn-owner.ensures.turn c.if-left-weight.false
-          (c.weight_of_part-weight.ensures ∙ (λ i. part_between c.args.mode (weights_in offer owner) (cells_in number offer) offer.keys owner (near i) (far i)))
-          (c.widen-count.ensures ∙ c.number_at.ensures ∙ c.requires.counts.each owner below)
+          (c.weight_of_part-weight.ensures ∙ (λ i. part_between c.args.turns.now.mode (weights_in offer owner) (cells_in number offer) offer.keys owner (near i) (far i)))
+          (c.widen-count.ensures ∙ c.number_at.ensures ∙ c.requires.turns.counts.each owner below)
           (put-here number c.loop-turn.mark owner c.number_at-far.result in_mark ∙ far)
           (λ r lt other. put-other number c.loop-turn.mark owner c.number_at-far.result r other);
     }
@@ -54,22 +54,22 @@ pub overflow_add-sent : goal.overflow_add-sent
 overflow_add-sent g c =
     let number = g.N.Number.number in
     let offer = c.args.self.now in
-    let level = c.args.level.now in
+    let level = c.args.turns.now.level.now in
     let owner = c.owner_of_turn-owner.result in
     omega (
       arith,
-      c.widen-count.ensures ∙ c.number_at.ensures ∙ c.requires.counts.each owner c.owner_of_turn-owner.ensures.below,
-      part-few c.args.mode (cells_in number offer) offer.keys owner (marks number level.near.items owner) (marks number level.far.items owner),
+      c.widen-count.ensures ∙ c.number_at.ensures ∙ c.requires.turns.counts.each owner c.owner_of_turn-owner.ensures.below,
+      part-few c.args.turns.now.mode (cells_in number offer) offer.keys owner (marks number level.near.items owner) (marks number level.far.items owner),
       c.requires.offer.grid.few_keys,
       c.loop-turn.invariant.so_far.count,
-      count_on-few c.args.mode number g.N.Number.most offer c.requires.offer (marks number c.loop-turn.mark),
+      count_on-few c.args.turns.now.mode number g.N.Number.most offer c.requires.offer (marks number c.loop-turn.mark),
     )
 
 pub returns-then-left-weight : goal.returns-then-left-weight
 returns-then-left-weight g c =
     let number = g.N.Number.number in
     let offer = c.args.self.now in
-    let level = c.args.level.now in
+    let level = c.args.turns.now.level.now in
     let owner = c.owner_of_turn-owner.result in
     let near = c.number_at-near.ensures ∙ ap (λ xs. marks number xs owner) c.deref.ensures.value in
     let far = c.number_at-far.ensures ∙ ap (λ xs. marks number xs owner) c.deref-in-loop-turn.ensures.value in
@@ -77,36 +77,36 @@ returns-then-left-weight g c =
       owner = c.owner_of_turn-owner.ensures.below;
       size = c.loop-turn.invariant.size;
       passed =
-          subst (λ t. AreTurnsPassed c.args.mode number offer c.args.rotation (marks number level.near.items) (marks number level.far.items) (marks number c.loop-turn.mark) t c.loop-turn.left c.loop-turn.sent)
+          subst (λ t. AreTurnsPassed c.args.turns.now.mode number offer c.args.turns.now.rotation (marks number level.near.items) (marks number level.far.items) (marks number c.loop-turn.mark) t c.loop-turn.left c.loop-turn.sent)
           (sym c.owner_of_turn-owner.ensures.turn) c.loop-turn.invariant.so_far;
       beyond = subst (λ n. c.loop-turn.left < n)
-          (c.weight_of_part-weight.ensures ∙ (λ i. part_between c.args.mode (weights_in offer owner) (cells_in number offer) offer.keys owner (near i) (far i)))
+          (c.weight_of_part-weight.ensures ∙ (λ i. part_between c.args.turns.now.mode (weights_in offer owner) (cells_in number offer) offer.keys owner (near i) (far i)))
           c.if-left-weight.true;
     }
 
 pub unreachable-requires : goal.unreachable-requires
 unreachable-requires g c =
     let number = g.N.Number.number in
-    let level = c.args.level.now in
-    turns-end number g.N.Number.most c.args.self.now c.requires.offer c.args.mode c.args.rotation c.requires.rotation (marks number level.near.items) (marks number level.far.items) c.requires.level.farther
-    (marks number c.loop-turn.mark) c.loop-turn.turn c.loop-turn.left c.loop-turn.sent c.loop-turn.invariant.so_far c.requires.level.beyond c.loop-turn-test.false
+    let level = c.args.turns.now.level.now in
+    turns-end number g.N.Number.most c.args.self.now c.requires.offer c.args.turns.now.mode c.args.turns.now.rotation c.requires.turns.rotation (marks number level.near.items) (marks number level.far.items) c.requires.turns.level.farther
+    (marks number c.loop-turn.mark) c.loop-turn.turn c.loop-turn.left c.loop-turn.sent c.loop-turn.invariant.so_far c.requires.turns.level.beyond c.loop-turn-test.false
 
 pub number_at-near-requires : goal.number_at-near-requires
 number_at-near-requires g c = (
   c.type_bounds.send-N,
-  (c.type_bounds.sync-N, subst (λ n. c.owner_of_turn-owner.result < n) (sym (ap length c.deref.ensures.value ∙ c.requires.level.near)) c.owner_of_turn-owner.ensures.below),
+  (c.type_bounds.sync-N, subst (λ n. c.owner_of_turn-owner.result < n) (sym (ap length c.deref.ensures.value ∙ c.requires.turns.level.near)) c.owner_of_turn-owner.ensures.below),
 )
 
 pub number_at-far-requires : goal.number_at-far-requires
 number_at-far-requires g c = (
   c.type_bounds.send-N,
-  (c.type_bounds.sync-N, subst (λ n. c.owner_of_turn-owner.result < n) (sym (ap length c.deref-in-loop-turn.ensures.value ∙ c.requires.level.far)) c.owner_of_turn-owner.ensures.below),
+  (c.type_bounds.sync-N, subst (λ n. c.owner_of_turn-owner.result < n) (sym (ap length c.deref-in-loop-turn.ensures.value ∙ c.requires.turns.level.far)) c.owner_of_turn-owner.ensures.below),
 )
 
 pub number_at-requires : goal.number_at-requires
 number_at-requires g c = (
   c.type_bounds.send-N,
-  (c.type_bounds.sync-N, subst (λ n. c.owner_of_turn-owner.result < n) (sym (sym (length-map c.args.counts.now g.N.Number.number) ∙ c.requires.counts.size)) c.owner_of_turn-owner.ensures.below),
+  (c.type_bounds.sync-N, subst (λ n. c.owner_of_turn-owner.result < n) (sym (sym (length-map c.args.turns.now.counts.now g.N.Number.number) ∙ c.requires.turns.counts.size)) c.owner_of_turn-owner.ensures.below),
 )
 
 pub weight_of_part-weight-requires-clause-owner : goal.weight_of_part-weight-requires-clause-owner

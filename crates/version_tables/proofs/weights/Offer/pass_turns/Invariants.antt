@@ -6,5 +6,5 @@ use Rattle.version_tables.proofs.weights.Offer.pass_turns.Given as goal
 abbrev pub invariant-loop-turn : goal.invariant-loop-turn
 invariant-loop-turn g l = record {
   size : length l.mark ≡ l.self.nodes;
-  so_far : AreTurnsPassed l.mode g.N.Number.number l.self l.rotation (marks g.N.Number.number l.level.near.items) (marks g.N.Number.number l.level.far.items) (marks g.N.Number.number l.mark) l.turn l.left l.sent;
+  so_far : AreTurnsPassed l.turns.mode g.N.Number.number l.self l.turns.rotation (marks g.N.Number.number l.turns.level.now.near.items) (marks g.N.Number.number l.turns.level.now.far.items) (marks g.N.Number.number l.mark) l.turn l.left l.sent;
 }

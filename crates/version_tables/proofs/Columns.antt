@@ -35,6 +35,10 @@ sum_below-one (suc n) r f lt others = elim (cases_lt r n) [
 abbrev pub where_true : Bool → ℕ → ℕ
 where_true b n = cond b n 0
 
+pub where_none : (b : Bool) → where_true b 0 ≡ 0
+where_none true = refl
+where_none false = refl
+
 module _ (mode : Mode) (from to : Table) (proper : IsProper from) (lists : ℕ → List Entry) (histories : (owner : ℕ) → IsHistory (lists owner)) (cells : Cells) (low : ℕ → ℕ) (offers : Offers mode from to lists cells low) (c : Item) (in_c : Contains (candidates mode from to) c) where
   abbrev cs : List Item
   cs = candidates mode from to
@@ -43,12 +47,8 @@ module _ (mode : Mode) (from to : Table) (proper : IsProper from) (lists : ℕ �
   of_owner : (g : ℕ → ℕ) → offered_sum from cells low (λ owner key. cond (eqb owner c.owner) (g key) 0) ≡ sum_below from.keys (λ key. cond (ltb (low c.owner) (cells c.owner key)) (g key) 0)
   of_owner g =
       sum_below-one from.nodes c.owner _ (candidate-below mode from to proper c in_c)
-      (λ owner other. sum_below-none from.keys _ (λ key lt. ap (λ b. where_true (ltb (low owner) (cells owner key)) (where_true b (g key))) (ne_eqb owner c.owner other) ∙ none (ltb (low owner) (cells owner key))))
+      (λ owner other. sum_below-none from.keys _ (λ key lt. ap (λ b. where_true (ltb (low owner) (cells owner key)) (where_true b (g key))) (ne_eqb owner c.owner other) ∙ where_none (ltb (low owner) (cells owner key))))
       ∙ sum_below-same from.keys _ _ (λ key lt. ap (λ b. where_true (ltb (low c.owner) (cells c.owner key)) (where_true b (g key))) (eq-eqb c.owner c.owner refl))
-    where
-      none : (b : Bool) → where_true b 0 ≡ 0
-      none true = refl
-      none false = refl
 
   -- how many candidates its owner has
   pub owner_count-is : owner_count cs c ≡ count_above cells from.keys c.owner (low c.owner)

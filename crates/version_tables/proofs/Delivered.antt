@@ -26,7 +26,7 @@ use Rattle.version_tables.specs.inner.Deltas.{is_taken_at, AreMarksOf}
 use Rattle.version_tables.specs.inner.Histories.{IsWrittenSoFar, FitsHistories}
 use Rattle.version_tables.specs.Laid.{AreNumbers}
 use Rattle.version_tables.specs.inner.Marked.{HasShape, LetAll, ShareLevel, KeepsLow, AreMarked, AreOffered, low_list, high_list}
-use Rattle.version_tables.specs.inner.Offered.{cells_in, marks, weights_in, count_in, IsOffer}
+use Rattle.version_tables.specs.inner.Offered.{cells_in, low_in, high_in, weights_in, count_in, IsOffer}
 use Rattle.version_tables.specs.inner.Offers.{IsHistory, Offers, offered_by, told_by, told_number}
 use Rattle.version_tables.specs.inner.Plans.{weight_on, count_on}
 use Rattle.version_tables.specs.inner.Shares.{lets_through, NumbersDiffer}
@@ -93,14 +93,14 @@ taken-by PreciseNewest sender receiver low mark high owner key told above upto =
 
 -- weights on marks, by the parts of an offer
 on-weights : {N : Type 0} (mode : Mode) (number : N → ℕ) (offer : Offer N) (mark : ℕ → ℕ)
-    → weight_on mode number offer mark ≡ weight_by mode (weights_in offer) (cells_in number offer) offer.nodes offer.keys (marks number offer.low.now) (marks number offer.high.now) mark
+    → weight_on mode number offer mark ≡ weight_by mode (weights_in offer) (cells_in number offer) offer.nodes offer.keys (low_in number offer) (high_in number offer) mark
 on-weights ScuttleBreadth number offer mark = refl
 on-weights ScuttleDepth number offer mark = refl
 on-weights PreciseOldest number offer mark = refl
 on-weights PreciseNewest number offer mark = refl
 
 on-counts : {N : Type 0} (mode : Mode) (number : N → ℕ) (offer : Offer N) (mark : ℕ → ℕ)
-    → count_on mode number offer mark ≡ weight_by mode one_each (cells_in number offer) offer.nodes offer.keys (marks number offer.low.now) (marks number offer.high.now) mark
+    → count_on mode number offer mark ≡ weight_by mode one_each (cells_in number offer) offer.nodes offer.keys (low_in number offer) (high_in number offer) mark
 on-counts ScuttleBreadth number offer mark = refl
 on-counts ScuttleDepth number offer mark = refl
 on-counts PreciseOldest number offer mark = refl
@@ -125,7 +125,7 @@ module _ {N : Type 0} (number : N → ℕ) (most : ℕ) (written : ℕ → List 
     (low_is : HasEach (length h.lists) (λ r n. n ≡ told_number (digest_kind mode) most to.node (all_writes h.lists) (λ r. get_or to.greatest r 0) r) (map number offer.low.now))
     (size : length offer.cells.now ≡ from.keys * from.nodes)
     (cells_are : (owner key : ℕ) → owner < from.nodes → key < from.keys
-    → cells_in number offer owner key ≡ offered_by (digest_kind mode) (cell from.cells from.nodes) (cell to.cells to.nodes) (marks number offer.low.now) owner key) where
+    → cells_in number offer owner key ≡ offered_by (digest_kind mode) (cell from.cells from.nodes) (cell to.cells to.nodes) (low_in number offer) owner key) where
   abbrev kind : DigestKind
   kind = digest_kind mode
 
@@ -145,10 +145,10 @@ module _ {N : Type 0} (number : N → ℕ) (most : ℕ) (written : ℕ → List 
   T = table_in written to
 
   abbrev low : ℕ → ℕ
-  low = marks number offer.low.now
+  low = low_in number offer
 
   abbrev high : ℕ → ℕ
-  high = marks number offer.high.now
+  high = high_in number offer
 
   abbrev cells : Cells
   cells = cells_in number offer

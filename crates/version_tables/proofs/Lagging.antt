@@ -15,20 +15,8 @@ use Rattle.owner_lists.proofs.Linking.{last_placed, missed_some}
 use Rattle.round_tables.specs.Histories.{BirthsRise, StandsBeside}
 use Rattle.staleness.specs.Figures.{is_left_over, stale_count, rounds_behind}
 use Rattle.version_tables.specs.inner.Missed.{base_of, number_staleness, IsMissed, HasNoneMissed, IsLastNumber}
-use Rattle.version_tables.proofs.Offers.{write_from-at}
+use Rattle.version_tables.proofs.Offers.{write_from-at, numbers-born}
 use Rattle.version_tables.proofs.Missed.{write_from-here, current-numbered, missed_cases}
-
--- births by numbers
-pub born-by_number : (writes : List Entry) (rise : BirthsRise writes) (m n : ℕ) (d e : Entry) → write_numbered writes m ≡ Some d → write_numbered writes n ≡ Some e → m ≤ n → d.born ≤ e.born
-born-by_number writes rise zero n d e is_d is_e le = absurd (none is_d)
-  where
-    none : None ≡ Some d → ⊥
-    none h = cc
-born-by_number writes rise (suc m) zero d e is_d is_e le = absurd (omega (arith, le))
-born-by_number writes rise (suc m) (suc n) d e is_d is_e le =
-    let at_d = write_from-at writes m d d is_d in
-    let at_e = write_from-at writes n e d is_e in
-    omega (arith, rise m n d (omega (arith, le)) at_e.0, ap (λ (x : Entry). x.born) at_d.1, ap (λ (x : Entry). x.born) at_e.1)
 
 module _ (round : ℕ) (v : OwnerListView) (are : AreWrites v) where
   abbrev all : List Entry
@@ -79,7 +67,7 @@ module _ (round : ℕ) (v : OwnerListView) (are : AreWrites v) where
                     arith,
                     ap rounds_behind later.1.1.1,
                     ap rounds_behind sooner.1.1.1,
-                    born-by_number all rise sooner.0 later.0 sooner.1.0 e first.missed.written missed.written (first.first later.0 e before),
+                    numbers-born all rise sooner.0 later.0 sooner.1.0 e first.missed.written missed.written (first.first later.0 e before),
                   )
             ]
       ]

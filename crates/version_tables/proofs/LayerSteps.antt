@@ -9,11 +9,12 @@ use Rattle.planes.specs.inner.Elementwise.{AreChanged}
 use Rattle.planes.specs.Sums.{sum_below}
 use Rattle.planes.proofs.Sums.{sum_below-same, sum_below-plus, sum_below-le}
 use Rattle.version_tables.specs.declared.weights.Offer.{Offer}
-use Rattle.version_tables.specs.inner.Offered.{cells_in, marks, weights_in, weight_in, count_in, IsOffer}
+use Rattle.version_tables.specs.inner.Offered.{cells_in, low_in, high_in, weights_in, weight_in, count_in, IsOffer}
 use Rattle.version_tables.specs.inner.Plans.{raised, IsNextMark, AreLayersSoFar}
 use Rattle.version_tables.specs.inner.Shares.{IsLayerMark}
-use Rattle.version_tables.proofs.Columns.{where_true, sum_below-none}
+use Rattle.version_tables.proofs.Columns.{where_true}
 use Rattle.version_tables.proofs.Layers.{counted-next, layer-stays, layer-next}
+use Rattle.version_tables.proofs.OfferWeights.{offer-weighs_none, offer-counts_none}
 use Rattle.version_tables.proofs.WeightLaws.{weight_of-none, weight_of-upto, weight_of-all, sum_below-each_none}
 
 -- the next number, or else the mark itself
@@ -43,10 +44,7 @@ module _ {N : Type 0} (number : N → ℕ) (most : ℕ) (offer : Offer N) (is : 
   cells = cells_in number offer
 
   abbrev low : ℕ → ℕ
-  low = marks number offer.low.now
-
-  abbrev high : ℕ → ℕ
-  high = marks number offer.high.now
+  low = low_in number offer
 
   -- before the first layer
   pub layers-first : (far : ℕ → ℕ) (added : ℕ) → ((owner : ℕ) → owner < offer.nodes → IsNextMark cells offer.keys owner (low owner) (far owner)) → added ≡ raised offer.nodes low far → AreLayersSoFar number offer low far 0 added
@@ -59,12 +57,8 @@ module _ {N : Type 0} (number : N → ℕ) (most : ℕ) (offer : Offer N) (is : 
     };
     next = next;
     more = raises;
-    whole = sym (sum_below-none offer.nodes _ (λ owner lt. weight_of-none (λ _. 1) cells offer.keys owner (low owner) (low owner) (omega arith)));
-    within = omega (
-      arith,
-      sum_below-none offer.nodes (λ owner. Rattle.version_tables.specs.inner.Weights.weight_of (weights_in offer owner) cells offer.keys owner (low owner) (low owner))
-          (λ owner lt. weight_of-none (weights_in offer owner) cells offer.keys owner (low owner) (low owner) (omega arith)),
-    );
+    whole = sym (offer-counts_none number offer low);
+    within = omega (arith, offer-weighs_none number offer low);
   }
 
   module _ (near far : ℕ → ℕ) (count added : ℕ) (so_far : AreLayersSoFar number offer near far count added) where
@@ -89,26 +83,26 @@ module _ {N : Type 0} (number : N → ℕ) (most : ℕ) (offer : Offer N) (is : 
         ∙ sym (sum_below-plus offer.nodes (λ owner. count_between cells offer.keys owner (low owner) (near owner)) (λ owner. where_true (ltb (near owner) (far owner)) 1))
         ∙ sym (sum_below-same offer.nodes _ _ one_owner)
 
-    pub layers-upto : count + added ≤ count_in number offer low high
+    pub layers-upto : count + added ≤ count_in number offer low (high_in number offer)
     layers-upto =
         omega (
           arith,
           layers-count,
-          sum_below-le offer.nodes (λ owner. count_between cells offer.keys owner (low owner) (far owner)) (λ owner. count_between cells offer.keys owner (low owner) (high owner))
-              (λ owner lt. weight_of-upto (λ _. 1) cells offer.keys owner (low owner) (far owner) (high owner) (is.covered owner lt)),
+          sum_below-le offer.nodes (λ owner. count_between cells offer.keys owner (low owner) (far owner)) (λ owner. count_between cells offer.keys owner (low owner) (high_in number offer owner))
+              (λ owner lt. weight_of-upto (λ _. 1) cells offer.keys owner (low owner) (far owner) (high_in number offer owner) (is.covered owner lt)),
         )
 
     -- where not all fits, a layer that does has something
-    pub layers-more : weight_in number offer low far ≤ amount_of offer.budget → amount_of offer.budget < weight_in number offer low high → 0 < added
+    pub layers-more : weight_in number offer low far ≤ amount_of offer.budget → amount_of offer.budget < weight_in number offer low (high_in number offer) → 0 < added
     layers-more fits cut = elim (cases_lt 0 added) [
       | inl some ↦ some
       | inr none ↦ absurd (omega (arith, fits, cut, all (sym so_far.more ∙ omega (arith, none))))
     ]
       where
-        all : raised offer.nodes near far ≡ 0 → weight_in number offer low far ≡ weight_in number offer low high
+        all : raised offer.nodes near far ≡ 0 → weight_in number offer low far ≡ weight_in number offer low (high_in number offer)
         all none = sum_below-same offer.nodes _ _ (λ owner lt. elim (so_far.next owner lt) [
           | inr some ↦ absurd (omega (arith, sum_below-each_none offer.nodes (λ r. where_true (ltb (near r) (far r)) 1) none owner lt, ap (λ b. where_true b 1) (lt-ltb (near owner) (far owner) some.above)))
-          | inl end ↦ weight_of-all (weights_in offer owner) cells offer.keys owner (low owner) (far owner) (high owner) (is.covered owner lt) (λ key in_keys. omega (arith, end.1, end.0 key in_keys))
+          | inl end ↦ weight_of-all (weights_in offer owner) cells offer.keys owner (low owner) (far owner) (high_in number offer owner) (is.covered owner lt) (λ key in_keys. omega (arith, end.1, end.0 key in_keys))
         ])
 
     -- one layer more

@@ -9,7 +9,8 @@ use Rattle.version_tables.specs.inner.Shares.{IsLayerMark, NumbersDiffer}
 use Rattle.planes.specs.Planes.{count_between, IsLeastAbove, HasNoneAbove}
 use Rattle.planes.proofs.Sums.{sum_below-le, sum_below-plus}
 use Rattle.planes.proofs.Sums.{sum_below-same}
-use Rattle.version_tables.proofs.Columns.{sum_below-one, where_true}
+use Rattle.version_tables.proofs.Columns.{sum_below-one, where_true, where_none}
+use Rattle.version_tables.proofs.WeightLaws.{part, part-in, part-low, part-high}
 
 -- a greater sum where the terms are no less and one of them is more
 sum_below-more : (n r : ℕ) (f g : ℕ → ℕ) → r < n → ((i : ℕ) → i < n → f i ≤ g i) → f r + 1 ≤ g r → sum_below n f + 1 ≤ sum_below n g
@@ -23,33 +24,16 @@ sum_below-more (suc n) r f g lt le more = elim (cases_lt r n) [
 
 module _ (cells : Cells) (keys owner low : ℕ) where
   abbrev between : ℕ → ℕ → ℕ
-  between mark key = where_true (ltb low (cells owner key)) (where_true (leb (cells owner key) mark) 1)
+  between mark key = part (λ _. 1) low mark (cells owner key)
 
   abbrev below : ℕ → ℕ → ℕ
   below number key = where_true (ltb low (cells owner key)) (where_true (ltb (cells owner key) number) 1)
-
-  between-in : (mark key : ℕ) → low < cells owner key → cells owner key ≤ mark → between mark key ≡ 1
-  between-in mark key above upto = (λ i. where_true (lt-ltb low (cells owner key) above i) (where_true (le-leb (cells owner key) mark upto i) 1))
-
-  between-out : (mark key : ℕ) → mark < cells owner key → between mark key ≡ 0
-  between-out mark key out = ap (λ b. where_true (ltb low (cells owner key)) (where_true b 1)) (lt-leb (cells owner key) mark out) ∙ none (ltb low (cells owner key))
-    where
-      none : (b : Bool) → where_true b 0 ≡ 0
-      none true = refl
-      none false = refl
-
-  between-low : (mark key : ℕ) → cells owner key ≤ low → between mark key ≡ 0
-  between-low mark key le = ap (λ b. where_true b (where_true (leb (cells owner key) mark) 1)) (le-ltb low (cells owner key) le)
 
   below-in : (number key : ℕ) → low < cells owner key → cells owner key < number → below number key ≡ 1
   below-in number key above lt = (λ i. where_true (lt-ltb low (cells owner key) above i) (where_true (lt-ltb (cells owner key) number lt i) 1))
 
   below-out : (number key : ℕ) → number ≤ cells owner key → below number key ≡ 0
-  below-out number key out = ap (λ b. where_true (ltb low (cells owner key)) (where_true b 1)) (le-ltb (cells owner key) number out) ∙ none (ltb low (cells owner key))
-    where
-      none : (b : Bool) → where_true b 0 ≡ 0
-      none true = refl
-      none false = refl
+  below-out number key out = ap (λ b. where_true (ltb low (cells owner key)) (where_true b 1)) (le-ltb (cells owner key) number out) ∙ where_none (ltb low (cells owner key))
 
   below-low : (number key : ℕ) → cells owner key ≤ low → below number key ≡ 0
   below-low number key le = ap (λ b. where_true b (where_true (ltb (cells owner key) number) 1)) (le-ltb low (cells owner key) le)
@@ -63,15 +47,15 @@ module _ (cells : Cells) (keys owner low : ℕ) where
     one_more k lt = elim (cases_eq k next.key) [
       | inl same ↦
           let v : cells owner k ≡ least = ap (cells owner) same ∙ next.is in
-          omega (arith, between-in least k (omega (arith, v, low_le, next.above)) (omega (arith, v)), between-out mark k (omega (arith, v, next.above)), ap (λ b. where_true b 1) (Rattle.std.proofs.lemmas.Bool.eq-eqb k next.key same))
+          omega (arith, part-in (λ _. 1) low least (cells owner k) (omega (arith, v, low_le, next.above)) (omega (arith, v)), part-high (λ _. 1) low mark (cells owner k) (omega (arith, v, next.above)), ap (λ b. where_true b 1) (Rattle.std.proofs.lemmas.Bool.eq-eqb k next.key same))
       | inr other ↦
           let none : here k ≡ 0 = ap (λ b. where_true b 1) (Rattle.std.proofs.lemmas.Bool.ne_eqb k next.key other) in
           elim (cases_lt low (cells owner k)) [
-            | inr not_above ↦ omega (arith, none, between-low least k (omega (arith, not_above)), between-low mark k (omega (arith, not_above)))
+            | inr not_above ↦ omega (arith, none, part-low (λ _. 1) low least (cells owner k) (omega (arith, not_above)), part-low (λ _. 1) low mark (cells owner k) (omega (arith, not_above)))
             | inl high ↦ elim (cases_lt mark (cells owner k)) [
-              | inr not_out ↦ omega (arith, none, between-in least k high (omega (arith, not_out, next.above)), between-in mark k high (omega (arith, not_out)))
+              | inr not_out ↦ omega (arith, none, part-in (λ _. 1) low least (cells owner k) high (omega (arith, not_out, next.above)), part-in (λ _. 1) low mark (cells owner k) high (omega (arith, not_out)))
               | inl out ↦ elim (cases_lt least (cells owner k)) [
-                | inl beyond ↦ omega (arith, none, between-out least k beyond, between-out mark k out)
+                | inl beyond ↦ omega (arith, none, part-high (λ _. 1) low least (cells owner k) beyond, part-high (λ _. 1) low mark (cells owner k) out)
                 | inr not_beyond ↦ absurd (other (differ k next.key lt next.below (omega (arith, high)) (omega (arith, not_beyond, next.no_less k lt out, next.is))))
               ]
             ]
@@ -99,14 +83,14 @@ module _ (cells : Cells) (keys owner low : ℕ) where
           is.count,
           sum_below-more keys key (below v) (between mark) lt
               (λ k lt'. at k)
-              (omega (arith, below-out v key (omega arith), between-in mark key above upto)),
+              (omega (arith, below-out v key (omega arith), part-in (λ _. 1) low mark (cells owner key) above upto)),
         )
       where
         at : (k : ℕ) → below (cells owner key) k ≤ between mark k
         at k = elim (cases_lt low (cells owner k)) [
           | inr not_above ↦ omega (arith, below-low (cells owner key) k (omega (arith, not_above)))
           | inl over ↦ elim (cases_lt (cells owner k) (cells owner key)) [
-            | inl less ↦ omega (arith, below-in (cells owner key) k over less, between-in mark k over (omega (arith, less, upto)))
+            | inl less ↦ omega (arith, below-in (cells owner key) k over less, part-in (λ _. 1) low mark (cells owner k) over (omega (arith, less, upto)))
             | inr not_less ↦ omega (arith, below-out (cells owner key) k (omega (arith, not_less)))
           ]
         ]
@@ -117,10 +101,10 @@ module _ (cells : Cells) (keys owner low : ℕ) where
       where
         at : (k : ℕ) → between mark k ≤ below (cells owner key) k
         at k = elim (cases_lt low (cells owner k)) [
-          | inr not_above ↦ omega (arith, between-low mark k (omega (arith, not_above)))
+          | inr not_above ↦ omega (arith, part-low (λ _. 1) low mark (cells owner k) (omega (arith, not_above)))
           | inl high ↦ elim (cases_lt mark (cells owner k)) [
-            | inl out ↦ omega (arith, between-out mark k out)
-            | inr not_out ↦ omega (arith, below-in (cells owner key) k high (omega (arith, not_out, over)), between-in mark k high (omega (arith, not_out)))
+            | inl out ↦ omega (arith, part-high (λ _. 1) low mark (cells owner k) out)
+            | inr not_out ↦ omega (arith, below-in (cells owner key) k high (omega (arith, not_out, over)), part-in (λ _. 1) low mark (cells owner k) high (omega (arith, not_out)))
           ]
         ]
 

@@ -1,12 +1,13 @@
 -- The marks of a mode's levels.
 -- Serves `Lifts`.
-use Rattle.std.proofs.Common.{◌≡◌, ℕ, ◌+◌, ◌<◌, ◌≤◌, true, false, leb, List, inl, inr, sym, ap, ◌∙◌, arith}
+use Rattle.std.proofs.Common.{◌≡◌, ℕ, ◌+◌, ◌<◌, ◌≤◌, true, false, not, ltb, leb, List, inl, inr, sym, ap, ◌∙◌, arith}
 use Rattle.std.specs.Prelude.{Contains}
 use Rattle.std.specs.declared.cmp.Ordering.TheVariants.{Less}
 use Rattle.std.specs.Ordering.{nat_cmp, ordering_then, is_lt}
 use Rattle.std.proofs.lemmas.Bool.{cases_lt, lt-ltb, le-ltb, le-leb, lt-leb}
 use Rattle.bench_types.specs.declared.entries.Entry.{Entry}
 use Rattle.bench_types.specs.declared.entries.Item.{Item}
+use Rattle.bench_types.specs.declared.exchanges.Mode.{Mode}
 use Rattle.bench_types.specs.declared.exchanges.Mode.TheVariants.{ScuttleBreadth, ScuttleDepth, PreciseOldest, PreciseNewest}
 use Rattle.node_table.specs.Table.{Table, IsProper}
 use Rattle.bench_types.proofs.Comparing.{nat_cmp-less, nat_cmp-equal, nat_cmp-greater}
@@ -38,6 +39,25 @@ cmp-upto a b le = elim (cases_lt a b) [
 
 cmp-above : (a b : ℕ) → b < a → is_lt (ordering_then (nat_cmp a b) Less) ≡ false
 cmp-above a b lt = ap (λ o. is_lt (ordering_then o Less)) (nat_cmp-greater a b lt)
+
+-- what is less isn't the other way round, even up to it
+less-not_upto : (a b : ℕ) → is_lt (nat_cmp a b) ≡ not (is_lt (ordering_then (nat_cmp b a) Less))
+less-not_upto a b = elim (cases_lt a b) [
+  | inl lt ↦ cmp-less a b lt ∙ sym (ap not (cmp-above b a lt))
+  | inr le ↦ cmp-not_less a b le ∙ sym (ap not (cmp-upto b a le))
+]
+
+upto-not_less : (a b : ℕ) → is_lt (ordering_then (nat_cmp a b) Less) ≡ not (is_lt (nat_cmp b a))
+upto-not_less a b = elim (cases_lt b a) [
+  | inl lt ↦ cmp-above a b lt ∙ sym (ap not (cmp-less b a lt))
+  | inr le ↦ cmp-upto a b le ∙ sym (ap not (cmp-not_less b a le))
+]
+
+above-not_upto : (mark number : ℕ) → ltb mark number ≡ not (leb number mark)
+above-not_upto mark number = elim (cases_lt mark number) [
+  | inl lt ↦ lt-ltb mark number lt ∙ sym (ap not (lt-leb number mark lt))
+  | inr le ↦ le-ltb mark number le ∙ sym (ap not (le-leb number mark le))
+]
 
 -- a mark that lets through what is below a level does so by the comparison of levels
 by_level : (number mark level at : ℕ) → (number ≤ mark → level < at) → (mark < number → at ≤ level) → leb number mark ≡ is_lt (nat_cmp level at)
@@ -136,62 +156,64 @@ module _ (from to : Table) (proper : IsProper from) (lists : ℕ → List Entry)
 
     pub depth-marks : AreLevelMarks ScuttleDepth runs cells next near far
     depth-marks = record {
-      before = λ c in_c. first_longer (item_number cells c) (near c.owner) (count c) (longer (length + 1) near near_is c in_c) (no_longer (length + 1) near near_is c in_c)
+      before = λ c in_c.
+          by_level (item_number cells c) (near c.owner) (length + 1) (count c) (longer (length + 1) near near_is c in_c) (no_longer (length + 1) near near_is c in_c)
           ∙ (λ i. is_lt (nat_cmp (sym (count_is next in_next ∙ its) i) (sym (count_is c in_c) i)));
-      upto = λ c in_c. no_shorter (item_number cells c) (far c.owner) (count c) (longer length far far_is c in_c) (no_longer length far far_is c in_c)
+      upto = λ c in_c.
+          upto_level (item_number cells c) (far c.owner) (length + 1) (count c) (λ le. omega (arith, longer length far far_is c in_c le)) (λ lt. omega (arith, no_longer length far far_is c in_c lt))
           ∙ (λ i. is_lt (ordering_then (nat_cmp (sym (count_is next in_next ∙ its) i) (sym (count_is c in_c) i)) Less));
     }
-      where
-        first_longer : (number mark level : ℕ) → (number ≤ mark → length + 1 < level) → (mark < number → level ≤ length + 1) → leb number mark ≡ is_lt (nat_cmp (length + 1) level)
-        first_longer number mark level inside outside = elim (cases_lt mark number) [
-          | inl over ↦ lt-leb number mark over ∙ sym (cmp-not_less (length + 1) level (outside over))
-          | inr upto ↦ le-leb number mark (omega (arith, upto)) ∙ sym (cmp-less (length + 1) level (inside (omega (arith, upto))))
-        ]
 
-        no_shorter : (number mark level : ℕ) → (number ≤ mark → length < level) → (mark < number → level ≤ length) → leb number mark ≡ is_lt (ordering_then (nat_cmp (length + 1) level) Less)
-        no_shorter number mark level inside outside = elim (cases_lt mark number) [
-          | inl over ↦ lt-leb number mark over ∙ sym (cmp-above (length + 1) level (omega (arith, outside over)))
-          | inr upto ↦ le-leb number mark (omega (arith, upto)) ∙ sym (cmp-upto (length + 1) level (omega (arith, inside (omega (arith, upto)))))
-        ]
+  -- round by round, by marks of two rounds of which the later is that of a candidate between them
+  module _ (mode : Mode) (offers : Offers mode from to lists cells low) (round : ℕ) (early late : ℕ → ℕ)
+      (early_is : (r : ℕ) → r < from.nodes → IsRoundMark (lists r) (low r) round (early r))
+      (late_is : (r : ℕ) → r < from.nodes → IsRoundMark (lists r) (low r) (round + 1) (late r))
+      (next : Item) (in_next : Contains (candidates mode from to) next) (over : early next.owner < item_number cells next) (upto : item_number cells next ≤ late next.owner) where
+    born_by : (last : ℕ) (mark : ℕ → ℕ) → ((r : ℕ) → r < from.nodes → IsRoundMark (lists r) (low r) last (mark r)) → (c : Item) → Contains (candidates mode from to) c → item_number cells c ≤ mark c.owner → c.entry.born ≤ last
+    born_by last mark is c in_c le =
+        let at = candidate-number mode from to proper lists histories cells low offers c in_c in
+        (is c.owner (candidate-below mode from to proper c in_c)).upto (item_number cells c) c.entry at.0 at.1 le
 
-  -- round by round, the oldest first
-  module _ (offers : Offers PreciseOldest from to lists cells low) (round : ℕ)
-      (near_is : (r : ℕ) → r < from.nodes → IsRoundMark (lists r) (low r) round (near r))
-      (far_is : (r : ℕ) → r < from.nodes → IsRoundMark (lists r) (low r) (round + 1) (far r))
-      (next : Item) (in_next : Contains (candidates PreciseOldest from to) next) (its : next.entry.born ≡ round + 1) where
-    pub oldest-marks : AreLevelMarks PreciseOldest (candidates PreciseOldest from to) cells next near far
-    oldest-marks = record {
-      before = λ c in_c.
-          let at = candidate-number PreciseOldest from to proper lists histories cells low offers c in_c in
-          let is = near_is c.owner (candidate-below PreciseOldest from to proper c in_c) in
-          by_level (item_number cells c) (near c.owner) c.entry.born next.entry.born
-          (λ le. omega (arith, its, is.upto (item_number cells c) c.entry at.0 at.1 le)) (λ lt. omega (arith, its, is.above (item_number cells c) c.entry at.0 at.1 lt));
-      upto = λ c in_c.
-          let at = candidate-number PreciseOldest from to proper lists histories cells low offers c in_c in
-          let is = far_is c.owner (candidate-below PreciseOldest from to proper c in_c) in
-          upto_level (item_number cells c) (far c.owner) c.entry.born next.entry.born
-          (λ le. omega (arith, its, is.upto (item_number cells c) c.entry at.0 at.1 le)) (λ lt. omega (arith, its, is.above (item_number cells c) c.entry at.0 at.1 lt));
-    }
+    born_after : (last : ℕ) (mark : ℕ → ℕ) → ((r : ℕ) → r < from.nodes → IsRoundMark (lists r) (low r) last (mark r)) → (c : Item) → Contains (candidates mode from to) c → mark c.owner < item_number cells c → last < c.entry.born
+    born_after last mark is c in_c lt =
+        let at = candidate-number mode from to proper lists histories cells low offers c in_c in
+        (is c.owner (candidate-below mode from to proper c in_c)).above (item_number cells c) c.entry at.0 at.1 lt
 
-  -- and the newest first
-  module _ (offers : Offers PreciseNewest from to lists cells low) (round : ℕ)
-      (near_is : (r : ℕ) → r < from.nodes → IsRoundMark (lists r) (low r) (round + 1) (near r))
-      (far_is : (r : ℕ) → r < from.nodes → IsRoundMark (lists r) (low r) round (far r))
-      (next : Item) (in_next : Contains (candidates PreciseNewest from to) next) (its : next.entry.born ≡ round + 1) where
-    pub newest-marks : AreLevelMarks PreciseNewest (candidates PreciseNewest from to) cells next near far
-    newest-marks = record {
-      before = λ c in_c.
-          let at = candidate-number PreciseNewest from to proper lists histories cells low offers c in_c in
-          let is = near_is c.owner (candidate-below PreciseNewest from to proper c in_c) in
-          elim (cases_lt (near c.owner) (item_number cells c)) [
-            | inl over ↦ lt-ltb (near c.owner) (item_number cells c) over ∙ sym (cmp-less next.entry.born c.entry.born (omega (arith, its, is.above (item_number cells c) c.entry at.0 at.1 over)))
-            | inr upto ↦ le-ltb (near c.owner) (item_number cells c) (omega (arith, upto)) ∙ sym (cmp-not_less next.entry.born c.entry.born (omega (arith, its, is.upto (item_number cells c) c.entry at.0 at.1 (omega (arith, upto)))))
-          ];
-      upto = λ c in_c.
-          let at = candidate-number PreciseNewest from to proper lists histories cells low offers c in_c in
-          let is = far_is c.owner (candidate-below PreciseNewest from to proper c in_c) in
-          elim (cases_lt (far c.owner) (item_number cells c)) [
-            | inl over ↦ lt-ltb (far c.owner) (item_number cells c) over ∙ sym (cmp-upto next.entry.born c.entry.born (omega (arith, its, is.above (item_number cells c) c.entry at.0 at.1 over)))
-            | inr upto ↦ le-ltb (far c.owner) (item_number cells c) (omega (arith, upto)) ∙ sym (cmp-above next.entry.born c.entry.born (omega (arith, its, is.upto (item_number cells c) c.entry at.0 at.1 (omega (arith, upto)))))
-          ];
-    }
+    next_born : next.entry.born ≡ round + 1
+    next_born = omega (arith, born_after round early early_is next in_next over, born_by (round + 1) late late_is next in_next upto)
+
+    early-lets : (c : Item) → Contains (candidates mode from to) c → leb (item_number cells c) (early c.owner) ≡ is_lt (nat_cmp c.entry.born next.entry.born)
+    early-lets c in_c =
+        by_level (item_number cells c) (early c.owner) c.entry.born next.entry.born
+        (λ le. omega (arith, next_born, born_by round early early_is c in_c le)) (λ lt. omega (arith, next_born, born_after round early early_is c in_c lt))
+
+    late-lets : (c : Item) → Contains (candidates mode from to) c → leb (item_number cells c) (late c.owner) ≡ is_lt (ordering_then (nat_cmp c.entry.born next.entry.born) Less)
+    late-lets c in_c =
+        upto_level (item_number cells c) (late c.owner) c.entry.born next.entry.born
+        (λ le. omega (arith, next_born, born_by (round + 1) late late_is c in_c le)) (λ lt. omega (arith, next_born, born_after (round + 1) late late_is c in_c lt))
+
+  -- the oldest first
+  pub oldest-marks : (offers : Offers PreciseOldest from to lists cells low) (round : ℕ)
+      → ((r : ℕ) → r < from.nodes → IsRoundMark (lists r) (low r) round (near r)) → ((r : ℕ) → r < from.nodes → IsRoundMark (lists r) (low r) (round + 1) (far r))
+      → (next : Item) → Contains (candidates PreciseOldest from to) next → near next.owner < item_number cells next → item_number cells next ≤ far next.owner
+      → AreLevelMarks PreciseOldest (candidates PreciseOldest from to) cells next near far
+  oldest-marks offers round near_is far_is next in_next over upto = record {
+    before = early-lets PreciseOldest offers round near far near_is far_is next in_next over upto;
+    upto = late-lets PreciseOldest offers round near far near_is far_is next in_next over upto;
+  }
+
+  -- and the newest first, which lets through what those don't
+  pub newest-marks : (offers : Offers PreciseNewest from to lists cells low) (round : ℕ)
+      → ((r : ℕ) → r < from.nodes → IsRoundMark (lists r) (low r) (round + 1) (near r)) → ((r : ℕ) → r < from.nodes → IsRoundMark (lists r) (low r) round (far r))
+      → (next : Item) → Contains (candidates PreciseNewest from to) next → far next.owner < item_number cells next → item_number cells next ≤ near next.owner
+      → AreLevelMarks PreciseNewest (candidates PreciseNewest from to) cells next near far
+  newest-marks offers round near_is far_is next in_next over upto = record {
+    before = λ c in_c.
+        above-not_upto (near c.owner) (item_number cells c)
+        ∙ ap not (late-lets PreciseNewest offers round far near far_is near_is next in_next over upto c in_c)
+        ∙ sym (less-not_upto next.entry.born c.entry.born);
+    upto = λ c in_c.
+        above-not_upto (far c.owner) (item_number cells c)
+        ∙ ap not (early-lets PreciseNewest offers round far near far_is near_is next in_next over upto c in_c)
+        ∙ sym (upto-not_less next.entry.born c.entry.born);
+  }

@@ -140,7 +140,7 @@ module _ (mode : Mode) (from to : Table) (proper : IsProper from) (lists : â„• â
   numbered x y in_x in_y owners lt =
       let y_number = d_number 0 0 x y in_x in_y owners in (
         versions-rise (lists x.owner) (histories x.owner) (item_number cells x) (item_number cells y) x.entry y.entry (candidate-number x in_x).1 y_number (alike 0 0 x y in_x in_y owners) lt,
-        numbers-born (lists x.owner) (histories x.owner) (item_number cells x) (item_number cells y) x.entry y.entry (candidate-number x in_x).1 y_number (omega (arith, lt)),
+        numbers-born (lists x.owner) (histories x.owner).born (item_number cells x) (item_number cells y) x.entry y.entry (candidate-number x in_x).1 y_number (omega (arith, lt)),
       )
 
   -- the one with the lower number comes first, or in `PreciseNewest` the other

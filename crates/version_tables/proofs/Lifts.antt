@@ -28,7 +28,7 @@ use Rattle.version_tables.specs.inner.Offers.{IsHistory, Offers, is_lacked}
 use Rattle.version_tables.specs.inner.Shares.{lets_through, AreLevelMarks, StopAt, IsRunMark, size_through_marks}
 use Rattle.version_tables.specs.inner.Taken.{AreSent}
 use Rattle.version_tables.specs.inner.Weights.{share_or_none, number_shares, weight_between, one_each}
-use Rattle.version_tables.proofs.Columns.{where_true}
+use Rattle.version_tables.proofs.Columns.{where_true, where_none}
 use Rattle.version_tables.proofs.DeltaMarks.{marks-sent, all-sent}
 use Rattle.version_tables.proofs.LevelMarks.{breadth-marks, depth-marks, oldest-marks, newest-marks}
 use Rattle.version_tables.proofs.Levels.{candidate-below, candidate-key, candidate-number}
@@ -49,13 +49,9 @@ both-above low mark high number x le upto = elim (cases_lt mark number) [
       ∙ ap (λ b. where_true (ltb mark number) (where_true b x)) (sym (le-leb number high upto))
   | inr not_above ↦
       ap (λ b. where_true (ltb low number) (where_true b x)) (le-ltb mark number (omega (arith, not_above)))
-      ∙ none (ltb low number)
+      ∙ where_none (ltb low number)
       ∙ sym (ap (λ b. where_true b (where_true (leb number high) x)) (le-ltb mark number (omega (arith, not_above))))
 ]
-  where
-    none : (b : Bool) → where_true b 0 ≡ 0
-    none true = refl
-    none false = refl
 
 -- what passes a test and what doesn't are all
 count-others : {X : Type 0} (p : X → Bool) (xs : List X) → count_by p xs + count_by (λ x. not (p x)) xs ≡ sum_by (λ x. 1) xs
@@ -118,19 +114,9 @@ module _ (from to : Table) (proper : IsProper from) (lists : ℕ → List Entry)
         ]
       ]
   level-marks PreciseOldest offers near far shape next in_next outside inside =
-      let below = candidate-below PreciseOldest from to proper next in_next in
-      let at = candidate-number PreciseOldest from to proper lists histories cells low offers next in_next in
-      let over = lets-fails (near next.owner) (item_number cells next) outside in
-      let upto = lets-holds (far next.owner) (item_number cells next) inside in
-      oldest-marks from to proper lists histories cells low near far offers shape.0 shape.1.0 shape.1.1 next in_next
-      (omega (arith, (shape.1.0 next.owner below).above (item_number cells next) next.entry at.0 at.1 over, (shape.1.1 next.owner below).upto (item_number cells next) next.entry at.0 at.1 upto))
+      oldest-marks from to proper lists histories cells low near far offers shape.0 shape.1.0 shape.1.1 next in_next (lets-fails (near next.owner) (item_number cells next) outside) (lets-holds (far next.owner) (item_number cells next) inside)
   level-marks PreciseNewest offers near far shape next in_next outside inside =
-      let below = candidate-below PreciseNewest from to proper next in_next in
-      let at = candidate-number PreciseNewest from to proper lists histories cells low offers next in_next in
-      let upto = above-fails (near next.owner) (item_number cells next) outside in
-      let over = above-holds (far next.owner) (item_number cells next) inside in
-      newest-marks from to proper lists histories cells low near far offers shape.0 shape.1.0 shape.1.1 next in_next
-      (omega (arith, (shape.1.0 next.owner below).upto (item_number cells next) next.entry at.0 at.1 upto, (shape.1.1 next.owner below).above (item_number cells next) next.entry at.0 at.1 over))
+      newest-marks from to proper lists histories cells low near far offers shape.0 shape.1.0 shape.1.1 next in_next (above-holds (far next.owner) (item_number cells next) inside) (above-fails (near next.owner) (item_number cells next) outside)
 
   module _ (mode : Mode) (offers : Offers mode from to lists cells low) where
     abbrev cs : List Item

@@ -11,7 +11,7 @@ use Rattle.planes.proofs.Sums.{sum_below-le}
 use Rattle.version_tables.specs.declared.weights.Offer.{Offer}
 use Rattle.version_tables.specs.declared.weights.Level.{Level}
 use Rattle.version_tables.specs.inner.Marked.{HasShapeIn, KeepsLow, AreMarked, whole_marks}
-use Rattle.version_tables.specs.inner.Offered.{cells_in, marks, weight_in, count_in, IsOffer}
+use Rattle.version_tables.specs.inner.Offered.{cells_in, low_in, high_in, marks, weight_in, count_in, IsOffer}
 use Rattle.version_tables.specs.inner.Plans.{count_on}
 use Rattle.version_tables.specs.inner.Sharing.{AreShared}
 use Rattle.version_tables.specs.inner.Weights.{count_all_between}
@@ -42,10 +42,10 @@ count-le cells nodes keys low low' high high' lower covered =
 
 module _ {N : Type 0} (number : N → ℕ) (most : ℕ) (offer : Offer N) (is : IsOffer number most offer) where
   abbrev low : ℕ → ℕ
-  low = marks number offer.low.now
+  low = low_in number offer
 
   abbrev high : ℕ → ℕ
-  high = marks number offer.high.now
+  high = high_in number offer
 
   -- what is let through is no more than all
   count_on-le : (mode : Mode) (mark : ℕ → ℕ) → ((r : ℕ) → r < offer.nodes → low r ≤ mark r) → count_on mode number offer mark ≤ count_in number offer low high

@@ -11,13 +11,22 @@ use Rattle.owner_lists.specs.OwnerListView.{all_writes}
 use Rattle.version_tables.specs.declared.weights.Offer.{Offer}
 use Rattle.version_tables.specs.inner.Offered.{cells_in, weights_in, weight_in, count_in, IsOffer}
 use Rattle.version_tables.specs.inner.Weights.{share_or_none, one_each}
-use Rattle.version_tables.proofs.WeightLaws.{weight_between-same, weight_between-most, number_share-one, count_all_between-most}
+use Rattle.version_tables.proofs.Columns.{sum_below-none}
+use Rattle.version_tables.proofs.WeightLaws.{weight_of-none, weight_between-same, weight_between-most, number_share-one, count_all_between-most}
 
 -- no write takes more than the largest share
 pub share-most : (budget : Budget) (o : Option Entry) → share_or_none budget o ≤ MOST_ENTRY_SIZE
 share-most budget None = omega arith
 share-most (Entries n) (Some e) = omega arith
 share-most (Bytes n) (Some e) = omega arith
+
+-- nothing is between marks and themselves
+module _ {N : Type 0} (number : N → ℕ) (offer : Offer N) (mark : ℕ → ℕ) where
+  pub offer-weighs_none : weight_in number offer mark mark ≡ 0
+  offer-weighs_none = sum_below-none offer.nodes _ (λ owner lt. weight_of-none (weights_in offer owner) (cells_in number offer) offer.keys owner (mark owner) (mark owner) (omega arith))
+
+  pub offer-counts_none : count_in number offer mark mark ≡ 0
+  offer-counts_none = sum_below-none offer.nodes _ (λ owner lt. weight_of-none (λ _. 1) (cells_in number offer) offer.keys owner (mark owner) (mark owner) (omega arith))
 
 module _ {N : Type 0} (number : N → ℕ) (most : ℕ) (offer : Offer N) (is : IsOffer number most offer) (low high : ℕ → ℕ) where
   pub offer-most : weight_in number offer low high ≤ count_in number offer low high * MOST_ENTRY_SIZE

@@ -17,6 +17,7 @@ use Rattle.version_tables.specs.inner.Grids.{number_here, number_there}
 use Rattle.version_tables.specs.inner.Offers.{Offers, is_lacked, offered_sum, IsHistory}
 use Rattle.owner_lists.specs.Numbers.{write_from, write_numbered}
 use Rattle.planes.specs.Planes.{Cells}
+use Rattle.round_tables.specs.Histories.{BirthsRise}
 use Rattle.version_tables.proofs.Grids.{candidates_sum}
 use Rattle.planes.proofs.Sums.{sum_below-same}
 
@@ -55,28 +56,45 @@ write_from-at [] place e d is = absurd (none is)
 write_from-at (x ∷ xs) zero e d is = (omega arith, same_Some x e is)
 write_from-at (x ∷ xs) (suc place) e d is = let rest = write_from-at xs place e d is in (omega (arith, rest.0), rest.1)
 
+-- a number is that of a place, where its write stands
+record IsPlaced (writes : List Entry) (number : ℕ) (e : Entry) : Type 0 where
+  pub place : ℕ
+  pub is : number ≡ suc place
+  pub within : place < length writes
+  pub there : (d : Entry) → get_or writes place d ≡ e
+
+numbered-placed : (writes : List Entry) (number : ℕ) (e : Entry) → write_numbered writes number ≡ Some e → IsPlaced writes number e
+numbered-placed writes zero e is = absurd (none is)
+  where
+    none : None ≡ Some e → ⊥
+    none h = cc
+numbered-placed writes (suc place) e is = record {
+  place = place;
+  is = refl;
+  within = (write_from-at writes place e e is).0;
+  there = λ d. (write_from-at writes place e d is).1;
+}
+
 -- numbers compare as marks
 pub numbers-before : (writes : List Entry) (history : IsHistory writes) (m n : ℕ) (d e : Entry) → write_numbered writes m ≡ Some d → write_numbered writes n ≡ Some e → m < n → IsBefore (mark_of d) (mark_of e)
-numbers-before writes history zero n d e is_d is_e lt = absurd (none is_d)
-  where
-    none : None ≡ Some d → ⊥
-    none h = cc
-numbers-before writes history (suc m) zero d e is_d is_e lt = absurd (omega (arith, lt))
-numbers-before writes history (suc m) (suc n) d e is_d is_e lt =
-    let at_d = write_from-at writes m d d is_d in
-    let at_e = write_from-at writes n e d is_e in
-    subst (λ x. IsBefore (mark_of x) (mark_of e)) at_d.1 (subst (λ x. IsBefore (mark_of (get_or writes m d)) (mark_of x)) at_e.1 (history.rise m n d (omega (arith, lt)) at_e.0))
+numbers-before writes history m n d e is_d is_e lt =
+    let first = numbered-placed writes m d is_d in
+    let second = numbered-placed writes n e is_e in
+    subst (λ x. IsBefore (mark_of x) (mark_of e)) (first.there d)
+    (subst (λ x. IsBefore (mark_of (get_or writes first.place d)) (mark_of x)) (second.there d)
+    (history.rise first.place second.place d (omega (arith, lt, first.is, second.is)) second.within))
 
-pub numbers-born : (writes : List Entry) (history : IsHistory writes) (m n : ℕ) (d e : Entry) → write_numbered writes m ≡ Some d → write_numbered writes n ≡ Some e → m ≤ n → d.born ≤ e.born
-numbers-born writes history zero n d e is_d is_e le = absurd (none is_d)
-  where
-    none : None ≡ Some d → ⊥
-    none h = cc
-numbers-born writes history (suc m) zero d e is_d is_e le = absurd (omega (arith, le))
-numbers-born writes history (suc m) (suc n) d e is_d is_e le =
-    let at_d = write_from-at writes m d d is_d in
-    let at_e = write_from-at writes n e d is_e in
-    omega (arith, history.born m n d (omega (arith, le)) at_e.0, ap (λ (x : Entry). x.born) at_d.1, ap (λ (x : Entry). x.born) at_e.1)
+-- and births don't fall
+pub numbers-born : (writes : List Entry) (rise : BirthsRise writes) (m n : ℕ) (d e : Entry) → write_numbered writes m ≡ Some d → write_numbered writes n ≡ Some e → m ≤ n → d.born ≤ e.born
+numbers-born writes rise m n d e is_d is_e le =
+    let first = numbered-placed writes m d is_d in
+    let second = numbered-placed writes n e is_e in
+    omega (
+      arith,
+      rise first.place second.place d (omega (arith, le, first.is, second.is)) second.within,
+      ap (λ (x : Entry). x.born) (first.there d),
+      ap (λ (x : Entry). x.born) (second.there d),
+    )
 
 -- of one generation, numbers compare as versions
 module _ (writes : List Entry) (history : IsHistory writes) (m n : ℕ) (d e : Entry) (is_d : write_numbered writes m ≡ Some d) (is_e : write_numbered writes n ≡ Some e) (alike : d.generation ≡ e.generation) where

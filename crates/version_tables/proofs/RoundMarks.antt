@@ -14,13 +14,13 @@ use Rattle.planes.proofs.Sums.{sum_below-same, sum_below-plus}
 use Rattle.version_tables.specs.declared.weights.Offer.{Offer}
 use Rattle.version_tables.specs.declared.weights.Level.{Level}
 use Rattle.version_tables.specs.inner.Histories.{AreMadeBy}
-use Rattle.version_tables.specs.inner.Offered.{cells_in, marks, weights_in, weight_in, count_in, IsOffer}
+use Rattle.version_tables.specs.inner.Offered.{cells_in, low_in, high_in, marks, weights_in, weight_in, count_in, IsOffer}
 use Rattle.version_tables.specs.inner.Plans.{weight_on, count_on, AreFarther, IsLevel}
 use Rattle.version_tables.specs.inner.RoundLevels.{round_mode, round_at, end_mark, round_mark, AreFewAndEnough, AreRounds}
 use Rattle.version_tables.specs.inner.Rounds.{AreEnds}
 use Rattle.version_tables.specs.inner.Shares.{IsRoundMark}
 use Rattle.version_tables.specs.inner.Weights.{weight_of, weight_between, count_all_between}
-use Rattle.version_tables.proofs.Columns.{where_true, sum_below-none}
+use Rattle.version_tables.proofs.Columns.{where_true, where_none, sum_below-none}
 use Rattle.version_tables.proofs.Numbers.{numbered-some}
 
 -- one number between two marks
@@ -30,10 +30,6 @@ between low high number x = where_true (ltb low number) (where_true (leb number 
 -- where no number is above the second mark, it makes no difference
 between-above : (low high number x : ℕ) → number ≤ high → between low high number x ≡ where_true (ltb low number) x
 between-above low high number x le = ap (λ b. where_true (ltb low number) (where_true b x)) (le-leb number high le)
-
-where_none : (b : Bool) → where_true b 0 ≡ 0
-where_none true = refl
-where_none false = refl
 
 -- up to a mark and above it
 between-parts : (low mark high number x : ℕ) → low ≤ mark → number ≤ high → between low high number x ≡ between low mark number x + where_true (ltb mark number) x
@@ -131,10 +127,10 @@ none-later writes rounds mark number is made le = elim (cases_lt mark number) [
 
 module _ {N : Type 0} (number : N → ℕ) (most : ℕ) (offer : Offer N) (is : IsOffer number most offer) where
   abbrev low : ℕ → ℕ
-  low = marks number offer.low.now
+  low = low_in number offer
 
   abbrev high : ℕ → ℕ
-  high = marks number offer.high.now
+  high = high_in number offer
 
   -- what marks let through, by the marks of the owners there are
   pub weight_on-same : (newest : Bool) (mark other : ℕ → ℕ) → ((owner : ℕ) → owner < offer.nodes → mark owner ≡ other owner) → weight_on (round_mode newest) number offer mark ≡ weight_on (round_mode newest) number offer other

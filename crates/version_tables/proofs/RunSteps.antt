@@ -9,14 +9,15 @@ use Rattle.planes.specs.inner.Elementwise.{AreChanged}
 use Rattle.planes.specs.Sums.{sum_below}
 use Rattle.planes.proofs.Sums.{sum_below-same, sum_below-plus}
 use Rattle.version_tables.specs.declared.weights.Offer.{Offer}
-use Rattle.version_tables.specs.inner.Offered.{cells_in, marks, owner_count_in, weights_in, weight_in, count_in, IsOffer}
+use Rattle.version_tables.specs.inner.Offered.{cells_in, low_in, high_in, marks, owner_count_in, weights_in, weight_in, count_in, IsOffer}
 use Rattle.bench_types.specs.declared.limits.TheConstants.{MOST_KEYS}
 use Rattle.version_tables.specs.declared.weights.Level.{Level}
 use Rattle.version_tables.specs.declared.weights.Step.{Step}
-use Rattle.version_tables.specs.inner.Plans.{IsMarkFrom, AreNextRuns, AreRuns, AreRunsSoFar}
+use Rattle.version_tables.specs.inner.Plans.{IsMarkFrom, AreMarksFrom, AreNextRuns, AreRuns, AreRunsSoFar}
 use Rattle.version_tables.specs.inner.Shares.{IsRunMark}
 use Rattle.version_tables.specs.inner.Weights.{weight_of}
 use Rattle.version_tables.proofs.Columns.{where_true, sum_below-none}
+use Rattle.version_tables.proofs.OfferWeights.{offer-weighs_none, offer-counts_none}
 use Rattle.version_tables.proofs.WeightLaws.{part, part-in, part-low, weight_of-none, count_between-most, sum_below-each_none}
 
 -- so many times a sum
@@ -102,18 +103,15 @@ module _ {N : Type 0} (number : N → ℕ) (most : ℕ) (offer : Offer N) (is : 
   cells = cells_in number offer
 
   abbrev low : ℕ → ℕ
-  low = marks number offer.low.now
-
-  abbrev high : ℕ → ℕ
-  high = marks number offer.high.now
+  low = low_in number offer
 
   abbrev counts : ℕ → ℕ
-  counts owner = count_above cells offer.keys owner (low owner)
+  counts = owner_count_in number offer
 
   -- runs of one size, which some owners have
   runs-added : (near far : ℕ → ℕ) (size count added : ℕ)
-      → ((owner : ℕ) → owner < offer.nodes → IsMarkFrom (counts owner) (low owner) (high owner) (size + 1) (near owner))
-      → ((owner : ℕ) → owner < offer.nodes → far owner ≡ cond (eqb (counts owner) size) (high owner) (near owner))
+      → AreMarksFrom number offer (size + 1) near
+      → ((owner : ℕ) → owner < offer.nodes → far owner ≡ cond (eqb (counts owner) size) (high_in number offer owner) (near owner))
       → added ≡ sum_below offer.nodes (λ owner. where_true (eqb (counts owner) size) 1) * size
       → count ≡ count_in number offer low near → weight_in number offer low near ≤ amount_of offer.budget
       → AreRunsSoFar number offer near far size count added
@@ -124,31 +122,31 @@ module _ {N : Type 0} (number : N → ℕ) (most : ℕ) (offer : Offer N) (is : 
     more =
         (λ i. whole i + (counted ∙ sym (sum_below-scaled offer.nodes size (λ owner. where_true (eqb (counts owner) size) 1))) i)
         ∙ sym (sum_below-plus offer.nodes (λ owner. count_between cells offer.keys owner (low owner) (near owner)) (λ owner. where_true (eqb (counts owner) size) 1 * size))
-        ∙ sym (sum_below-same offer.nodes _ _ (λ owner lt. run-count cells offer.keys owner (low owner) (high owner) (is.covered owner lt) size (near owner) (far owner) (longer owner lt) (next owner lt)));
+        ∙ sym (sum_below-same offer.nodes _ _ (λ owner lt. run-count cells offer.keys owner (low owner) (high_in number offer owner) (is.covered owner lt) size (near owner) (far owner) (longer owner lt) (next owner lt)));
     within = within;
   }
     where
-      next : (owner : ℕ) → owner < offer.nodes → IsMarkFrom (counts owner) (low owner) (high owner) size (far owner)
-      next owner lt = from-next (counts owner) (low owner) (high owner) size (near owner) (far owner) (longer owner lt) (marked owner lt)
+      next : AreMarksFrom number offer size far
+      next owner lt = from-next (counts owner) (low owner) (high_in number offer owner) size (near owner) (far owner) (longer owner lt) (marked owner lt)
 
   -- before the longest runs
-  pub runs-first : (size : ℕ) → ((owner : ℕ) → owner < offer.nodes → counts owner ≤ size) → (owner : ℕ) → owner < offer.nodes → IsMarkFrom (counts owner) (low owner) (high owner) (size + 1) (low owner)
+  pub runs-first : (size : ℕ) → ((owner : ℕ) → owner < offer.nodes → counts owner ≤ size) → AreMarksFrom number offer (size + 1) low
   runs-first size longest owner lt = record { all = λ le. absurd (omega (arith, le, longest owner lt)); none = λ _. refl }
 
   -- where what fits isn't all, the runs that are next have something
-  pub runs-some : (near far : ℕ → ℕ) (size count added : ℕ) → AreRunsSoFar number offer near far size count added → amount_of offer.budget < weight_in number offer low high → 0 < size
+  pub runs-some : (near far : ℕ → ℕ) (size count added : ℕ) → AreRunsSoFar number offer near far size count added → amount_of offer.budget < weight_in number offer low (high_in number offer) → 0 < size
   runs-some near far size count added so_far cut = elim (cases_lt 0 size) [
     | inl some ↦ some
     | inr none ↦ absurd (omega (arith, cut, so_far.within, all (omega (arith, none))))
   ]
     where
-      all : size ≡ 0 → weight_in number offer low near ≡ weight_in number offer low high
+      all : size ≡ 0 → weight_in number offer low near ≡ weight_in number offer low (high_in number offer)
       all none = sum_below-same offer.nodes _ _ (λ owner lt. elim (cases_lt 0 (counts owner)) [
         | inl some ↦ ap (weight_of (weights_in offer owner) cells offer.keys owner (low owner)) ((so_far.longer owner lt).all (omega (arith, none, some)))
         | inr empty ↦
             ap (weight_of (weights_in offer owner) cells offer.keys owner (low owner)) ((so_far.longer owner lt).none (omega (arith, none, empty)))
             ∙ weight_of-none (weights_in offer owner) cells offer.keys owner (low owner) (low owner) (omega arith)
-            ∙ sym (weight-empty cells offer.keys owner (low owner) (high owner) (is.covered owner lt) (weights_in offer owner) (omega (arith, empty)))
+            ∙ sym (weight-empty cells offer.keys owner (low owner) (high_in number offer owner) (is.covered owner lt) (weights_in offer owner) (omega (arith, empty)))
       ])
 
   -- the longest runs are next
@@ -156,31 +154,25 @@ module _ {N : Type 0} (number : N → ℕ) (most : ℕ) (offer : Offer N) (is : 
       → AreRunsSoFar number offer low (marks number step.marks.items) size 0 step.more
   runs-start size step longest runs =
       runs-added low (marks number step.marks.items) size 0 step.more (runs-first size longest) runs.marked runs.more
-      (sym (sum_below-none offer.nodes _ (λ owner lt. weight_of-none (λ _. 1) cells offer.keys owner (low owner) (low owner) (omega arith))))
-      (omega (
-        arith,
-        sum_below-none offer.nodes (λ owner. weight_of (weights_in offer owner) cells offer.keys owner (low owner) (low owner))
-            (λ owner lt. weight_of-none (weights_in offer owner) cells offer.keys owner (low owner) (low owner) (omega arith)),
-      ))
+      (sym (offer-counts_none number offer low)) (omega (arith, offer-weighs_none number offer low))
 
   -- and those of one number less
   pub runs-next : (near far : ℕ → ℕ) (size count added : ℕ) (step : Step N) → AreRunsSoFar number offer near far size count added → 0 < size → weight_in number offer low far ≤ amount_of offer.budget
       → AreNextRuns number offer far (size - 1) step → AreRunsSoFar number offer far (marks number step.marks.items) (size - 1) (count + added) step.more
   runs-next near far size count added step so_far some fits runs =
       runs-added far (marks number step.marks.items) (size - 1) (count + added) step.more
-      (λ owner lt. subst (λ n. IsMarkFrom (counts owner) (low owner) (high owner) n (far owner)) {x = size} {y = size - 1 + 1} (omega (arith, some)) (so_far.next owner lt))
+      (subst (λ n. AreMarksFrom number offer n far) {x = size} {y = size - 1 + 1} (omega (arith, some)) so_far.next)
       runs.marked runs.more so_far.more fits
+
+  run-marks : (size : ℕ) (mark : ℕ → ℕ) → AreMarksFrom number offer (size + 1) mark → (owner : ℕ) → owner < offer.nodes → IsRunMark cells offer.keys owner (low owner) size (mark owner)
+  run-marks size mark from owner lt = run-mark cells offer.keys owner (low owner) (high_in number offer owner) (is.covered owner lt) size (mark owner) (from owner lt)
 
   -- the level at which they end
   pub runs-of_level : (level : Level N) (size count added : ℕ) → AreRunsSoFar number offer (marks number level.near.items) (marks number level.far.items) size count added → 0 < size → AreRuns number offer level
   runs-of_level level size count added so_far some = record {
     size = size - 1;
-    near = λ owner lt.
-        run-mark cells offer.keys owner (low owner) (high owner) (is.covered owner lt) (size - 1 + 1) (marks number level.near.items owner)
-        (subst (λ n. IsMarkFrom (counts owner) (low owner) (high owner) n (marks number level.near.items owner)) {x = size + 1} {y = size - 1 + 1 + 1} (omega (arith, some)) (so_far.longer owner lt));
-    far = λ owner lt.
-        run-mark cells offer.keys owner (low owner) (high owner) (is.covered owner lt) (size - 1) (marks number level.far.items owner)
-        (subst (λ n. IsMarkFrom (counts owner) (low owner) (high owner) n (marks number level.far.items owner)) {x = size} {y = size - 1 + 1} (omega (arith, some)) (so_far.next owner lt));
+    near = run-marks (size - 1 + 1) (marks number level.near.items) (subst (λ n. AreMarksFrom number offer n (marks number level.near.items)) {x = size + 1} {y = size - 1 + 1 + 1} (omega (arith, some)) so_far.longer);
+    far = run-marks (size - 1) (marks number level.far.items) (subst (λ n. AreMarksFrom number offer n (marks number level.far.items)) {x = size} {y = size - 1 + 1} (omega (arith, some)) so_far.next);
   }
 
   pub runs-farther : (near far : ℕ → ℕ) (size count added : ℕ) → AreRunsSoFar number offer near far size count added → 0 < size → (owner : ℕ) → owner < offer.nodes → (low owner ≤ near owner) × (near owner ≤ far owner)
@@ -192,14 +184,14 @@ module _ {N : Type 0} (number : N → ℕ) (most : ℕ) (offer : Offer N) (is : 
     ]
   ]
     where
-      higher : 0 < counts owner → low owner < high owner
-      higher there = elim (cases_lt (low owner) (high owner)) [
+      higher : 0 < counts owner → low owner < high_in number offer owner
+      higher there = elim (cases_lt (low owner) (high_in number offer owner)) [
         | inl above ↦ above
         | inr not_above ↦ absurd (omega (
           arith,
           there,
-          count-covered cells offer.keys owner (low owner) (high owner) (is.covered owner lt),
-          weight_of-none (λ _. 1) cells offer.keys owner (low owner) (high owner) (omega (arith, not_above)),
+          count-covered cells offer.keys owner (low owner) (high_in number offer owner) (is.covered owner lt),
+          weight_of-none (λ _. 1) cells offer.keys owner (low owner) (high_in number offer owner) (omega (arith, not_above)),
         ))
       ]
 
@@ -212,8 +204,8 @@ counts-few number most offer is found known r lt =
       arith,
       known.each r in_nodes,
       is.grid.few_keys,
-      count-covered (cells_in number offer) offer.keys r (marks number offer.low.now r) (marks number offer.high.now r) (is.covered r in_nodes),
-      count_between-most (cells_in number offer) offer.keys r (marks number offer.low.now r) (marks number offer.high.now r),
+      count-covered (cells_in number offer) offer.keys r (low_in number offer r) (high_in number offer r) (is.covered r in_nodes),
+      count_between-most (cells_in number offer) offer.keys r (low_in number offer r) (high_in number offer r),
     )
 
 -- what a step over the owners' runs writes

@@ -1,6 +1,6 @@
 -- An owner's numbers gone over one after another.
 -- Serves `Offer::next_down`, `Offer::next_up` and `Offer::stop_from`.
-use Rattle.std.proofs.Common.{◌≡◌, ◌≢◌, ℕ, zero, suc, ◌+◌, ◌<◌, ◌≤◌, ◌⊎◌, Bool, true, false, min, max, inl, inr, refl, sym, ap, ◌∙◌, subst, arith}
+use Rattle.std.proofs.Common.{◌≡◌, ◌≢◌, ℕ, zero, suc, ◌+◌, ◌<◌, ◌≤◌, ◌⊎◌, Bool, true, false, not, min, max, inl, inr, refl, sym, ap, ◌∙◌, subst, arith}
 use Rattle.std.proofs.lemmas.Bool.{cases_lt}
 use Rattle.planes.specs.Planes.{Cells}
 use Rattle.planes.specs.Sums.{sum_below}
@@ -126,92 +126,84 @@ pub on-start : (newest : Bool) (near : ℕ) → IsOn newest near near
 on-start false near = omega arith
 on-start true near = omega arith
 
--- the least of the numbers gone over
-pub record IsLeastSoFar (cells : Cells) (keys owner low high next : ℕ) : Type 0 where
-  pub upto : next ≤ high
-  pub no_less : (k : ℕ) → k < keys → low < cells owner k → next ≤ cells owner k
-  pub held : (next ≡ high) ⊎ ((k : ℕ) × (k < keys) × (cells owner k ≡ next) × (low < next))
+-- a number is beyond a near mark, which it is in one of the two directions
+abbrev pub IsBeyond : Bool → ℕ → ℕ → Type 0
+IsBeyond false near number = near < number
+IsBeyond true near number = number ≤ near
 
-pub least-first : (cells : Cells) (owner low high : ℕ) → IsLeastSoFar cells 0 owner low high high
-least-first cells owner low high = record { upto = omega arith; no_less = λ k lt _. absurd (omega (arith, lt)); held = inl refl }
+one-beyond : (newest : Bool) (near number : ℕ) → IsBeyond newest near number → IsBeyond (not newest) near number → ⊥
+one-beyond false near number over under = omega (arith, over, under)
+one-beyond true near number under over = omega (arith, over, under)
 
-pub least-here : (cells : Cells) (key owner low high next least : ℕ) → IsLeastSoFar cells key owner low high next → low < cells owner key → least ≡ min next (cells owner key) → IsLeastSoFar cells (key + 1) owner low high least
-least-here cells key owner low high next least so_far above is = record {
-  upto = omega (arith, so_far.upto, is);
-  no_less = λ k lt over. elim (cases_lt k key) [
-    | inl before ↦ omega (arith, is, so_far.no_less k before over)
-    | inr here ↦ subst (λ j. least ≤ cells owner j) {x = key} {y = k} (omega (arith, lt, here)) (omega (arith, is))
-  ];
-  held = elim (cases_lt (cells owner key) next) [
-    | inl lower ↦ inr (key, omega arith, omega (arith, is, lower), omega (arith, is, lower, above))
-    | inr no_lower ↦ elim so_far.held [
-      | inl all ↦ inl (omega (arith, is, no_lower, all))
-      | inr some ↦ inr (some.0, omega (arith, some.1), omega (arith, is, no_lower, some.2), omega (arith, is, no_lower, some.3))
+-- the nearer of two numbers
+abbrev pub nearer_of : Bool → ℕ → ℕ → ℕ
+nearer_of false m n = min m n
+nearer_of true m n = max m n
+
+on-through : (newest : Bool) (a b c : ℕ) → IsOn newest a b → IsOn newest b c → IsOn newest a c
+on-through false a b c ab bc = omega (arith, ab, bc)
+on-through true a b c ab bc = omega (arith, ab, bc)
+
+nearer-on : (newest : Bool) (m n nearer : ℕ) → nearer ≡ nearer_of newest m n → IsOn newest nearer m × IsOn newest nearer n
+nearer-on false m n nearer is = (omega (arith, is), omega (arith, is))
+nearer-on true m n nearer is = (omega (arith, is), omega (arith, is))
+
+nearer-one : (newest : Bool) (m n nearer : ℕ) → nearer ≡ nearer_of newest m n → (nearer ≡ m) ⊎ (nearer ≡ n)
+nearer-one false m n nearer is = elim (cases_lt n m) [ inl lower ↦ inr (omega (arith, is, lower)) | inr no_lower ↦ inl (omega (arith, is, no_lower)) ]
+nearer-one true m n nearer is = elim (cases_lt m n) [ inl higher ↦ inr (omega (arith, is, higher)) | inr no_higher ↦ inl (omega (arith, is, no_higher)) ]
+
+-- the nearest of the numbers gone over, or the far mark where none is beyond the near one
+pub record IsNextSoFar (newest : Bool) (cells : Cells) (keys owner near far next : ℕ) : Type 0 where
+  pub to_far : IsOn newest next far
+  pub nearest : (k : ℕ) → k < keys → IsBeyond newest near (cells owner k) → IsOn newest next (cells owner k)
+  pub held : (next ≡ far) ⊎ ((k : ℕ) × (k < keys) × (cells owner k ≡ next) × IsBeyond newest near next)
+
+pub next-first : (newest : Bool) (cells : Cells) (owner near far : ℕ) → IsNextSoFar newest cells 0 owner near far far
+next-first newest cells owner near far = record { to_far = on-start newest far; nearest = λ k lt _. absurd (omega (arith, lt)); held = inl refl }
+
+module _ (newest : Bool) (cells : Cells) (key owner near far next nearer : ℕ) (so_far : IsNextSoFar newest cells key owner near far next) where
+  abbrev IsHeld : ℕ → Type 0
+  IsHeld n = (n ≡ far) ⊎ ((k : ℕ) × (k < key + 1) × (cells owner k ≡ n) × IsBeyond newest near n)
+
+  still_held : IsHeld next
+  still_held = elim so_far.held [ inl none ↦ inl none | inr some ↦ inr (some.0, omega (arith, some.1), some.2, some.3) ]
+
+  pub next-here : IsBeyond newest near (cells owner key) → nearer ≡ nearer_of newest next (cells owner key) → IsNextSoFar newest cells (key + 1) owner near far nearer
+  next-here beyond is =
+      let on = nearer-on newest next (cells owner key) nearer is in
+      record {
+        to_far = on-through newest nearer next far on.0 so_far.to_far;
+        nearest = λ k lt over. elim (cases_lt k key) [
+          | inl before ↦ on-through newest nearer next (cells owner k) on.0 (so_far.nearest k before over)
+          | inr here ↦ subst (λ j. IsOn newest nearer (cells owner j)) {x = key} {y = k} (omega (arith, lt, here)) on.1
+        ];
+        held = elim (nearer-one newest next (cells owner key) nearer is) [
+          | inr here ↦ inr (key, omega arith, sym here, subst (IsBeyond newest near) (sym here) beyond)
+          | inl stays ↦ subst IsHeld (sym stays) still_held
+        ];
+      }
+
+  pub next-past : IsBeyond (not newest) near (cells owner key) → nearer ≡ next → IsNextSoFar newest cells (key + 1) owner near far nearer
+  next-past short same = subst (IsNextSoFar newest cells (key + 1) owner near far) (sym same) (record {
+    to_far = so_far.to_far;
+    nearest = λ k lt over. elim (cases_lt k key) [
+      | inl before ↦ so_far.nearest k before over
+      | inr here ↦ absurd (one-beyond newest near (cells owner key) (subst (λ j. IsBeyond newest near (cells owner j)) {x = k} {y = key} (omega (arith, lt, here)) over) short)
+    ];
+    held = still_held;
+  })
+
+pub next-found : (newest : Bool) (cells : Cells) (key keys owner near far next : ℕ) → key ≡ keys → IsNextSoFar newest cells key owner near far next → HasNext newest cells keys owner near far → IsNext newest cells keys owner near far next
+next-found newest cells key keys owner near far next all so_far has = found newest (subst (λ n. IsNextSoFar newest cells n owner near far next) all so_far) has
+  where
+    found : (newest : Bool) → IsNextSoFar newest cells keys owner near far next → HasNext newest cells keys owner near far → IsNext newest cells keys owner near far next
+    found false so_far has = elim so_far.held [
+      | inr some ↦ record { key = some.0; in_keys = some.1; is = some.2; above = some.3; upto = so_far.to_far; no_less = so_far.nearest }
+      | inl all ↦
+          let same : cells owner has.key ≡ next = omega (arith, all, has.upto, so_far.nearest has.key has.in_keys has.above) in
+          record { key = has.key; in_keys = has.in_keys; is = same; above = omega (arith, same, has.above); upto = so_far.to_far; no_less = so_far.nearest }
     ]
-  ];
-}
-
-pub least-past : (cells : Cells) (key owner low high next least : ℕ) → IsLeastSoFar cells key owner low high next → cells owner key ≤ low → least ≡ next → IsLeastSoFar cells (key + 1) owner low high least
-least-past cells key owner low high next least so_far not_above same = record {
-  upto = omega (arith, so_far.upto, same);
-  no_less = λ k lt over. elim (cases_lt k key) [
-    | inl before ↦ omega (arith, same, so_far.no_less k before over)
-    | inr here ↦ absurd (omega (arith, not_above, over, ap (cells owner) {x = key} {y = k} (omega (arith, lt, here))))
-  ];
-  held = elim so_far.held [
-    | inl all ↦ inl (omega (arith, same, all))
-    | inr some ↦ inr (some.0, omega (arith, some.1), omega (arith, same, some.2), omega (arith, same, some.3))
-  ];
-}
-
-pub least-found : (cells : Cells) (keys owner low high next : ℕ) → IsLeastSoFar cells keys owner low high next → HasBetween cells keys owner low high → IsNextUp cells keys owner low high next
-least-found cells keys owner low high next so_far has = elim so_far.held [
-  | inr some ↦ record { key = some.0; in_keys = some.1; is = some.2; above = some.3; upto = so_far.upto; no_less = so_far.no_less }
-  | inl all ↦
-      let same : cells owner has.key ≡ next = omega (arith, all, has.upto, so_far.no_less has.key has.in_keys has.above) in
-      record { key = has.key; in_keys = has.in_keys; is = same; above = omega (arith, same, has.above); upto = so_far.upto; no_less = so_far.no_less }
-]
-
--- and the greatest
-pub record IsGreatestSoFar (cells : Cells) (keys owner low high next : ℕ) : Type 0 where
-  pub from : low ≤ next
-  pub no_more : (k : ℕ) → k < keys → cells owner k ≤ high → cells owner k ≤ next
-  pub held : (next ≡ low) ⊎ ((k : ℕ) × (k < keys) × (cells owner k ≡ next) × (next ≤ high))
-
-pub greatest-first : (cells : Cells) (owner low high : ℕ) → IsGreatestSoFar cells 0 owner low high low
-greatest-first cells owner low high = record { from = omega arith; no_more = λ k lt _. absurd (omega (arith, lt)); held = inl refl }
-
-pub greatest-here : (cells : Cells) (key owner low high next greatest : ℕ) → IsGreatestSoFar cells key owner low high next → cells owner key ≤ high → greatest ≡ max next (cells owner key) → IsGreatestSoFar cells (key + 1) owner low high greatest
-greatest-here cells key owner low high next greatest so_far upto is = record {
-  from = omega (arith, so_far.from, is);
-  no_more = λ k lt within. elim (cases_lt k key) [
-    | inl before ↦ omega (arith, is, so_far.no_more k before within)
-    | inr here ↦ subst (λ j. cells owner j ≤ greatest) {x = key} {y = k} (omega (arith, lt, here)) (omega (arith, is))
-  ];
-  held = elim (cases_lt next (cells owner key)) [
-    | inl higher ↦ inr (key, omega arith, omega (arith, is, higher), omega (arith, is, higher, upto))
-    | inr no_higher ↦ elim so_far.held [
-      | inl all ↦ inl (omega (arith, is, no_higher, all))
-      | inr some ↦ inr (some.0, omega (arith, some.1), omega (arith, is, no_higher, some.2), omega (arith, is, no_higher, some.3))
+    found true so_far has = elim so_far.held [
+      | inr some ↦ record { key = some.0; in_keys = some.1; is = some.2; above = omega (arith, has.above, so_far.nearest has.key has.in_keys has.upto); upto = some.3; no_more = so_far.nearest }
+      | inl all ↦ absurd (omega (arith, all, has.above, so_far.nearest has.key has.in_keys has.upto))
     ]
-  ];
-}
-
-pub greatest-past : (cells : Cells) (key owner low high next greatest : ℕ) → IsGreatestSoFar cells key owner low high next → high < cells owner key → greatest ≡ next → IsGreatestSoFar cells (key + 1) owner low high greatest
-greatest-past cells key owner low high next greatest so_far over same = record {
-  from = omega (arith, so_far.from, same);
-  no_more = λ k lt within. elim (cases_lt k key) [
-    | inl before ↦ omega (arith, same, so_far.no_more k before within)
-    | inr here ↦ absurd (omega (arith, over, within, ap (cells owner) {x = key} {y = k} (omega (arith, lt, here))))
-  ];
-  held = elim so_far.held [
-    | inl all ↦ inl (omega (arith, same, all))
-    | inr some ↦ inr (some.0, omega (arith, some.1), omega (arith, same, some.2), omega (arith, same, some.3))
-  ];
-}
-
-pub greatest-found : (cells : Cells) (keys owner low high next : ℕ) → IsGreatestSoFar cells keys owner low high next → HasBetween cells keys owner low high → IsNextDown cells keys owner low high next
-greatest-found cells keys owner low high next so_far has = elim so_far.held [
-  | inr some ↦ record { key = some.0; in_keys = some.1; is = some.2; above = omega (arith, has.above, so_far.no_more has.key has.in_keys has.upto); upto = some.3; no_more = so_far.no_more }
-  | inl all ↦ absurd (omega (arith, all, has.above, so_far.no_more has.key has.in_keys has.upto))
-]

@@ -81,7 +81,14 @@ drop-cases writes old base new = elim ((nat_lt 0 old && nat_le old base) && nat_
 pub drop-here : (writes : List Entry) (old base new : ℕ) → 0 < old → old ≤ base → old < new → drop_start writes old base new ≡ start_of writes new
 drop-here writes old base new some upto lt = (λ i. cond (((lt-ltb 0 old some) i && (le-leb old base upto) i) && (lt-ltb old new lt) i) (start_of writes new) 0)
 
--- of one owner: the numbers that stand, and the greatest of them
+-- of one owner: what is sent comes, the rest stays or is dropped where something newer came, and the greatest number stands
+pub record AreNumbersTaken (from to : Table) (sent : ℕ → ℕ → Bool) (owner : ℕ) (sender receiver taken : ℕ → ℕ) (greatest : ℕ) : Type 0 where
+  pub came : (key : ℕ) → key < to.keys → sent owner key ≡ true → taken key ≡ sender key
+  pub others : (key : ℕ) → key < to.keys → sent owner key ≡ false
+      → (SendsNoNewer from to sent owner × (taken key ≡ receiver key)) ⊎ (SendsNewer from to sent owner × (taken key ≡ 0))
+  pub upto : (key : ℕ) → key < to.keys → taken key ≤ greatest
+  pub held : (greatest ≡ 0) ⊎ ((key : ℕ) × (key < to.keys) × (taken key ≡ greatest))
+
 module _ (from to : Table) (from_proper : IsProper from) (to_proper : IsProper to) (keys : from.keys ≡ to.keys) (owner : ℕ)
     (writes : List Entry) (history : IsHistory writes) (numbered : IsNumberedHistory writes) (base : ℕ)
     (newest : (m n : ℕ) (d e : Entry) → write_numbered writes m ≡ Some d → write_numbered writes n ≡ Some e → base < n → d.generation ≤ e.generation)
@@ -126,7 +133,7 @@ module _ (from to : Table) (from_proper : IsProper from) (to_proper : IsProper t
       (at.0, there.0, ap (write_numbered writes) (sym at.3) ∙ there.1, there.2, at.2, there.3)
 
   -- what is sent comes
-  pub came_number : (key : ℕ) → key < to.keys → sent owner key ≡ true → taken key ≡ sender key
+  came_number : (key : ℕ) → key < to.keys → sent owner key ≡ true → taken key ≡ sender key
   came_number key lt yes' =
       ap (number_kept start) (y_sent key lt yes')
       ∙ kept-above start (sender key) (elim (drop-cases writes old base new) [
@@ -232,7 +239,7 @@ module _ (from to : Table) (from_proper : IsProper from) (to_proper : IsProper t
             )
       ]
 
-  pub other_number : (key : ℕ) → key < to.keys → sent owner key ≡ false → (SendsNoNewer from to sent owner × (taken key ≡ receiver key)) ⊎ (SendsNewer from to sent owner × (taken key ≡ 0))
+  other_number : (key : ℕ) → key < to.keys → sent owner key ≡ false → (SendsNoNewer from to sent owner × (taken key ≡ receiver key)) ⊎ (SendsNewer from to sent owner × (taken key ≡ 0))
   other_number key lt no' = elim newer_or_not [
     | inl none ↦ inl (none, stays_number none key lt no')
     | inr newer ↦ inr (newer, drops_number newer key lt no')
@@ -251,10 +258,10 @@ module _ (from to : Table) (from_proper : IsProper from) (to_proper : IsProper t
     | inr (_, _, _, is) ↦ omega (arith, is, start-below writes history numbered new some)
   ]
 
-  pub greatest_upto : (key : ℕ) → key < to.keys → taken key ≤ new
+  greatest_upto : (key : ℕ) → key < to.keys → taken key ≤ new
   greatest_upto key lt = omega (arith, taken_upto (y key), new_upto key lt)
 
-  pub greatest_from : (new ≡ 0) ⊎ ((key : ℕ) × (key < to.keys) × (taken key ≡ new))
+  greatest_from : (new ≡ 0) ⊎ ((key : ℕ) × (key < to.keys) × (taken key ≡ new))
   greatest_from = elim (cases_lt 0 new) [
     | inr none ↦ inl (omega (arith, none))
     | inl some ↦ elim new_from [
@@ -271,3 +278,6 @@ module _ (from to : Table) (from_proper : IsProper from) (to_proper : IsProper t
       ]
     ]
   ]
+
+  pub are_numbers_taken : AreNumbersTaken from to sent owner sender receiver taken new
+  are_numbers_taken = record { came = came_number; others = other_number; upto = greatest_upto; held = greatest_from }

@@ -22,7 +22,7 @@ use Rattle.version_tables.proofs.Laid.{cells_table}
 use Rattle.version_tables.proofs.TakenCells.{taken_cells}
 use Rattle.version_tables.proofs.TakenNumbers.{taken-number, stays-number}
 use Rattle.version_tables.proofs.TakenSets.{came-lacked}
-use Rattle.version_tables.proofs.TakenTables.{generation-of, generation-upto, came_number, other_number, greatest_upto, greatest_from}
+use Rattle.version_tables.proofs.TakenTables.{generation-of, generation-upto, AreNumbersTaken, are_numbers_taken}
 
 nothing : (e : Entry) → None ≡ Some e → ⊥
 nothing e h = cc
@@ -107,55 +107,33 @@ module _ (rules : Rules) (rotation : ℕ) (written : ℕ → List Entry) (most :
       kept_is : (key : ℕ) → key < to.keys → cell cells to.nodes owner key ≡ number_kept start (y owner key)
       kept_is key lt = taken.kept owner key in_nodes lt ∙ ap (number_kept start) (same owner key in_nodes lt)
 
-      came_here : (key : ℕ) → key < to.keys → sent owner key ≡ true → cell cells to.nodes owner key ≡ sender owner key
-      came_here key lt yes' =
-          kept_is key lt
-          ∙ came_number (table_in written from) (table_in written to) from_kept.proper to_kept.proper keys owner (all_writes h.lists owner) (so_far owner).history (so_far owner).numbered (bases_in h.lists owner)
+      numbers : AreNumbersTaken (table_in written from) (table_in written to) sent owner (sender owner) (receiver owner) (λ key. number_kept start (y owner key)) (slice_index greatest owner)
+      numbers =
+          are_numbers_taken (table_in written from) (table_in written to) from_kept.proper to_kept.proper keys owner (all_writes h.lists owner) (so_far owner).history (so_far owner).numbered (bases_in h.lists owner)
           (newest_in h.lists owner (are owner)) sent (sender owner) (receiver owner) (y owner)
           (λ k k_lt. has_sender owner k (in_sender owner in_nodes) (in_sender_keys k k_lt)) (λ k k_lt. has_receiver owner k in_nodes k_lt)
           (λ k k_lt. sender_upto owner k in_nodes k_lt) (λ k k_lt. receiver_upto owner k in_nodes k_lt)
           (λ k k_lt. sent_above owner k) (λ k k_lt. y_sent owner k) (λ k k_lt. y_stays owner k)
           (slice_index to.greatest owner) (slice_index greatest owner) (to_kept.most owner in_nodes).upto (to_kept.most owner in_nodes).held
-          (taken.raised owner in_nodes).rises new_upto new_from key lt yes'
+          (taken.raised owner in_nodes).rises new_upto new_from
+
+      came_here : (key : ℕ) → key < to.keys → sent owner key ≡ true → cell cells to.nodes owner key ≡ sender owner key
+      came_here key lt yes' = kept_is key lt ∙ numbers.came key lt yes'
 
       other_here : (key : ℕ) → key < to.keys → sent owner key ≡ false
           → (SendsNoNewer (table_in written from) (table_in written to) sent owner × (cell cells to.nodes owner key ≡ receiver owner key)) ⊎ (SendsNewer (table_in written from) (table_in written to) sent owner × (cell cells to.nodes owner key ≡ 0))
-      other_here key lt no' = elim
-          (other_number (table_in written from) (table_in written to) from_kept.proper to_kept.proper keys owner (all_writes h.lists owner) (so_far owner).history (so_far owner).numbered (bases_in h.lists owner)
-          (newest_in h.lists owner (are owner)) sent (sender owner) (receiver owner) (y owner)
-          (λ k k_lt. has_sender owner k (in_sender owner in_nodes) (in_sender_keys k k_lt)) (λ k k_lt. has_receiver owner k in_nodes k_lt)
-          (λ k k_lt. sender_upto owner k in_nodes k_lt) (λ k k_lt. receiver_upto owner k in_nodes k_lt)
-          (λ k k_lt. sent_above owner k) (λ k k_lt. y_sent owner k) (λ k k_lt. y_stays owner k)
-          (slice_index to.greatest owner) (slice_index greatest owner) (to_kept.most owner in_nodes).upto (to_kept.most owner in_nodes).held
-          (taken.raised owner in_nodes).rises new_upto new_from key lt no') [
-            | inl stays ↦ inl (stays.0, kept_is key lt ∙ stays.1)
-            | inr gone ↦ inr (gone.0, kept_is key lt ∙ gone.1)
-          ]
+      other_here key lt no' = elim (numbers.others key lt no') [
+        | inl stays ↦ inl (stays.0, kept_is key lt ∙ stays.1)
+        | inr gone ↦ inr (gone.0, kept_is key lt ∙ gone.1)
+      ]
 
       most_here : IsGreatest (cell cells to.nodes) to.keys owner (slice_index greatest owner)
       most_here = record {
-        upto = λ key lt. omega (
-          arith,
-          kept_is key lt,
-          greatest_upto (table_in written from) (table_in written to) from_kept.proper to_kept.proper keys owner (all_writes h.lists owner) (so_far owner).history (so_far owner).numbered (bases_in h.lists owner)
-              (newest_in h.lists owner (are owner)) sent (sender owner) (receiver owner) (y owner)
-              (λ k k_lt. has_sender owner k (in_sender owner in_nodes) (in_sender_keys k k_lt)) (λ k k_lt. has_receiver owner k in_nodes k_lt)
-              (λ k k_lt. sender_upto owner k in_nodes k_lt) (λ k k_lt. receiver_upto owner k in_nodes k_lt)
-              (λ k k_lt. sent_above owner k) (λ k k_lt. y_sent owner k) (λ k k_lt. y_stays owner k)
-              (slice_index to.greatest owner) (slice_index greatest owner) (to_kept.most owner in_nodes).upto (to_kept.most owner in_nodes).held
-              (taken.raised owner in_nodes).rises new_upto new_from key lt,
-        );
-        held = elim
-            (greatest_from (table_in written from) (table_in written to) from_kept.proper to_kept.proper keys owner (all_writes h.lists owner) (so_far owner).history (so_far owner).numbered (bases_in h.lists owner)
-            (newest_in h.lists owner (are owner)) sent (sender owner) (receiver owner) (y owner)
-            (λ k k_lt. has_sender owner k (in_sender owner in_nodes) (in_sender_keys k k_lt)) (λ k k_lt. has_receiver owner k in_nodes k_lt)
-            (λ k k_lt. sender_upto owner k in_nodes k_lt) (λ k k_lt. receiver_upto owner k in_nodes k_lt)
-            (λ k k_lt. sent_above owner k) (λ k k_lt. y_sent owner k) (λ k k_lt. y_stays owner k)
-            (slice_index to.greatest owner) (slice_index greatest owner) (to_kept.most owner in_nodes).upto (to_kept.most owner in_nodes).held
-            (taken.raised owner in_nodes).rises new_upto new_from) [
-              | inl none ↦ inl none
-              | inr (key, lt, is) ↦ inr (key, lt, kept_is key lt ∙ is)
-            ];
+        upto = λ key lt. omega (arith, kept_is key lt, numbers.upto key lt);
+        held = elim numbers.held [
+          | inl none ↦ inl none
+          | inr (key, lt, is) ↦ inr (key, lt, kept_is key lt ∙ is)
+        ];
       }
 
     pub are_taken : AreTakenCells (table_in written from) (table_in written to) sent sender receiver (cell cells to.nodes)

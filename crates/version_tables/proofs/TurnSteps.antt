@@ -15,7 +15,7 @@ use Rattle.planes.proofs.Sums.{sum_below-same, sum_below-plus}
 use Rattle.reconcile.specs.Order.{rotated}
 use Rattle.reconcile.proofs.Apart.{rotated-injective, rotated-is}
 use Rattle.version_tables.specs.declared.weights.Offer.{Offer}
-use Rattle.version_tables.specs.inner.Offered.{cells_in, marks, weights_in, IsOffer}
+use Rattle.version_tables.specs.inner.Offered.{cells_in, low_in, high_in, marks, weights_in, IsOffer}
 use Rattle.version_tables.specs.inner.Plans.{weight_on, count_on, AreFarther}
 use Rattle.version_tables.specs.inner.Shares.{lets_through}
 use Rattle.version_tables.specs.inner.Sharing.{AreShared}
@@ -162,13 +162,10 @@ module _ {N : Type 0} (number : N → ℕ) (most : ℕ) (offer : Offer N) (is : 
   cells = cells_in number offer
 
   abbrev low : ℕ → ℕ
-  low = marks number offer.low.now
-
-  abbrev high : ℕ → ℕ
-  high = marks number offer.high.now
+  low = low_in number offer
 
   abbrev through : Mode → (ℕ → ℕ → ℕ) → (ℕ → ℕ) → ℕ
-  through mode weights mark = weight_through mode weights cells offer.nodes offer.keys low high mark
+  through mode weights mark = weight_through mode weights cells offer.nodes offer.keys low (high_in number offer) mark
 
   weight-through : (mode : Mode) (mark : ℕ → ℕ) → weight_on mode number offer mark ≡ through mode (weights_in offer) mark
   weight-through ScuttleBreadth mark = refl
@@ -186,13 +183,13 @@ module _ {N : Type 0} (number : N → ℕ) (most : ℕ) (offer : Offer N) (is : 
     weight-changed : weight_on mode number offer next ≡ weight_on mode number offer mark + part_between mode (weights_in offer owner) cells offer.keys owner (mark owner) (next owner)
     weight-changed =
         weight-through mode next
-        ∙ through-changed (weights_in offer) cells offer.nodes offer.keys low high mark next owner in_nodes others mode (is.covered owner in_nodes) ordered
+        ∙ through-changed (weights_in offer) cells offer.nodes offer.keys low (high_in number offer) mark next owner in_nodes others mode (is.covered owner in_nodes) ordered
         ∙ ap (λ n. n + part_between mode (weights_in offer owner) cells offer.keys owner (mark owner) (next owner)) (sym (weight-through mode mark))
 
     count-changed : count_on mode number offer next ≡ count_on mode number offer mark + part_between mode (λ _. 1) cells offer.keys owner (mark owner) (next owner)
     count-changed =
         count-through mode next
-        ∙ through-changed one_each cells offer.nodes offer.keys low high mark next owner in_nodes others mode (is.covered owner in_nodes) ordered
+        ∙ through-changed one_each cells offer.nodes offer.keys low (high_in number offer) mark next owner in_nodes others mode (is.covered owner in_nodes) ordered
         ∙ ap (λ n. n + part_between mode (λ _. 1) cells offer.keys owner (mark owner) (next owner)) (sym (count-through mode mark))
 
   module _ (mode : Mode) (rotation : ℕ) (in_rotation : rotation < offer.nodes) (near far : ℕ → ℕ) (level : (r : ℕ) → r < offer.nodes → AreFarther mode (low r) (near r) (far r)) where
@@ -238,7 +235,7 @@ module _ {N : Type 0} (number : N → ℕ) (most : ℕ) (offer : Offer N) (is : 
             beyond,
             weight-through mode far,
             weight-through mode mark,
-            through-same (weights_in offer) cells offer.nodes offer.keys low high far mark mode (λ r lt. so_far.passed r lt (omega (arith, all, rotated-below r lt))),
+            through-same (weights_in offer) cells offer.nodes offer.keys low (high_in number offer) far mark mode (λ r lt. so_far.passed r lt (omega (arith, all, rotated-below r lt))),
           )
         where
           rotated-below : (r : ℕ) → r < offer.nodes → rotated offer.nodes rotation r < offer.nodes
@@ -321,10 +318,10 @@ part-few PreciseOldest cells keys owner near far = count_between-most cells keys
 part-few PreciseNewest cells keys owner near far = count_between-most cells keys owner far near
 
 pub count_on-few : {N : Type 0} (mode : Mode) (number : N → ℕ) (most : ℕ) (offer : Offer N) → IsOffer number most offer → (mark : ℕ → ℕ) → count_on mode number offer mark ≤ MOST_NODES * MOST_KEYS
-count_on-few ScuttleBreadth number most offer is mark = offer-few number most offer is (marks number offer.low.now) mark
-count_on-few ScuttleDepth number most offer is mark = offer-few number most offer is (marks number offer.low.now) mark
-count_on-few PreciseOldest number most offer is mark = offer-few number most offer is (marks number offer.low.now) mark
-count_on-few PreciseNewest number most offer is mark = offer-few number most offer is mark (marks number offer.high.now)
+count_on-few ScuttleBreadth number most offer is mark = offer-few number most offer is (low_in number offer) mark
+count_on-few ScuttleDepth number most offer is mark = offer-few number most offer is (low_in number offer) mark
+count_on-few PreciseOldest number most offer is mark = offer-few number most offer is (low_in number offer) mark
+count_on-few PreciseNewest number most offer is mark = offer-few number most offer is mark (high_in number offer)
 
 -- a part without numbers weighs nothing
 pub part-none : {N : Type 0} (offer : Offer N) (mode : Mode) (cells : Cells) (keys owner near far : ℕ) → part_between mode (λ _. 1) cells keys owner near far ≡ 0 → part_between mode (weights_in offer owner) cells keys owner near far ≡ 0

@@ -12,10 +12,9 @@ use Rattle.round_tables.specs.Histories.{BirthsRise}
 use Rattle.staleness.specs.Figures.{most_below, rounds_behind}
 use Rattle.version_tables.specs.inner.Missed.{base_of, number_staleness, IsMissed, IsLastNumber, NonePassUpto}
 use Rattle.version_tables.specs.inner.Pieces.{MayWalk, WalksFrom}
-use Rattle.version_tables.proofs.Offers.{write_from-at}
+use Rattle.version_tables.proofs.Offers.{write_from-at, numbers-born}
 use Rattle.version_tables.proofs.Numbers.{numbered-within}
 use Rattle.version_tables.proofs.Missed.{missed_cases}
-use Rattle.version_tables.proofs.Lagging.{born-by_number}
 
 most_below-le : (f : ℕ → ℕ) (m x : ℕ) → ((k : ℕ) → k < m → f k ≤ x) → most_below m f ≤ x
 most_below-le f zero x le = omega arith
@@ -86,7 +85,7 @@ module _ (v : OwnerListView) (least : ℕ → ℕ) where
           | inl nothing ↦ omega (arith, ap rounds_behind nothing.1)
           | inr found ↦
               let missed = found.1.1.0.missed in
-              omega (arith, ap rounds_behind found.1.1.1, born-by_number all rise (place + 1) found.0 e found.1.0 is missed.written (behind k found.0 found.1.0 missed))
+              omega (arith, ap rounds_behind found.1.1.1, numbers-born all rise (place + 1) found.0 e found.1.0 is missed.written (behind k found.0 found.1.0 missed))
         ]
 
         itself : IsMissed v e.key (least e.key) (place + 1) e

@@ -10,7 +10,7 @@ use Rattle.planes.specs.Planes.{Cells, count_between, HasNoneAbove}
 use Rattle.planes.specs.Sums.{sum_below}
 use Rattle.planes.proofs.Sums.{sum_below-same, sum_below-le, sum_below-plus}
 use Rattle.version_tables.specs.inner.Weights.{number_share, share_or_none, weight_of, weight_between, count_all_between}
-use Rattle.version_tables.proofs.Columns.{where_true, sum_below-none}
+use Rattle.version_tables.proofs.Columns.{where_true, where_none, sum_below-none}
 
 -- the write of a number within the list
 pub write-there : (writes : List Entry) (number : ℕ) → 0 < number → number ≤ length writes → (e : Entry) × (write_numbered writes number ≡ Some e)
@@ -34,11 +34,7 @@ module _ (weight : ℕ → ℕ) (low high number : ℕ) where
   part-low le = ap (λ b. where_true b (where_true (leb number high) (weight number))) (le-ltb low number le)
 
   pub part-high : high < number → part weight low high number ≡ 0
-  part-high lt = ap (λ b. where_true (ltb low number) (where_true b (weight number))) (lt-leb number high lt) ∙ none (ltb low number)
-    where
-      none : (b : Bool) → where_true b 0 ≡ 0
-      none true = refl
-      none false = refl
+  part-high lt = ap (λ b. where_true (ltb low number) (where_true b (weight number))) (lt-leb number high lt) ∙ where_none (ltb low number)
 
   -- a number is in between, or adds nothing
   pub part-cases : ((low < number) × (number ≤ high) × (part weight low high number ≡ weight number)) ⊎ (part weight low high number ≡ 0)

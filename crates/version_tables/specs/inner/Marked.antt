@@ -9,7 +9,7 @@ use Rattle.owner_lists.specs.OwnerListView.{all_writes}
 use Rattle.planes.specs.Planes.{Cells, cell}
 use Rattle.version_tables.specs.Views.{VersionTableView}
 use Rattle.version_tables.specs.declared.weights.Offer.{Offer}
-use Rattle.version_tables.specs.inner.Offered.{cells_in, marks, count_in}
+use Rattle.version_tables.specs.inner.Offered.{cells_in, low_in, high_in, count_in}
 use Rattle.version_tables.specs.inner.Offers.{offered_by}
 use Rattle.version_tables.specs.inner.Plans.{weight_on, count_on}
 use Rattle.version_tables.specs.inner.Shares.{lets_through, IsLayerMark, IsRunMark, IsRoundMark}
@@ -37,12 +37,12 @@ HasShape PreciseNewest lists cells nodes keys low near far =
 abbrev pub HasShapeIn : {N : Type 0} → Mode → (N → ℕ) → Offer N → (ℕ → ℕ) → (ℕ → ℕ) → Type 0
 HasShapeIn mode number offer near far =
     HasShape mode (all_writes offer.lists.now) (cells_in number offer) offer.nodes offer.keys
-    (marks number offer.low.now) near far
+    (low_in number offer) near far
 
 -- marks that let all through, which fits
 pub record LetAll {N : Type 0} (mode : Mode) (number : N → ℕ) (offer : Offer N) (mark : ℕ → ℕ) : Type 0 where
   pub all : (owner key : ℕ) → owner < offer.nodes → key < offer.keys
-      → marks number offer.low.now owner < cells_in number offer owner key
+      → low_in number offer owner < cells_in number offer owner key
       → lets_through mode (mark owner) (cells_in number offer owner key) ≡ true
   pub within : weight_on mode number offer mark ≤ amount_of offer.budget
 
@@ -66,9 +66,9 @@ KeepsLow PreciseNewest nodes low mark = (r : ℕ) → r < nodes → low r ≤ ma
 -- marks of what is sent, so many numbers, and so many are cut
 pub record AreMarked {N : Type 0} (mode : Mode) (rotation : ℕ) (number : N → ℕ) (offer : Offer N) (mark : ℕ → ℕ)
     (sent cut : ℕ) : Type 0 where
-  pub above : KeepsLow mode offer.nodes (marks number offer.low.now) mark
+  pub above : KeepsLow mode offer.nodes (low_in number offer) mark
   pub count : sent ≡ count_on mode number offer mark
-  pub left : sent + cut ≡ count_in number offer (marks number offer.low.now) (marks number offer.high.now)
+  pub left : sent + cut ≡ count_in number offer (low_in number offer) (high_in number offer)
   pub how : LetAll mode number offer mark ⊎ ShareLevel mode rotation number offer mark sent
 
 -- the marks that let all through: the high ones, or in `PreciseNewest` the low ones

@@ -11,6 +11,13 @@ use Rattle.version_tables.specs.inner.Weights.{number_shares, weight_between, co
 abbrev pub marks : {N : Type 0} → (N → ℕ) → List N → ℕ → ℕ
 marks number xs owner = slice_index (map number xs) owner
 
+-- the marks above which numbers are offered, and those up to which they are
+abbrev pub low_in : {N : Type 0} → (N → ℕ) → Offer N → ℕ → ℕ
+low_in number offer = marks number offer.low.now
+
+abbrev pub high_in : {N : Type 0} → (N → ℕ) → Offer N → ℕ → ℕ
+high_in number offer = marks number offer.high.now
+
 abbrev pub cells_in : {N : Type 0} → (N → ℕ) → Offer N → Cells
 cells_in number offer = cell (map number offer.cells.now) offer.nodes
 
@@ -28,7 +35,7 @@ count_in number offer = count_all_between (cells_in number offer) offer.nodes of
 -- how many of an owner's numbers are above its mark
 abbrev pub owner_count_in : {N : Type 0} → (N → ℕ) → Offer N → ℕ → ℕ
 owner_count_in number offer owner =
-    count_above (cells_in number offer) offer.keys owner (marks number offer.low.now owner)
+    count_above (cells_in number offer) offer.keys owner (low_in number offer owner)
 
 -- each cell has the number of a write, or 0; those of an owner differ, and none is above its high mark
 pub record IsOffer {N : Type 0} (number : N → ℕ) (most : ℕ) (offer : Offer N) : Type 0 where
@@ -41,14 +48,14 @@ pub record IsOffer {N : Type 0} (number : N → ℕ) (most : ℕ) (offer : Offer
   pub below : (owner key : ℕ) → owner < offer.nodes → key < offer.keys → cells_in number offer owner key < most
   pub differ : (owner : ℕ) → owner < offer.nodes → NumbersDiffer (cells_in number offer) offer.keys owner
   pub covered : (owner : ℕ) → owner < offer.nodes
-      → HasNoneAbove (cells_in number offer) offer.keys owner (marks number offer.high.now owner)
+      → HasNoneAbove (cells_in number offer) offer.keys owner (high_in number offer owner)
 
 -- so many numbers are offered
 abbrev pub IsFound : {N : Type 0} → (N → ℕ) → Offer N → ℕ → Type 0
-IsFound number offer found = found ≡ count_in number offer (marks number offer.low.now) (marks number offer.high.now)
+IsFound number offer found = found ≡ count_in number offer (low_in number offer) (high_in number offer)
 
 -- an offer that weighs more than the budget
 pub record IsTooLarge {N : Type 0} (number : N → ℕ) (most : ℕ) (offer : Offer N) : Type 0 where
   pub is_offer : IsOffer number most offer
   pub beyond : amount_of offer.budget
-      < weight_in number offer (marks number offer.low.now) (marks number offer.high.now)
+      < weight_in number offer (low_in number offer) (high_in number offer)

@@ -9,7 +9,7 @@ use Rattle.planes.specs.Sums.{sum_below}
 use Rattle.version_tables.specs.declared.weights.Offer.{Offer}
 use Rattle.version_tables.specs.declared.weights.Level.{Level}
 use Rattle.version_tables.specs.declared.weights.Step.{Step}
-use Rattle.version_tables.specs.inner.Offered.{cells_in, owner_count_in, marks, weight_in, count_in}
+use Rattle.version_tables.specs.inner.Offered.{cells_in, low_in, high_in, owner_count_in, marks, weight_in, count_in}
 use Rattle.version_tables.specs.inner.Shares.{IsLayerMark, IsRunMark}
 
 -- a mark goes on to the owner's next number, or stays where there is none
@@ -23,16 +23,16 @@ raised nodes mark next = sum_below nodes (λ owner. if nat_lt (mark owner) (next
 
 -- what marks let through: what is up to them, or in `PreciseNewest` above them
 abbrev pub weight_on : {N : Type 0} → Mode → (N → ℕ) → Offer N → (ℕ → ℕ) → ℕ
-weight_on ScuttleBreadth number offer mark = weight_in number offer (marks number offer.low.now) mark
-weight_on ScuttleDepth number offer mark = weight_in number offer (marks number offer.low.now) mark
-weight_on PreciseOldest number offer mark = weight_in number offer (marks number offer.low.now) mark
-weight_on PreciseNewest number offer mark = weight_in number offer mark (marks number offer.high.now)
+weight_on ScuttleBreadth number offer mark = weight_in number offer (low_in number offer) mark
+weight_on ScuttleDepth number offer mark = weight_in number offer (low_in number offer) mark
+weight_on PreciseOldest number offer mark = weight_in number offer (low_in number offer) mark
+weight_on PreciseNewest number offer mark = weight_in number offer mark (high_in number offer)
 
 abbrev pub count_on : {N : Type 0} → Mode → (N → ℕ) → Offer N → (ℕ → ℕ) → ℕ
-count_on ScuttleBreadth number offer mark = count_in number offer (marks number offer.low.now) mark
-count_on ScuttleDepth number offer mark = count_in number offer (marks number offer.low.now) mark
-count_on PreciseOldest number offer mark = count_in number offer (marks number offer.low.now) mark
-count_on PreciseNewest number offer mark = count_in number offer mark (marks number offer.high.now)
+count_on ScuttleBreadth number offer mark = count_in number offer (low_in number offer) mark
+count_on ScuttleDepth number offer mark = count_in number offer (low_in number offer) mark
+count_on PreciseOldest number offer mark = count_in number offer (low_in number offer) mark
+count_on PreciseNewest number offer mark = count_in number offer mark (high_in number offer)
 
 -- far marks let through all that near marks do
 abbrev pub AreFarther : Mode → ℕ → ℕ → ℕ → Type 0
@@ -46,7 +46,7 @@ pub record IsLevel {N : Type 0} (mode : Mode) (number : N → ℕ) (offer : Offe
   pub near : length level.near.items ≡ offer.nodes
   pub far : length level.far.items ≡ offer.nodes
   pub farther : (owner : ℕ) → owner < offer.nodes
-      → AreFarther mode (marks number offer.low.now owner) (marks number level.near.items owner)
+      → AreFarther mode (low_in number offer owner) (marks number level.near.items owner)
       (marks number level.far.items owner)
   pub whole : level.whole ≡ count_on mode number offer (marks number level.near.items)
   pub within : weight_on mode number offer (marks number level.near.items) ≤ amount_of offer.budget
@@ -56,20 +56,20 @@ pub record IsLevel {N : Type 0} (mode : Mode) (number : N → ℕ) (offer : Offe
 pub record AreLayers {N : Type 0} (number : N → ℕ) (offer : Offer N) (level : Level N) : Type 0 where
   pub layers : ℕ
   pub near : (owner : ℕ) → owner < offer.nodes
-      → IsLayerMark (cells_in number offer) offer.keys owner (marks number offer.low.now owner) layers
+      → IsLayerMark (cells_in number offer) offer.keys owner (low_in number offer owner) layers
       (marks number level.near.items owner)
   pub far : (owner : ℕ) → owner < offer.nodes
-      → IsLayerMark (cells_in number offer) offer.keys owner (marks number offer.low.now owner) (layers + 1)
+      → IsLayerMark (cells_in number offer) offer.keys owner (low_in number offer owner) (layers + 1)
       (marks number level.far.items owner)
 
 -- near marks let through the runs that are longer than one length, and far marks those of that length too
 pub record AreRuns {N : Type 0} (number : N → ℕ) (offer : Offer N) (level : Level N) : Type 0 where
   pub size : ℕ
   pub near : (owner : ℕ) → owner < offer.nodes
-      → IsRunMark (cells_in number offer) offer.keys owner (marks number offer.low.now owner) (size + 1)
+      → IsRunMark (cells_in number offer) offer.keys owner (low_in number offer owner) (size + 1)
       (marks number level.near.items owner)
   pub far : (owner : ℕ) → owner < offer.nodes
-      → IsRunMark (cells_in number offer) offer.keys owner (marks number offer.low.now owner) size
+      → IsRunMark (cells_in number offer) offer.keys owner (low_in number offer owner) size
       (marks number level.far.items owner)
 
 -- layers as far as they were gone over: the first fit, and the next is known
@@ -77,17 +77,24 @@ pub record AreLayersSoFar {N : Type 0} (number : N → ℕ) (offer : Offer N) (n
     (count added : ℕ) : Type 0 where
   pub layers : ℕ
   pub layered : (owner : ℕ) → owner < offer.nodes
-      → IsLayerMark (cells_in number offer) offer.keys owner (marks number offer.low.now owner) layers (near owner)
+      → IsLayerMark (cells_in number offer) offer.keys owner (low_in number offer owner) layers (near owner)
   pub next : (owner : ℕ) → owner < offer.nodes
       → IsNextMark (cells_in number offer) offer.keys owner (near owner) (far owner)
   pub more : added ≡ raised offer.nodes near far
-  pub whole : count ≡ count_in number offer (marks number offer.low.now) near
-  pub within : weight_in number offer (marks number offer.low.now) near ≤ amount_of offer.budget
+  pub whole : count ≡ count_in number offer (low_in number offer) near
+  pub within : weight_in number offer (low_in number offer) near ≤ amount_of offer.budget
 
 -- a mark that goes all the way for owners that have so many numbers, and for others not at all
 pub record IsMarkFrom (count low high size mark : ℕ) : Type 0 where
   pub all : size ≤ count → mark ≡ high
   pub none : count < size → mark ≡ low
+
+-- and so each owner's
+abbrev pub AreMarksFrom : {N : Type 0} → (N → ℕ) → Offer N → ℕ → (ℕ → ℕ) → Type 0
+AreMarksFrom number offer size mark =
+    (owner : ℕ) → owner < offer.nodes
+    → IsMarkFrom (owner_count_in number offer owner) (low_in number offer owner) (high_in number offer owner) size
+    (mark owner)
 
 -- all numbers of the owners that have so many are added
 pub record AreNextRuns {N : Type 0} (number : N → ℕ) (offer : Offer N) (near : ℕ → ℕ) (size : ℕ)
@@ -95,19 +102,15 @@ pub record AreNextRuns {N : Type 0} (number : N → ℕ) (offer : Offer N) (near
   pub count : length step.marks.items ≡ offer.nodes
   pub marked : (owner : ℕ) → owner < offer.nodes
       → marks number step.marks.items owner ≡ (if nat_eq (owner_count_in number offer owner) size
-      then marks number offer.high.now owner else near owner)
+      then high_in number offer owner else near owner)
   pub more : step.more ≡ sum_below offer.nodes
       (λ owner. if nat_eq (owner_count_in number offer owner) size then 1 else 0) * size
 
 -- runs as far as they were gone over: the longer ones fit, and those of this size are next
 pub record AreRunsSoFar {N : Type 0} (number : N → ℕ) (offer : Offer N) (near far : ℕ → ℕ)
     (size count added : ℕ) : Type 0 where
-  pub longer : (owner : ℕ) → owner < offer.nodes
-      → IsMarkFrom (owner_count_in number offer owner) (marks number offer.low.now owner)
-      (marks number offer.high.now owner) (size + 1) (near owner)
-  pub next : (owner : ℕ) → owner < offer.nodes
-      → IsMarkFrom (owner_count_in number offer owner) (marks number offer.low.now owner)
-      (marks number offer.high.now owner) size (far owner)
-  pub whole : count ≡ count_in number offer (marks number offer.low.now) near
-  pub more : count + added ≡ count_in number offer (marks number offer.low.now) far
-  pub within : weight_in number offer (marks number offer.low.now) near ≤ amount_of offer.budget
+  pub longer : AreMarksFrom number offer (size + 1) near
+  pub next : AreMarksFrom number offer size far
+  pub whole : count ≡ count_in number offer (low_in number offer) near
+  pub more : count + added ≡ count_in number offer (low_in number offer) far
+  pub within : weight_in number offer (low_in number offer) near ≤ amount_of offer.budget

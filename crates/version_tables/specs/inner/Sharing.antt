@@ -5,7 +5,7 @@ use Rattle.bench_types.specs.Budget.{amount_of}
 use Rattle.reconcile.specs.Order.{rotated}
 use Rattle.version_tables.specs.declared.weights.Offer.{Offer}
 use Rattle.version_tables.specs.inner.Levels.{comes_first}
-use Rattle.version_tables.specs.inner.Offered.{cells_in, marks, weights_in}
+use Rattle.version_tables.specs.inner.Offered.{cells_in, low_in, weights_in}
 use Rattle.version_tables.specs.inner.Plans.{weight_on, count_on}
 use Rattle.version_tables.specs.inner.Shares.{lets_through}
 
@@ -17,17 +17,17 @@ pub record AreShared {N : Type 0} (mode : Mode) (rotation : ℕ) (number : N →
   pub key : ℕ
   pub owner_below : owner < offer.nodes
   pub key_below : key < offer.keys
-  pub offered : marks number offer.low.now owner < cells_in number offer owner key
+  pub offered : low_in number offer owner < cells_in number offer owner key
   pub outside : lets_through mode (near owner) (cells_in number offer owner key) ≡ false
   pub inside : lets_through mode (far owner) (cells_in number offer owner key) ≡ true
   pub passed : (r : ℕ) → r < offer.nodes
       → rotated offer.nodes rotation r < rotated offer.nodes rotation owner → mark r ≡ far r
   pub waiting : (r : ℕ) → r < offer.nodes
       → rotated offer.nodes rotation owner < rotated offer.nodes rotation r → mark r ≡ near r
-  pub own : (k : ℕ) → k < offer.keys → marks number offer.low.now owner < cells_in number offer owner k
+  pub own : (k : ℕ) → k < offer.keys → low_in number offer owner < cells_in number offer owner k
       → lets_through mode (mark owner) (cells_in number offer owner k)
       ≡ comes_first mode (cells_in number offer owner k) (cells_in number offer owner key)
-  pub above : (r : ℕ) → r < offer.nodes → marks number offer.low.now r ≤ mark r
+  pub above : (r : ℕ) → r < offer.nodes → low_in number offer r ≤ mark r
   pub count : sent ≡ count_on mode number offer mark
   pub within : weight_on mode number offer mark ≤ amount_of offer.budget
   pub beyond : amount_of offer.budget

@@ -28,6 +28,18 @@ last_fate lost = if lost then fate.Lost3 else fate.Ok
 abbrev pub fate_of : Exchange → Fate
 fate_of e = if e.lost1 then fate.Lost1 else (if e.lost2 then fate.Lost2 else last_fate e.lost3)
 
+-- both deltas were sent
+abbrev pub both_sent : Fate → ℕ → ℕ → DeltaView → DeltaView → Record
+both_sent fate d1 d2 b f = record {
+  digest1 = d1;
+  digest2 = d2;
+  back = length b.items;
+  forth = length f.items;
+  back_cut = b.cut;
+  forth_cut = f.cut;
+  fate = fate;
+}
+
 -- what was sent up to the first lost message
 abbrev pub sent_until : Fate → ℕ → ℕ → DeltaView → DeltaView → Record
 sent_until fate.Lost1 d1 d2 b f = record {
@@ -48,24 +60,8 @@ sent_until fate.Lost2 d1 d2 b f = record {
   forth_cut = 0;
   fate = fate.Lost2;
 }
-sent_until fate.Lost3 d1 d2 b f = record {
-  digest1 = d1;
-  digest2 = d2;
-  back = length b.items;
-  forth = length f.items;
-  back_cut = b.cut;
-  forth_cut = f.cut;
-  fate = fate.Lost3;
-}
-sent_until fate.Ok d1 d2 b f = record {
-  digest1 = d1;
-  digest2 = d2;
-  back = length b.items;
-  forth = length f.items;
-  back_cut = b.cut;
-  forth_cut = f.cut;
-  fate = fate.Ok;
-}
+sent_until fate.Lost3 d1 d2 b f = both_sent fate.Lost3 d1 d2 b f
+sent_until fate.Ok d1 d2 b f = both_sent fate.Ok d1 d2 b f
 
 -- the initiator changes where the second message came
 abbrev pub initiator_after : Fate → Table → DeltaView → Table

@@ -23,6 +23,7 @@ use crate::histories::Histories;
 use crate::tables::{VersionTable, Written};
 use crate::taking::take_unless;
 use bench_types::{Exchange, Fate, Fault, Record, Rules};
+use exchange::sent_before_an_answer;
 use owner_lists::OwnerList;
 use planes::Number;
 use std::alloc::Global;
@@ -166,21 +167,6 @@ fn take_both<N: Number, H: Written>(
         lists,
     );
     Ok(())
-}
-
-// The record where the first message was lost.
-fn sent_before_an_answer(digest1: u32) -> Record
-    ensures { (size2 : ℕ) (back forth : DeltaView) → result ≡ sent_until fate.Lost1 digest1 size2 back forth }
-{
-    Record {
-        digest1,
-        digest2: 0,
-        back: 0,
-        forth: 0,
-        back_cut: 0,
-        forth_cut: 0,
-        fate: Fate::Lost1,
-    }
 }
 
 // The record where the second message was lost.

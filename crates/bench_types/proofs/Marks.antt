@@ -1,6 +1,6 @@
 -- Marks are in a total order, and the later of two comes behind neither.
 -- Serves the crates above.
-use Rattle.std.proofs.Common.{◌≡◌, ◌≤◌, true, false, eqb, ◌||◌, ◌&&◌, Option, Some, None, cond, if◌then◌else◌, ◌⊎◌, inl, inr, refl, sym, ap, ◌∙◌, subst, arith}
+use Rattle.std.proofs.Common.{◌≡◌, ℕ, ◌+◌, ◌≤◌, true, false, eqb, ◌||◌, ◌&&◌, Option, Some, None, cond, if◌then◌else◌, ◌⊎◌, inl, inr, refl, sym, ap, ◌∙◌, subst, arith}
 use Rattle.std.specs.Prelude.{nat_lt}
 use Rattle.std.proofs.lemmas.Bool.{cases_lt, cases_eq, lt-ltb, le-ltb, eq-eqb, ne_eqb, both_ways}
 use Rattle.bench_types.specs.declared.entries.Entry.{Entry}
@@ -45,28 +45,28 @@ before-no m n up = elim (cases_before m n) [ inl is_so ↦ absurd (not_both m n 
 pub up_to-itself : (m : Mark) → IsUpTo m m
 up_to-itself m = record { generation = omega arith; version = λ _. omega arith }
 
--- what lies between two of one generation is of it too
-between : (l m n : Mark) → l.generation ≤ m.generation → m.generation ≤ n.generation → l.generation ≡ n.generation → (l.generation ≡ m.generation) × (m.generation ≡ n.generation)
-between l m n first second same = (omega arith, omega arith)
+-- what is up to a mark that stands so many versions below another stands so many below it as well
+below-by : (l m n : Mark) (versions : ℕ) → IsUpTo l m → m.generation ≤ n.generation → (m.generation ≡ n.generation → m.version + versions ≤ n.version) → (l.generation ≤ n.generation) × (l.generation ≡ n.generation → l.version + versions ≤ n.version)
+below-by l m n versions first generation version = (
+  omega (arith, first.generation, generation),
+  λ same.
+      let first_same : l.generation ≡ m.generation = omega (arith, first.generation, generation, same) in
+      let second_same : m.generation ≡ n.generation = omega (arith, first.generation, generation, same) in
+      omega (arith, first.version first_same, version second_same),
+)
 
 pub up_to-then : (l m n : Mark) → IsUpTo l m → IsUpTo m n → IsUpTo l n
-up_to-then l m n first second = record {
-  generation = omega (arith, first.generation, second.generation);
-  version = λ same.
-      let both = between l m n first.generation second.generation same in
-      omega (arith, first.version both.0, second.version both.1);
-}
+up_to-then l m n first second =
+    let below = below-by l m n 0 first second.generation (λ same. omega (arith, second.version same)) in
+    record { generation = below.0; version = λ same. omega (arith, below.1 same) }
 
 pub before-up_to : (m n : Mark) → IsBefore m n → IsUpTo m n
 before-up_to m n is = record { generation = is.generation; version = λ same. omega (arith, is.version same) }
 
 pub up_to-before : (l m n : Mark) → IsUpTo l m → IsBefore m n → IsBefore l n
-up_to-before l m n first second = record {
-  generation = omega (arith, first.generation, second.generation);
-  version = λ same.
-      let both = between l m n first.generation second.generation same in
-      omega (arith, first.version both.0, second.version both.1);
-}
+up_to-before l m n first second =
+    let below = below-by l m n 1 first second.generation (λ same. omega (arith, second.version same)) in
+    record { generation = below.0; version = λ same. omega (arith, below.1 same) }
 
 pub absent-first : (m : Mark) → IsUpTo absent m
 absent-first m = record { generation = omega arith; version = λ _. omega arith }

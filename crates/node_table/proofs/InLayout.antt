@@ -1,5 +1,5 @@
 -- The table that lies in memory: its look-ups, its rows, its count, and that it is proper.
--- Serves the functions of `layouts`, `rows` and `tables`, `Flags` and `Forgotten`.
+-- Serves the functions of `layouts`, `rows` and `tables`, `Flags`, `Forgotten` and `Opened`.
 use Rattle.std.proofs.Common.{◌≡◌, ◌≢◌, ℕ, zero, suc, ◌+◌, ◌-◌, ◌<◌, ◌≤◌, cond, ◌==◌, true, false, List, [], ◌∷◌, length, get_or, drop, Some, None, inl, inr, refl, sym, ap, ◌∙◌, subst, arith}
 use Rattle.std.specs.Prelude.{sum_by}
 use Rattle.std.specs.List.{AllPairs, Contains}
@@ -21,7 +21,7 @@ use Rattle.node_table.proofs.Greatest.{greatest_mark-none, place_less}
 use Rattle.node_table.proofs.Laws.{same_table, entry_at-taken_other, entry_at-taken_newer, frame-taken}
 use Rattle.node_table.proofs.InRow.{rank_place, absent_from_end}
 use Rattle.node_table.proofs.InRows.{get-held_by_lists, len-held_by_lists, held_by_lists-put, entry_in-none}
-use Rattle.node_table.proofs.Laid.{row_at-get_or, row_at-past, total-rows, length-entries_in_row}
+use Rattle.node_table.proofs.Laid.{entries_in_row-empty, row_at-get_or, row_at-past, total-rows, length-entries_in_row}
 
 -- the entry of a key is the first that has it
 pub entry_in-at : (row : List Entry) (index key : ℕ) (d : Entry) → index < length row → (get_or row index d).key ≡ key → ((k : ℕ) → k < index → (get_or row k d).key ≢ key) → entry_in row key ≡ Some (get_or row index d)
@@ -54,7 +54,7 @@ pub entry_at-in : (l : Layout) (owner key : ℕ) → entry_at (table_laid l) own
 entry_at-in l owner key = get-held_by_lists (rows_of l.slots.items l.rows.items) owner key
 
 -- of an owner without a row nothing is held
-nothing_held : (l : Layout) (owner : ℕ) → row_at l.slots.items l.rows.items owner ≡ [] → greatest_mark (table_laid l) owner ≡ absent
+pub nothing_held : (l : Layout) (owner : ℕ) → row_at l.slots.items l.rows.items owner ≡ [] → greatest_mark (table_laid l) owner ≡ absent
 nothing_held l owner empty = greatest_mark-none (table_laid l) owner (λ key lt. entry_at-in l owner key ∙ ap (λ row. entry_in row key) empty)
 
 -- an owner with a version has a row
@@ -63,6 +63,12 @@ some_held l owner some = elim (cases_lt 0 (length (row_at l.slots.items l.rows.i
   | inl held ↦ held
   | inr none ↦ absurd (omega (arith, ap (λ (m : Mark). m.version) (nothing_held l owner (nil_from_length _ (omega arith)))))
 ]
+
+-- and one whose row is empty has none
+pub none_held : (l : Layout) (owner : ℕ) (r : Row) → owner < length l.rows.items → r ≡ get_or l.rows.items owner r → r.len ≡ 0 → greatest_version (table_laid l) owner ≡ 0
+none_held l owner r lt read empty =
+    let no_row = row_at-get_or l.slots.items l.rows.items owner r lt ∙ ap (entries_in_row l.slots.items) (sym read) ∙ entries_in_row-empty l.slots.items r empty in
+    ap (λ (m : Mark). m.version) (nothing_held l owner no_row)
 
 module _ (l : Layout) (sound : IsLayout l) where
   pub is_row : (owner : ℕ) → owner < l.nodes → IsRow l.keys (row_at l.slots.items l.rows.items owner)

@@ -3,11 +3,13 @@
 use Rattle.std.proofs.Common.{◌≡◌, ◌≢◌, ℕ, suc, ◌+◌, ◌<◌, ◌≤◌, cond, List, [], ◌∷◌, length, get_or, set, take, drop, Some, None, All, ◌⊎◌, inl, inr, refl, sym, ap, ◌∙◌, subst, arith}
 use Rattle.std.specs.Prelude.{sum_by}
 use Rattle.std.specs.List.{AllPairs}
+use Rattle.std.proofs.Math.Nat.{mul-le-mul_right, mul-le-mul_left}
 use Rattle.std.proofs.lemmas.Bool.{cases_lt, cases_eq, eq-eqb, ne_eqb}
 use Rattle.std.proofs.lemmas.List.{length-take-le, length-drop, length-map, length-set, get_or-map, get_or_past, get_or-set_same, get_or-set_other}
 use Rattle.std.proofs.lemmas.List.Elements.{All-head, All-tail}
 use Rattle.std.proofs.lemmas.List.Sums.{sum_by-cons, sum_by-set, sum_by-le}
 use Rattle.bench_types.specs.declared.entries.Entry.{Entry}
+use Rattle.bench_types.specs.declared.limits.TheConstants.{MOST_NODES, MOST_KEYS}
 use Rattle.node_table.specs.declared.layouts.Row.{Row}
 use Rattle.node_table.specs.inner.Layouts.{entries_in_row, rows_of, row_at, row_len, block_len, IsRow, IsInSlots, AreApart, AreLaid, IsPut, IsPlaced, IsRenewed, KeepOutside}
 use Rattle.node_table.proofs.InRow.{row_fits}
@@ -35,6 +37,11 @@ total-rows keys slots (r ∷ rs) each =
 
 pub total-le : (keys : ℕ) (slots : List Entry) (rows : List Row) → All (IsInSlots keys slots) rows → sum_by row_len rows ≤ Rattle.std.proofs.Common.◌*◌ (length rows) keys
 total-le keys slots rows each = sum_by-le row_len keys rows (λ k d lt. len-le-keys keys slots (get_or rows k d) (each k d lt))
+
+-- so no more than the limits let through
+pub total-most : (nodes keys : ℕ) (slots : List Entry) (rows : List Row) → AreLaid nodes keys slots rows → nodes ≤ MOST_NODES → keys ≤ MOST_KEYS → sum_by row_len rows ≤ Rattle.std.proofs.Common.◌*◌ MOST_NODES MOST_KEYS
+total-most nodes keys slots rows laid few_nodes few_keys =
+    omega (arith, total-le keys slots rows laid.each, ap (λ n. Rattle.std.proofs.Common.◌*◌ n keys) laid.as_many, mul-le-mul_right keys few_nodes, mul-le-mul_left MOST_NODES few_keys)
 
 -- there are no more slots than keys of all nodes
 pub slots-le : (nodes keys : ℕ) (slots : List Entry) (rows : List Row) → AreLaid nodes keys slots rows → length slots ≤ Rattle.std.proofs.Common.◌*◌ nodes keys

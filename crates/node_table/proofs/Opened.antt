@@ -1,14 +1,24 @@
 -- A block that is laid behind the others for an owner's first entry.
--- Serves `open` and `place_alone`.
-use Rattle.std.proofs.Common.{◌≡◌, ◌≢◌, ℕ, ◌+◌, ◌<◌, ◌≤◌, cond, List, [], ◌∷◌, ◌++◌, length, get_or, set, replicate, Some, None, inl, refl, sym, ap, ◌∙◌, subst, arith, length-append}
-use Rattle.std.proofs.lemmas.Bool.{eq-eqb, ne_eqb}
+-- Serves `Layout::put_first`, `Layout::renew` and `open`.
+use Rattle.std.proofs.Common.{◌≡◌, ◌≢◌, ℕ, ◌+◌, ◌<◌, ◌≤◌, cond, List, [], ◌∷◌, ◌++◌, length, get_or, set, replicate, Option, Some, None, inl, inr, refl, sym, ap, ◌∙◌, subst, arith, length-append}
+use Rattle.std.proofs.lemmas.Bool.{cases_lt, eq-eqb, ne_eqb}
 use Rattle.std.proofs.lemmas.List.{length-replicate}
 use Rattle.std.proofs.lemmas.List.Elements.{All-cons, All-nil}
 use Rattle.bench_types.specs.declared.entries.Entry.{Entry}
+use Rattle.bench_types.specs.declared.entries.Item.{Item}
+use Rattle.bench_types.specs.declared.entries.Mark.{Mark}
+use Rattle.bench_types.specs.Mark.{absent, mark_of, mark_held, later}
+use Rattle.bench_types.proofs.Marks.{later-second}
+use Rattle.node_table.specs.declared.layouts.Layout.{Layout}
 use Rattle.node_table.specs.declared.layouts.Row.{Row}
-use Rattle.node_table.specs.inner.Layouts.{entries_in_row, row_at, block_len, IsRow, IsInSlots, AreApart, AreLaid, IsPut, IsPlaced, IsRenewed}
+use Rattle.node_table.specs.Held.{held_by_lists}
+use Rattle.node_table.specs.Table.{Table, mark_at, greatest_mark, generation_held, greatest_version, taken, IsProper, IsItemInPlace}
+use Rattle.node_table.specs.inner.Layouts.{entries_in_row, entry_in, rows_of, row_at, table_laid, block_len, IsRow, IsInSlots, AreApart, AreLaid, IsPut, IsPlaced, IsRenewed}
 use Rattle.node_table.proofs.Blocks.{take-behind, take-new}
+use Rattle.node_table.proofs.InLayout.{entry_at-in, nothing_held, table_placed, table_renewed}
 use Rattle.node_table.proofs.Laid.{laid_after, renewed_after, block_len-some, block_len-none}
+use Rattle.node_table.proofs.MarkLaws.{greatest_mark-taken}
+use Rattle.node_table.proofs.Taking.{taken_put}
 
 -- a row of one entry
 pub one_row : (keys : ℕ) (entry : Entry) → entry.key < keys → 1 ≤ entry.version → IsRow keys (entry ∷ [])
@@ -67,3 +77,29 @@ module _ (nodes keys : ℕ) (slots : List Entry) (rows : List Row) (owner : ℕ)
 
   pub renewed_open : IsRenewed owner entry slots slots' rows (set rows owner opened)
   renewed_open = renewed_after nodes keys slots slots' rows owner r opened laid lt is (omega (arith, len_is)) lies kept apart filled entry row_is
+
+-- an item of an owner of whom nothing is held
+module _ (l : Layout) (item : Item) (empty : row_at l.slots.items l.rows.items item.owner ≡ []) (proper : IsProper (table_laid l)) (in_place : IsItemInPlace l.nodes l.keys item) where
+  no_mark : greatest_mark (table_laid l) item.owner ≡ absent
+  no_mark = nothing_held l item.owner empty
+
+  pub generation_first : generation_held (table_laid l) item.owner ≡ 0
+  generation_first = ap (λ (m : Mark). m.generation) no_mark
+
+  version_before : (mark_at (table_laid l) item.owner item.entry.key).version ≡ 0
+  version_before = ap (λ (o : Option Entry). (mark_held o).version) (entry_at-in l item.owner item.entry.key ∙ ap (λ row. entry_in row item.entry.key) empty)
+
+  -- what its entry, which became the owner's row, makes of the table
+  pub table_first : (slots' : List Entry) (rows' : List Row) → IsRenewed item.owner item.entry l.slots.items slots' l.rows.items rows' → ◌≡◌ {A = Table} (record { node = l.node; nodes = l.nodes; keys = l.keys; generation = l.generation; held = held_by_lists (rows_of slots' rows') }) (taken (table_laid l) item)
+  table_first slots' rows' renewed = elim (cases_lt 0 item.entry.generation) [
+    | inl newer ↦ table_renewed l slots' rows' item (omega (arith, newer, generation_first)) renewed
+    | inr same ↦
+        table_placed l slots' rows' item.owner item.entry (placed_renewed l.keys item.owner item.entry l.slots.items slots' l.rows.items rows' empty in_place.key_below in_place.written renewed)
+        ∙ sym (taken_put (table_laid l) item proper (omega (arith, same, generation_first)) (omega (arith, version_before, in_place.written)))
+  ]
+
+  pub version_first : item.entry.version ≡ greatest_version (taken (table_laid l) item) item.owner
+  version_first = sym (ap (λ (m : Mark). m.version) (
+      greatest_mark-taken (table_laid l) item in_place.key_below
+      ∙ ap (λ m. later m (mark_of item.entry)) no_mark
+      ∙ later-second absent (mark_of item.entry) (record { generation = omega arith; version = λ _. omega (arith, in_place.written) })))

@@ -1,6 +1,6 @@
 -- An item that a table takes: the table with its entry put at its place, and the lists of greatest versions and of
 -- generations.
--- Serves the functions of `layouts` and `tables`, `Flags` and `Room`.
+-- Serves the functions of `layouts` and `tables`, `Flags`, `Opened` and `Room`.
 use Rattle.std.proofs.Common.{◌≡◌, ◌≢◌, ℕ, ◌<◌, ◌≤◌, max, cond, true, false, List, length, get_or, set, Some, None, ◌⊎◌, inl, inr, refl, sym, ap, ◌∙◌, subst, arith}
 use Rattle.std.specs.FinMap.{get, insert, get-insert, same_map}
 use Rattle.std.specs.Ordering.{eq_by_cmp}

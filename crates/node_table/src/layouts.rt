@@ -10,7 +10,7 @@ ghost use Rattle.node_table.specs.Table.{IsItemInPlace};
 ghost use Rattle.node_table.specs.Entries.{AreAbove};
 ghost use Rattle.node_table.specs.NodeTableView.{blocks_below, blocks_for};
 ghost use Rattle.node_table.specs.inner.Flags.{AreFlagged, AreUnflagged};
-ghost use Rattle.node_table.specs.inner.Layouts.{entries_in_row, row_at, block_len, table_laid, AreLaid, IsLayout, IsEmptyRow, IsInSlots, IsPlaced, AreOthersKept, IsRenewed, IsPut, KeepOutside, HasEntries, IsHeld, HasRoomForBlock};
+ghost use Rattle.node_table.specs.inner.Layouts.{entries_in_row, row_at, block_len, table_laid, AreLaid, IsLayout, IsEmptyRow, IsInSlots, IsFilledRow, AreOthersKept, IsRenewed, IsPut, KeepOutside, KeepsRoom, IsHeld, HasRoomForBlock};
 
 use crate::rows::{find, put_in, rank_above};
 use bench_types::limits::{MOST_KEYS, MOST_NODES};
@@ -110,11 +110,16 @@ impl Layout {
         ensures held { IsHeld self.old item.owner → IsOk result }
         ensures succeeds { HasRoomForBlock self.old → IsOk result }
     {
+        if self.rows[item.owner as usize].len == 0 {
+            return self.put_first(item);
+        }
         let held = self.generation_of(item.owner);
         if held < item.entry.generation {
-            self.renew(item)
+            self.renew(item);
+            Ok(())
         } else if held == item.entry.generation && self.is_newer(item) {
-            self.put(item)
+            self.put(item);
+            Ok(())
         } else {
             Ok(())
         }
@@ -136,64 +141,32 @@ impl Layout {
         }
     }
 
-    // Puts an item's entry, which is newer than that of its place, at its rank in the owner's row.
-    fn put(&mut self, item: Item) -> Result<(), AllocError>
+    // Puts an item's entry as the first of its owner, whose row has none yet.
+    fn put_first(&mut self, item: Item) -> Result<(), AllocError>
         requires layout { IsLayout self.old }
         requires in_place { IsItemInPlace self.old.nodes self.old.keys item }
         requires own { item.owner ≡ self.old.node → item.entry.generation ≡ self.old.generation }
-        requires same { item.entry.generation ≡ generation_held (table_laid self.old) item.owner }
-        requires newer { (mark_at (table_laid self.old) item.owner item.entry.key).version < item.entry.version }
+        requires empty { IsEmptyRow self.old.rows.items item.owner }
         ensures layout { IsLayout self.new }
         ensures ok { OnOk result (table_laid self.new ≡ taken (table_laid self.old) item) }
         ensures err { OnErr result (table_laid self.new ≡ table_laid self.old) }
         ensures keeps_slots { OnErr result (vec_len self.new.slots ≡ vec_len self.old.slots) }
         ensures capacity { vec_capacity self.old.slots ≤ vec_capacity self.new.slots }
-        ensures same_slots { IsHeld self.old item.owner → vec_len self.new.slots ≡ vec_len self.old.slots }
         ensures slots { vec_len self.new.slots ≤ vec_len self.old.slots + self.old.keys }
-        ensures held { IsHeld self.old item.owner → IsOk result }
         ensures succeeds { HasRoomForBlock self.old → IsOk result }
     {
-        let at = item.owner as usize;
-        let before = self.rows[at].len;
-        place(
+        open(
             &mut self.slots,
             &mut self.rows,
             self.keys,
             item.owner,
             item.entry,
         )?;
-        self.count += self.rows[at].len - before;
-        self.greatest[at] = self.greatest[at].max(item.entry.version);
-        Ok(())
-    }
-
-    // Leaves an item's entry, which is of a newer generation, as all that is held of its owner.
-    fn renew(&mut self, item: Item) -> Result<(), AllocError>
-        requires layout { IsLayout self.old }
-        requires in_place { IsItemInPlace self.old.nodes self.old.keys item }
-        requires own { item.owner ≡ self.old.node → item.entry.generation ≡ self.old.generation }
-        requires newer { generation_held (table_laid self.old) item.owner < item.entry.generation }
-        ensures layout { IsLayout self.new }
-        ensures ok { OnOk result (table_laid self.new ≡ taken (table_laid self.old) item) }
-        ensures err { OnErr result (table_laid self.new ≡ table_laid self.old) }
-        ensures keeps_slots { OnErr result (vec_len self.new.slots ≡ vec_len self.old.slots) }
-        ensures capacity { vec_capacity self.old.slots ≤ vec_capacity self.new.slots }
-        ensures same_slots { IsHeld self.old item.owner → vec_len self.new.slots ≡ vec_len self.old.slots }
-        ensures slots { vec_len self.new.slots ≤ vec_len self.old.slots + self.old.keys }
-        ensures held { IsHeld self.old item.owner → IsOk result }
-        ensures succeeds { HasRoomForBlock self.old → IsOk result }
-    {
-        let at = item.owner as usize;
-        let before = self.rows[at].len;
-        place_alone(
-            &mut self.slots,
-            &mut self.rows,
-            self.keys,
-            item.owner,
-            item.entry,
-        )?;
-        self.count = self.count + 1 - before;
-        self.greatest[at] = item.entry.version;
+        self.count += 1;
+        self.greatest[item.owner as usize] = item.entry.version;
+        if item.entry.generation == 0 {
+            return Ok(());
+        }
         set_generation(
             &mut self.generations,
             self.nodes,
@@ -201,6 +174,54 @@ impl Layout {
             item.entry.generation,
         );
         Ok(())
+    }
+
+    // Puts an item's entry, which is newer than that of its place, at its rank in the owner's row.
+    fn put(&mut self, item: Item)
+        requires layout { IsLayout self.old }
+        requires in_place { IsItemInPlace self.old.nodes self.old.keys item }
+        requires own { item.owner ≡ self.old.node → item.entry.generation ≡ self.old.generation }
+        requires some { IsFilledRow self.old.rows.items item.owner }
+        requires same { item.entry.generation ≡ generation_held (table_laid self.old) item.owner }
+        requires newer { (mark_at (table_laid self.old) item.owner item.entry.key).version < item.entry.version }
+        ensures layout { IsLayout self.new }
+        ensures table { table_laid self.new ≡ taken (table_laid self.old) item }
+        ensures room { KeepsRoom self.old self.new }
+    {
+        let at = item.owner as usize;
+        let row = self.rows[at];
+        let grown = put_among(&mut self.slots, row, self.keys, item.entry);
+        self.rows[at] = grown;
+        self.count += grown.len - row.len;
+        self.greatest[at] = self.greatest[at].max(item.entry.version);
+    }
+
+    // Leaves an item's entry, which is of a newer generation, alone in the owner's row.
+    fn renew(&mut self, item: Item)
+        requires layout { IsLayout self.old }
+        requires in_place { IsItemInPlace self.old.nodes self.old.keys item }
+        requires own { item.owner ≡ self.old.node → item.entry.generation ≡ self.old.generation }
+        requires some { IsFilledRow self.old.rows.items item.owner }
+        requires newer { generation_held (table_laid self.old) item.owner < item.entry.generation }
+        ensures layout { IsLayout self.new }
+        ensures table { table_laid self.new ≡ taken (table_laid self.old) item }
+        ensures room { KeepsRoom self.old self.new }
+    {
+        let at = item.owner as usize;
+        let row = self.rows[at];
+        self.slots[row.start as usize] = item.entry;
+        self.rows[at] = Row {
+            start: row.start,
+            len: 1,
+        };
+        self.count = self.count + 1 - row.len;
+        self.greatest[at] = item.entry.version;
+        set_generation(
+            &mut self.generations,
+            self.nodes,
+            item.owner,
+            item.entry.generation,
+        );
     }
 
     // How many owners come in a list of whom nothing is held. Each is flagged by a version where its
@@ -327,76 +348,6 @@ fn set_generation(generations: &mut Vec<u32>, nodes: u32, owner: u32, generation
         generations.resize(nodes as usize, 0).unwrap();
     }
     generations[owner as usize] = generation;
-}
-
-// Puts an entry into an owner's row, which gets a block where it has no entry yet.
-fn place(
-    slots: &mut Vec<Entry>,
-    rows: &mut Vec<Row>,
-    keys: u32,
-    owner: u32,
-    entry: Entry,
-) -> Result<(), AllocError>
-    requires laid { AreLaid (vec_len rows.old) keys slots.old.items rows.old.items }
-    requires owner { owner < vec_len rows.old }
-    requires nodes { vec_len rows.old ≤ MOST_NODES }
-    requires keys { keys ≤ MOST_KEYS }
-    requires key { entry.key < keys }
-    requires written { 1 ≤ entry.version }
-    ensures laid { AreLaid (vec_len rows.old) keys slots.new.items rows.new.items }
-    ensures ok { OnOk result (IsPlaced keys owner entry slots.old.items slots.new.items rows.old.items rows.new.items) }
-    ensures err { OnErr result (slots.new.items ≡ slots.old.items) }
-    ensures err_rows { OnErr result (rows.new.items ≡ rows.old.items) }
-    ensures capacity { vec_capacity slots.old ≤ vec_capacity slots.new }
-    ensures same_slots { HasEntries slots.old.items rows.old.items owner → vec_len slots.new ≡ vec_len slots.old }
-    ensures held { HasEntries slots.old.items rows.old.items owner → IsOk result }
-    ensures slots { vec_len slots.new ≤ vec_len slots.old + keys }
-    ensures succeeds { vec_len slots.old + keys ≤ vec_capacity slots.old → IsOk result }
-{
-    let row = rows[owner as usize];
-    if row.len == 0 {
-        open(slots, rows, keys, owner, entry)
-    } else {
-        rows[owner as usize] = put_among(slots, row, keys, entry);
-        Ok(())
-    }
-}
-
-// Leaves an entry alone in an owner's row, which gets a block where it has no entry yet.
-fn place_alone(
-    slots: &mut Vec<Entry>,
-    rows: &mut Vec<Row>,
-    keys: u32,
-    owner: u32,
-    entry: Entry,
-) -> Result<(), AllocError>
-    requires laid { AreLaid (vec_len rows.old) keys slots.old.items rows.old.items }
-    requires owner { owner < vec_len rows.old }
-    requires nodes { vec_len rows.old ≤ MOST_NODES }
-    requires keys { keys ≤ MOST_KEYS }
-    requires key { entry.key < keys }
-    requires written { 1 ≤ entry.version }
-    ensures laid { AreLaid (vec_len rows.old) keys slots.new.items rows.new.items }
-    ensures ok { OnOk result (IsRenewed owner entry slots.old.items slots.new.items rows.old.items rows.new.items) }
-    ensures err { OnErr result (slots.new.items ≡ slots.old.items) }
-    ensures err_rows { OnErr result (rows.new.items ≡ rows.old.items) }
-    ensures capacity { vec_capacity slots.old ≤ vec_capacity slots.new }
-    ensures same_slots { HasEntries slots.old.items rows.old.items owner → vec_len slots.new ≡ vec_len slots.old }
-    ensures held { HasEntries slots.old.items rows.old.items owner → IsOk result }
-    ensures slots { vec_len slots.new ≤ vec_len slots.old + keys }
-    ensures succeeds { vec_len slots.old + keys ≤ vec_capacity slots.old → IsOk result }
-{
-    let row = rows[owner as usize];
-    if row.len == 0 {
-        open(slots, rows, keys, owner, entry)
-    } else {
-        slots[row.start as usize] = entry;
-        rows[owner as usize] = Row {
-            start: row.start,
-            len: 1,
-        };
-        Ok(())
-    }
 }
 
 // Puts an entry into a row that has some already.

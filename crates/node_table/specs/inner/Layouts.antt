@@ -99,8 +99,8 @@ abbrev pub IsEmptyRow : List Row → ℕ → Type 0
 IsEmptyRow rows owner = (d : Row) → (slice_index_or rows owner d).len ≡ 0
 
 -- the owner's row has some
-abbrev pub HasEntries : List Entry → List Row → ℕ → Type 0
-HasEntries slots rows owner = 0 < length (row_at slots rows owner)
+abbrev pub IsFilledRow : List Row → ℕ → Type 0
+IsFilledRow rows owner = (d : Row) → 0 < (slice_index_or rows owner d).len
 
 -- something is held of the owner
 abbrev pub IsHeld : Layout → ℕ → Type 0
@@ -109,6 +109,11 @@ IsHeld l owner = 0 < greatest_version (table_laid l) owner
 -- there is room for one more block
 abbrev pub HasRoomForBlock : Layout → Type 0
 HasRoomForBlock l = vec_len l.slots + l.keys ≤ vec_capacity l.slots
+
+-- as many slots, and memory for as many
+pub record KeepsRoom (before after : Layout) : Type 0 where
+  pub slots : vec_len after.slots ≡ vec_len before.slots
+  pub capacity : vec_capacity after.slots ≡ vec_capacity before.slots
 
 -- for how many more blocks there is room
 abbrev pub room_of : Layout → ℕ

@@ -1,65 +1,86 @@
-use Rattle.std.proofs.Common.{◌≡◌, true, false, set, ◌+◌, ◌-◌, ◌*◌, ◌<◌, length, max, sym, ap, ◌∙◌, subst, arith}
-use Rattle.std.specs.Result.{IsOk}
-use Rattle.std.proofs.Math.Nat.{mul-le-mul_right, mul-le-mul_left}
-use Rattle.std.proofs.lemmas.List.{get_or_read}
-use Rattle.bench_types.specs.declared.limits.TheConstants.{MOST_NODES}
+use Rattle.std.proofs.Common.{◌≡◌, ◌+◌, ◌-◌, ◌<◌, List, length, max, get_or, set, sym, ap, ◌∙◌, subst, arith}
+use Rattle.std.specs.Vec.{with_items}
+use Rattle.std.proofs.lemmas.List.{with_items_is, get_or_read, get_or-set_same}
+use Rattle.bench_types.specs.declared.entries.Entry.{Entry}
+use Rattle.node_table.specs.declared.layouts.Row.{Row}
 use Rattle.node_table.specs.Table.{Table, IsProper}
-use Rattle.node_table.specs.inner.Layouts.{AreLaid, table_laid}
+use Rattle.node_table.specs.inner.Layouts.{entries_in_row, count_in_rows, table_laid, AreLaid, IsPlaced, IsPut, KeepOutside}
 use Rattle.node_table.specs.Entries.{AreGenerations, AreGreatest}
 use Rattle.node_table.proofs.ProperLaws.{proper-taking}
 use Rattle.node_table.proofs.Taking.{taken_put, version-taken_same, greatest_set, generations_same}
-use Rattle.node_table.proofs.Laid.{total-le}
-use Rattle.node_table.proofs.InLayout.{some_held, table_placed, count_placed}
+use Rattle.node_table.proofs.Laid.{total-most, laid_put, placed_put}
+use Rattle.node_table.proofs.InLayout.{table_placed, count_placed}
 use Rattle.node_table.proofs.layouts.Layout.put.Goals as goal
+use Rattle.node_table.proofs.layouts.Layout.put.Goals.{After-put_among-grown}
 
-pub returns-in_err-place-clause-held : goal.returns-in_err-place-clause-held
-returns-in_err-place-clause-held c = λ some.
-    let contrary : false ≡ true = subst IsOk c.in_err-place.was (c.place.ensures.held (some_held c.args.self.now c.args.item.owner some)) in
-    cc
+abbrev rows_after : After-put_among-grown → List Row
+rows_after c = set c.args.self.now.rows.items c.args.item.owner c.put_among-grown.result
 
-pub returns-clause-same_slots : goal.returns-clause-same_slots
-returns-clause-same_slots c = λ some. c.place.ensures.same_slots (some_held c.args.self.now c.args.item.owner some)
+abbrev slots_after : After-put_among-grown → List Entry
+slots_after c = (with_items c.args.self.now.slots c.put_among-grown.new.slots).items
+
+in_range : (c : After-put_among-grown) → c.args.item.owner < length c.args.self.now.rows.items
+in_range c = omega (arith, c.requires.in_place.owner_below, c.requires.layout.laid.as_many)
+
+-- the blocks once the entry stands in its row
+put : (c : After-put_among-grown) → AreLaid c.args.self.now.nodes c.args.self.now.keys (slots_after c) (rows_after c)
+    × IsPlaced c.args.self.now.keys c.args.item.owner c.args.item.entry c.args.self.now.slots.items (slots_after c) c.args.self.now.rows.items (rows_after c)
+put c =
+    let l = c.args.self.now in
+    let slots : List Entry = l.slots.items in
+    let rows : List Row = l.rows.items in
+    let slots' : List Entry = c.put_among-grown.new.slots in
+    let owner = c.args.item.owner in
+    let entry = c.args.item.entry in
+    let r : Row = c.index-row.result.now in
+    let r' : Row = c.put_among-grown.result in
+    let laid = c.requires.layout.laid in
+    let lt = in_range c in
+    let is : (d : Row) → get_or rows owner d ≡ r = λ d. sym (get_or_read rows owner r lt c.index-row.ensures d) in
+    let held : 0 < r.len = subst (λ (x : Row). 0 < x.len) (is r) (c.requires.some r) in
+    let same_len : length slots' ≡ length slots = c.put_among-grown.ensures.len ∙ ap length c.deref_mut.ensures.value in
+    let row = subst (λ xs. IsPut l.keys entry (entries_in_row xs r) (entries_in_row slots' r')) c.deref_mut.ensures.value c.put_among-grown.ensures.put in
+    let others = subst (λ xs. KeepOutside xs slots' r.start l.keys) c.deref_mut.ensures.value c.put_among-grown.ensures.others in
+    rw (with_items_is l.slots slots' (omega (arith, same_len, l.slots.ok.0))) (
+      laid_put l.nodes l.keys slots slots' rows owner r r' laid lt is held c.put_among-grown.ensures.start c.put_among-grown.ensures.within row.row row.some same_len others,
+      placed_put l.nodes l.keys slots slots' rows owner r r' laid lt is held c.put_among-grown.ensures.start c.put_among-grown.ensures.within row.row row.some same_len others entry row,
+    )
+
+counted : (c : After-put_among-grown) → c.args.self.now.count + (c.put_among-grown.result.len - c.index-row.result.now.len) ≡ count_in_rows (rows_after c)
+counted c =
+    let r' : Row = c.put_among-grown.result in
+    ap (λ n. n + (r'.len - c.index-row.result.now.len)) c.requires.layout.counted
+    ∙ (count_placed c.args.self.now.keys c.args.item.owner c.args.self.now.nodes c.args.item.entry c.args.self.now.slots.items (slots_after c) c.args.self.now.rows.items (rows_after c) c.index-row.result.now r'
+    (put c).1 c.requires.layout.laid (put c).0 c.requires.in_place.owner_below c.index-row.ensures (sym (get_or-set_same c.args.self.now.rows.items c.args.item.owner r' r' (in_range c)))).0
 
 pub overflow_add-self : goal.overflow_add-self
 overflow_add-self c =
-    let len : c.args.self.now.rows.len ≡ c.args.self.now.nodes = omega (arith, c.args.self.now.rows.ok.0, c.requires.layout.laid.as_many) in
-    let laid = subst (λ n. AreLaid n c.args.self.now.keys c.place.new.slots.items c.place.new.rows.items) len c.in_ok-place.ensures.laid in
-    let counted = count_placed _ _ _ _ _ _ _ _ c.index.result.now c.index-2.result.now c.in_ok-place.ensures.ok c.requires.layout.laid laid c.requires.in_place.owner_below c.index.ensures c.index-2.ensures in
-    let most = total-le _ _ _ laid.each in
-    let nodes = mul-le-mul_right c.args.self.now.keys c.requires.layout.proper.nodes_limit in
-    let keys = mul-le-mul_left MOST_NODES c.requires.layout.proper.keys_limit in
-    omega (arith, counted.0, c.requires.layout.counted, most, ap (λ n. n * c.args.self.now.keys) laid.as_many, nodes, keys)
+    let now = (goal.at.overflow_add-self c).After-put_among-grown in
+    let l = c.args.self.now in
+    omega (arith, counted now, total-most l.nodes l.keys (slots_after now) (rows_after now) (put now).0 c.requires.layout.proper.nodes_limit c.requires.layout.proper.keys_limit)
 
-pub overflow_sub-self : goal.overflow_sub-self
-overflow_sub-self c =
-    let len : c.args.self.now.rows.len ≡ c.args.self.now.nodes = omega (arith, c.args.self.now.rows.ok.0, c.requires.layout.laid.as_many) in
-    let laid = subst (λ n. AreLaid n c.args.self.now.keys c.place.new.slots.items c.place.new.rows.items) len c.in_ok-place.ensures.laid in
-    let counted = count_placed _ _ _ _ _ _ _ _ c.index.result.now c.index-2.result.now c.in_ok-place.ensures.ok c.requires.layout.laid laid c.requires.in_place.owner_below c.index.ensures c.index-2.ensures in
-    omega (arith, counted.1)
-
-pub returns-clause-ok : goal.returns-clause-ok
-returns-clause-ok c =
-    table_placed c.args.self.now c.place.new.slots.items c.place.new.rows.items c.args.item.owner c.args.item.entry c.in_ok-place.ensures.ok
+pub returns-clause-table : goal.returns-clause-table
+returns-clause-table c =
+    let now = (goal.at.returns-clause-table c).After-put_among-grown in
+    table_placed c.args.self.now (slots_after now) (rows_after now) c.args.item.owner c.args.item.entry (put now).1
     ∙ sym (taken_put (table_laid c.args.self.now) c.args.item c.requires.layout.proper c.requires.same c.requires.newer)
 
 pub returns-clause-layout : goal.returns-clause-layout
 returns-clause-layout c =
+    let now = (goal.at.returns-clause-layout c).After-put_among-grown in
     let l = c.args.self.now in
     let item = c.args.item in
-    let len : l.rows.len ≡ l.nodes = omega (arith, l.rows.ok.0, c.requires.layout.laid.as_many) in
-    let laid = subst (λ n. AreLaid n l.keys c.place.new.slots.items c.place.new.rows.items) len c.in_ok-place.ensures.laid in
-    let counted = count_placed _ _ _ _ _ _ _ _ c.index.result.now c.index-2.result.now c.in_ok-place.ensures.ok c.requires.layout.laid laid c.requires.in_place.owner_below c.index.ensures c.index-2.ensures in
     let below : item.owner < length l.greatest.items = omega (arith, c.requires.layout.greatest.count, c.requires.in_place.owner_below) in
     let version = c.max.ensures
-    ∙ ap (λ n. max n item.entry.version) (get_or_read l.greatest.items item.owner c.index-3.result.now below c.index-3.ensures 0 ∙ c.requires.layout.greatest.greatest item.owner c.requires.in_place.owner_below)
+    ∙ ap (λ n. max n item.entry.version) (get_or_read l.greatest.items item.owner c.index.result.now below c.index.ensures 0 ∙ c.requires.layout.greatest.greatest item.owner c.requires.in_place.owner_below)
     ∙ sym (version-taken_same (table_laid l) item c.requires.in_place.key_below c.requires.same) in
-    let table = table_placed l c.place.new.slots.items c.place.new.rows.items item.owner item.entry c.in_ok-place.ensures.ok ∙ sym (taken_put (table_laid l) item c.requires.layout.proper c.requires.same c.requires.newer) in
+    let table = table_placed l (slots_after now) (rows_after now) item.owner item.entry (put now).1 ∙ sym (taken_put (table_laid l) item c.requires.layout.proper c.requires.same c.requires.newer) in
     record {
       proper = subst IsProper (sym table) (proper-taking (table_laid l) item c.requires.layout.proper c.requires.in_place c.requires.own);
-      laid = laid;
+      laid = (put now).0;
       greatest = subst (λ (t : Table). AreGreatest t (set l.greatest.items item.owner c.max.result)) (sym table)
           (greatest_set (table_laid l) item c.requires.in_place.key_below l.greatest.items c.max.result c.requires.layout.greatest c.requires.in_place.owner_below version);
       generations = subst (λ (t : Table). AreGenerations t l.generations.items) (sym table) (generations_same (table_laid l) item c.requires.in_place.key_below l.generations.items c.requires.layout.generations c.requires.same);
       room = c.requires.layout.room;
-      counted = ap (λ n. n + (c.index-2.result.now.len - c.index.result.now.len)) c.requires.layout.counted ∙ counted.0;
+      counted = counted now;
     }

@@ -1,52 +1,94 @@
-use Rattle.std.proofs.Common.{◌≡◌, true, false, set, ◌+◌, ◌-◌, ◌*◌, sym, ap, ◌∙◌, subst, arith}
-use Rattle.std.specs.Result.{IsOk}
-use Rattle.std.proofs.Math.Nat.{mul-le-mul_right, mul-le-mul_left}
+use Rattle.std.proofs.Common.{◌≡◌, ℕ, set, ◌+◌, ◌-◌, ◌<◌, ◌≤◌, List, [], ◌∷◌, length, get_or, inl, inr, refl, sym, ap, ◌∙◌, subst, arith}
+use Rattle.std.proofs.lemmas.List.{length-set, get_or_read}
+use Rattle.bench_types.specs.declared.entries.Entry.{Entry}
 use Rattle.bench_types.specs.declared.entries.Mark.{Mark}
-use Rattle.bench_types.specs.declared.limits.TheConstants.{MOST_NODES}
+use Rattle.node_table.specs.declared.layouts.Row.{Row}
 use Rattle.node_table.specs.Table.{Table, IsProper}
-use Rattle.node_table.specs.inner.Layouts.{AreLaid, table_laid}
+use Rattle.node_table.specs.inner.Layouts.{entries_in_row, count_in_rows, table_laid, IsRow, IsInSlots, AreLaid, IsRenewed, KeepOutside}
 use Rattle.node_table.specs.Entries.{AreGenerations, AreGreatest}
+use Rattle.node_table.proofs.Blocks.{take-set_outside, take-set_here}
 use Rattle.node_table.proofs.ProperLaws.{proper-taking}
 use Rattle.node_table.proofs.Taking.{mark-taken_newer, greatest_set, generations_newer}
-use Rattle.node_table.proofs.Laid.{total-le}
-use Rattle.node_table.proofs.InLayout.{some_held, table_renewed, count_renewed}
+use Rattle.node_table.proofs.Laid.{total-most, laid_put, renewed_put}
+use Rattle.node_table.proofs.Opened.{one_row}
+use Rattle.node_table.proofs.InLayout.{table_renewed, count_renewed}
 use Rattle.node_table.proofs.layouts.Layout.renew.Goals as goal
+use Rattle.node_table.proofs.layouts.Layout.renew.Goals.{After-index_mut}
 
-pub returns-in_err-place_alone-clause-held : goal.returns-in_err-place_alone-clause-held
-returns-in_err-place_alone-clause-held c = λ some.
-    let contrary : false ≡ true = subst IsOk c.in_err-place_alone.was (c.place_alone.ensures.held (some_held c.args.self.now c.args.item.owner some)) in
-    cc
+abbrev first_of : Row → Row
+first_of r = record { start = r.start; len = 1 }
 
-pub returns-clause-same_slots : goal.returns-clause-same_slots
-returns-clause-same_slots c = λ some. c.place_alone.ensures.same_slots (some_held c.args.self.now c.args.item.owner some)
+-- a row whose first slot is written, and which ends there
+module _ (nodes keys : ℕ) (slots : List Entry) (rows : List Row) (owner : ℕ) (r : Row) (entry : Entry) (laid : AreLaid nodes keys slots rows) (lt : owner < length rows) (is : (d : Row) → get_or rows owner d ≡ r) (held : 0 < r.len) (below : entry.key < keys) (written : 1 ≤ entry.version) where
+  within : r.start + keys ≤ length slots
+  within = (subst (IsInSlots keys slots) (is r) (laid.each owner r lt)).block held
+
+  row_is : entries_in_row (set slots r.start entry) (first_of r) ≡ entry ∷ []
+  row_is = take-set_here r.start slots entry (omega (arith, within))
+
+  anew : IsRow keys (entries_in_row (set slots r.start entry) (first_of r))
+  anew = subst (IsRow keys) (sym row_is) (one_row keys entry below written)
+
+  outside : KeepOutside slots (set slots r.start entry) r.start keys
+  outside = λ x apart. take-set_outside r.start x.start x.len slots entry (elim apart [ inl before ↦ inl before | inr behind ↦ inr (omega arith) ])
+
+  alone : AreLaid nodes keys (set slots r.start entry) (set rows owner (first_of r)) × IsRenewed owner entry slots (set slots r.start entry) rows (set rows owner (first_of r))
+  alone = (
+    laid_put nodes keys slots (set slots r.start entry) rows owner r (first_of r) laid lt is held refl (omega arith) anew (omega (arith, ap length row_is)) (length-set slots r.start entry) outside,
+    renewed_put nodes keys slots (set slots r.start entry) rows owner r (first_of r) laid lt is held refl (omega arith) anew (omega (arith, ap length row_is)) (length-set slots r.start entry) outside entry row_is,
+  )
+
+abbrev slots_after : After-index_mut → List Entry
+slots_after c = set c.args.self.now.slots.items c.index-row.result.now.start c.args.item.entry
+
+abbrev rows_after : After-index_mut → List Row
+rows_after c = set c.args.self.now.rows.items c.args.item.owner (first_of c.index-row.result.now)
+
+-- the blocks once the entry is alone in its row
+renewed : (c : After-index_mut) → AreLaid c.args.self.now.nodes c.args.self.now.keys (slots_after c) (rows_after c)
+    × IsRenewed c.args.item.owner c.args.item.entry c.args.self.now.slots.items (slots_after c) c.args.self.now.rows.items (rows_after c)
+renewed c =
+    let l = c.args.self.now in
+    let rows : List Row = l.rows.items in
+    let r : Row = c.index-row.result.now in
+    let lt : c.args.item.owner < length rows = omega (arith, c.requires.in_place.owner_below, c.requires.layout.laid.as_many) in
+    let is : (d : Row) → get_or rows c.args.item.owner d ≡ r = λ d. sym (get_or_read rows c.args.item.owner r lt c.index-row.ensures d) in
+    let held : 0 < r.len = subst (λ (x : Row). 0 < x.len) (is r) (c.requires.some r) in
+    alone l.nodes l.keys l.slots.items rows c.args.item.owner r c.args.item.entry c.requires.layout.laid lt is held c.requires.in_place.key_below c.requires.in_place.written
+
+counted : (c : After-index_mut) → (c.args.self.now.count + 1 - c.index-row.result.now.len ≡ count_in_rows (rows_after c)) × (c.index-row.result.now.len ≤ c.args.self.now.count + 1)
+counted c =
+    let l = c.args.self.now in
+    let counts = count_renewed l.keys c.args.item.owner l.nodes c.args.item.entry l.slots.items (slots_after c) l.rows.items (rows_after c) c.index-row.result.now (renewed c).1 c.requires.layout.laid c.requires.in_place.owner_below c.index-row.ensures in
+    (ap (λ n. n + 1 - c.index-row.result.now.len) c.requires.layout.counted ∙ counts.0, omega (arith, counts.1, c.requires.layout.counted))
 
 pub overflow_add-self : goal.overflow_add-self
 overflow_add-self c =
-    let laid = c.requires.layout.laid in
-    let most = total-le _ _ _ laid.each in
-    let nodes = mul-le-mul_right c.args.self.now.keys c.requires.layout.proper.nodes_limit in
-    let keys = mul-le-mul_left MOST_NODES c.requires.layout.proper.keys_limit in
-    omega (arith, c.requires.layout.counted, most, ap (λ n. n * c.args.self.now.keys) laid.as_many, nodes, keys)
+    let l = c.args.self.now in
+    omega (arith, c.requires.layout.counted, total-most l.nodes l.keys l.slots.items l.rows.items c.requires.layout.laid c.requires.layout.proper.nodes_limit c.requires.layout.proper.keys_limit)
 
-pub returns-clause-ok : goal.returns-clause-ok
-returns-clause-ok c = table_renewed c.args.self.now c.place_alone.new.slots.items c.place_alone.new.rows.items c.args.item c.requires.newer c.in_ok-place_alone.ensures.ok
+pub overflow_sub-self : goal.overflow_sub-self
+overflow_sub-self c = omega (arith, (counted (goal.at.overflow_sub-self c).After-index_mut).1)
+
+pub returns-clause-table : goal.returns-clause-table
+returns-clause-table c =
+    let now = (goal.at.returns-clause-table c).After-index_mut in
+    table_renewed c.args.self.now (slots_after now) (rows_after now) c.args.item c.requires.newer (renewed now).1
 
 pub returns-clause-layout : goal.returns-clause-layout
 returns-clause-layout c =
+    let now = (goal.at.returns-clause-layout c).After-index_mut in
     let l = c.args.self.now in
     let item = c.args.item in
-    let len : l.rows.len ≡ l.nodes = omega (arith, l.rows.ok.0, c.requires.layout.laid.as_many) in
-    let laid = subst (λ n. AreLaid n l.keys c.place_alone.new.slots.items c.place_alone.new.rows.items) len c.in_ok-place_alone.ensures.laid in
-    let counted = count_renewed _ _ _ _ _ _ _ _ c.index.result.now c.in_ok-place_alone.ensures.ok c.requires.layout.laid c.requires.in_place.owner_below c.index.ensures in
-    let table = table_renewed l c.place_alone.new.slots.items c.place_alone.new.rows.items item c.requires.newer c.in_ok-place_alone.ensures.ok in
+    let table = table_renewed l (slots_after now) (rows_after now) item c.requires.newer (renewed now).1 in
     let after = c.set_generation.new.generations in
     record {
       proper = subst IsProper (sym table) (proper-taking (table_laid l) item c.requires.layout.proper c.requires.in_place c.requires.own);
-      laid = laid;
+      laid = (renewed now).0;
       greatest = subst (λ (t : Table). AreGreatest t (set l.greatest.items item.owner item.entry.version)) (sym table)
           (greatest_set (table_laid l) item c.requires.in_place.key_below l.greatest.items item.entry.version c.requires.layout.greatest c.requires.in_place.owner_below (sym (ap (λ (m : Mark). m.version) (mark-taken_newer (table_laid l) item c.requires.in_place.key_below c.requires.newer))));
       generations = subst (λ (t : Table). AreGenerations t after.items) (sym table)
           (generations_newer (table_laid l) item c.requires.in_place.key_below l.generations.items after.items c.requires.layout.generations c.requires.newer (omega (arith, c.set_generation.ensures.count, after.ok.0)) c.set_generation.ensures.own c.set_generation.ensures.others);
       room = omega (arith, c.requires.layout.room, c.set_generation.ensures.capacity);
-      counted = ap (λ n. n + 1 - c.index.result.now.len) c.requires.layout.counted ∙ counted.0;
+      counted = (counted now).0;
     }

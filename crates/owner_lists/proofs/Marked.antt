@@ -14,7 +14,9 @@ use Rattle.bench_types.specs.Mark.{mark_of, is_before, IsBefore}
 use Rattle.bench_types.proofs.Marks.{before-true, before-false, before-yes, before-up_to, up_to-before}
 use Rattle.owner_lists.specs.declared.lists.Link.{Link}
 use Rattle.owner_lists.specs.OwnerListView.{OwnerListView, entries_of, has_mark, entry_of, MarksRise, AreWrites}
+use Rattle.owner_lists.specs.Numbers.{write_numbered}
 use Rattle.owner_lists.specs.inner.Linked.{entries_linked}
+use Rattle.owner_lists.proofs.Numbered.{write_from-here, write_from-past}
 
 pub find-here : (test : Entry → Bool) (es : List Entry) (i : ℕ) (d : Entry) → i < length es → test (get_or es i d) ≡ true → ((j : ℕ) → j < i → test (get_or es j d) ≡ false) → find test es ≡ Some (get_or es i d)
 find-here test [] i d lt here before = absurd (omega arith)
@@ -54,13 +56,23 @@ other_mark m n not same =
 
 -- where the entries are numbered in the mark's generation, its version says where it stands
 module _ (m : Mark) (es : List Entry) (numbered : AreNextAfter m.generation 0 es) where
-  pub numbered_here : (at : ℕ) (d : Entry) → at < length es → m.version ≡ at + 1 → find (has_mark m) es ≡ Some (get_or es at d)
+  numbered_here : (at : ℕ) (d : Entry) → at < length es → m.version ≡ at + 1 → find (has_mark m) es ≡ Some (get_or es at d)
   numbered_here at d lt is =
       find-here (has_mark m) es at d lt (marked m (get_or es at d) (numbered at d lt).0 (omega (arith, (numbered at d lt).1, is)))
       (λ j before. unmarked m (get_or es j d) (λ _ same. omega (arith, (numbered j d (omega arith)).1, same, is)))
 
-  pub numbered_nowhere : ((at : ℕ) → at < length es → m.version ≢ at + 1) → find (has_mark m) es ≡ None
+  numbered_nowhere : ((at : ℕ) → at < length es → m.version ≢ at + 1) → find (has_mark m) es ≡ None
   numbered_nowhere apart = find-nowhere (has_mark m) es (λ j d lt. unmarked m (get_or es j d) (λ _ same. apart j lt (omega (arith, (numbered j d lt).1, same))))
+
+  -- so it is the number of what stands under it
+  pub numbered_is : (version : ℕ) → m.version ≡ version → find (has_mark m) es ≡ write_numbered es version
+  numbered_is zero is = numbered_nowhere (λ at lt same. omega (arith, is, same))
+  numbered_is (suc at) is = elim (cases_lt at (length es)) [
+    | inl here ↦
+        let blank : Entry = record { key = 0; generation = 0; version = 0; value = 0; born = 0 } in
+        numbered_here at blank here (omega (arith, is)) ∙ sym (write_from-here es at blank here)
+    | inr past ↦ numbered_nowhere (λ j lt same. omega (arith, is, same, lt, past)) ∙ sym (write_from-past es at past)
+  ]
 
 -- where they are of other generations it stands nowhere
 pub other_generations : (m : Mark) (es : List Entry) → All (λ e. e.generation ≢ m.generation) es → find (has_mark m) es ≡ None

@@ -1,5 +1,5 @@
 -- The write of a number.
--- Serves `linked_entry`.
+-- Serves `linked_entry` and `Marked`.
 use Rattle.std.proofs.Common.{◌≡◌, ℕ, zero, suc, ◌<◌, ◌≤◌, List, [], ◌∷◌, length, get_or, Some, None, refl, arith}
 use Rattle.bench_types.specs.declared.entries.Entry.{Entry}
 use Rattle.owner_lists.specs.Numbers.{write_from}

@@ -372,13 +372,7 @@ fn numbered_entry(links: &[Link], mark: Mark) -> Option<Entry>
     requires { AreNextAfter mark.generation 0 (entries_linked links.now) }
     ensures { result ≡ find (has_mark mark) (entries_linked links.now) }
 {
-    match mark.version.checked_sub(1) {
-        Some(at) => match links.get(at as usize) {
-            Some(link) => Some(link.write),
-            None => None,
-        },
-        None => None,
-    }
+    linked_entry(links, mark.version)
 }
 
 // The write with a mark among those of several generations.

@@ -8,3 +8,4 @@ pub mod Places
 pub mod OwnParts
 pub mod Counting
 pub mod Merging
+pub mod EachPart

@@ -15,20 +15,18 @@ pub stale_count-le : (staleness : Option ℕ) → stale_count staleness ≤ 1
 stale_count-le None = omega arith
 stale_count-le (Some n) = omega arith
 
--- what f gives below a bound, taken together by an operation that passes over 0 and whose order and brackets bear on nothing
+-- what f gives below a bound, taken together by an operation to which 0 is nothing and whose order bears on nothing
 pub record IsFoldBelow (op : ℕ → ℕ → ℕ) (fold : ℕ → (ℕ → ℕ) → ℕ) : Type 0 where
   start : (f : ℕ → ℕ) → fold zero f ≡ 0
   more : (f : ℕ → ℕ) (n : ℕ) → fold (suc n) f ≡ op (fold n f) (f n)
-  alone : (a : ℕ) → op a 0 ≡ a
-  grouped : (a b c : ℕ) → op a (op b c) ≡ op (op a b) c
+  alone : (a : ℕ) → (op a 0 ≡ a) × (op 0 a ≡ a)
   crossed : (a b c d : ℕ) → op (op a b) (op c d) ≡ op (op a c) (op b d)
 
 pub sums : IsFoldBelow (λ a b. a + b) sum_below
 sums = record {
   start = λ f. refl;
   more = λ f n. refl;
-  alone = λ a. omega arith;
-  grouped = λ a b c. omega arith;
+  alone = λ a. (omega arith, omega arith);
   crossed = λ a b c d. omega arith;
 }
 
@@ -36,12 +34,14 @@ pub greatest : IsFoldBelow max most_below
 greatest = record {
   start = λ f. refl;
   more = λ f n. refl;
-  alone = λ a. omega arith;
-  grouped = λ a b c. omega arith;
+  alone = λ a. (omega arith, omega arith);
   crossed = λ a b c d. omega arith;
 }
 
 module _ {op : ℕ → ℕ → ℕ} {fold : ℕ → (ℕ → ℕ) → ℕ} (is : IsFoldBelow op fold) where
+  grouped : (a b c : ℕ) → op a (op b c) ≡ op (op a b) c
+  grouped a b c = ap (λ x. op x (op b c)) (sym (is.alone a).0) ∙ is.crossed a 0 b c ∙ ap (op (op a b)) (is.alone c).1
+
   pub fold_below-same : (f g : ℕ → ℕ) (n : ℕ) → ((k : ℕ) → k < n → f k ≡ g k) → fold n f ≡ fold n g
   fold_below-same f g zero same = is.start f ∙ sym (is.start g)
   fold_below-same f g (suc n) same =
@@ -52,12 +52,12 @@ module _ {op : ℕ → ℕ → ℕ} {fold : ℕ → (ℕ → ℕ) → ℕ} (is :
   -- where nothing is counted
   pub fold_below-none : (f : ℕ → ℕ) (n : ℕ) → ((k : ℕ) → f k ≡ 0) → fold n f ≡ 0
   fold_below-none f zero none = is.start f
-  fold_below-none f (suc n) none = is.more f n ∙ ap (op (fold n f)) (none n) ∙ is.alone (fold n f) ∙ fold_below-none f n none
+  fold_below-none f (suc n) none = is.more f n ∙ ap (op (fold n f)) (none n) ∙ (is.alone (fold n f)).0 ∙ fold_below-none f n none
 
   -- the order of two folds bears on nothing
   pub fold_below-both : (f g : ℕ → ℕ) (n : ℕ) → fold n (λ k. op (f k) (g k)) ≡ op (fold n f) (fold n g)
   fold_below-both f g zero =
-      is.start (λ k. op (f k) (g k)) ∙ sym (is.alone 0) ∙ (λ i. op (sym (is.start f) i) (sym (is.start g) i))
+      is.start (λ k. op (f k) (g k)) ∙ sym (is.alone 0).0 ∙ (λ i. op (sym (is.start f) i) (sym (is.start g) i))
   fold_below-both f g (suc n) =
       is.more (λ k. op (f k) (g k)) n
       ∙ ap (λ m. op m (op (f n) (g n))) (fold_below-both f g n)
@@ -77,11 +77,11 @@ module _ {op : ℕ → ℕ → ℕ} {fold : ℕ → (ℕ → ℕ) → ℕ} (is :
   pub fold_below-join : (f : ℕ → ℕ) (a b : ℕ) → op (fold a f) (fold b (λ k. f (a + k))) ≡ fold (a + b) f
   fold_below-join f a zero =
       let same : a ≡ a + 0 = omega arith in
-      ap (op (fold a f)) (is.start (λ k. f (a + k))) ∙ is.alone (fold a f) ∙ ap (λ n. fold n f) same
+      ap (op (fold a f)) (is.start (λ k. f (a + k))) ∙ (is.alone (fold a f)).0 ∙ ap (λ n. fold n f) same
   fold_below-join f a (suc b) =
       let same : suc (a + b) ≡ a + suc b = omega arith in
       ap (op (fold a f)) (is.more (λ k. f (a + k)) b)
-      ∙ is.grouped (fold a f) (fold b (λ k. f (a + k))) (f (a + b))
+      ∙ grouped (fold a f) (fold b (λ k. f (a + k))) (f (a + b))
       ∙ ap (λ m. op m (f (a + b))) (fold_below-join f a b)
       ∙ sym (is.more f (a + b))
       ∙ ap (λ n. fold n f) same
@@ -105,7 +105,7 @@ module _ {op : ℕ → ℕ → ℕ} {fold : ℕ → (ℕ → ℕ) → ℕ} (is :
               let same : min (i * size) n ≡ min (suc i * size) n = omega (arith, next i) in
               ap (λ m. op (fold (min (i * size) n) f) (fold m (λ k. f (i * size + k)))) none
               ∙ ap (op (fold (min (i * size) n) f)) (is.start (λ k. f (i * size + k)))
-              ∙ is.alone (fold (min (i * size) n) f)
+              ∙ (is.alone (fold (min (i * size) n) f)).0
               ∙ ap (λ m. fold m f) same
           | inr within ↦
               let here : min (i * size) n ≡ i * size = omega arith in

@@ -10,7 +10,7 @@ ghost use Rattle.owner_lists.specs.Latest.{write_of, KeysRise};
 ghost use Rattle.owner_lists.specs.inner.Keys.{IsFrontForKey};
 ghost use Rattle.owner_lists.specs.declared.lists.Write.{Write};
 ghost use Rattle.staleness.specs.declared.copies.Copies.{Copies};
-ghost use Rattle.staleness.specs.inner.Copies.{generations_in, least_known, at_least, version_known, with_version, with_copy, seen_in, no_copies, current_of, copies_from, merged, MayCountOne, MayCountBoth, StayOutside, AreSeen, AreSeenOnce, AreAdded};
+ghost use Rattle.staleness.specs.inner.Copies.{generations_in, least_known, at_least, version_known, with_version, with_copy, seen_in, no_copies, current_of, copies_from, merged, MayCountOne, MayCountBoth, HaveRoom, IsRowSeen, AreSeen, AreSeenOnce, AreAdded};
 
 use node_table::NodeTable;
 use owner_lists::{OwnerList, Write};
@@ -79,14 +79,9 @@ pub(crate) fn least_known(generation: u32, copied: u32) -> Option<u32>
 // Goes over a table's row of an owner, whose copies stand from a place on. Each counts for a version at least.
 fn see_row(copies: &mut [Copies], start: usize, table: &NodeTable, owner: u32, least: u32)
     requires owner { owner < table.now.table.nodes }
-    requires within { start + table.now.table.keys ≤ length copies.old }
-    requires room { (key : ℕ) (d : Copies)
-        → key < table.now.table.keys → MayCountOne (slice_index_or copies.old (start + key) d) }
-    ensures size { length copies.new ≡ length copies.old }
-    ensures seen { (key : ℕ) (d : Copies) → key < table.now.table.keys → slice_index_or copies.new (start + key) d
-        ≡ with_copy (slice_index_or copies.old (start + key) d)
-        (at_least least (entry_at table.now.table owner key)) }
-    ensures others { StayOutside copies.old copies.new start table.now.table.keys }
+    requires room { HaveRoom copies.old start table.now.table.keys }
+    ensures { IsRowSeen start table.now.table.keys
+        (λ key. at_least least (entry_at table.now.table owner key)) copies.old copies.new }
 {
     for entry in table.entries_of(owner) {
         let at = start + entry.key as usize;
@@ -106,14 +101,9 @@ fn see_copy(
     requires proper { IsProper table.now.table }
     requires owner { owner < table.now.table.nodes }
     requires copied { copied ≡ generation_held table.now.table owner }
-    requires within { start + table.now.table.keys ≤ length copies.old }
-    requires room { (key : ℕ) (d : Copies)
-        → key < table.now.table.keys → MayCountOne (slice_index_or copies.old (start + key) d) }
-    ensures size { length copies.new ≡ length copies.old }
-    ensures seen { (key : ℕ) (d : Copies) → key < table.now.table.keys → slice_index_or copies.new (start + key) d
-        ≡ with_copy (slice_index_or copies.old (start + key) d)
-        (version_known generation (entry_at table.now.table owner key)) }
-    ensures others { StayOutside copies.old copies.new start table.now.table.keys }
+    requires room { HaveRoom copies.old start table.now.table.keys }
+    ensures { IsRowSeen start table.now.table.keys
+        (λ key. version_known generation (entry_at table.now.table owner key)) copies.old copies.new }
 {
     if let Some(least) = least_known(generation, copied) {
         see_row(copies, start, table, owner, least);

@@ -122,6 +122,17 @@ pub record MayCountBoth (c d : Copies) : Type 0 where
 abbrev pub StayOutside : List Copies → List Copies → ℕ → ℕ → Type 0
 StayOutside before after start count = (i : ℕ) (d : Copies) → (i < start) ⊎ (start + count ≤ i) → slice_index_or after i d ≡ slice_index_or before i d
 
+-- so many keys' copies stand from a place on, with room for one more of each
+pub record HaveRoom (copies : List Copies) (start keys : ℕ) : Type 0 where
+  pub within : start + keys ≤ length copies
+  pub each : (key : ℕ) (d : Copies) → key < keys → MayCountOne (slice_index_or copies (start + key) d)
+
+-- one more table's row of them has been seen, which holds a version of each or none
+pub record IsRowSeen (start keys : ℕ) (held : ℕ → Option ℕ) (before after : List Copies) : Type 0 where
+  pub size : length after ≡ length before
+  pub seen : (key : ℕ) (d : Copies) → key < keys → slice_index_or after (start + key) d ≡ with_copy (slice_index_or before (start + key) d) (held key)
+  pub others : StayOutside before after start keys
+
 -- what was seen of so many owners' keys lies by owner and then by key
 pub record AreSeen (owners keys : ℕ) (seen : ℕ → ℕ → Copies) (copies : List Copies) : Type 0 where
   pub size : length copies ≡ owners * keys

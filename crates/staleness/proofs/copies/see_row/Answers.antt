@@ -56,7 +56,7 @@ loop-entry-init c = record {
 pub slice_copy_out-with_version : goal.slice_copy_out-with_version
 slice_copy_out-with_version c =
     let below = row_below c.args.table.now.table c.args.owner c.entries_of-entry-items.ensures.proper c.entries_of-entry-items.result.now c.entries_of-entry-items.ensures.entries c.loop-entry.entry-index no_entry c.loop-entry-test.true in
-    omega (arith, below, c.loop-entry.invariant.size, c.requires.within)
+    omega (arith, below, c.loop-entry.invariant.size, c.requires.room.within)
 
 pub with_version-requires : goal.with_version-requires
 with_version-requires c =
@@ -68,12 +68,12 @@ with_version-requires c =
     let below = row_below t c.args.owner c.entries_of-entry-items.ensures.proper row c.entries_of-entry-items.ensures.entries i no_entry c.loop-entry-test.true in
     let new = new_key row (row_apart t c.args.owner c.entries_of-entry-items.ensures.proper row c.entries_of-entry-items.ensures.entries) i no_entry c.loop-entry-test.true in
     let same = c.loop-entry.invariant.seen key zeros below ∙ ap (λ b. if b then with_copy before (at_least c.args.least (entry_at t c.args.owner key)) else before) new in
-    subst MayCountOne (sym same) (c.requires.room key zeros below)
+    subst MayCountOne (sym same) (c.requires.room.each key zeros below)
 
 pub bounds-copies-at : goal.bounds-copies-at
 bounds-copies-at c =
     let below = row_below c.args.table.now.table c.args.owner c.entries_of-entry-items.ensures.proper c.entries_of-entry-items.result.now c.entries_of-entry-items.ensures.entries c.loop-entry.entry-index no_entry c.loop-entry-test.true in
-    omega (arith, below, c.loop-entry.invariant.size, c.requires.within)
+    omega (arith, below, c.loop-entry.invariant.size, c.requires.room.within)
 
 pub loop-entry-preserved : goal.loop-entry-preserved
 loop-entry-preserved c =
@@ -93,7 +93,7 @@ loop-entry-preserved c =
     let proper = c.entries_of-entry-items.ensures.proper in
     let entries = c.entries_of-entry-items.ensures.entries in
     let below = row_below t owner proper row entries i no_entry lt in
-    let in_range : place < length copies = omega (arith, below, so_far.size, c.requires.within) in
+    let in_range : place < length copies = omega (arith, below, so_far.size, c.requires.room.within) in
     let new = new_key row (row_apart t owner proper row entries) i no_entry lt in
     record {
       size = length-set copies place seen ∙ so_far.size;
@@ -123,16 +123,19 @@ loop-entry-preserved c =
     elsewhere j (inl before) below same = omega (arith, same)
     elsewhere j (inr behind) below same = omega (arith, same)
 
-pub returns-clause-seen : goal.returns-clause-seen
-returns-clause-seen c key d lt =
-    let t = c.args.table.now.table in
-    let row = c.entries_of-entry-items.result.now in
-    let before = get_or c.args.copies.now (c.args.start + key) d in
-    c.loop-entry.invariant.seen key d lt
-    ∙ ap (λ xs. if has_key xs key then with_copy before (at_least c.args.least (entry_at t c.args.owner key)) else before) (take_all c.loop-entry.entry-index row c.loop-entry-test.false)
-    ∙ ap (λ b. if b then with_copy before (at_least c.args.least (entry_at t c.args.owner key)) else before) (row_held t c.args.owner c.entries_of-entry-items.ensures.proper row c.entries_of-entry-items.ensures.entries key)
-    ∙ whole before (entry_at t c.args.owner key)
-  where
-    whole : (x : Copies) (o : Option Entry) → (if is_some o then with_copy x (at_least c.args.least o) else x) ≡ with_copy x (at_least c.args.least o)
-    whole x None = refl
-    whole x (Some e) = refl
+pub returns : goal.returns
+returns c = record {
+  size = c.loop-entry.invariant.size;
+  seen = λ key d lt.
+      let row = c.entries_of-entry-items.result.now in
+      let held = entry_at c.args.table.now.table c.args.owner key in
+      let before = get_or c.args.copies.now (c.args.start + key) d in
+      c.loop-entry.invariant.seen key d lt
+      ∙ ap (λ xs. if has_key xs key then with_copy before (at_least c.args.least held) else before) (take_all c.loop-entry.entry-index row c.loop-entry-test.false)
+      ∙ ap (λ b. if b then with_copy before (at_least c.args.least held) else before) (row_held c.args.table.now.table c.args.owner c.entries_of-entry-items.ensures.proper row c.entries_of-entry-items.ensures.entries key)
+      ∙ whole before held;
+  others = c.loop-entry.invariant.others;
+} where
+  whole : (x : Copies) (o : Option Entry) → (if is_some o then with_copy x (at_least c.args.least o) else x) ≡ with_copy x (at_least c.args.least o)
+  whole x None = refl
+  whole x (Some e) = refl

@@ -1,26 +1,19 @@
-use Rattle.std.proofs.Common.{◌≡◌, ◌≤◌, ◌+◌, ◌-◌, ◌/◌, length, ap, subst, ◌∙◌, arith}
+use Rattle.std.proofs.Common.{◌/◌, length}
 use Rattle.std.specs.Prelude.{IfOk}
-use Rattle.std.specs.List.{AllZip, range_with_len}
-use Rattle.rayon.specs.Numbers.{nat_range}
 use Rattle.rayon.proofs.ListFacts.{IfOk-then}
-use Rattle.rayon.proofs.ToStd.{nat_range-All}
 use Rattle.cluster.specs.Tables.{tables_in}
 use Rattle.staleness.specs.inner.Parts.{IsSeenInPart}
+use Rattle.staleness.proofs.EachPart.{up_to_last, in_order}
 use Rattle.staleness.proofs.staleness.copies_of_parts.Goals as goal
 
 pub collect-requires-clause-ready : goal.collect-requires-clause-ready
 collect-requires-clause-ready g c κs within =
     let ends = c.into_par_iter.ensures in
-    let last = length c.args.tables.now / c.args.size in
-    let inside = nat_range-All (λ i. i ≤ last) 0 (last + 1) (λ i low high. omega arith) in
-    rw (c.map.ensures.base, c.map.ensures.f, c.with_min_len.ensures.base, ends.0, ends.1) (λ k d lt. ((c.requires.generations, c.requires.begins, c.requires.some, inside k d lt), λ y p. tt))
+    rw (c.map.ensures.base, c.map.ensures.f, c.with_min_len.ensures.base, ends.0, ends.1) (λ k d lt. ((c.requires.generations, c.requires.begins, c.requires.some, up_to_last (length c.args.tables.now / c.args.size) k d lt), λ y p. tt))
 
 pub returns : goal.returns
 returns g c =
     let ends = c.into_par_iter.ensures in
-    let n = length c.args.tables.now / c.args.size + 1 in
-    let whole : n - 0 ≡ n = omega arith in
     IfOk-then c.collect.result _ _ c.collect.ensures (λ v h.
-    let chain = rw (c.map.ensures.base, c.map.ensures.f, c.with_min_len.ensures.base) at h.1 in
-    let parts = chain.1 ∙ (λ i. nat_range (ends.0 i) (ends.1 i)) ∙ ap (range_with_len 0) whole in
-    rw h.2 (subst (λ ns. AllZip (λ part found. IfOk found (λ v. IsSeenInPart (tables_in c.args.tables.now) c.args.none.now c.args.size part v.items)) ns h.0) parts chain.2))
+    let made = rw (c.map.ensures.base, c.map.ensures.f, c.with_min_len.ensures.base) at h.1 in
+    rw h.2 (in_order (λ part found. IfOk found (λ v. IsSeenInPart (tables_in c.args.tables.now) c.args.none.now c.args.size part v.items)) made.0 _ ends.0 ends.1 made.1 made.2))

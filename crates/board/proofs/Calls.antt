@@ -32,9 +32,9 @@ at_rest plan m planned rests = λ k. (record { plan = planned k; seat = m.0.seat
 pub seat_rests : {T : Type 0} (table : T → Table) (board : Board T) (seat : Seat T) → IsSeatOf table seat board → seat.raw.me ≡ (resting (plan_of table board) (seat_view seat), [])
 seat_rests table board seat is = at_rest (plan_of table board) seat.raw.me is.plan is.rests
 
--- and so does its model
-pub model_rests : {T : Type 0} (table : T → Table) (board : Board T) (seat : Seat T) → IsSeatOf table seat board → seat_model table seat.raw.me ≡ (resting (plan_of table board) (seat_view seat), [])
-model_rests table board seat is = ap (seat_model table) (seat_rests table board seat is)
+-- and so does its view
+pub resting_seat : {T : Type 0} (table : T → Table) (board : Board T) (seat : Seat T) → IsSeatOf table seat board → seat.raw.me.0 ≡ resting (plan_of table board) (seat_view seat)
+resting_seat {T = T} table board seat is = ap (λ (m : Me (Option T) View). m.0) (seat_rests table board seat is)
 
 pub word_within : {T : Type 0} (board : Board T) (i : ℕ) → i < length (exchanges_of board) → i + 1 < board.table.shared.table_id.words
 word_within board i within = omega (arith, within, board.words, ap (λ (l : RoundListView). length l.exchanges) board.planned.1)

@@ -1,5 +1,5 @@
 -- The opening and the last state, and seats that are split and joined.
--- Serves `Board::close`, `Board::join`, `Board::new`, `Board::split` and `Filling`.
+-- Serves `Board::close`, `Board::new`, `Filling` and `Steps`.
 use Rattle.std.proofs.Common.{◌≡◌, ℕ, zero, suc, ◌+◌, ◌/◌, ◌<◌, ◌≤◌, Bool, true, false, ◌||◌, if◌then◌else◌, nat_le, List, [], ◌∷◌, ◌++◌, length, get_or, set, Some, inl, inr, refl, sym, ap, ◌∙◌, subst, arith}
 use Rattle.std.proofs.lemmas.Bool.{cases_Bool, cases_lt}
 use Rattle.std.proofs.lemmas.List.{length-map, length-append}

@@ -1,10 +1,10 @@
 -- What the rule allows of a seat, its tables in memory seen as models.
 -- Serves the functions of `boards`.
-use Rattle.std.proofs.Common.{◌≡◌, ℕ, ◌+◌, ◌-◌, ◌%◌, ◌^◌, ◌<◌, eqb, List, [], ◌∷◌, length, Option, None, Some, refl, ap}
+use Rattle.std.proofs.Common.{◌≡◌, ℕ, ◌+◌, ◌-◌, ◌%◌, ◌^◌, ◌<◌, ◌≤◌, eqb, List, [], ◌∷◌, length, Option, None, Some, refl, ap}
 use mathlib.Core.Option.{none}
 use lib.Bits.{bit_or}
 use prog.Atomic.{either}
-use Rattle.atomic_table.specs.Table.{Me, Step, step, Allows}
+use Rattle.atomic_table.specs.Table.{Me, Step, step, Allows, Splits, Joins}
 use Rattle.node_table.specs.Table.{Table}
 use Rattle.board.specs.Weights.{Has}
 use Rattle.board.specs.SeatView.{SeatView}
@@ -12,12 +12,13 @@ use Rattle.board.specs.Plan.{BoardPlan, initiator_of, responder_of, exchanged_at
 use Rattle.board.specs.Rule.{Slot, TAKEN, Orderly}
 use Rattle.board.specs.Seats.{Sat, view, resting}
 use Rattle.board.specs.Models.{state_model, seat_model, TellsOf}
-use Rattle.board.specs.inner.Plays.{claimed, emptied, retaken, finished, released, looked, shown, halted}
+use Rattle.board.specs.inner.Plays.{claimed, emptied, retaken, finished, released, looked, shown, halted, left, right, both, spent, no_plan}
 use Rattle.board.specs.declared.views.View.{View}
 use Rattle.board.proofs.Claims.{claims}
 use Rattle.board.proofs.Moving.{empties, retakes}
 use Rattle.board.proofs.Finishing.{finishes, releases, looks, shows, halts}
-use Rattle.board.proofs.Modelled.{allows_model}
+use Rattle.board.proofs.Ends.{splits, joins}
+use Rattle.board.proofs.Modelled.{allows_model, splits_model, joins_model}
 
 module _ {T : Type 0} (table : T → Table) (plan : BoardPlan) (n id : ℕ) (m : Me (Option T) View) (v : SeatView) (some_parts : 0 < v.parts) where
   -- at a word of which a step makes f, it tells this
@@ -53,3 +54,11 @@ module _ {T : Type 0} (table : T → Table) (plan : BoardPlan) (n id : ℕ) (m :
   pub release_allowed : (i j : ℕ) (more : List (ℕ × ℕ)) → j < length plan.list.exchanges → m ≡ (view plan v [] ((i, j) ∷ more), []) → AllowsStep (j + 1) (λ r. (r + (2 ^ 64 - 1)) % 2 ^ 64) released 1 0
   release_allowed i j more within e =
       allows_model table (Orderly plan) n id m (j + 1) (λ r. (r + (2 ^ 64 - 1)) % 2 ^ 64) (released (step n (j + 1) 1 0 none) (seat_model table m)) (releases plan n id (seat_model table m) v (j + 1) i j more refl within some_parts (ap (seat_model table) e))
+
+-- a seat that rests may be split, and may take in another that rests
+module _ {T : Type 0} (table : T → Table) (plan : BoardPlan) (id : ℕ) (m : View) (v : SeatView) where
+  pub split_allowed : 2 ≤ v.parts → m ≡ resting plan v → Splits (λ s. Orderly plan (state_model table s)) id m (left m) (right m)
+  split_allowed parts e = splits_model table (Orderly plan) id m (left m) (right m) (splits plan id m v parts e)
+
+  pub join_allowed : (other : ℕ) (k : View) (w : SeatView) → 0 < v.parts → m ≡ resting plan v → k ≡ resting plan w → Joins (λ s. Orderly plan (state_model table s)) id m other k (both m k) spent
+  join_allowed other k w parts e d = joins_model table (Orderly plan) id m other k (both m k) spent (joins plan no_plan id other m k v w parts e d)

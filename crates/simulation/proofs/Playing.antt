@@ -2,7 +2,10 @@
 -- Serves `Cluster::play`.
 use Rattle.std.proofs.Common.{◌≡◌, ℕ, ◌+◌, ◌-◌, ◌≤◌, All, List, [], length, map, sym, ap, ◌∙◌, subst, arith}
 use Rattle.std.proofs.lemmas.List.{length-map}
+use Rattle.bench_types.specs.Budget.{IsLawfulBudget}
 use Rattle.bench_types.specs.Exchange.{IsPlanned}
+use Rattle.bench_types.specs.declared.exchanges.Budget.{Budget}
+use Rattle.bench_types.specs.declared.exchanges.Budget.TheVariants.{Entries, Bytes}
 use Rattle.bench_types.specs.declared.exchanges.Record.{Record}
 use Rattle.bench_types.specs.declared.exchanges.Rules.{Rules}
 use Rattle.bench_types.specs.declared.rows.Figures.{Figures}
@@ -14,7 +17,7 @@ use Rattle.cluster.proofs.FoldLaws.{fold_counts_tables, fold_counts_records, fol
 use Rattle.cluster.proofs.Tables.{cluster_of}
 use Rattle.round_plan.specs.Plan.{RoundListView, IsRoundPlan, round_list_of}
 use Rattle.round_plan.specs.Words.{RunWordsView, run_words_of}
-use Rattle.scenario.specs.Settings.{Settings, IsLawfulScenario}
+use Rattle.scenario.specs.Settings.{Settings, IsBudgetOf, IsLawfulScenario}
 use Rattle.staleness.specs.Figures.{figures_of}
 use Rattle.owner_lists.specs.OwnerListView.{OwnerListView, lists_in}
 use Rattle.simulation.specs.Outcomes.{played_with}
@@ -44,6 +47,11 @@ module _ {T : Type 0} (table : T → Table) (s : Settings) (round : ℕ) (tables
 
   pub one_list_each : length lists ≡ length tables
   one_list_each = is.list_count ∙ as_many
+
+-- a scenario's budget has room for any one entry
+pub lawful_budget : (format : ℕ) (budget : Budget) → IsBudgetOf format budget → IsLawfulBudget budget
+lawful_budget format (Entries n) is = is.1.0
+lawful_budget format (Bytes n) is = is.1.0
 
 -- the exchanges of the round's list
 module _ (s : Settings) (round : ℕ) (list : RoundListView) (plan : IsRoundPlan list) (list_is : list ≡ round_list_of s round) (rules : Rules) (old new : List Table) (records : List Record) (exchanged : fold_of rules old list.exchanges ≡ record { tables = new; records = records }) where

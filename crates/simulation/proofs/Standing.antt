@@ -9,6 +9,7 @@ use Rattle.std.proofs.lemmas.List.Elements.{All-nil}
 use Rattle.std.proofs.lemmas.List.FromFn.{length-map-range_with_len}
 use Rattle.bench_types.specs.declared.entries.Entry.{Entry}
 use Rattle.bench_types.specs.declared.entries.Mark.{Mark}
+use Rattle.bench_types.specs.Entry.{AreNextAfter}
 use Rattle.bench_types.specs.declared.limits.TheConstants.{LEAST_KEYS, MOST_NODES, MOST_KEYS}
 use Rattle.node_table.specs.Table.{Table, empty_table, entry_at, greatest_mark, with_own_write, with_own_writes, without_others, without_all, IsProper}
 use Rattle.node_table.proofs.Laws.{entry_at-without_all, entry_at-without_others_own}
@@ -19,7 +20,7 @@ use Rattle.round_plan.specs.Generations.{generation_upto}
 use Rattle.round_plan.specs.Outages.{forgets_now}
 use Rattle.round_plan.specs.Writes.{born_in, count_before, own_writes, writes_before, writes_upto, written_upto}
 use Rattle.round_plan.proofs.Generations.{generation_upto-same, generation_upto-next}
-use Rattle.round_plan.proofs.Growth.{length-writes_before, writes_before-grown, writes_upto-grown, written_upto-grown}
+use Rattle.round_plan.proofs.Growth.{next-own_writes, length-writes_before, writes_before-grown, writes_upto-grown, written_upto-grown}
 use Rattle.scenario.specs.Settings.{Settings}
 use Rattle.owner_lists.specs.OwnerListView.{OwnerListView, all_writes, entries_of, no_writes, begun_generation, list_of_owner}
 use Rattle.owner_lists.specs.Writes.{write_of_entry}
@@ -27,10 +28,11 @@ use Rattle.staleness.proofs.OwnParts.{own_part-empty}
 use Rattle.exchange.specs.Owns.{KeepsOwn}
 use Rattle.round_tables.specs.Histories.{own_list, BirthsRise, AreWrittenBy, StandsBeside, StandsAmong}
 use Rattle.simulation.specs.Rounds.{opening_tables}
+use Rattle.simulation.specs.Simulation.{MayWriteAll}
 use Rattle.simulation.specs.Soundness.{AreSound}
-use Rattle.simulation.proofs.Written.{born_upto, births_rise}
+use Rattle.simulation.proofs.Written.{born_upto, births_rise, may_write_each}
 use Rattle.simulation.specs.Standing.{IsOwnerOf, IsOwner, StandAfterRound}
-use Rattle.simulation.specs.inner.Steps.{HasWritten, HasRestarted}
+use Rattle.simulation.specs.inner.Steps.{MayWriteEach, HasWritten, HasRestarted}
 use Rattle.cluster.specs.Tables.{table_of_node, AreProper, HoldsOfEach}
 use Rattle.cluster.specs.Clusters.{KeepOwnParts}
 use Rattle.cluster.proofs.BeginLaws.{generation-written}
@@ -152,6 +154,22 @@ made_now s round n t v writes is made =
     ap (λ g. map (born_in round g) writes) is.generation
     ∙ made
     ∙ ap (own_writes s n round) (ap length is.writes ∙ length-writes_before s n round)
+
+-- what making them asks of the node's list, and of the run
+module _ (s : Settings) (round n : ℕ) (t : Table) (lists : List OwnerListView) (writes : List OwnWrite) (is : HasRestarted s round n t (list_of_owner lists n)) (made : map (born_in round (generation_upto s n round)) writes ≡ own_writes s n round (length (list_of_owner lists n).current)) where
+  pub next_own : AreNextAfter t.generation (length (own_list t lists).current) (map (born_in round t.generation) writes)
+  next_own =
+      let count = length (list_of_owner lists n).current in
+      subst (λ m. AreNextAfter t.generation (length (list_of_owner lists m).current) (map (born_in round t.generation) writes)) (sym is.table.node)
+      (subst (λ k. AreNextAfter k count (map (born_in round k) writes)) (sym is.generation)
+      (subst (AreNextAfter (generation_upto s n round) count) (sym made) (next-own_writes s n round count)))
+
+  pub may_write_own : (May : ℕ → ℕ → Entry → Type 0) → MayWriteAll May s → n < s.nodes → 1 ≤ round → round ≤ s.rounds → MayWriteEach May t.node (length (all_writes lists t.node)) (map (born_in round t.generation) writes)
+  may_write_own May all below first last =
+      subst (λ m. MayWriteEach May m (length (all_writes lists m)) (map (born_in round t.generation) writes)) (sym is.table.node)
+      (subst (MayWriteEach May n (length (all_writes lists n))) (sym (made_now s round n t (list_of_owner lists n) writes is made))
+      (subst (λ es. MayWriteEach May n (length es) (own_writes s n round (count_before s n round))) (sym is.all)
+      (may_write_each May s n round all below first last)))
 
 -- and after its writes it is the round's
 pub owner_written : (s : Settings) (round n : ℕ) (t u : Table) (v v' : OwnerListView) (writes : List OwnWrite) → 1 ≤ round → length writes ≤ 8 → HasRestarted s round n t v → HasWritten round writes t u v v' → map (born_in round (generation_upto s n round)) writes ≡ own_writes s n round (length v.current) → IsOwner s round n u v' × (u ≡ with_own_writes t (own_writes s n round (count_before s n round)))

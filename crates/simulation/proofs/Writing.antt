@@ -1,14 +1,16 @@
 -- How far a node's writes of a round have been made.
 -- Serves `write_own`.
-use Rattle.std.proofs.Common.{◌≡◌, ℕ, ◌+◌, ◌^◌, ◌<◌, ◌≤◌, List, [], ◌∷◌, ◌++◌, length, sym, ap, ◌∙◌, subst, arith, length-append}
+use Rattle.std.proofs.Common.{◌≡◌, ℕ, ◌+◌, ◌^◌, ◌<◌, ◌≤◌, List, [], ◌∷◌, ◌++◌, All, length, map, take, get_or, refl, sym, ap, ◌∙◌, subst, arith, length-append}
 use Rattle.std.proofs.lemmas.List.Sums.{fold-append}
 use Rattle.std.proofs.lemmas.List.Elements.{All-push}
-use Rattle.std.proofs.lemmas.List.{append_assoc, length-map}
+use Rattle.std.proofs.lemmas.List.{append_assoc, get_or-map, length-map, length-take-le, map-append, take_more}
 use Rattle.bench_types.specs.declared.entries.Entry.{Entry}
-use Rattle.bench_types.specs.Entry.{next_version, IsNextAfter}
+use Rattle.bench_types.specs.Entry.{next_version, IsNextAfter, AreNextAfter}
 use Rattle.node_table.specs.Table.{Table, greatest_version, with_own_write, with_own_writes, IsProper}
 use Rattle.node_table.proofs.ProperLaws.{proper-with_own_write}
 use Rattle.cluster.proofs.BeginLaws.{counted_write}
+use Rattle.round_plan.specs.declared.owners.OwnWrite.{OwnWrite}
+use Rattle.round_plan.specs.Writes.{born_in}
 use Rattle.owner_lists.specs.declared.lists.Write.{Write}
 use Rattle.owner_lists.specs.OwnerListView.{OwnerListView, all_writes, written, next_entry, with_write, list_of_owner, ListBecomes}
 use Rattle.owner_lists.specs.Writes.{write_of_entry, AreBornBy, next_write}
@@ -16,7 +18,7 @@ use Rattle.owner_lists.proofs.Owners.{written_more}
 use Rattle.staleness.specs.OwnParts.{OwnPartIsLastWrites}
 use Rattle.staleness.proofs.OwnParts.{own_part-written}
 use Rattle.round_tables.specs.Histories.{own_list, StandsBeside, MayWrite, AddsWrite}
-use Rattle.simulation.specs.inner.Steps.{OthersStay}
+use Rattle.simulation.specs.inner.Steps.{MayWriteEach, OthersStay}
 
 -- these entries are written
 pub record IsWriting (round : ℕ) (t0 t : Table) (v0 v : OwnerListView) (es : List Entry) : Type 0 where
@@ -111,3 +113,45 @@ module _ (round : ℕ) (t0 t : Table) (lists0 lists : List OwnerListView) (es : 
     where
       becomes : ListBecomes t0.node (with_write v e.key e.value e.born) lists lists'
       becomes = subst (λ m. ListBecomes m (with_write (list_of_owner lists m) e.key e.value e.born) lists lists') so_far.node added
+
+abbrev pub no_write : OwnWrite
+no_write = record { key = 0; value = 0; version = 0 }
+
+-- the writes of a round in order, those before the i-th made
+module _ (round : ℕ) (t0 t : Table) (lists0 lists : List OwnerListView) (writes : List OwnWrite) (i : ℕ) (lt : i < length writes) (so_far : IsWritingIn round t0 t lists0 lists (map (born_in round t0.generation) (take i writes))) (beside : StandsBeside t0 (own_list t0 lists0)) (next : AreNextAfter t0.generation (length (own_list t0 lists0).current) (map (born_in round t0.generation) writes)) (keys : All (λ w. w.key < t0.keys) writes) where
+  abbrev entry_of : OwnWrite → Entry
+  entry_of = born_in round t0.generation
+
+  abbrev done : List Entry
+  done = map entry_of (take i writes)
+
+  abbrev w : OwnWrite
+  w = get_or writes i no_write
+
+  count : length done ≡ i
+  count = length-map (take i writes) entry_of ∙ length-take-le i writes (omega (arith, lt))
+
+  within : i < length (map entry_of writes)
+  within = omega (arith, lt, length-map writes entry_of)
+
+  here : get_or (map entry_of writes) i (entry_of no_write) ≡ entry_of w
+  here = get_or-map entry_of writes i no_write (entry_of no_write) lt
+
+  is_next_write : IsNextAfter t0.generation (length (own_list t0 lists).current) (entry_of w)
+  is_next_write = (refl, omega (arith, ap (λ (e : Entry). e.version) here, (next i (entry_of no_write) within).1, so_far.own.count, count))
+
+  -- the i-th may be made
+  pub may_write_at : (May : ℕ → ℕ → Entry → Type 0) → MayWriteEach May t0.node (length (all_writes lists0 t0.node)) (map entry_of writes) → t0.node < length lists0 → length (own_list t0 lists0).current + length writes + 1 < 2 ^ 32 → MayWrite May t lists w.key w.value round
+  may_write_at May may owner few =
+      may_write_next round t0 t lists0 lists done (entry_of w) so_far beside is_next_write May
+      (subst (λ k. May t0.node (length (all_writes lists0 t0.node) + k + 1) (entry_of w)) (sym count)
+      (subst (May t0.node (length (all_writes lists0 t0.node) + i + 1)) here (may i (entry_of no_write) within)))
+      owner (keys i no_write lt) (omega (arith, few, count, lt))
+
+  -- and once it is
+  pub writing_at : (t' : Table) (lists' : List OwnerListView) → t' ≡ with_own_write t w.key w.value round → AddsWrite t w.key w.value round lists lists' → IsWritingIn round t0 t' lists0 lists' (map entry_of (take (i + 1) writes))
+  writing_at t' lists' t'_is added =
+      subst (IsWritingIn round t0 t' lists0 lists') (sym longer) (writing_next round t0 t lists0 lists done (entry_of w) so_far beside is_next_write t' lists' (omega arith) (keys i no_write lt) t'_is added)
+    where
+      longer : map entry_of (take (i + 1) writes) ≡ done ++ entry_of w ∷ []
+      longer = ap (map entry_of) (take_more writes i no_write lt) ∙ map-append entry_of (take i writes) (w ∷ [])

@@ -112,11 +112,10 @@ fn entry_count(records: &[Record]) -> u64
     requires { length records.now ≤ MOST_EXCHANGES }
     ensures { result ≡ entry_count records.now }
 {
-    let mut total = 0;
-    for record in records {
-        total += u64::from(record.back) + u64::from(record.forth);
-    }
-    total
+    records
+        .iter()
+        .map(|r| u64::from(r.back) + u64::from(r.forth))
+        .sum()
 }
 
 // How many entries the budget cut.
@@ -124,9 +123,8 @@ fn cut_total(records: &[Record]) -> u64
     requires { length records.now ≤ MOST_EXCHANGES }
     ensures { result ≡ cut_total records.now }
 {
-    let mut total = 0;
-    for record in records {
-        total += u64::from(record.back_cut) + u64::from(record.forth_cut);
-    }
-    total
+    records
+        .iter()
+        .map(|r| u64::from(r.back_cut) + u64::from(r.forth_cut))
+        .sum()
 }

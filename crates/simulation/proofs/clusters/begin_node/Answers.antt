@@ -1,18 +1,15 @@
 use Rattle.std.proofs.Common.{◌≡◌, ◌+◌, ◌-◌, ◌<◌, ◌^◌, ℕ, List, length, map, ap, sym, ◌∙◌, subst, arith}
 use Rattle.std.proofs.lemmas.Result.{on_ok_weaker}
-use Rattle.bench_types.specs.Entry.{AreNextAfter}
 use Rattle.node_table.specs.Table.{with_own_writes}
 use Rattle.round_plan.specs.declared.owners.OwnWrite.{OwnWrite}
 use Rattle.round_plan.specs.Generations.{generation_upto}
 use Rattle.round_plan.specs.Writes.{born_in, count_before, own_writes}
 use Rattle.scenario.specs.Settings.{Settings}
-use Rattle.round_plan.proofs.Growth.{next-own_writes}
-use Rattle.owner_lists.specs.OwnerListView.{all_writes, written, list_of_owner}
+use Rattle.owner_lists.specs.OwnerListView.{written, list_of_owner}
 use Rattle.owner_lists.specs.Writes.{AreBornBy}
 use Rattle.staleness.proofs.OwnParts.{born-later}
-use Rattle.simulation.specs.inner.Steps.{HasWritten, MayWriteEach}
-use Rattle.simulation.proofs.Standing.{beside_own, made_now, owner_written}
-use Rattle.simulation.proofs.Written.{may_write_each}
+use Rattle.simulation.specs.inner.Steps.{HasWritten}
+use Rattle.simulation.proofs.Standing.{beside_own, next_own, may_write_own, owner_written}
 use Rattle.simulation.proofs.clusters.begin_node.Goals as goal
 
 -- the writes as they are lent
@@ -22,26 +19,12 @@ made s n round count len lent writes same value counted =
 
 pub write_own-requires-clause-next : goal.write_own-requires-clause-next
 write_own-requires-clause-next g c _ _ =
-    let s = c.args.scenario.now in
-    let owner = c.restart.ensures.owner in
-    let t = g.T.MemoryTable.table c.restart.new.table in
-    let lists = g.T.RoundTable.lists c.restart.new.histories in
-    let count = length (list_of_owner lists c.args.node).current in
-    subst (λ m. AreNextAfter t.generation (length (list_of_owner lists m).current) (map (born_in c.args.round t.generation) c.as_slice.result.now)) (sym owner.table.node)
-    (subst (λ k. AreNextAfter k count (map (born_in c.args.round k) c.as_slice.result.now)) (sym owner.generation)
-    (subst (AreNextAfter (generation_upto s c.args.node c.args.round) count) (sym (made c.args.scenario.now c.args.node c.args.round _ _ _ _ c.as_slice.ensures.value c.writes_by-writes.ensures.value c.count.ensures)) (next-own_writes s c.args.node c.args.round count)))
+    next_own c.args.scenario.now c.args.round c.args.node (g.T.MemoryTable.table c.restart.new.table) (g.T.RoundTable.lists c.restart.new.histories) c.as_slice.result.now c.restart.ensures.owner (made c.args.scenario.now c.args.node c.args.round _ _ _ _ c.as_slice.ensures.value c.writes_by-writes.ensures.value c.count.ensures)
 
 pub write_own-requires-clause-may : goal.write_own-requires-clause-may
 write_own-requires-clause-may g c _ _ =
-    let s = c.args.scenario.now in
-    let owner = c.restart.ensures.owner in
-    let t = g.T.MemoryTable.table c.restart.new.table in
-    let lists = g.T.RoundTable.lists c.restart.new.histories in
-    let May = g.T.RoundTable.may_write in
-    subst (λ m. MayWriteEach May m (length (all_writes lists m)) (map (born_in c.args.round t.generation) c.as_slice.result.now)) (sym owner.table.node)
-    (subst (MayWriteEach May c.args.node (length (all_writes lists c.args.node))) (sym (made_now s c.args.round c.args.node t (list_of_owner lists c.args.node) c.as_slice.result.now owner (made c.args.scenario.now c.args.node c.args.round _ _ _ _ c.as_slice.ensures.value c.writes_by-writes.ensures.value c.count.ensures)))
-    (subst (λ es. MayWriteEach May c.args.node (length es) (own_writes s c.args.node c.args.round (count_before s c.args.node c.args.round))) (sym owner.all)
-    (may_write_each May s c.args.node c.args.round c.requires.may_write c.requires.node c.requires.first c.requires.within)))
+    may_write_own c.args.scenario.now c.args.round c.args.node (g.T.MemoryTable.table c.restart.new.table) (g.T.RoundTable.lists c.restart.new.histories) c.as_slice.result.now c.restart.ensures.owner (made c.args.scenario.now c.args.node c.args.round _ _ _ _ c.as_slice.ensures.value c.writes_by-writes.ensures.value c.count.ensures)
+    g.T.RoundTable.may_write c.requires.may_write c.requires.node c.requires.first c.requires.within
 
 pub write_own-requires-clause-fits : goal.write_own-requires-clause-fits
 write_own-requires-clause-fits g c _ _ =

@@ -3,11 +3,10 @@ use Rattle.std.specs.Mem.Slots.{slots_items, slots_counts}
 use Rattle.round_plan.specs.Plan.{RoundListView}
 use Rattle.board.specs.Boards.{plan_of, seat_view, exchanges_of}
 use Rattle.board.specs.Rule.{Orderly}
-use Rattle.board.specs.Seats.{Sat}
 use Rattle.board.specs.Models.{slot_model}
 use Rattle.board.proofs.Ends.{EndTells, ends}
 use Rattle.board.proofs.Modelled.{final_model}
-use Rattle.board.proofs.Calls.{model_rests}
+use Rattle.board.proofs.Calls.{resting_seat}
 use Rattle.board.proofs.Filling.{first_word, planned_by, close_left}
 use Rattle.board.proofs.boards.Board.close.Given as given
 use Rattle.board.proofs.boards.Board.close.Goals as goal
@@ -21,7 +20,7 @@ ended g c =
     let seat = c.args.seat in
     let words = slots_items c.close_with-closed.result.words in
     let slots = slots_items c.close_with-closed.result.slots in (
-      ends plan seat.raw.id seat.raw.me.0 (seat_view seat) words (map (slot_model table) slots) (ap (λ (m : Sat). m.0) (model_rests table c.args.self seat c.requires.seat))
+      ends plan seat.raw.id seat.raw.me.0 (seat_view seat) words (map (slot_model table) slots) (resting_seat table c.args.self seat c.requires.seat)
           (final_model table (Orderly plan) seat.raw.id seat.raw.me.0 words slots c.close_with-closed.ensures.values.2),
       first_word words c.word-finished.result c.word-finished.ensures,
     )

@@ -3,15 +3,11 @@ use Rattle.std.proofs.lemmas.Bool.{cases_lt}
 use Rattle.board.specs.Weights.{times, only}
 use Rattle.board.specs.SeatView.{joined}
 use Rattle.board.specs.Boards.{plan_of, seat_view}
-use Rattle.board.specs.Seats.{Sat}
-use Rattle.board.specs.Rule.{Orderly}
 use Rattle.board.specs.Models.{seat_model}
-use Rattle.board.specs.inner.Plays.{no_plan}
 use Rattle.board.proofs.Sums.{total-append}
-use Rattle.board.proofs.Ends.{joins}
-use Rattle.board.proofs.Modelled.{joins_model, rests_of}
-use Rattle.board.proofs.Steps.{show_allowed}
-use Rattle.board.proofs.Calls.{model_rests, word_zero, joined_me, seat_again}
+use Rattle.board.proofs.Modelled.{rests_of}
+use Rattle.board.proofs.Steps.{join_allowed, show_allowed}
+use Rattle.board.proofs.Calls.{resting_seat, word_zero, joined_me, seat_again}
 use Rattle.board.proofs.boards.Board.join.Goals as goal
 
 pub join_seat-requires : goal.join_seat-requires
@@ -26,9 +22,7 @@ join_seat-requires g c =
       b.id,
       b.rests.slots,
       word_zero board,
-      joins_model table (Orderly (plan_of table board)) _ _ _ _ _ _
-          (joins (plan_of table board) no_plan _ _ one.raw.me.0 other.raw.me.0 (seat_view one) (seat_view other) a.rests.parts
-          (ap (λ (m : Sat). m.0) (model_rests table board one a)) (ap (λ (m : Sat). m.0) (model_rests table board other b))),
+      join_allowed table (plan_of table board) _ one.raw.me.0 (seat_view one) _ other.raw.me.0 (seat_view other) a.rests.parts (resting_seat table board one a) (resting_seat table board other b),
     )
 
 pub load-requires : goal.load-requires

@@ -1,10 +1,12 @@
 use Rattle.std.proofs.Common.{map, subst, sym, ap, ◌∙◌, arith}
+use Rattle.bench_types.specs.Budget.{IsLawfulBudget}
+use Rattle.bench_types.specs.declared.exchanges.Rules.{Rules}
 use Rattle.cluster.specs.Tables.{IsCluster}
 use Rattle.owner_lists.specs.OwnerListView.{lists_in}
 use Rattle.staleness.specs.Figures.{figures_of}
 use Rattle.round_plan.specs.Plan.{RoundListView, IsRoundPlan}
 use Rattle.round_plan.specs.Words.{RunWordsView}
-use Rattle.simulation.proofs.Playing.{IsLeft, next_words_of, is_left, each_begun, nodes_cluster, standing_cluster, one_list_each, one_record_each, round_is, played_is}
+use Rattle.simulation.proofs.Playing.{IsLeft, next_words_of, lawful_budget, is_left, each_begun, nodes_cluster, standing_cluster, one_list_each, one_record_each, round_is, played_is}
 use Rattle.simulation.proofs.Standing.{written_by}
 use Rattle.simulation.proofs.sims.Cluster.play.Given as given
 use Rattle.simulation.proofs.sims.Cluster.play.Goals as goal
@@ -16,9 +18,15 @@ pub shared-shared-requires-clause-written : goal.shared-shared-requires-clause-w
 shared-shared-requires-clause-written g c = written_by c.args.scenario.now c.args.round _ _ c.in_ok-begin.ensures.standing
 
 -- each table stands among the lists as the exchanges begin
-pub run_list_with-requires-clause-fits : goal.run_list_with-requires-clause-fits
-run_list_with-requires-clause-fits g c _ _ n lt =
-    c.shared-shared.ensures _ (each_begun c.args.scenario.now c.args.round _ _ _ c.requires.lawful c.requires.first c.requires.after c.in_ok-begin.ensures.tables c.in_ok-begin.ensures.standing n lt)
+pub run_list_with-requires-clause-tables : goal.run_list_with-requires-clause-tables
+run_list_with-requires-clause-tables g c _ _ = record {
+  cluster =
+      subst (λ n. IsCluster n (map g.T.MemoryTable.table c.begin.new.self.tables.items)) (sym (ap (λ (l : RoundListView). l.nodes) c.in_ok-list.ensures.plan))
+      (nodes_cluster g.T.MemoryTable.table c.args.scenario.now c.args.round c.begin.new.self.tables.items (g.T.RoundTable.lists c.begin.new.self.histories) c.in_ok-begin.ensures.standing);
+  each_fits = λ n lt.
+      c.shared-shared.ensures _ (each_begun c.args.scenario.now c.args.round _ _ _ c.requires.lawful c.requires.first c.requires.after c.in_ok-begin.ensures.tables c.in_ok-begin.ensures.standing n lt);
+  budget = subst (λ (r : Rules). IsLawfulBudget r.budget) (sym c.requires.rules) (lawful_budget c.args.scenario.now.format c.args.scenario.now.budget c.requires.lawful.budget);
+}
 
 -- the tables as the figures read them, and the lists
 read : (g : given.Over) (c : goal.After-histories-2-1 g) → IsLeft g.T.MemoryTable.table c.args.scenario.now c.args.round c.deref.result.now (g.T.RoundTable.lists c.begin.new.self.histories)
@@ -53,41 +61,6 @@ returns-clause-tables g c = (left g c).after
 pub returns-clause-standing : goal.returns-clause-standing
 returns-clause-standing g c = (left g c).standing
 
-pub begin-requires-clause-first : goal.begin-requires-clause-first
-begin-requires-clause-first g c = λ κs out. c.requires.first
-
-pub begin-requires-clause-within : goal.begin-requires-clause-within
-begin-requires-clause-within g c = λ κs out. c.requires.within
-
-pub begin-requires-clause-may_write : goal.begin-requires-clause-may_write
-begin-requires-clause-may_write g c = λ κs out. c.requires.may_write
-
-pub begin-requires-clause-ended : goal.begin-requires-clause-ended
-begin-requires-clause-ended g c = λ κs out. c.requires.ended
-
-pub begin-requires-clause-standing : goal.begin-requires-clause-standing
-begin-requires-clause-standing g c = λ κs out. c.requires.standing
-
-pub run_list_with-requires-clause-few : goal.run_list_with-requires-clause-few
-run_list_with-requires-clause-few g c = λ κs out. c.requires.few
-
-pub run_list_with-requires-clause-many : goal.run_list_with-requires-clause-many
-run_list_with-requires-clause-many g c = λ κs out. c.requires.many
-
-pub run_list_with-requires-clause-cluster : goal.run_list_with-requires-clause-cluster
-run_list_with-requires-clause-cluster g c = λ κs out.
-    subst (λ n. IsCluster n (map g.T.MemoryTable.table c.begin.new.self.tables.items)) (sym (ap (λ (l : RoundListView). l.nodes) c.in_ok-list.ensures.plan))
-    (nodes_cluster g.T.MemoryTable.table c.args.scenario.now c.args.round c.begin.new.self.tables.items (g.T.RoundTable.lists c.begin.new.self.histories) c.in_ok-begin.ensures.standing)
-
-pub shared-shared-requires-clause-ended : goal.shared-shared-requires-clause-ended
-shared-shared-requires-clause-ended g c = c.in_ok-begin.ensures.ended
-
-pub figures-requires-clause-ended : goal.figures-requires-clause-ended
-figures-requires-clause-ended g c = c.in_ok-begin.ensures.ended
-
-pub returns-clause-ended : goal.returns-clause-ended
-returns-clause-ended g c = c.in_ok-begin.ensures.ended
-
 pub returns-clause-played : goal.returns-clause-played
 returns-clause-played g c =
     let lists = g.T.RoundTable.lists c.begin.new.self.histories in
@@ -101,9 +74,3 @@ next_round-requires g c = omega (arith, ap (λ (v : RunWordsView). v.round) c.re
 
 pub begin-requires-clause-words : goal.begin-requires-clause-words
 begin-requires-clause-words g c = λ κs out. next_words_of c.args.scenario.now c.args.round c.requires.first _ _ c.next_round.ensures c.requires.words
-
-pub round_list_by-requires-clause-words : goal.round_list_by-requires-clause-words
-round_list_by-requires-clause-words g c = c.in_ok-begin.ensures.words
-
-pub returns-clause-words : goal.returns-clause-words
-returns-clause-words g c = c.in_ok-begin.ensures.words

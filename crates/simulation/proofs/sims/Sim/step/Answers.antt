@@ -18,9 +18,6 @@ play-requires-clause-lawful g c = λ κs out. subst (λ (v : SimView g.row.T.Den
 pub play-requires-clause-within : goal.play-requires-clause-within
 play-requires-clause-within g c = λ κs out. omega (arith, (subst MayStep (sym c.self.view_is) c.in_ok-check_step.ensures.ok).1)
 
-pub play-requires-clause-may_write : goal.play-requires-clause-may_write
-play-requires-clause-may_write g c = λ κs out. c.self.invariant.may_write
-
 pub play-requires-clause-standing : goal.play-requires-clause-standing
 play-requires-clause-standing g c = λ κs out. standing_before g.T.MemoryTable.table g.T.RoundTable.lists g.T.RoundTable.has_ended g.T.RoundTable.may_write c.self.inside.scenario c.self.inside.rules c.self.inside.cluster c.in-Some.cluster c.in-Some.cluster c.self.inside.rounds_done c.self.invariant (sym c.take.ensures.value ∙ c.in-Some.is) (subst MayStep (sym c.self.view_is) c.in_ok-check_step.ensures.ok).1
 

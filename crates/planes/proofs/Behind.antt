@@ -2,10 +2,10 @@
 -- Serves `count_behind` and `least_behind`.
 use Rattle.std.proofs.Common.{◌≡◌, ℕ, ◌+◌, ◌<◌, ◌≤◌, cond, nat_lt, get_or, List, inl, inr, refl, sym, ap, ◌∙◌, subst, arith}
 use Rattle.std.proofs.lemmas.Bool.{cases_lt, lt-ltb, le-ltb}
-use Rattle.planes.specs.Planes.{Cells, HasEach}
+use Rattle.planes.specs.Planes.{Cells, HasEach, IsLowered}
 use Rattle.planes.specs.Sums.{sum_below}
 use Rattle.planes.proofs.Places.{plane_count}
-use Rattle.planes.specs.Lags.{next_behind, IsLoweredBehind, IsLeastBehind}
+use Rattle.planes.specs.Lags.{next_behind, IsLeastBehind}
 
 -- how many of a plane are behind
 pub plane-behind : (nodes n x : ℕ) (plane last : List ℕ) (cells lasts : ℕ → ℕ) → HasEach nodes (λ r m. m ≡ cells r) plane → HasEach nodes (λ r m. m ≡ lasts r) last → n ≡ nodes
@@ -22,7 +22,7 @@ behind-start nodes most cells last xs start = record {
   each = λ r lt. subst (λ n. (n ≤ most) × IsLeastBehind most cells last 0 r n) (sym (start.each r lt)) (behind-none most cells last r);
 }
 
-module _ (most : ℕ) (cells last : Cells) (key owner x y : ℕ) (fits : x ≤ most) (now : IsLoweredBehind most (last owner key) (cells owner key) x y) (before : IsLeastBehind most cells last key owner x) where
+module _ (most : ℕ) (cells last : Cells) (key owner x y : ℕ) (fits : x ≤ most) (now : IsLowered most (next_behind most (last owner key) (cells owner key)) x y) (before : IsLeastBehind most cells last key owner x) where
   -- the key's number is behind, or it isn't
   here_behind : cells owner key < last owner key → y ≡ cells owner key → IsLeastBehind most cells last (key + 1) owner y
   here_behind behind same = record {

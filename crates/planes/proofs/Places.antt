@@ -42,48 +42,32 @@ between-tests low mark n = both-tests (nat_lt low n) (nat_le n mark)
 pub least-none : (most : ℕ) (cells : Cells) (owner mark : ℕ) → (most ≤ most) × IsNextAbove most cells 0 owner mark most
 least-none most cells owner mark = (omega arith, inl ((λ k lt. absurd (omega (arith, lt))), refl))
 
-module _ (most : ℕ) (cells : Cells) (key owner mark x y : ℕ) (fits : x ≤ most) (now : IsLowered most mark (cells owner key) x y) where
-  new-least : (found : next_above most mark (cells owner key) ≡ cells owner key) (above : mark < cells owner key) → HasNoneAbove cells key owner mark → x ≡ most → IsLeastAbove cells (key + 1) owner mark y
-  new-least found above none is =
-      let same : cells owner key ≡ y = omega (arith, now.lowered, now.fits, found, is) in
-      record {
-        key = key;
-        below = omega arith;
-        is = same;
-        above = omega (arith, above, same);
-        no_less = λ k lt over. elim (cases_lt k key) [
-          | inl before ↦ absurd (omega (arith, over, none k before))
-          | inr not_before ↦ subst (λ j. y ≤ cells owner j) {x = key} {y = k} (omega (arith, lt, not_before)) (omega (arith, same))
-        ];
-      }
+module _ (most : ℕ) (cells : Cells) (key owner mark x y : ℕ) (fits : x ≤ most) (now : IsLowered most (next_above most mark (cells owner key)) x y) where
+  -- the key's number is the least
+  here-least : mark < cells owner key → cells owner key ≡ y → ((k : ℕ) → k < key → mark < cells owner k → y ≤ cells owner k) → IsLeastAbove cells (key + 1) owner mark y
+  here-least above same no_less = record {
+    key = key;
+    below = omega arith;
+    is = same;
+    above = omega (arith, above, same);
+    no_less = λ k lt over. elim (cases_lt k key) [
+      | inl before ↦ no_less k before over
+      | inr not_before ↦ subst (λ j. y ≤ cells owner j) {x = key} {y = k} (omega (arith, lt, not_before)) (omega (arith, same))
+    ];
+  }
 
-  lower-least : (found : next_above most mark (cells owner key) ≡ cells owner key) (above : mark < cells owner key) → IsLeastAbove cells key owner mark x → IsLeastAbove cells (key + 1) owner mark y
-  lower-least found above some = elim (cases_lt (cells owner key) x) [
-    | inl lower ↦
-        let same : cells owner key ≡ y = omega (arith, now.lowered, found, lower) in
-        record {
-          key = key;
-          below = omega arith;
-          is = same;
-          above = omega (arith, above, same);
-          no_less = λ k lt over. elim (cases_lt k key) [
-            | inl before ↦ omega (arith, same, lower, some.no_less k before over)
-            | inr not_before ↦ subst (λ j. y ≤ cells owner j) {x = key} {y = k} (omega (arith, lt, not_before)) (omega (arith, same))
-          ];
-        }
-    | inr not_lower ↦
-        let same : x ≡ y = omega (arith, now.lowered, found, not_lower) in
-        record {
-          key = some.key;
-          below = omega (arith, some.below);
-          is = some.is ∙ same;
-          above = omega (arith, some.above, same);
-          no_less = λ k lt over. elim (cases_lt k key) [
-            | inl before ↦ omega (arith, same, some.no_less k before over)
-            | inr not_before ↦ subst (λ j. y ≤ cells owner j) {x = key} {y = k} (omega (arith, lt, not_before)) (omega (arith, same, not_lower))
-          ];
-        }
-  ]
+  -- or an earlier one stays the least
+  same-least : x ≡ y → (mark < cells owner key → y ≤ cells owner key) → IsLeastAbove cells key owner mark x → IsLeastAbove cells (key + 1) owner mark y
+  same-least same no_less some = record {
+    key = some.key;
+    below = omega (arith, some.below);
+    is = some.is ∙ same;
+    above = omega (arith, some.above, same);
+    no_less = λ k lt over. elim (cases_lt k key) [
+      | inl before ↦ omega (arith, same, some.no_less k before over)
+      | inr not_before ↦ subst (λ j. mark < cells owner j → y ≤ cells owner j) {x = key} {y = k} (omega (arith, lt, not_before)) no_less over
+    ];
+  }
 
   same-none : (upto : cells owner key ≤ mark) → HasNoneAbove cells key owner mark → HasNoneAbove cells (key + 1) owner mark
   same-none upto none k lt = elim (cases_lt k key) [
@@ -91,25 +75,20 @@ module _ (most : ℕ) (cells : Cells) (key owner mark x y : ℕ) (fits : x ≤ m
     | inr not_before ↦ subst (λ j. cells owner j ≤ mark) {x = key} {y = k} (omega (arith, lt, not_before)) upto
   ]
 
-  same-least : (upto : cells owner key ≤ mark) (same : x ≡ y) → IsLeastAbove cells key owner mark x → IsLeastAbove cells (key + 1) owner mark y
-  same-least upto same some = record {
-    key = some.key;
-    below = omega (arith, some.below);
-    is = some.is ∙ same;
-    above = omega (arith, some.above, same);
-    no_less = λ k lt over. elim (cases_lt k key) [
-      | inl before ↦ omega (arith, same, some.no_less k before over)
-      | inr not_before ↦ absurd (omega (arith, over, subst (λ j. cells owner j ≤ mark) {x = key} {y = k} (omega (arith, lt, not_before)) upto))
-    ];
-  }
-
   next-least : IsNextAbove most cells key owner mark x → IsNextAbove most cells (key + 1) owner mark y
   next-least before = elim (cases_lt mark (cells owner key)) [
     | inl above ↦
         let found : next_above most mark (cells owner key) ≡ cells owner key = ap (λ b. cond b (cells owner key) most) (lt-ltb mark (cells owner key) above) in
         elim before [
-          | inl none ↦ inr (new-least found above none.0 none.1)
-          | inr some ↦ inr (lower-least found above some)
+          | inl none ↦ inr (here-least above (omega (arith, now.lowered, now.fits, found, none.1)) (λ k earlier over. absurd (omega (arith, over, none.0 k earlier))))
+          | inr some ↦ elim (cases_lt (cells owner key) x) [
+            | inl lower ↦
+                let same : cells owner key ≡ y = omega (arith, now.lowered, found, lower) in
+                inr (here-least above same (λ k earlier over. omega (arith, same, lower, some.no_less k earlier over)))
+            | inr not_lower ↦
+                let same : x ≡ y = omega (arith, now.lowered, found, not_lower) in
+                inr (same-least same (λ _. omega (arith, same, not_lower)) some)
+          ]
         ]
     | inr not_above ↦
         let upto : cells owner key ≤ mark = omega (arith, not_above) in
@@ -117,7 +96,7 @@ module _ (most : ℕ) (cells : Cells) (key owner mark x y : ℕ) (fits : x ≤ m
         let same : x ≡ y = omega (arith, now.lowered, found, fits) in
         elim before [
           | inl none ↦ inl (same-none upto none.0, sym same ∙ none.1)
-          | inr some ↦ inr (same-least upto same some)
+          | inr some ↦ inr (same-least same (λ above. absurd (omega (arith, above, upto))) some)
         ]
   ]
 
@@ -258,12 +237,6 @@ planes-written changed nodes old number xs ys key n in_block is before within no
     subst (λ k. ArePlanesChangedUpto changed nodes old (map number (put_mid (key * nodes) k xs ys)) (key + 1)) (sym is)
     (planes-next changed nodes old number xs ys key before within (now.size ∙ block.size)
     (λ r lt. step r _ _ lt (subst (λ x. in_block r x (get_or (map number ys) r 0)) (block.each r lt ∙ before.from (key * nodes + r) (omega arith)) (now.each r (omega (arith, lt, block.size))))))
-
--- room to count one more
-pub room-left : {N : Type 0} (number : N → ℕ) (nodes key keys most : ℕ) (xs : List N) (test : ℕ → ℕ → Bool) → HasEach nodes (λ r n. n ≡ sum_below key (λ k. cond (test r k) 1 0)) (map number xs) → key < keys → keys ≤ MOST_KEYS → MOST_KEYS ≤ most
-    → (r : ℕ) → r < length xs → get_or (map number xs) r 0 < most
-room-left number nodes key keys most xs test is lt few room r in_range =
-    omega (arith, is.each r (omega (arith, in_range, is.size, length-map xs number)), count_le key (test r), lt, few, room)
 
 -- a loop over keys has come to its end
 pub each-whole : (is : ℕ → ℕ → ℕ → Type 0) (nodes key keys : ℕ) (xs : List ℕ) → keys ≤ key → key ≤ keys → HasEach nodes (is key) xs → HasEach nodes (is keys) xs

@@ -1,15 +1,10 @@
 -- Numbers compared with the last ones. Source: this project.
-use Rattle.std.specs.Prelude.{◌≡◌, ◌⊎◌, ℕ, ◌<◌, ◌≤◌, min, nat_lt, if◌then◌else◌}
+use Rattle.std.specs.Prelude.{◌≡◌, ◌⊎◌, ℕ, ◌<◌, ◌≤◌, nat_lt, if◌then◌else◌}
 use Rattle.planes.specs.Planes.{Cells}
 
 -- a number where it is below the last one, else the most
 abbrev pub next_behind : ℕ → ℕ → ℕ → ℕ
 next_behind most last number = if nat_lt number last then number else most
-
--- y is x lowered to a number that is below the last one, which is no more than the most
-pub record IsLoweredBehind (most last number x y : ℕ) : Type 0 where
-  pub lowered : y ≡ min x (next_behind most last number)
-  pub fits : next_behind most last number ≤ most
 
 -- the least of an owner's numbers that are below the last ones, or the most where none is
 pub record IsLeastBehind (most : ℕ) (cells last : Cells) (keys owner least : ℕ) : Type 0 where

@@ -31,10 +31,10 @@ HasNoneAbove cells keys owner mark = (k : ℕ) → k < keys → cells owner k �
 abbrev pub next_above : ℕ → ℕ → ℕ → ℕ
 next_above most low number = if nat_lt low number then number else most
 
--- y is x lowered to the next above a mark, which is no more than the most
-pub record IsLowered (most low number x y : ℕ) : Type 0 where
-  pub lowered : y ≡ min x (next_above most low number)
-  pub fits : next_above most low number ≤ most
+-- y is x lowered to another number, which is no more than the most
+pub record IsLowered (most number x y : ℕ) : Type 0 where
+  pub lowered : y ≡ min x number
+  pub fits : number ≤ most
 
 -- a number that is above both the peer's and a mark
 abbrev pub number_ahead : ℕ → ℕ → ℕ → ℕ

@@ -4,9 +4,9 @@ ghost use Rattle.std.specs.Prelude.{◌≡◌, ℕ, ◌<◌, ◌≤◌, length, 
 ghost use Rattle.bench_types.specs.declared.faults.Fault.TheVariants.{OutOfMemory};
 ghost use Rattle.bench_types.specs.declared.limits.TheConstants.{MOST_NODES};
 ghost use Rattle.planes.specs.inner.Elementwise.{AreChanged};
-ghost use Rattle.planes.specs.Lags.{IsLeastBehind, IsLoweredBehind};
+ghost use Rattle.planes.specs.Lags.{next_behind, IsLeastBehind};
 ghost use Rattle.planes.specs.Sums.{sum_below};
-ghost use Rattle.planes.specs.Planes.{cell, total_of, ArePlanesChanged, HasEach, IsGrid};
+ghost use Rattle.planes.specs.Planes.{cell, total_of, ArePlanesChanged, HasEach, IsGrid, IsLowered};
 
 use crate::grids::{all_of, plane_of};
 use crate::numbers::Number;
@@ -47,8 +47,9 @@ fn lower_counting<N: Number>(least: &mut [N], plane: &[N], last: &[N]) -> u32
 fn lower_to_behind<N: Number>(least: &mut [N], plane: &[N], last: &[N])
     requires plane { length plane.now ≡ length least.old }
     requires last { length last.now ≡ length least.old }
-    ensures least { AreChanged (λ r x y. IsLoweredBehind N.most (slice_index (map N.number last.now) r)
-        (slice_index (map N.number plane.now) r) x y) (map N.number least.old) (map N.number least.new) }
+    ensures least { AreChanged (λ r x y. IsLowered N.most
+        (next_behind N.most (slice_index (map N.number last.now) r) (slice_index (map N.number plane.now) r)) x y)
+        (map N.number least.old) (map N.number least.new) }
 {
     planes::lower_to(
         least,

@@ -35,8 +35,8 @@ fn owner_above<N: Number>(cells: &[N], nodes: usize, keys: usize, owner: usize, 
     count
 }
 
-// How many numbers are above their owners' low marks. It counts those of the owners alone whose high mark is above their
-// low one: the others have none.
+// How many numbers are above their owners' low marks. It goes over the owners alone whose high mark is above their low
+// one: the others have none.
 pub(crate) fn total_owners_above<N: Number>(
     cells: &[N],
     nodes: usize,

@@ -5,7 +5,7 @@ ghost use Rattle.bench_types.specs.declared.limits.TheConstants.{MOST_NODES};
 ghost use Rattle.planes.specs.inner.Elementwise.{AreChanged};
 ghost use Rattle.planes.specs.inner.Tests.{IsTestBy};
 ghost use Rattle.planes.specs.Sums.{sum_below};
-ghost use Rattle.planes.specs.Planes.{IsLowered, number_ahead, number_taken};
+ghost use Rattle.planes.specs.Planes.{next_above, IsLowered, number_ahead, number_taken};
 
 use crate::numbers::Number;
 
@@ -39,9 +39,9 @@ pub fn count<N: Number, F: Fn(usize, N) -> bool>(counts: &mut [N], plane: &[N], 
 /// Lowers each owner's number to another one.
 pub fn lower_to<N: Number, F: Fn(usize) -> N>(least: &mut [N], to: F)
     requires to { (r : ℕ) → r < length least.old → F.pre to r }
-    ensures least { (numbers : ℕ → ℕ) → ((r : ℕ) (n : N) → r < length least.old → F.post to r n → N.number n ≡ numbers r)
-        → AreChanged (λ r x y. (y ≡ min x (numbers r)) × (numbers r ≤ N.most))
-        (map N.number least.old) (map N.number least.new) }
+    ensures least { (numbers : ℕ → ℕ)
+        → ((r : ℕ) (n : N) → r < length least.old → F.post to r n → N.number n ≡ numbers r)
+        → AreChanged (λ r x y. IsLowered N.most (numbers r) x y) (map N.number least.old) (map N.number least.new) }
 {
     for r in 0..least.len() {
         least[r] = least[r].min_with(to(r));
@@ -52,8 +52,8 @@ pub fn lower_to<N: Number, F: Fn(usize) -> N>(least: &mut [N], to: F)
 pub fn lower_to_next<N: Number>(least: &mut [N], plane: &[N], low: &[N])
     requires plane { length plane.now ≡ length least.old }
     requires low { length low.now ≡ length least.old }
-    ensures least { AreChanged
-        (λ r x y. IsLowered N.most (slice_index (map N.number low.now) r) (slice_index (map N.number plane.now) r) x y)
+    ensures least { AreChanged (λ r x y. IsLowered N.most
+        (next_above N.most (slice_index (map N.number low.now) r) (slice_index (map N.number plane.now) r)) x y)
         (map N.number least.old) (map N.number least.new) }
 {
     lower_to(

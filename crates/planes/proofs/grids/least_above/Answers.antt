@@ -1,6 +1,6 @@
 use Rattle.std.proofs.Common.{◌≡◌, ◌≤◌, slice_index, sym, subst, ◌∙◌, map}
 use Rattle.std.proofs.lemmas.List.{with_items_is}
-use Rattle.planes.specs.Planes.{cell, HasEach, IsNextAbove, IsLowered}
+use Rattle.planes.specs.Planes.{cell, next_above, HasEach, IsNextAbove, IsLowered}
 use Rattle.planes.proofs.Places.{each-next, each-whole, each-other, each-start, least-next}
 use Rattle.planes.proofs.grids.least_above.Goals as goal
 
@@ -13,7 +13,7 @@ pub loop-key-preserved : goal.loop-key-preserved
 loop-key-preserved g c =
     each-next c.args.nodes _ _ _ (map g.N.Number.number c.loop-key.all) (map g.N.Number.number c.lower_to_next.new.least) c.loop-key.invariant c.lower_to_next.ensures.least
     (λ r x y lt is now. least-next g.N.Number.most (cell (map g.N.Number.number c.args.cells.now) c.args.nodes) c.loop-key.key r (slice_index (map g.N.Number.number c.args.low.now) r) x y is.0
-    (subst (λ n. IsLowered g.N.Number.most (slice_index (map g.N.Number.number c.args.low.now) r) n x y) (c.plane_of-plane.ensures.each r lt) now) is.1)
+    (subst (λ n. IsLowered g.N.Number.most (next_above g.N.Number.most (slice_index (map g.N.Number.number c.args.low.now) r) n) x y) (c.plane_of-plane.ensures.each r lt) now) is.1)
 
 pub returns-clause-least : goal.returns-clause-least
 returns-clause-least g c =

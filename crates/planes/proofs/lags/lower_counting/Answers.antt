@@ -1,6 +1,6 @@
 use Rattle.std.proofs.Common.{min, nat_lt, ◌∙◌, arith, length, map, if◌then◌else◌}
 use Rattle.std.proofs.lemmas.List.{length-map}
-use Rattle.planes.proofs.Elementwise.{number-at, changed_none, changed_all, written_next}
+use Rattle.planes.proofs.Elementwise.{number-at, number-waits, changed_none, changed_all, written_next}
 use Rattle.planes.proofs.Counts.{count_below, number_next, sum_whole}
 use Rattle.planes.proofs.lags.lower_counting.Goals as goal
 
@@ -14,7 +14,7 @@ plus-count-requires g c =
 
 pub loop-r-preserved : goal.loop-r-preserved
 loop-r-preserved g c =
-    let least = number-at g.N.Number.number c.loop-r.least c.loop-r.r c.index-least-r.result (omega (arith, c.loop-r-test.true, c.loop-r.auto.least)) c.index-least-r.is ∙ c.loop-r.invariant.least.from c.loop-r.r (omega arith) in
+    let least = number-waits _ _ g.N.Number.number c.loop-r.least c.loop-r.r c.index-least-r.result c.loop-r.invariant.least (omega (arith, c.loop-r-test.true, c.loop-r.auto.least)) c.index-least-r.is in
     let cell = number-at g.N.Number.number c.args.plane.now c.loop-r.r c.index-plane-r.result (omega (arith, c.loop-r-test.true, c.requires.plane)) c.index-plane-r.is in
     let last = number-at g.N.Number.number c.args.last.now c.loop-r.r c.index-last-r.result (omega (arith, c.loop-r-test.true, c.requires.last)) c.index-last-r.is in
     record {

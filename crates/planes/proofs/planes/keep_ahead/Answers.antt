@@ -1,6 +1,6 @@
 use Rattle.std.proofs.Common.{◌≡◌, nat_lt, max, get_or, ◌∙◌, arith, length, map, if◌then◌else◌}
 use Rattle.std.proofs.lemmas.List.{length-map}
-use Rattle.planes.proofs.Elementwise.{number-at, changed_none, changed_all, written_next}
+use Rattle.planes.proofs.Elementwise.{number-at, number-waits, changed_none, changed_all, written_next}
 use Rattle.planes.proofs.Counts.{count_below, number_next, sum_whole}
 use Rattle.planes.proofs.planes.keep_ahead.Given as given
 use Rattle.planes.proofs.planes.keep_ahead.Goals as goal
@@ -16,7 +16,7 @@ plus-count-requires g c =
 -- whether an owner's number is kept
 kept : (g : given.Over) (c : goal.After-plus-count g) → c.is_above-is_ahead.result ≡ nat_lt (max (get_or (map g.N.Number.number c.args.peer.now) c.loop-r.r 0) (get_or (map g.N.Number.number c.args.low.now) c.loop-r.r 0)) (get_or (map g.N.Number.number c.args.numbers.now) c.loop-r.r 0)
 kept g c =
-    let number = number-at g.N.Number.number c.loop-r.numbers c.loop-r.r c.index-numbers-r.result (omega (arith, c.loop-r-test.true, c.loop-r.auto.numbers)) c.index-numbers-r.is ∙ c.loop-r.invariant.numbers.from c.loop-r.r (omega arith) in
+    let number = number-waits _ _ g.N.Number.number c.loop-r.numbers c.loop-r.r c.index-numbers-r.result c.loop-r.invariant.numbers (omega (arith, c.loop-r-test.true, c.loop-r.auto.numbers)) c.index-numbers-r.is in
     let peer = number-at g.N.Number.number c.args.peer.now c.loop-r.r c.index-peer-r.result (omega (arith, c.loop-r-test.true, c.requires.peer)) c.index-peer-r.is in
     let low = number-at g.N.Number.number c.args.low.now c.loop-r.r c.index-low-r.result (omega (arith, c.loop-r-test.true, c.requires.low)) c.index-low-r.is in
     c.is_above-is_ahead.ensures ∙ (λ i. nat_lt (c.max_with.ensures i) (number i))
@@ -24,7 +24,7 @@ kept g c =
 
 pub loop-r-preserved : goal.loop-r-preserved
 loop-r-preserved g c =
-    let again = number-at g.N.Number.number c.loop-r.numbers c.loop-r.r c.index-numbers-r-in-loop-r.result (omega (arith, c.loop-r-test.true, c.loop-r.auto.numbers)) c.index-numbers-r-in-loop-r.is ∙ c.loop-r.invariant.numbers.from c.loop-r.r (omega arith) in
+    let again = number-waits _ _ g.N.Number.number c.loop-r.numbers c.loop-r.r c.index-numbers-r-in-loop-r.result c.loop-r.invariant.numbers (omega (arith, c.loop-r-test.true, c.loop-r.auto.numbers)) c.index-numbers-r-in-loop-r.is in
     record {
       numbers =
           written_next _ (map g.N.Number.number c.args.numbers.now) g.N.Number.number c.loop-r.numbers c.loop-r.r c.pick.result c.loop-r.invariant.numbers

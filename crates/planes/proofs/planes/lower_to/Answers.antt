@@ -13,7 +13,7 @@ loop-r-preserved g c numbers is =
     let number = is c.loop-r.r c.to.result c.loop-r-test.true c.to.ensures in
     written_next _ (map g.N.Number.number c.args.least.now) g.N.Number.number c.loop-r.least c.loop-r.r c.min_with.result before
     (omega (arith, c.loop-r-test.true, length-map c.args.least.now g.N.Number.number))
-    (c.min_with.ensures.number ∙ (λ i. min (least i) (number i)), subst (λ n. n ≤ g.N.Number.most) number c.min_with.ensures.fits)
+    (record { lowered = c.min_with.ensures.number ∙ (λ i. min (least i) (number i)); fits = subst (λ n. n ≤ g.N.Number.most) number c.min_with.ensures.fits })
 
 pub returns : goal.returns
 returns g c = record {

@@ -1,7 +1,7 @@
 use Rattle.std.proofs.Common.{◌≡◌, ◌&&◌, nat_lt, nat_le, max, get_or, ◌∙◌, arith, map, if◌then◌else◌}
 use Rattle.std.proofs.lemmas.List.{length-map}
 use Rattle.planes.specs.Planes.{number_taken}
-use Rattle.planes.proofs.Elementwise.{number-at, changed_none, changed_all, written_next}
+use Rattle.planes.proofs.Elementwise.{number-at, number-waits, changed_none, changed_all, written_next}
 use Rattle.planes.proofs.planes.take_plane.Given as given
 use Rattle.planes.proofs.planes.take_plane.Goals as goal
 
@@ -14,7 +14,7 @@ loop-r-init g c = record {
 -- an owner's number then
 kept : (g : given.Over) (c : goal.After-max_with g) → g.N.Number.number c.max_with-kept.result ≡ number_taken (get_or (map g.N.Number.number c.args.plane.now) c.loop-r.r 0) (get_or (map g.N.Number.number c.args.sent.now) c.loop-r.r 0) (get_or (map g.N.Number.number c.args.low.now) c.loop-r.r 0) (get_or (map g.N.Number.number c.args.high.now) c.loop-r.r 0)
 kept g c =
-    let cell = number-at g.N.Number.number c.loop-r.plane c.loop-r.r c.index-plane-r.result (omega (arith, c.loop-r-test.true, c.loop-r.auto.plane)) c.index-plane-r.is ∙ c.loop-r.invariant.plane.from c.loop-r.r (omega arith) in
+    let cell = number-waits _ _ g.N.Number.number c.loop-r.plane c.loop-r.r c.index-plane-r.result c.loop-r.invariant.plane (omega (arith, c.loop-r-test.true, c.loop-r.auto.plane)) c.index-plane-r.is in
     let sent = number-at g.N.Number.number c.args.sent.now c.loop-r.r c.index-sent-r.result (omega (arith, c.loop-r-test.true, c.requires.sent)) c.index-sent-r.is in
     let again = number-at g.N.Number.number c.args.sent.now c.loop-r.r c.index-sent-r-in-loop-r.result (omega (arith, c.loop-r-test.true, c.requires.sent)) c.index-sent-r-in-loop-r.is in
     let low = number-at g.N.Number.number c.args.low.now c.loop-r.r c.index-low-r.result (omega (arith, c.loop-r-test.true, c.requires.low)) c.index-low-r.is in
@@ -26,7 +26,7 @@ kept g c =
 
 pub loop-r-preserved : goal.loop-r-preserved
 loop-r-preserved g c =
-    let most = number-at g.N.Number.number c.loop-r.greatest c.loop-r.r c.index-greatest-r.result (omega (arith, c.loop-r-test.true, c.requires.greatest, c.loop-r.auto.greatest)) c.index-greatest-r.is ∙ c.loop-r.invariant.greatest.from c.loop-r.r (omega arith) in
+    let most = number-waits _ _ g.N.Number.number c.loop-r.greatest c.loop-r.r c.index-greatest-r.result c.loop-r.invariant.greatest (omega (arith, c.loop-r-test.true, c.requires.greatest, c.loop-r.auto.greatest)) c.index-greatest-r.is in
     record {
       plane =
           written_next _ (map g.N.Number.number c.args.plane.now) g.N.Number.number c.loop-r.plane c.loop-r.r c.max_with-kept.result c.loop-r.invariant.plane

@@ -50,6 +50,17 @@ in_round_behind sink old now new text whole line workers fault first stop = elim
   | inr cut ↦ inr (fault_behind sink old now new text whole line fault first cut)
 ]
 
+-- and in the rounds behind it
+in_rounds_behind : {W : Type 0} (sink : Sink W) (old now new : W) (text whole : List ℕ) (s : Settings) (workers : ℕ) (fault : Fault) → IsWritten sink old now text → IsFaultInRounds sink now new whole s workers fault → IsFaultInRounds sink old new (text ++ whole) s workers fault
+in_rounds_behind sink old now new text whole s workers fault first stop =
+    let line = compare_line s.format s.mode (row_in s (stop.rounds + 1)) in
+    record {
+      rounds = stop.rounds;
+      within = stop.within;
+      stops = subst (λ all. IsFaultInRound sink old new all line workers fault) (sym (append_assoc text whole (lines_upto s stop.rounds)))
+          (in_round_behind sink old now new text (whole ++ lines_upto s stop.rounds) line workers fault first stop.stops);
+    }
+
 -- the next round was played
 module _ {T W : Type 0} (table : T → Table) (sink : Sink W) (old now : W) (s : Settings) (sim sim' : SimView T) (rounds : ℕ) (round : RoundView) (so_far : AreRoundsWritten sink old now s sim rounds) (played : PlaysNext table sim sim' round) (format : ℕ) (format_is : format ≡ s.format) (mode : Mode) (mode_is : mode ≡ s.mode) (row : Row) (row_is : row ≡ round.row) where
   row_here : row ≡ row_in s (rounds + 1)
@@ -100,17 +111,15 @@ module _ {W : Type 0} (sink : Sink W) (old now after : W) (s : Settings) (ms : L
 
   pub stops_in_mode : (workers : ℕ) (fault : Fault) → IsFaultInRounds sink now after [] under workers fault → IsFaultInModes sink old after [] s ms workers fault
   stops_in_mode workers fault stop =
+      let lines = lines_of_modes s (take i ms) in
       let here = subst (λ (t : Settings). IsFaultInRounds sink now after [] t workers fault) is_under stop in
       record {
         done = take i ms;
         next = get_or ms i d;
         rest = drop (i + 1) ms;
         order = parted;
-        stops = record {
-          rounds = here.rounds;
-          within = here.within;
-          stops = in_round_behind sink old now after (lines_of_modes s (take i ms)) _ _ workers fault so_far.written here.stops;
-        };
+        stops = subst (λ all. IsFaultInRounds sink old after all (with_mode s (get_or ms i d)) workers fault) (append-nil lines)
+            (in_rounds_behind sink old now after lines [] _ workers fault so_far.written here);
       }
 
   pub modes_more : (back : Settings) → back ≡ under → IsWritten sink now after (lines_upto under under.rounds) → AreModesWritten sink old after s ms back (i + 1)
@@ -130,13 +139,7 @@ stops_behind_header sink old now new s workers fault header stop = record {
   next = stop.next;
   rest = stop.rest;
   order = stop.order;
-  stops = record {
-    rounds = stop.stops.rounds;
-    within = stop.stops.within;
-    stops = subst (λ whole. IsFaultInRound sink old new whole (compare_line s.format stop.next (row_in (with_mode s stop.next) (stop.stops.rounds + 1))) workers fault)
-        (sym (append_assoc (compare_header_line s.format) (lines_of_modes s stop.done) (lines_upto (with_mode s stop.next) stop.stops.rounds)))
-        (in_round_behind sink old now new (compare_header_line s.format) _ _ workers fault header stop.stops.stops);
-  };
+  stops = in_rounds_behind sink old now new (compare_header_line s.format) (lines_of_modes s stop.done) (with_mode s stop.next) workers fault header stop.stops;
 }
 
 -- the header and all lines are the comparison

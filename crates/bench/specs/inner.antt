@@ -1,1 +1,2 @@
+pub mod Starts
 pub mod Writes

@@ -3,13 +3,14 @@
 ghost use Rattle.std.specs.Prelude.{◌≡◌, ◌≤◌, [], true, false, IfOk, OnOk, IfErr};
 ghost use Rattle.bench_types.specs.declared.limits.TheConstants.{MOST_WORKERS};
 ghost use Rattle.bench_types.specs.Output.{IsWritten};
-ghost use Rattle.simulation.specs.Simulation.{MayWriteAll};
 ghost use Rattle.bench_types.specs.Mode.{modes};
-ghost use Rattle.bench.specs.inner.Writes.{AreWrittenIn, HasWritesBelow};
+ghost use Rattle.scenario.specs.Settings.{IsWithin};
+ghost use Rattle.bench.specs.inner.Writes.{AreWrittenIn};
+ghost use Rattle.bench.specs.inner.Starts.{IsAtStart};
 ghost use Rattle.bench.specs.Runs.{TellsOfFailing, ComesOnceAccepted};
 ghost use Rattle.bench.specs.Comparisons.{lines_upto, lines_of_modes, IsFaultInRounds, IsFaultInModes, IsCompared, IsCompareFault};
 
-use crate::runs::{begin, check_input, has_few_writes};
+use crate::runs::{Begun, begin, check_input};
 use bench_types::limits::MOST_WORKERS;
 use bench_types::{Fault, Mode, Sink, Source};
 use pool::FreeGate;
@@ -21,7 +22,7 @@ use std::alloc::Global;
 use std::marker::Brand;
 use std::sync::Wait;
 use std::thread::Threads;
-use version_tables::{VersionTable, Written};
+use version_tables::Written;
 
 /// Reads a scenario, and writes the comparison of the modes: the header, and for each mode, in the
 /// order of `Mode::ALL`, the row of each round of the scenario under that mode. The scenario's own
@@ -34,8 +35,7 @@ pub fn compare<H: Threads + Wait + Sync, R: Source, W: Sink>(
     writer: &mut W,
     workers: u32,
 ) -> Result<(), Fault>
-    requires few { 1 ≤ workers }
-    requires many { workers ≤ MOST_WORKERS }
+    requires workers { IsWithin 1 MOST_WORKERS workers }
     ensures compared { OnOk result (IsCompared R.Source reader.old reader.new W.Sink writer.old writer.new) }
     ensures fault { IfErr result (IsCompareFault R.Source reader.old reader.new W.Sink writer.old writer.new workers) }
     ensures checked_first { IfErr result (ComesOnceAccepted R.Source reader.old reader.new) }
@@ -43,35 +43,11 @@ pub fn compare<H: Threads + Wait + Sync, R: Source, W: Sink>(
 {
     let scenario = check_input(alloc, reader)?;
     compare_header(alloc, writer, scenario.format())?;
-    write_modes_by_versions::<Brand, H, W>(rt, alloc, scenario, writer, workers)
+    write_modes::<Brand, H, W>(rt, alloc, scenario, &Mode::ALL, writer, workers)
 }
 
-// All rounds of a scenario under each mode, by tables that keep versions alone, in numbers of 16 bits where
-// these are enough.
-fn write_modes_by_versions<L: Written + Send + Sync, H: Threads + Wait + Sync, W: Sink>(
-    rt: &H,
-    alloc: Global,
-    scenario: Scenario,
-    writer: &mut W,
-    workers: u32,
-) -> Result<(), Fault>
-    requires few { 1 ≤ workers }
-    requires many { workers ≤ MOST_WORKERS }
-    requires written { AreWrittenIn L.lists scenario }
-    requires sound { W.failed writer.old ≡ false }
-    requires flushed { W.flushed writer.old ≡ true }
-    ensures written { OnOk result (IsWritten W.Sink writer.old writer.new (lines_of_modes scenario modes)) }
-    ensures fault { IfErr result (IsFaultInModes W.Sink writer.old writer.new [] scenario modes workers) }
-{
-    if has_few_writes(&scenario) {
-        write_modes::<VersionTable<u16, L>, H, W>(rt, alloc, scenario, &Mode::ALL, writer, workers)
-    } else {
-        write_modes::<VersionTable<u32, L>, H, W>(rt, alloc, scenario, &Mode::ALL, writer, workers)
-    }
-}
-
-// All rounds of a scenario under each of these modes in turn.
-fn write_modes<T: RoundTable, H: Threads + Wait + Sync, W: Sink>(
+// All rounds of a scenario under each of these modes in turn, by tables that keep versions alone.
+fn write_modes<L: Written + Send + Sync, H: Threads + Wait + Sync, W: Sink>(
     rt: &H,
     alloc: Global,
     mut scenario: Scenario,
@@ -79,16 +55,15 @@ fn write_modes<T: RoundTable, H: Threads + Wait + Sync, W: Sink>(
     writer: &mut W,
     workers: u32,
 ) -> Result<(), Fault>
-    requires few { 1 ≤ workers }
-    requires many { workers ≤ MOST_WORKERS }
-    requires may_write { MayWriteAll T.may_write scenario }
+    requires workers { IsWithin 1 MOST_WORKERS workers }
+    requires written { AreWrittenIn L.lists scenario }
     requires sound { W.failed writer.old ≡ false }
     requires flushed { W.flushed writer.old ≡ true }
     ensures written { OnOk result (IsWritten W.Sink writer.old writer.new (lines_of_modes scenario modes.now)) }
     ensures fault { IfErr result (IsFaultInModes W.Sink writer.old writer.new [] scenario modes.now workers) }
 {
     for mode in modes {
-        scenario = write_all_rounds::<T, H, W>(
+        scenario = write_all_rounds::<L, H, W>(
             rt,
             alloc,
             scenario.with_mode(*mode),
@@ -100,16 +75,15 @@ fn write_modes<T: RoundTable, H: Threads + Wait + Sync, W: Sink>(
 }
 
 // All rounds of a scenario, which is handed back.
-fn write_all_rounds<T: RoundTable, H: Threads + Wait + Sync, W: Sink>(
+fn write_all_rounds<L: Written + Send + Sync, H: Threads + Wait + Sync, W: Sink>(
     rt: &H,
     alloc: Global,
     scenario: Scenario,
     writer: &mut W,
     workers: u32,
 ) -> Result<Scenario, Fault>
-    requires few { 1 ≤ workers }
-    requires many { workers ≤ MOST_WORKERS }
-    requires may_write { MayWriteAll T.may_write scenario }
+    requires workers { IsWithin 1 MOST_WORKERS workers }
+    requires written { AreWrittenIn L.lists scenario }
     requires sound { W.failed writer.old ≡ false }
     requires flushed { W.flushed writer.old ≡ true }
     ensures same { IfOk result (λ s. s ≡ scenario) }
@@ -117,39 +91,34 @@ fn write_all_rounds<T: RoundTable, H: Threads + Wait + Sync, W: Sink>(
     ensures fault { IfErr result (IsFaultInRounds W.Sink writer.old writer.new [] scenario workers) }
 {
     let mode = scenario.mode();
-    let rounds = scenario.rounds();
-    let mut sim = begin::<T>(alloc, scenario)?;
-    write_rows(rt, alloc, &mut sim, mode, rounds, writer, workers)?;
-    Ok(sim.into_scenario())
+    match begin::<L>(alloc, scenario)? {
+        Begun::Narrow(sim) => write_rows(rt, alloc, sim, mode, writer, workers),
+        Begun::Wide(sim) => write_rows(rt, alloc, sim, mode, writer, workers),
+    }
 }
 
-// The rows of all rounds of a simulation of this mode, which stands before the first of so many.
+// The rows of all rounds of a simulation of this mode, which stands before the first. Its scenario is handed back.
 fn write_rows<T: RoundTable, H: Threads + Wait + Sync, W: Sink>(
     rt: &H,
     alloc: Global,
-    sim: &mut Sim<T>,
+    mut sim: Sim<T>,
     mode: Mode,
-    rounds: u32,
     writer: &mut W,
     workers: u32,
-) -> Result<(), Fault>
-    requires few { 1 ≤ workers }
-    requires many { workers ≤ MOST_WORKERS }
-    requires unbroken { sim.old.broken ≡ false }
-    requires first { sim.old.rounds_done ≡ 0 }
-    requires mode { mode ≡ sim.old.settings.mode }
-    requires rounds { rounds ≡ sim.old.settings.rounds }
+) -> Result<Scenario, Fault>
+    requires workers { IsWithin 1 MOST_WORKERS workers }
+    requires start { IsAtStart sim }
+    requires mode { mode ≡ sim.settings.mode }
     requires sound { W.failed writer.old ≡ false }
     requires flushed { W.flushed writer.old ≡ true }
-    ensures same { OnOk result (sim.new.settings ≡ sim.old.settings) }
-    ensures written { OnOk result
-        (IsWritten W.Sink writer.old writer.new (lines_upto sim.old.settings rounds)) }
-    ensures fault { IfErr result (IsFaultInRounds W.Sink writer.old writer.new [] sim.old.settings workers) }
+    ensures same { IfOk result (λ s. s ≡ sim.settings) }
+    ensures written { OnOk result (IsWritten W.Sink writer.old writer.new (lines_upto sim.settings sim.settings.rounds)) }
+    ensures fault { IfErr result (IsFaultInRounds W.Sink writer.old writer.new [] sim.settings workers) }
 {
     let format = sim.format();
-    for _ in 0..rounds {
+    for _ in 0..sim.rounds() {
         let round = sim.step(rt, workers, &FreeGate)?;
         write_compare_row(alloc, writer, format, mode, &round.row())?;
     }
-    Ok(())
+    Ok(sim.into_scenario())
 }

@@ -4,7 +4,9 @@ ghost use Rattle.std.specs.Prelude.{◌≡◌, ◌≤◌, true, false, Ok, IfOk,
 ghost use Rattle.bench_types.specs.declared.limits.TheConstants.{MOST_WORKERS};
 ghost use Rattle.simulation.specs.Simulation.{MayWriteAll};
 ghost use Rattle.bench.specs.Inputs.{IsRead, IsInputFault};
+ghost use Rattle.scenario.specs.Settings.{IsLawfulScenario, IsWithin};
 ghost use Rattle.bench.specs.inner.Writes.{AreWrittenIn, HasWritesBelow};
+ghost use Rattle.bench.specs.inner.Starts.{IsAtStart, HasBegun};
 ghost use Rattle.bench.specs.Runs.{AreWritten, IsWritingFault, IsReported, IsRunFault, TellsOfFailing, ComesOnceAccepted};
 
 use crate::inputs::read_all;
@@ -37,8 +39,7 @@ pub fn run<H: Threads + Wait + Sync, R: Source, W: Sink, X: Sink>(
     trace: &mut X,
     workers: u32,
 ) -> Result<(), Fault>
-    requires few { 1 ≤ workers }
-    requires many { workers ≤ MOST_WORKERS }
+    requires workers { IsWithin 1 MOST_WORKERS workers }
     ensures reported { OnOk result
         (IsReported R.Source reader.old reader.new W.Sink writer.old writer.new X.Sink trace.old trace.new) }
     ensures fault { IfErr result
@@ -48,7 +49,7 @@ pub fn run<H: Threads + Wait + Sync, R: Source, W: Sink, X: Sink>(
         TellsOfFailing W.Sink writer.old writer.new fault × TellsOfFailing X.Sink trace.old trace.new fault) }
 {
     let scenario = check_input(alloc, reader)?;
-    write_run_by_versions::<Brand, H, W, X>(rt, alloc, scenario, writer, trace, workers)
+    write_run::<Brand, H, W, X>(rt, alloc, scenario, writer, trace, workers)
 }
 
 /// Reads a scenario whole and checks it. An error is that of `read_all`, or else the fault of the first check
@@ -61,67 +62,68 @@ pub fn check_input<R: Source>(alloc: Global, reader: &mut R) -> Result<Scenario,
     read(alloc, &bytes)
 }
 
-/// Whether all that an owner writes in a run has numbers of 16 bits.
-pub(crate) fn has_few_writes(scenario: &Scenario) -> bool
+// Whether all that an owner writes in a run has numbers of 16 bits.
+fn has_few_writes(scenario: &Scenario) -> bool
     ensures few { result ≡ true → HasWritesBelow 65535 scenario.now }
     ensures some { HasWritesBelow 4294967295 scenario.now }
 {
     MOST_WRITES * scenario.rounds() < u32::from(u16::MAX)
 }
 
-// The texts of a run, by tables that keep versions alone, in numbers of 16 bits where these are enough.
-fn write_run_by_versions<L: Written + Send + Sync, H: Threads + Wait + Sync, W: Sink, X: Sink>(
-    rt: &H,
+/// A simulation by tables that keep versions alone, in numbers of 16 bits or of 32.
+#[derive(Drop)]
+pub(crate) enum Begun<L: Written + Send + Sync> {
+    Narrow(Sim<VersionTable<u16, L>>),
+    Wide(Sim<VersionTable<u32, L>>),
+}
+
+/// A simulation of the scenario, before its first round, in numbers of 16 bits where these are enough.
+pub(crate) fn begin<L: Written + Send + Sync>(
     alloc: Global,
     scenario: Scenario,
-    writer: &mut W,
-    trace: &mut X,
-    workers: u32,
-) -> Result<(), Fault>
-    requires few { 1 ≤ workers }
-    requires many { workers ≤ MOST_WORKERS }
-    requires written { AreWrittenIn L.lists scenario }
-    ensures written { OnOk result (AreWritten W.Sink writer.old writer.new X.Sink trace.old trace.new scenario) }
-    ensures fault { IfErr result
-        (IsWritingFault W.Sink writer.old writer.new X.Sink trace.old trace.new scenario workers) }
+) -> Result<Begun<L>, Fault>
+    requires { AreWrittenIn L.lists scenario }
+    ensures begun { IfOk result (λ begun. HasBegun begun scenario) }
+    ensures lawful { IsLawfulScenario scenario }
+    ensures only { IsOkUnless result Fault.OutOfMemory }
 {
     if has_few_writes(&scenario) {
-        write_run::<VersionTable<u16, L>, H, W, X>(rt, alloc, scenario, writer, trace, workers)
+        Ok(Begun::Narrow(open(alloc, scenario)?))
     } else {
-        write_run::<VersionTable<u32, L>, H, W, X>(rt, alloc, scenario, writer, trace, workers)
+        Ok(Begun::Wide(open(alloc, scenario)?))
     }
 }
 
-// The texts of a run, by tables of any representation.
-fn write_run<T: RoundTable, H: Threads + Wait + Sync, W: Sink, X: Sink>(
-    rt: &H,
-    alloc: Global,
-    scenario: Scenario,
-    writer: &mut W,
-    trace: &mut X,
-    workers: u32,
-) -> Result<(), Fault>
-    requires few { 1 ≤ workers }
-    requires many { workers ≤ MOST_WORKERS }
+// A simulation by tables of any representation.
+fn open<T: RoundTable>(alloc: Global, scenario: Scenario) -> Result<Sim<T>, Fault>
     requires may_write { MayWriteAll T.may_write scenario }
-    ensures written { OnOk result (AreWritten W.Sink writer.old writer.new X.Sink trace.old trace.new scenario) }
-    ensures fault { IfErr result
-        (IsWritingFault W.Sink writer.old writer.new X.Sink trace.old trace.new scenario workers) }
-{
-    let mut sim = begin::<T>(alloc, scenario)?;
-    write_texts(rt, alloc, &mut sim, writer, trace, workers)
-}
-
-/// A simulation of the scenario, before its first round.
-pub(crate) fn begin<T: RoundTable>(alloc: Global, scenario: Scenario) -> Result<Sim<T>, Fault>
-    requires { MayWriteAll T.may_write scenario }
-    ensures opens { IfOk result
-        (λ sim. (sim.settings ≡ scenario) × (sim.rounds_done ≡ 0) × (sim.broken ≡ false)) }
+    ensures begun { IfOk result (λ sim. IsAtStart sim × (sim.settings ≡ scenario)) }
     ensures only { IsOkUnless result Fault.OutOfMemory }
 {
     match Sim::of(alloc, scenario) {
         Ok(sim) => Ok(sim),
         Err((fault, _)) => Err(fault),
+    }
+}
+
+// The texts of a run, by tables that keep versions alone.
+fn write_run<L: Written + Send + Sync, H: Threads + Wait + Sync, W: Sink, X: Sink>(
+    rt: &H,
+    alloc: Global,
+    scenario: Scenario,
+    writer: &mut W,
+    trace: &mut X,
+    workers: u32,
+) -> Result<(), Fault>
+    requires workers { IsWithin 1 MOST_WORKERS workers }
+    requires written { AreWrittenIn L.lists scenario }
+    ensures written { OnOk result (AreWritten W.Sink writer.old writer.new X.Sink trace.old trace.new scenario) }
+    ensures fault { IfErr result
+        (IsWritingFault W.Sink writer.old writer.new X.Sink trace.old trace.new scenario workers) }
+{
+    match begin::<L>(alloc, scenario)? {
+        Begun::Narrow(mut sim) => write_texts(rt, alloc, &mut sim, writer, trace, workers),
+        Begun::Wide(mut sim) => write_texts(rt, alloc, &mut sim, writer, trace, workers),
     }
 }
 
@@ -135,10 +137,8 @@ fn write_texts<T: RoundTable, H: Threads + Wait + Sync, W: Sink, X: Sink>(
     trace: &mut X,
     workers: u32,
 ) -> Result<(), Fault>
-    requires few { 1 ≤ workers }
-    requires many { workers ≤ MOST_WORKERS }
-    requires unbroken { sim.old.broken ≡ false }
-    requires first { sim.old.rounds_done ≡ 0 }
+    requires workers { IsWithin 1 MOST_WORKERS workers }
+    requires start { IsAtStart sim.old }
     ensures written { OnOk result
         (AreWritten W.Sink writer.old writer.new X.Sink trace.old trace.new sim.old.settings) }
     ensures fault { IfErr result

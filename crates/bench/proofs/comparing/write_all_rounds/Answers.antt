@@ -1,4 +1,4 @@
-use Rattle.std.proofs.Common.{arith, inl, refl, subst, sym}
+use Rattle.std.proofs.Common.{inl, refl, subst, sym}
 use Rattle.bench.specs.Comparisons.{IsFaultInRounds}
 use Rattle.bench.proofs.InputFacts.{at_fault}
 use Rattle.bench.proofs.Comparison.{nothing_written, stops_before}
@@ -8,4 +8,4 @@ pub returns-in_err-sim-clause-fault : goal.returns-in_err-sim-clause-fault
 returns-in_err-sim-clause-fault g c =
     at_fault c.from_residual.result c.in_err-sim.field-0.0 _ c.from_residual.ensures.1
     (subst (IsFaultInRounds g.W.Sink _ _ _ _ _) (sym c.in_err-sim.ensures.only)
-    (stops_before g.W.Sink _ _ _ 0 _ _ (omega (arith, c.rounds-rounds.ensures.value, c.rounds-rounds.ensures.limits)) (nothing_written g.W.Sink _ c.requires.sound c.requires.flushed) (inl refl)))
+    (stops_before g.W.Sink _ _ _ 0 _ _ (c.begin.ensures.lawful.rounds.0) (nothing_written g.W.Sink _ c.requires.sound c.requires.flushed) (inl refl)))

@@ -1,9 +1,9 @@
-use Rattle.std.proofs.Common.{◌≡◌, ℕ, sym, subst, ◌∙◌}
+use Rattle.std.proofs.Common.{◌≡◌, ℕ, List, sym, subst, ◌∙◌}
 use Rattle.bench_types.specs.declared.entries.Entry.{Entry}
 use Rattle.bench_types.specs.declared.exchanges.Mode.{Mode}
 use Rattle.scenario.specs.Settings.{Settings, with_mode}
-use Rattle.simulation.specs.Simulation.{MayWriteAll}
-use Rattle.simulation.proofs.Modes.{may_write_under}
+use Rattle.simulation.proofs.Modes.{written_under}
+use Rattle.bench.specs.inner.Writes.{AreWrittenIn}
 use Rattle.bench.proofs.InputFacts.{at_fault}
 use Rattle.bench.proofs.Comparison.{modes_more, stops_in_mode}
 use Rattle.bench.proofs.comparing.write_modes.Goals as goal
@@ -18,10 +18,10 @@ loop-mode-preserved g c =
     modes_more _ _ _ _ _ _ _ _ _ _ c.loop-mode.invariant c.loop-mode-test.true c.with_mode.ensures c.in_ok-scenario.scenario c.in_ok-scenario.ensures.same c.in_ok-scenario.ensures.written
 
 -- the scenario at hand differs in its mode alone
-under_mode : (May : ℕ → ℕ → Entry → Type 0) (s current under : Settings) (mode : Mode) → MayWriteAll May s → ((m : Mode) → with_mode current m ≡ with_mode s m) → under ≡ with_mode current mode → MayWriteAll May under
-under_mode May s current under mode all same is =
-    subst (MayWriteAll May) (sym (is ∙ same mode)) (may_write_under May s mode all)
+under_mode : (lists : ℕ → List Entry) (s current under : Settings) (mode : Mode) → AreWrittenIn lists s → ((m : Mode) → with_mode current m ≡ with_mode s m) → under ≡ with_mode current mode → AreWrittenIn lists under
+under_mode lists s current under mode are same is =
+    subst (AreWrittenIn lists) (sym (is ∙ same mode)) (λ owner. are owner ∙ sym (written_under s mode owner s.rounds))
 
-pub write_all_rounds-requires-clause-may_write : goal.write_all_rounds-requires-clause-may_write
-write_all_rounds-requires-clause-may_write g c _ _ =
-    under_mode g.T.RoundTable.may_write c.args.scenario c.loop-mode.scenario _ _ c.requires.may_write c.loop-mode.invariant.same c.with_mode.ensures
+pub write_all_rounds-requires-clause-written : goal.write_all_rounds-requires-clause-written
+write_all_rounds-requires-clause-written g c _ _ =
+    under_mode g.L.Written.lists c.args.scenario c.loop-mode.scenario _ _ c.requires.written c.loop-mode.invariant.same c.with_mode.ensures

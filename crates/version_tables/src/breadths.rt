@@ -8,8 +8,8 @@ ghost use Rattle.bench_types.specs.declared.limits.TheConstants.{MOST_NODES};
 ghost use Rattle.planes.specs.inner.Elementwise.{AreChanged};
 ghost use Rattle.planes.specs.Planes.{HasEach};
 ghost use Rattle.planes.specs.Sums.{sum_below};
-ghost use Rattle.version_tables.specs.inner.Offered.{cells_in, marks, weight_in, IsOffer};
-ghost use Rattle.version_tables.specs.inner.Plans.{raised, AreLayers, IsLevel, IsNextMark};
+ghost use Rattle.version_tables.specs.inner.Offered.{cells_in, marks, weight_in, IsOffer, IsTooLarge};
+ghost use Rattle.version_tables.specs.inner.Plans.{raised, IsLevelOfLayers, IsNextMark};
 
 use crate::weights::{Level, Offer, Step, one_if, pick};
 use bench_types::Fault;
@@ -53,11 +53,8 @@ fn one_more<N: Number>(alloc: Global, offer: &Offer<N>, near: &[N]) -> Result<St
 
 /// Layers as long as they fit, and the first that doesn't.
 pub(crate) fn breadth<N: Number>(alloc: Global, offer: &Offer<N>) -> Result<Level<N>, Fault>
-    requires offer { IsOffer N.number N.most offer.now }
-    requires cut { amount_of offer.now.budget
-        < weight_in N.number offer.now (marks N.number offer.now.low.now) (marks N.number offer.now.high.now) }
-    ensures level { IfOk result (λ l. IsLevel ScuttleBreadth N.number offer.now l) }
-    ensures layers { IfOk result (λ l. AreLayers N.number offer.now l) }
+    requires offer { IsTooLarge N.number N.most offer.now }
+    ensures level { IfOk result (IsLevelOfLayers N.number offer.now) }
     ensures only { IsOkUnless result OutOfMemory }
 {
     let mut near = Vec::from_slice(alloc, offer.low)?;

@@ -59,7 +59,7 @@ pub(crate) fn delta<N: Number, H: Written>(
     ensures only { IsOkUnless result OutOfMemory }
 {
     let kind = rules.mode.digest_kind();
-    let low = told_to(alloc, sender, receiver, histories, kind)?;
+    let low = told_to(alloc, receiver, histories, kind)?;
     let ahead = ahead_of(alloc, sender, receiver, kind, &low)?;
     let offered = either(sender, receiver, kind, &low, &ahead);
     let marked = marks_sent(
@@ -125,12 +125,10 @@ fn marks_sent<N: Number, H: Written>(
 // What a receiver tells.
 fn told_to<N: Number, H: Written>(
     alloc: Global,
-    sender: &VersionTable<N, H>,
     receiver: &VersionTable<N, H>,
     histories: &Histories<N, H>,
     kind: DigestKind,
 ) -> Result<Vec<N>, Fault>
-    requires nodes { sender.now.nodes ≡ receiver.now.nodes }
     requires receiver { FitsHistories histories.now (table_in H.lists receiver.now) }
     ensures told { IfOk result (λ v. HasEach (length histories.now.lists)
         (λ r n. n

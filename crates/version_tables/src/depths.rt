@@ -8,8 +8,8 @@ ghost use Rattle.bench_types.specs.declared.limits.TheConstants.{MOST_NODES, MOS
 ghost use Rattle.planes.specs.inner.Elementwise.{AreChanged};
 ghost use Rattle.planes.specs.Planes.{HasEach};
 ghost use Rattle.planes.specs.Sums.{sum_below};
-ghost use Rattle.version_tables.specs.inner.Offered.{marks, owner_count_in, weight_in, IsOffer};
-ghost use Rattle.version_tables.specs.inner.Plans.{AreNextRuns, AreRuns, IsLevel};
+ghost use Rattle.version_tables.specs.inner.Offered.{marks, owner_count_in, weight_in, IsOffer, IsTooLarge};
+ghost use Rattle.version_tables.specs.inner.Plans.{AreNextRuns, IsLevelOfRuns};
 
 use crate::weights::{Level, Offer, Step, one_if, pick};
 use bench_types::Fault;
@@ -72,11 +72,8 @@ fn next_runs<N: Number>(
 
 /// Runs as long as they fit, the longest first, and the first that don't.
 pub(crate) fn depth<N: Number>(alloc: Global, offer: &Offer<N>) -> Result<Level<N>, Fault>
-    requires offer { IsOffer N.number N.most offer.now }
-    requires cut { amount_of offer.now.budget
-        < weight_in N.number offer.now (marks N.number offer.now.low.now) (marks N.number offer.now.high.now) }
-    ensures level { IfOk result (λ l. IsLevel ScuttleDepth N.number offer.now l) }
-    ensures runs { IfOk result (λ l. AreRuns N.number offer.now l) }
+    requires offer { IsTooLarge N.number N.most offer.now }
+    ensures level { IfOk result (IsLevelOfRuns N.number offer.now) }
     ensures only { IsOkUnless result OutOfMemory }
 {
     let counts = counts_above(alloc, offer.cells, offer.nodes, offer.keys, offer.low)?;

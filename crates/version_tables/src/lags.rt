@@ -13,7 +13,7 @@ ghost use Rattle.planes.specs.Planes.{cell, total_of, ArePlanesChanged, HasEach,
 ghost use Rattle.round_tables.specs.Histories.{BirthsRise, AreWrittenBy, StandsAmong};
 ghost use Rattle.staleness.specs.Figures.{most_below, rounds_behind, figures_of};
 ghost use Rattle.version_tables.specs.inner.Missed.{IsLastNumber};
-ghost use Rattle.version_tables.specs.inner.Pieces.{keys_in, tables_of_views, AreAlike, MayBeCounted, AreLaidAsNumbers, AreLastNumbers, AreCellsOf, AreGrids, AreZero, CountsPiece, CountsPart, numbers_in, IsOwnNumber, IsPieceOf, MayWalk, WalksFrom, most_lag};
+ghost use Rattle.version_tables.specs.inner.Pieces.{keys_in, tables_of_views, AreAlike, MayBeCounted, AreLaidAsNumbers, AreLastNumbers, AreCellsOf, MayBeCountedUp, CountsPieceOf, CountsPartOf, numbers_in, IsOwnNumber, IsPieceOf, MayWalk, WalksFrom, most_lag};
 
 use crate::histories::Histories;
 use crate::tables::{VersionTable, Written};
@@ -150,26 +150,38 @@ fn cells_of<'a, N: Number, H: Written>(
     Ok(cells)
 }
 
-// What so many tables from one on say.
-fn piece_of<N: Number>(
-    alloc: Global,
-    cells: &[&[N]],
-    bases: &[N],
-    last: &[N],
+// The numbers of all tables, how many writes each owner made before its generation and the last number of each key,
+// and whether a node has forgotten.
+#[derive(Clone, Copy)]
+struct Numbers<'a, N: Number> {
+    cells: &'a [&'a [N]],
+    bases: &'a [N],
+    last: &'a [N],
     nodes: usize,
     keys: usize,
     forgot: bool,
+}
+
+// What so many tables from one on say.
+fn piece_of<N: Number>(
+    alloc: Global,
+    numbers: &Numbers<N>,
     from: usize,
     count: usize,
 ) -> Result<Piece<N>, Fault>
-    requires grids { AreGrids nodes keys (numbers_in N.number cells.now) (map N.number bases.now)
-        (map N.number last.now) }
-    requires forgot { IsFalse forgot → AreZero (map N.number bases.now) nodes }
-    requires within { from + count ≤ nodes }
-    ensures piece { IfOk result (λ p. CountsPiece nodes keys (numbers_in N.number cells.now) (map N.number bases.now)
-        (map N.number last.now) from count p.stale p.leftover (map N.number p.least.items)) }
+    requires numbers { MayBeCountedUp N.number numbers.now }
+    requires within { from + count ≤ numbers.now.nodes }
+    ensures piece { IfOk result (CountsPieceOf N.number numbers.now from count) }
     ensures only { IsOkUnless result OutOfMemory }
 {
+    let Numbers {
+        cells,
+        bases,
+        last,
+        nodes,
+        keys,
+        forgot,
+    } = *numbers;
     let mut stale = 0;
     let mut leftover = 0;
     let mut least = copied(alloc, last)?;
@@ -189,61 +201,41 @@ fn piece_of<N: Number>(
 // What the tables of a part of so many say.
 fn part_of<N: Number>(
     alloc: Global,
-    cells: &[&[N]],
-    bases: &[N],
-    last: &[N],
-    nodes: usize,
-    keys: usize,
-    forgot: bool,
+    numbers: &Numbers<N>,
     size: usize,
     part: usize,
 ) -> Result<Piece<N>, Fault>
-    requires grids { AreGrids nodes keys (numbers_in N.number cells.now) (map N.number bases.now)
-        (map N.number last.now) }
-    requires forgot { IsFalse forgot → AreZero (map N.number bases.now) nodes }
+    requires numbers { MayBeCountedUp N.number numbers.now }
     requires some { 1 ≤ size }
-    requires part { part ≤ nodes / size }
-    ensures piece { IfOk result (λ p. CountsPart nodes keys (numbers_in N.number cells.now) (map N.number bases.now)
-        (map N.number last.now) size part p.stale p.leftover (map N.number p.least.items)) }
+    requires part { part ≤ numbers.now.nodes / size }
+    ensures piece { IfOk result (CountsPartOf N.number numbers.now size part) }
     ensures only { IsOkUnless result OutOfMemory }
 {
     let from = part * size;
-    let count = size.min(nodes - from);
-    piece_of(alloc, cells, bases, last, nodes, keys, forgot, from, count)
+    let count = size.min(numbers.nodes - from);
+    piece_of(alloc, numbers, from, count)
 }
 
 // What the tables of each part of so many say, in order.
 fn parts_of<N: Number>(
     rt: &(impl Threads + Sync),
     alloc: Global,
-    cells: &[&[N]],
-    bases: &[N],
-    last: &[N],
-    nodes: usize,
-    keys: usize,
-    forgot: bool,
+    numbers: &Numbers<N>,
     size: usize,
 ) -> Result<Vec<Result<Piece<N>, Fault>>, AllocError>
-    requires grids { AreGrids nodes keys (numbers_in N.number cells.now) (map N.number bases.now)
-        (map N.number last.now) }
-    requires forgot { IsFalse forgot → AreZero (map N.number bases.now) nodes }
+    requires numbers { MayBeCountedUp N.number numbers.now }
     requires some { 1 ≤ size }
-    ensures { IfOk result (λ v. AllZip (λ part found. IfOk found (λ p. CountsPart nodes keys
-        (numbers_in N.number cells.now) (map N.number bases.now) (map N.number last.now) size part
-        p.stale p.leftover (map N.number p.least.items))) (range_with_len 0 (nodes / size + 1)) v.items) }
+    ensures { IfOk result (λ v. AllZip (λ part found. IfOk found (CountsPartOf N.number numbers.now size part))
+        (range_with_len 0 (numbers.now.nodes / size + 1)) v.items) }
 {
-    (0..nodes / size + 1)
+    (0..numbers.nodes / size + 1)
         .into_par_iter()
         .with_min_len(1)
         .map(
             |part: usize| -> Result<Piece<N>, Fault>
-                requires { AreGrids nodes keys (numbers_in N.number cells.now) (map N.number bases.now)
-                    (map N.number last.now) × (IsFalse forgot → AreZero (map N.number bases.now) nodes)
-                    × (1 ≤ size) × (part ≤ nodes / size) }
-                ensures { IfOk result (λ p. CountsPart nodes keys (numbers_in N.number cells.entry.now)
-                    (map N.number bases.entry.now) (map N.number last.entry.now) size part
-                    p.stale p.leftover (map N.number p.least.items)) }
-            { part_of(alloc, cells, bases, last, nodes, keys, forgot, size, part) },
+                requires { MayBeCountedUp N.number numbers.now × (1 ≤ size) × (part ≤ numbers.now.nodes / size) }
+                ensures { IfOk result (CountsPartOf N.number numbers.entry.now size part) }
+            { part_of(alloc, numbers, size, part) },
         )
         .collect(rt, alloc)
 }
@@ -340,7 +332,15 @@ fn counted<N: Number, H: Written>(
     let cells = cells_of(alloc, tables)?;
     let size = tables_of_a_thread(rt, nodes, keys);
     let forgot = has_forgotten(bases);
-    let parts = parts_of(rt, alloc, &cells, bases, last, nodes, keys, forgot, size)?;
+    let numbers = Numbers {
+        cells: &cells,
+        bases,
+        last,
+        nodes,
+        keys,
+        forgot,
+    };
+    let parts = parts_of(rt, alloc, &numbers, size)?;
     let mut stale = 0;
     let mut leftover = 0;
     let mut least = copied(alloc, last)?;

@@ -1,8 +1,12 @@
 -- What the owners wrote so far, beside all that they write in the run. Source: this project.
 use Rattle.std.specs.Prelude.{◌≡◌, ℕ, ◌+◌, ◌<◌, ◌≤◌, List, length, Contains, Some}
 use Rattle.bench_types.specs.declared.entries.Entry.{Entry}
+use Rattle.bench_types.specs.declared.exchanges.Exchange.{Exchange}
+use Rattle.bench_types.specs.declared.exchanges.Rules.{Rules}
 use Rattle.bench_types.specs.declared.limits.TheConstants.{MOST_NODES}
+use Rattle.bench_types.specs.Budget.{IsLawfulBudget}
 use Rattle.bench_types.specs.Mark.{mark_of}
+use Rattle.exchange.specs.Exchanging.{MayBeExchanged}
 use Rattle.node_table.specs.Table.{Table, entry_at, IsProper}
 use Rattle.owner_lists.specs.OwnerListView.{OwnerListView, all_writes, AreWrites, list_of_owner}
 use Rattle.owner_lists.specs.Numbers.{write_numbered}
@@ -48,6 +52,13 @@ pub record FitsHistories (h : HistoriesView) (t : Table) : Type 0 where
   pub nodes : t.nodes ≡ length h.lists
   pub holds : (owner key : ℕ) (e : Entry) → entry_at t owner key ≡ Some e → Contains (all_writes h.lists owner) e
   pub made : (owner : ℕ) → AreMadeBy h.rounds (all_writes h.lists owner)
+
+-- two tables of which an exchange may be made
+pub record MayExchange (rules : Rules) (plan : Exchange) (h : HistoriesView) (initiator responder : Table) : Type 0 where
+  pub budget : IsLawfulBudget rules.budget
+  pub tables : MayBeExchanged plan initiator responder
+  pub initiator_fits : FitsHistories h initiator
+  pub responder_fits : FitsHistories h responder
 
 -- an entry is what an owner writes under a number, which is below a bound, and no two of its writes have one mark
 pub record IsWriteUnder (written : ℕ → List Entry) (most owner number : ℕ) (e : Entry) : Type 0 where

@@ -1,5 +1,5 @@
 -- What is counted of some of the tables at the end of a round. Source: this project.
-use Rattle.std.specs.Prelude.{◌≡◌, ℕ, ◌+◌, ◌-◌, ◌*◌, ◌<◌, ◌≤◌, min, max, All, List, [], length, map, slice_index, slice_index_or, Some}
+use Rattle.std.specs.Prelude.{◌≡◌, ℕ, ◌+◌, ◌-◌, ◌*◌, ◌<◌, ◌≤◌, min, max, All, List, [], length, map, slice_index, slice_index_or, IsFalse, Some}
 use Rattle.std.specs.Borrow.{Bor}
 use Rattle.bench_types.specs.declared.entries.Entry.{Entry}
 use Rattle.bench_types.specs.declared.limits.TheConstants.{MOST_NODES, MOST_KEYS, MOST_ROUNDS}
@@ -11,6 +11,8 @@ use Rattle.planes.specs.Sums.{sum_below}
 use Rattle.planes.specs.Planes.{cell, HasEachPlace, IsGrid}
 use Rattle.round_tables.specs.Histories.{BirthsRise, AreWrittenBy, StandsAmong}
 use Rattle.staleness.specs.Figures.{most_below, staleness_at, rounds_behind, node_figures}
+use Rattle.version_tables.specs.declared.lags.Numbers.{Numbers}
+use Rattle.version_tables.specs.declared.lags.Piece.{Piece}
 use Rattle.version_tables.specs.Views.{VersionTableView, table_in, IsKept}
 use Rattle.version_tables.specs.inner.Histories.{IsBeginning}
 use Rattle.version_tables.specs.inner.Missed.{base_of, number_staleness, IsLastNumber, NonePassUpto}
@@ -118,6 +120,22 @@ CountsPart nodes keys cells bases last size part = CountsPiece nodes keys cells 
 -- no write is of an earlier generation
 abbrev pub AreZero : List ℕ → ℕ → Type 0
 AreZero bases nodes = (r : ℕ) → r < nodes → slice_index bases r ≡ 0
+
+-- grids of numbers, and no write is of an earlier generation where no node has forgotten
+pub record MayBeCountedUp {N : Type 0} (number : N → ℕ) (numbers : Numbers N) : Type 0 where
+  pub grids : AreGrids numbers.nodes numbers.keys (numbers_in number numbers.cells.now) (map number numbers.bases.now) (map number numbers.last.now)
+  pub forgot : IsFalse numbers.forgot → AreZero (map number numbers.bases.now) numbers.nodes
+
+-- what is counted of so many tables from one on, and of the part of so many tables
+abbrev pub CountsPieceOf : {N : Type 0} → (N → ℕ) → Numbers N → ℕ → ℕ → Piece N → Type 0
+CountsPieceOf number numbers from count piece =
+    CountsPiece numbers.nodes numbers.keys (numbers_in number numbers.cells.now) (map number numbers.bases.now) (map number numbers.last.now)
+    from count piece.stale piece.leftover (map number piece.least.items)
+
+abbrev pub CountsPartOf : {N : Type 0} → (N → ℕ) → Numbers N → ℕ → ℕ → Piece N → Type 0
+CountsPartOf number numbers size part piece =
+    CountsPart numbers.nodes numbers.keys (numbers_in number numbers.cells.now) (map number numbers.bases.now) (map number numbers.last.now)
+    size part piece.stale piece.leftover (map number piece.least.items)
 
 -- each table has as many nodes as there are tables, and so many keys
 abbrev pub AreAlike : ℕ → List VersionTableView → Type 0

@@ -72,6 +72,15 @@ pub record AreRuns {N : Type 0} (number : N → ℕ) (offer : Offer N) (level : 
       → IsRunMark (cells_in number offer) offer.keys owner (low_in number offer owner) size
       (marks number level.far.items owner)
 
+-- a level of layers, and one of runs
+pub record IsLevelOfLayers {N : Type 0} (number : N → ℕ) (offer : Offer N) (level : Level N) : Type 0 where
+  pub is_level : IsLevel ScuttleBreadth number offer level
+  pub of_layers : AreLayers number offer level
+
+pub record IsLevelOfRuns {N : Type 0} (number : N → ℕ) (offer : Offer N) (level : Level N) : Type 0 where
+  pub is_level : IsLevel ScuttleDepth number offer level
+  pub of_runs : AreRuns number offer level
+
 -- layers as far as they were gone over: the first fit, and the next is known
 pub record AreLayersSoFar {N : Type 0} (number : N → ℕ) (offer : Offer N) (near far : ℕ → ℕ)
     (count added : ℕ) : Type 0 where

@@ -15,11 +15,11 @@ loop-alloc-init g c =
     let next = c.in_ok-first.ensures.marks in
     let start : c.deref.result.now ≡ offer.low.now = c.deref.ensures.value ∙ c.in_ok-near.ensures.items in
     record {
-      near = ap length c.in_ok-near.ensures.items ∙ c.requires.offer.low;
+      near = ap length c.in_ok-near.ensures.items ∙ c.requires.offer.is_offer.low;
       far = sym (length-map c.in_ok-first.first.marks.items number) ∙ next.size;
       so_far =
           subst (λ xs. AreLayersSoFar number offer (marks number xs) (marks number c.in_ok-first.first.marks.items) 0 c.in_ok-first.first.more) (sym c.in_ok-near.ensures.items)
-          (layers-first number g.N.Number.most offer c.requires.offer (marks number c.in_ok-first.first.marks.items) c.in_ok-first.first.more
+          (layers-first number g.N.Number.most offer c.requires.offer.is_offer (marks number c.in_ok-first.first.marks.items) c.in_ok-first.first.more
           (subst (λ xs. (r : ℕ) → r < offer.nodes → IsNextMark (cells_in number offer) offer.keys r (marks number xs r) (marks number c.in_ok-first.first.marks.items r)) start next.each)
           (subst (λ xs. c.in_ok-first.first.more ≡ raised offer.nodes (marks number xs) (marks number c.in_ok-first.first.marks.items)) start c.in_ok-first.ensures.more));
     }
@@ -29,23 +29,23 @@ overflow_add-whole g c =
     let number = g.N.Number.number in
     omega (
       arith,
-      layers-count number g.N.Number.most c.args.offer.now c.requires.offer (marks number c.loop-alloc.near.items) (marks number c.loop-alloc.far.items) c.loop-alloc.whole c.loop-alloc.more c.loop-alloc.invariant.so_far,
-      offer-few number g.N.Number.most c.args.offer.now c.requires.offer (marks number c.args.offer.now.low.now) (marks number c.loop-alloc.far.items),
+      layers-count number g.N.Number.most c.args.offer.now c.requires.offer.is_offer (marks number c.loop-alloc.near.items) (marks number c.loop-alloc.far.items) c.loop-alloc.whole c.loop-alloc.more c.loop-alloc.invariant.so_far,
+      offer-few number g.N.Number.most c.args.offer.now c.requires.offer.is_offer (marks number c.args.offer.now.low.now) (marks number c.loop-alloc.far.items),
     )
 
 pub fits-requires-clause-count : goal.fits-requires-clause-count
 fits-requires-clause-count g c κs within =
     let number = g.N.Number.number in
     subst (λ xs. c.loop-alloc.whole + c.loop-alloc.more ≡ count_in number c.args.offer.now (marks number c.args.offer.now.low.now) (marks number xs)) (sym c.deref-in-loop-alloc.ensures.value)
-    (layers-count number g.N.Number.most c.args.offer.now c.requires.offer (marks number c.loop-alloc.near.items) (marks number c.loop-alloc.far.items) c.loop-alloc.whole c.loop-alloc.more c.loop-alloc.invariant.so_far)
+    (layers-count number g.N.Number.most c.args.offer.now c.requires.offer.is_offer (marks number c.loop-alloc.near.items) (marks number c.loop-alloc.far.items) c.loop-alloc.whole c.loop-alloc.more c.loop-alloc.invariant.so_far)
 
 pub overflow_add-whole-in-loop-alloc : goal.overflow_add-whole-in-loop-alloc
 overflow_add-whole-in-loop-alloc g c =
     let number = g.N.Number.number in
     omega (
       arith,
-      layers-count number g.N.Number.most c.args.offer.now c.requires.offer (marks number c.loop-alloc.near.items) (marks number c.loop-alloc.far.items) c.loop-alloc.whole c.loop-alloc.more c.loop-alloc.invariant.so_far,
-      offer-few number g.N.Number.most c.args.offer.now c.requires.offer (marks number c.args.offer.now.low.now) (marks number c.loop-alloc.far.items),
+      layers-count number g.N.Number.most c.args.offer.now c.requires.offer.is_offer (marks number c.loop-alloc.near.items) (marks number c.loop-alloc.far.items) c.loop-alloc.whole c.loop-alloc.more c.loop-alloc.invariant.so_far,
+      offer-few number g.N.Number.most c.args.offer.now c.requires.offer.is_offer (marks number c.args.offer.now.low.now) (marks number c.loop-alloc.far.items),
     )
 
 pub loop-alloc-smaller : goal.loop-alloc-smaller
@@ -55,8 +55,8 @@ loop-alloc-smaller g c =
     (c.fits.ensures.0 c.loop-alloc-test.true)
     in
     smaller_by _ c.loop-alloc.whole c.loop-alloc.more
-    (layers-more number g.N.Number.most c.args.offer.now c.requires.offer (marks number c.loop-alloc.near.items) (marks number c.loop-alloc.far.items) c.loop-alloc.whole c.loop-alloc.more c.loop-alloc.invariant.so_far fits c.requires.cut)
-    (layers-upto number g.N.Number.most c.args.offer.now c.requires.offer (marks number c.loop-alloc.near.items) (marks number c.loop-alloc.far.items) c.loop-alloc.whole c.loop-alloc.more c.loop-alloc.invariant.so_far)
+    (layers-more number g.N.Number.most c.args.offer.now c.requires.offer.is_offer (marks number c.loop-alloc.near.items) (marks number c.loop-alloc.far.items) c.loop-alloc.whole c.loop-alloc.more c.loop-alloc.invariant.so_far fits c.requires.offer.beyond)
+    (layers-upto number g.N.Number.most c.args.offer.now c.requires.offer.is_offer (marks number c.loop-alloc.near.items) (marks number c.loop-alloc.far.items) c.loop-alloc.whole c.loop-alloc.more c.loop-alloc.invariant.so_far)
 
 pub loop-alloc-preserved : goal.loop-alloc-preserved
 loop-alloc-preserved g c =
@@ -70,24 +70,17 @@ loop-alloc-preserved g c =
       near = c.loop-alloc.invariant.far;
       far = sym (length-map c.in_ok-next.next.marks.items number) ∙ next.size;
       so_far =
-          layers-next number g.N.Number.most offer c.requires.offer (marks number c.loop-alloc.near.items) (marks number c.loop-alloc.far.items) c.loop-alloc.whole c.loop-alloc.more c.loop-alloc.invariant.so_far
+          layers-next number g.N.Number.most offer c.requires.offer.is_offer (marks number c.loop-alloc.near.items) (marks number c.loop-alloc.far.items) c.loop-alloc.whole c.loop-alloc.more c.loop-alloc.invariant.so_far
           (marks number c.in_ok-next.next.marks.items) c.in_ok-next.next.more fits
           (subst (λ xs. (r : ℕ) → r < offer.nodes → IsNextMark (cells_in number offer) offer.keys r (marks number xs r) (marks number c.in_ok-next.next.marks.items r)) c.deref-in-loop-alloc-2.ensures.value next.each)
           (subst (λ xs. c.in_ok-next.next.more ≡ raised offer.nodes (marks number xs) (marks number c.in_ok-next.next.marks.items)) c.deref-in-loop-alloc-2.ensures.value c.in_ok-next.ensures.more);
     }
 
-pub returns-clause-layers : goal.returns-clause-layers
-returns-clause-layers g c = record {
-  layers = c.loop-alloc.invariant.so_far.layers;
-  near = c.loop-alloc.invariant.so_far.layered;
-  far = layers-far g.N.Number.number g.N.Number.most c.args.offer.now c.requires.offer (marks g.N.Number.number c.loop-alloc.near.items) (marks g.N.Number.number c.loop-alloc.far.items) c.loop-alloc.whole c.loop-alloc.more c.loop-alloc.invariant.so_far;
-}
-
 pub fits-requires-clause-high : goal.fits-requires-clause-high
 fits-requires-clause-high g c κs out = ap length c.deref-in-loop-alloc.ensures.value ∙ c.loop-alloc.invariant.far
 
 pub one_more-requires-clause-near : goal.one_more-requires-clause-near
-one_more-requires-clause-near g c κs out = ap length c.deref.ensures.value ∙ ap length c.in_ok-near.ensures.items ∙ c.requires.offer.low
+one_more-requires-clause-near g c κs out = ap length c.deref.ensures.value ∙ ap length c.in_ok-near.ensures.items ∙ c.requires.offer.is_offer.low
 
 pub one_more-requires-in-loop-alloc-clause-near : goal.one_more-requires-in-loop-alloc-clause-near
 one_more-requires-in-loop-alloc-clause-near g c κs out = ap length c.deref-in-loop-alloc-2.ensures.value ∙ c.loop-alloc.invariant.far
@@ -98,14 +91,21 @@ returns-clause-level g c =
     let offer = c.args.offer.now in
     let so_far = c.loop-alloc.invariant.so_far in
     record {
-      near = c.loop-alloc.invariant.near;
-      far = c.loop-alloc.invariant.far;
-      farther = layers-farther number g.N.Number.most offer c.requires.offer (marks number c.loop-alloc.near.items) (marks number c.loop-alloc.far.items) c.loop-alloc.whole c.loop-alloc.more so_far;
-      whole = so_far.whole;
-      within = so_far.within;
-      beyond = elim (cases_lt (amount_of offer.budget) (weight_in number offer (marks number offer.low.now) (marks number c.loop-alloc.far.items))) [
-        | inl over ↦ over
-        | inr within ↦ absurd (both_ways c.fits.result c.loop-alloc-test.false
-            (c.fits.ensures.1 (subst (λ xs. weight_in number offer (marks number offer.low.now) (marks number xs) ≤ amount_of offer.budget) (sym c.deref-in-loop-alloc.ensures.value) (omega (arith, within)))))
-      ];
+      is_level = record {
+        near = c.loop-alloc.invariant.near;
+        far = c.loop-alloc.invariant.far;
+        farther = layers-farther number g.N.Number.most offer c.requires.offer.is_offer (marks number c.loop-alloc.near.items) (marks number c.loop-alloc.far.items) c.loop-alloc.whole c.loop-alloc.more so_far;
+        whole = so_far.whole;
+        within = so_far.within;
+        beyond = elim (cases_lt (amount_of offer.budget) (weight_in number offer (marks number offer.low.now) (marks number c.loop-alloc.far.items))) [
+          | inl over ↦ over
+          | inr within ↦ absurd (both_ways c.fits.result c.loop-alloc-test.false
+              (c.fits.ensures.1 (subst (λ xs. weight_in number offer (marks number offer.low.now) (marks number xs) ≤ amount_of offer.budget) (sym c.deref-in-loop-alloc.ensures.value) (omega (arith, within)))))
+        ];
+      };
+      of_layers = record {
+        layers = c.loop-alloc.invariant.so_far.layers;
+        near = c.loop-alloc.invariant.so_far.layered;
+        far = layers-far g.N.Number.number g.N.Number.most c.args.offer.now c.requires.offer.is_offer (marks g.N.Number.number c.loop-alloc.near.items) (marks g.N.Number.number c.loop-alloc.far.items) c.loop-alloc.whole c.loop-alloc.more c.loop-alloc.invariant.so_far;
+      };
     }

@@ -16,7 +16,7 @@ greatest_of-size-requires g c = (
   (
     c.type_bounds.sync-N,
     subst (λ xs. (r : ℕ) → r < length xs → get_or (map g.N.Number.number xs) r 0 ≤ MOST_KEYS) (sym c.deref.ensures.value)
-        (counts-few g.N.Number.number g.N.Number.most c.args.offer.now c.requires.offer c.in_ok-counts.counts.items c.in_ok-counts.ensures.counts),
+        (counts-few g.N.Number.number g.N.Number.most c.args.offer.now c.requires.offer.is_offer c.in_ok-counts.counts.items c.in_ok-counts.ensures.counts),
   ),
 )
 
@@ -27,12 +27,12 @@ loop-alloc-init g c =
     let known = c.in_ok-counts.ensures.counts in
     let runs = subst (λ xs. AreNextRuns number offer (marks number xs) c.greatest_of-size.result c.in_ok-first.first) (c.deref-3.ensures.value ∙ c.in_ok-near.ensures.items) c.in_ok-first.ensures.runs in
     record {
-      near = ap length c.in_ok-near.ensures.items ∙ c.requires.offer.low;
+      near = ap length c.in_ok-near.ensures.items ∙ c.requires.offer.is_offer.low;
       far = runs.count;
       few = c.greatest_of-size.ensures.few;
       so_far =
           subst (λ xs. AreRunsSoFar number offer (marks number xs) (marks number c.in_ok-first.first.marks.items) c.greatest_of-size.result 0 c.in_ok-first.first.more) (sym c.in_ok-near.ensures.items)
-          (runs-start number g.N.Number.most offer c.requires.offer c.greatest_of-size.result c.in_ok-first.first
+          (runs-start number g.N.Number.most offer c.requires.offer.is_offer c.greatest_of-size.result c.in_ok-first.first
           (λ owner lt. omega (
             arith,
             known.each owner lt,
@@ -44,12 +44,12 @@ loop-alloc-init g c =
 pub overflow_sub-size : goal.overflow_sub-size
 overflow_sub-size g c =
     let number = g.N.Number.number in
-    omega (arith, runs-some number g.N.Number.most c.args.offer.now c.requires.offer (marks number c.loop-alloc.near.items) (marks number c.loop-alloc.far.items) c.loop-alloc.size c.loop-alloc.whole c.loop-alloc.more c.loop-alloc.invariant.so_far c.requires.cut)
+    omega (arith, runs-some number g.N.Number.most c.args.offer.now c.requires.offer.is_offer (marks number c.loop-alloc.near.items) (marks number c.loop-alloc.far.items) c.loop-alloc.size c.loop-alloc.whole c.loop-alloc.more c.loop-alloc.invariant.so_far c.requires.offer.beyond)
 
 pub overflow_add-whole : goal.overflow_add-whole
 overflow_add-whole g c =
     let number = g.N.Number.number in
-    omega (arith, c.loop-alloc.invariant.so_far.more, offer-few number g.N.Number.most c.args.offer.now c.requires.offer (marks number c.args.offer.now.low.now) (marks number c.loop-alloc.far.items))
+    omega (arith, c.loop-alloc.invariant.so_far.more, offer-few number g.N.Number.most c.args.offer.now c.requires.offer.is_offer (marks number c.args.offer.now.low.now) (marks number c.loop-alloc.far.items))
 
 pub fits-requires-clause-count : goal.fits-requires-clause-count
 fits-requires-clause-count g c κs within =
@@ -59,18 +59,18 @@ fits-requires-clause-count g c κs within =
 pub overflow_add-whole-in-loop-alloc : goal.overflow_add-whole-in-loop-alloc
 overflow_add-whole-in-loop-alloc g c =
     let number = g.N.Number.number in
-    omega (arith, c.loop-alloc.invariant.so_far.more, offer-few number g.N.Number.most c.args.offer.now c.requires.offer (marks number c.args.offer.now.low.now) (marks number c.loop-alloc.far.items))
+    omega (arith, c.loop-alloc.invariant.so_far.more, offer-few number g.N.Number.most c.args.offer.now c.requires.offer.is_offer (marks number c.args.offer.now.low.now) (marks number c.loop-alloc.far.items))
 
 pub loop-alloc-smaller : goal.loop-alloc-smaller
 loop-alloc-smaller g c =
     let number = g.N.Number.number in
-    omega (arith, runs-some number g.N.Number.most c.args.offer.now c.requires.offer (marks number c.loop-alloc.near.items) (marks number c.loop-alloc.far.items) c.loop-alloc.size c.loop-alloc.whole c.loop-alloc.more c.loop-alloc.invariant.so_far c.requires.cut)
+    omega (arith, runs-some number g.N.Number.most c.args.offer.now c.requires.offer.is_offer (marks number c.loop-alloc.near.items) (marks number c.loop-alloc.far.items) c.loop-alloc.size c.loop-alloc.whole c.loop-alloc.more c.loop-alloc.invariant.so_far c.requires.offer.beyond)
 
 pub loop-alloc-preserved : goal.loop-alloc-preserved
 loop-alloc-preserved g c =
     let number = g.N.Number.number in
     let offer = c.args.offer.now in
-    let some = runs-some number g.N.Number.most offer c.requires.offer (marks number c.loop-alloc.near.items) (marks number c.loop-alloc.far.items) c.loop-alloc.size c.loop-alloc.whole c.loop-alloc.more c.loop-alloc.invariant.so_far c.requires.cut in
+    let some = runs-some number g.N.Number.most offer c.requires.offer.is_offer (marks number c.loop-alloc.near.items) (marks number c.loop-alloc.far.items) c.loop-alloc.size c.loop-alloc.whole c.loop-alloc.more c.loop-alloc.invariant.so_far c.requires.offer.beyond in
     let fits = subst (λ xs. weight_in number offer (marks number offer.low.now) (marks number xs) ≤ amount_of offer.budget) c.deref-in-loop-alloc.ensures.value
     (c.fits.ensures.0 c.loop-alloc-test.true)
     in
@@ -80,7 +80,7 @@ loop-alloc-preserved g c =
       far = runs.count;
       few = omega (arith, c.loop-alloc.invariant.few);
       so_far =
-          runs-next number g.N.Number.most offer c.requires.offer (marks number c.loop-alloc.near.items) (marks number c.loop-alloc.far.items) c.loop-alloc.size c.loop-alloc.whole c.loop-alloc.more c.in_ok-next.next
+          runs-next number g.N.Number.most offer c.requires.offer.is_offer (marks number c.loop-alloc.near.items) (marks number c.loop-alloc.far.items) c.loop-alloc.size c.loop-alloc.whole c.loop-alloc.more c.in_ok-next.next
           c.loop-alloc.invariant.so_far some fits runs;
     }
 
@@ -89,27 +89,23 @@ returns-clause-level g c =
     let number = g.N.Number.number in
     let offer = c.args.offer.now in
     let so_far = c.loop-alloc.invariant.so_far in
-    let some = runs-some number g.N.Number.most offer c.requires.offer (marks number c.loop-alloc.near.items) (marks number c.loop-alloc.far.items) c.loop-alloc.size c.loop-alloc.whole c.loop-alloc.more so_far c.requires.cut in
+    let some = runs-some number g.N.Number.most offer c.requires.offer.is_offer (marks number c.loop-alloc.near.items) (marks number c.loop-alloc.far.items) c.loop-alloc.size c.loop-alloc.whole c.loop-alloc.more so_far c.requires.offer.beyond in
     record {
-      near = c.loop-alloc.invariant.near;
-      far = c.loop-alloc.invariant.far;
-      farther = runs-farther number g.N.Number.most offer c.requires.offer (marks number c.loop-alloc.near.items) (marks number c.loop-alloc.far.items) c.loop-alloc.size c.loop-alloc.whole c.loop-alloc.more so_far some;
-      whole = so_far.whole;
-      within = so_far.within;
-      beyond = elim (cases_lt (amount_of offer.budget) (weight_in number offer (marks number offer.low.now) (marks number c.loop-alloc.far.items))) [
-        | inl over ↦ over
-        | inr within ↦ absurd (both_ways c.fits.result c.loop-alloc-test.false
-            (c.fits.ensures.1 (subst (λ xs. weight_in number offer (marks number offer.low.now) (marks number xs) ≤ amount_of offer.budget) (sym c.deref-in-loop-alloc.ensures.value) (omega (arith, within)))))
-      ];
+      is_level = record {
+        near = c.loop-alloc.invariant.near;
+        far = c.loop-alloc.invariant.far;
+        farther = runs-farther number g.N.Number.most offer c.requires.offer.is_offer (marks number c.loop-alloc.near.items) (marks number c.loop-alloc.far.items) c.loop-alloc.size c.loop-alloc.whole c.loop-alloc.more so_far some;
+        whole = so_far.whole;
+        within = so_far.within;
+        beyond = elim (cases_lt (amount_of offer.budget) (weight_in number offer (marks number offer.low.now) (marks number c.loop-alloc.far.items))) [
+          | inl over ↦ over
+          | inr within ↦ absurd (both_ways c.fits.result c.loop-alloc-test.false
+              (c.fits.ensures.1 (subst (λ xs. weight_in number offer (marks number offer.low.now) (marks number xs) ≤ amount_of offer.budget) (sym c.deref-in-loop-alloc.ensures.value) (omega (arith, within)))))
+        ];
+      };
+      of_runs =
+          runs-of_level number g.N.Number.most offer c.requires.offer.is_offer (record { near = c.loop-alloc.near; far = c.loop-alloc.far; whole = c.loop-alloc.whole }) c.loop-alloc.size c.loop-alloc.whole c.loop-alloc.more so_far some;
     }
-
-pub returns-clause-runs : goal.returns-clause-runs
-returns-clause-runs g c =
-    let number = g.N.Number.number in
-    let offer = c.args.offer.now in
-    let so_far = c.loop-alloc.invariant.so_far in
-    runs-of_level number g.N.Number.most offer c.requires.offer (record { near = c.loop-alloc.near; far = c.loop-alloc.far; whole = c.loop-alloc.whole }) c.loop-alloc.size c.loop-alloc.whole c.loop-alloc.more so_far
-    (runs-some number g.N.Number.most offer c.requires.offer (marks number c.loop-alloc.near.items) (marks number c.loop-alloc.far.items) c.loop-alloc.size c.loop-alloc.whole c.loop-alloc.more so_far c.requires.cut)
 
 pub fits-requires-clause-high : goal.fits-requires-clause-high
 fits-requires-clause-high g c κs out = ap length c.deref-in-loop-alloc.ensures.value ∙ c.loop-alloc.invariant.far
@@ -118,7 +114,7 @@ pub next_runs-requires-clause-few : goal.next_runs-requires-clause-few
 next_runs-requires-clause-few g c κs out = c.greatest_of-size.ensures.few
 
 pub next_runs-requires-clause-near : goal.next_runs-requires-clause-near
-next_runs-requires-clause-near g c κs out = ap length c.deref-3.ensures.value ∙ ap length c.in_ok-near.ensures.items ∙ c.requires.offer.low
+next_runs-requires-clause-near g c κs out = ap length c.deref-3.ensures.value ∙ ap length c.in_ok-near.ensures.items ∙ c.requires.offer.is_offer.low
 
 pub next_runs-requires-clause-counts : goal.next_runs-requires-clause-counts
 next_runs-requires-clause-counts g c κs out =

@@ -14,69 +14,69 @@ returns-then-plan-clause-ok g c =
 
 pub take_both-requires-clause-cells : goal.take_both-requires-clause-cells
 take_both-requires-clause-cells g c = λ κs out.
-    c.digest_size-digest2.ensures.kept.cell_count ∙ (λ i. sym c.requires.tables.keys i * sym c.requires.tables.nodes i) ∙ sym c.requires.kept.cell_count
+    c.digest_size-digest2.ensures.kept.cell_count ∙ (λ i. sym c.requires.may.tables.keys i * sym c.requires.may.tables.nodes i) ∙ sym c.requires.kept.cell_count
 
 pub take_both-requires-clause-initiator : goal.take_both-requires-clause-initiator
 take_both-requires-clause-initiator g c = λ κs out.
     stays_back g.H.Written.lists c.args.rules.now c.args.plan.now g.N.Number.most c.args.histories.now c.lists-lists.ensures.so_far c.bases-bases.ensures.writes c.args.initiator.now c.args.responder.now c.requires.kept c.digest_size-digest2.ensures.kept
-    c.requires.initiator c.requires.responder c.requires.tables.nodes c.requires.tables.keys _ _ _ _ _ _ _ _ c.in_ok-back.ensures.delta c.in_ok-forth.ensures.delta c.lists-lists.result.now c.lists-lists.ensures.value
+    c.requires.may.initiator_fits c.requires.may.responder_fits c.requires.may.tables.nodes c.requires.may.tables.keys _ _ _ _ _ _ _ _ c.in_ok-back.ensures.delta c.in_ok-forth.ensures.delta c.lists-lists.result.now c.lists-lists.ensures.value
 
 pub take_both-requires-clause-responder : goal.take_both-requires-clause-responder
 take_both-requires-clause-responder g c = λ κs out.
     stays_forth g.H.Written.lists c.args.rules.now c.args.plan.now g.N.Number.most c.args.histories.now c.lists-lists.ensures.so_far c.bases-bases.ensures.writes c.args.initiator.now c.args.responder.now c.requires.kept c.digest_size-digest2.ensures.kept
-    c.requires.initiator c.requires.responder c.requires.tables.nodes c.requires.tables.keys _ _ _ _ _ _ _ _ c.in_ok-back.ensures.delta c.in_ok-forth.ensures.delta c.lists-lists.result.now c.lists-lists.ensures.value c.is_nothing.result
+    c.requires.may.initiator_fits c.requires.may.responder_fits c.requires.may.tables.nodes c.requires.may.tables.keys _ _ _ _ _ _ _ _ c.in_ok-back.ensures.delta c.in_ok-forth.ensures.delta c.lists-lists.result.now c.lists-lists.ensures.value c.is_nothing.result
 
 pub returns-clause-ok : goal.returns-clause-ok
 returns-clause-ok g c =
     exchange_whole g.H.Written.lists c.args.rules.now c.args.plan.now g.N.Number.most c.args.histories.now c.lists-lists.ensures.so_far c.bases-bases.ensures.writes c.args.initiator.now c.args.responder.now c.requires.kept c.digest_size-digest2.ensures.kept
-    c.requires.initiator c.requires.responder c.requires.tables.nodes c.requires.tables.keys _ _ _ _ _ _ _ _ c.in_ok-back.ensures.delta c.in_ok-forth.ensures.delta c.lists-lists.result.now c.lists-lists.ensures.value
+    c.requires.may.initiator_fits c.requires.may.responder_fits c.requires.may.tables.nodes c.requires.may.tables.keys _ _ _ _ _ _ _ _ c.in_ok-back.ensures.delta c.in_ok-forth.ensures.delta c.lists-lists.result.now c.lists-lists.ensures.value
     c.args.digest1 c.digest_size-digest2.result c.requires.digest1 c.digest_size-digest2.ensures.size c.requires.came c.if-plan.false _ _ c.is_nothing.ensures (ap (λ b. c.args.plan.now.lost3 || b) c.is_nothing-2.ensures)
     c.take_both.new.initiator c.take_both.new.responder c.in_ok-take_both.ensures.initiator c.in_ok-take_both.ensures.responder c.sent_both.result c.sent_both.ensures
 
 pub delta-requires-clause-budget : goal.delta-requires-clause-budget
-delta-requires-clause-budget g c κs out = c.requires.budget
+delta-requires-clause-budget g c κs out = c.requires.may.budget
 
 pub delta-requires-clause-nodes : goal.delta-requires-clause-nodes
-delta-requires-clause-nodes g c κs out = sym c.requires.tables.nodes
+delta-requires-clause-nodes g c κs out = sym c.requires.may.tables.nodes
 
 pub delta-requires-clause-keys : goal.delta-requires-clause-keys
-delta-requires-clause-keys g c κs out = sym c.requires.tables.keys
+delta-requires-clause-keys g c κs out = sym c.requires.may.tables.keys
 
 pub delta-requires-clause-rotation : goal.delta-requires-clause-rotation
-delta-requires-clause-rotation g c κs out = subst (λ n. c.args.plan.now.rotation < n) c.requires.tables.nodes c.requires.tables.rotation
+delta-requires-clause-rotation g c κs out = subst (λ n. c.args.plan.now.rotation < n) c.requires.may.tables.nodes c.requires.may.tables.rotation
 
 pub delta-requires-clause-sender : goal.delta-requires-clause-sender
-delta-requires-clause-sender g c κs out = c.requires.responder
+delta-requires-clause-sender g c κs out = c.requires.may.responder_fits
 
 pub delta-requires-clause-receiver : goal.delta-requires-clause-receiver
-delta-requires-clause-receiver g c κs out = c.requires.initiator
+delta-requires-clause-receiver g c κs out = c.requires.may.initiator_fits
 
 pub delta-requires-2-clause-budget : goal.delta-requires-2-clause-budget
-delta-requires-2-clause-budget g c κs out = c.requires.budget
+delta-requires-2-clause-budget g c κs out = c.requires.may.budget
 
 pub delta-requires-2-clause-nodes : goal.delta-requires-2-clause-nodes
-delta-requires-2-clause-nodes g c κs out = c.requires.tables.nodes
+delta-requires-2-clause-nodes g c κs out = c.requires.may.tables.nodes
 
 pub delta-requires-2-clause-keys : goal.delta-requires-2-clause-keys
-delta-requires-2-clause-keys g c κs out = c.requires.tables.keys
+delta-requires-2-clause-keys g c κs out = c.requires.may.tables.keys
 
 pub delta-requires-2-clause-rotation : goal.delta-requires-2-clause-rotation
-delta-requires-2-clause-rotation g c κs out = c.requires.tables.rotation
+delta-requires-2-clause-rotation g c κs out = c.requires.may.tables.rotation
 
 pub delta-requires-2-clause-sender : goal.delta-requires-2-clause-sender
-delta-requires-2-clause-sender g c κs out = c.requires.initiator
+delta-requires-2-clause-sender g c κs out = c.requires.may.initiator_fits
 
 pub delta-requires-2-clause-receiver : goal.delta-requires-2-clause-receiver
-delta-requires-2-clause-receiver g c κs out = c.requires.responder
+delta-requires-2-clause-receiver g c κs out = c.requires.may.responder_fits
 
 pub take_both-requires-clause-nodes : goal.take_both-requires-clause-nodes
-take_both-requires-clause-nodes g c κs out = sym c.requires.tables.nodes
+take_both-requires-clause-nodes g c κs out = sym c.requires.may.tables.nodes
 
 pub take_both-requires-clause-back_low : goal.take_both-requires-clause-back_low
-take_both-requires-clause-back_low g c κs out = c.in_ok-back.ensures.delta.low_count ∙ sym c.requires.tables.nodes
+take_both-requires-clause-back_low g c κs out = c.in_ok-back.ensures.delta.low_count ∙ sym c.requires.may.tables.nodes
 
 pub take_both-requires-clause-back_high : goal.take_both-requires-clause-back_high
-take_both-requires-clause-back_high g c κs out = c.in_ok-back.ensures.delta.high_count ∙ sym c.requires.tables.nodes
+take_both-requires-clause-back_high g c κs out = c.in_ok-back.ensures.delta.high_count ∙ sym c.requires.may.tables.nodes
 
 pub take_both-requires-clause-forth_low : goal.take_both-requires-clause-forth_low
 take_both-requires-clause-forth_low g c κs out = c.in_ok-forth.ensures.delta.low_count
@@ -88,11 +88,11 @@ pub take_both-requires-clause-bases : goal.take_both-requires-clause-bases
 take_both-requires-clause-bases g c κs out =
     let bases = map g.N.Number.number c.bases-bases.result.now in
     let lists = c.args.histories.now.lists in
-    subst (λ nodes. HasEach nodes (λ r n. n ≡ bases_in c.lists-lists.result.now r) bases) (sym c.requires.initiator.nodes)
+    subst (λ nodes. HasEach nodes (λ r n. n ≡ bases_in c.lists-lists.result.now r) bases) (sym c.requires.may.initiator_fits.nodes)
     (subst (λ ls. HasEach (length lists) (λ r n. n ≡ bases_in ls r) bases) (sym c.lists-lists.ensures.value) c.bases-bases.ensures.value)
 
 pub take_both-requires-clause-lists : goal.take_both-requires-clause-lists
-take_both-requires-clause-lists g c κs out = ap length c.lists-lists.ensures.value ∙ sym c.requires.initiator.nodes
+take_both-requires-clause-lists g c κs out = ap length c.lists-lists.ensures.value ∙ sym c.requires.may.initiator_fits.nodes
 
 pub take_both-requires-clause-numbered : goal.take_both-requires-clause-numbered
 take_both-requires-clause-numbered g c κs out = λ owner. subst (λ ls. IsNumberedHistory (all_writes ls owner)) (sym c.lists-lists.ensures.value) (c.lists-lists.ensures.so_far owner).numbered

@@ -9,16 +9,16 @@ use Rattle.version_tables.proofs.Standing.{one-list-each}
 use Rattle.version_tables.proofs.Parts.{grids-of, numbers-of, part-none, part-next, part-found, many-parts, piece-size}
 use Rattle.version_tables.proofs.lags.counted.Goals as goal
 
-pub parts_of-requires-clause-grids : goal.parts_of-requires-clause-grids
-parts_of-requires-clause-grids g c κs within =
-    grids-of g.H.Written.lists c.args.tables.now c.args.histories.now.lists (length c.args.tables.now) c.keys_of-keys.result (numbers_in g.N.Number.number c.deref.result.now) (map g.N.Number.number c.bases-bases.result.now) (map g.N.Number.number c.args.last.now)
-    (numbers-of g.H.Written.lists c.args.tables.now c.args.histories.now.lists g.N.Number.number c.keys_of-keys.result c.deref.result.now c.in_ok-cells.cells.items (map g.N.Number.number c.bases-bases.result.now) (map g.N.Number.number c.args.last.now) c.requires.laid c.keys_of-keys.ensures c.deref.ensures.value c.in_ok-cells.ensures.cells c.bases-bases.ensures.value c.requires.last)
-    (c.bases-bases.ensures.value.size ∙ one-list-each g.H.Written.lists c.args.tables.now c.args.histories.now.lists c.requires.laid)
-
-pub parts_of-requires-clause-forgot : goal.parts_of-requires-clause-forgot
-parts_of-requires-clause-forgot g c κs within off r lt =
-    c.has_forgotten-forgot.ensures off r
-    (omega (arith, lt, c.bases-bases.ensures.value.size, one-list-each g.H.Written.lists c.args.tables.now c.args.histories.now.lists c.requires.laid, length-map c.bases-bases.result.now g.N.Number.number))
+pub parts_of-requires-clause-numbers : goal.parts_of-requires-clause-numbers
+parts_of-requires-clause-numbers g c κs within = record {
+  grids =
+      grids-of g.H.Written.lists c.args.tables.now c.args.histories.now.lists (length c.args.tables.now) c.keys_of-keys.result (numbers_in g.N.Number.number c.deref.result.now) (map g.N.Number.number c.bases-bases.result.now) (map g.N.Number.number c.args.last.now)
+      (numbers-of g.H.Written.lists c.args.tables.now c.args.histories.now.lists g.N.Number.number c.keys_of-keys.result c.deref.result.now c.in_ok-cells.cells.items (map g.N.Number.number c.bases-bases.result.now) (map g.N.Number.number c.args.last.now) c.requires.laid c.keys_of-keys.ensures c.deref.ensures.value c.in_ok-cells.ensures.cells c.bases-bases.ensures.value c.requires.last)
+      (c.bases-bases.ensures.value.size ∙ one-list-each g.H.Written.lists c.args.tables.now c.args.histories.now.lists c.requires.laid);
+  forgot = λ off r lt.
+      c.has_forgotten-forgot.ensures off r
+      (omega (arith, lt, c.bases-bases.ensures.value.size, one-list-each g.H.Written.lists c.args.tables.now c.args.histories.now.lists c.requires.laid, length-map c.bases-bases.result.now g.N.Number.number));
+}
 
 pub loop-part-init : goal.loop-part-init
 loop-part-init g c =

@@ -1,15 +1,18 @@
 -- What an offer's numbers take of its budget.
--- Serves `Offer::fits`, `Offer::weight`, `breadth`, `depth` and `TurnSteps`.
-use Rattle.std.proofs.Common.{◌≡◌, ℕ, ◌*◌, ◌≤◌, Option, Some, None, arith}
+-- Serves the functions of `breadths`, `depths` and `weights`, `LayerSteps`, `RunSteps` and `TurnSteps`.
+use Rattle.std.proofs.Common.{◌≡◌, ℕ, ◌*◌, ◌<◌, ◌≤◌, Bool, true, false, List, Option, Some, None, inl, inr, sym, subst, arith}
+use Rattle.std.specs.Prelude.{◌↔◌}
+use Rattle.std.proofs.lemmas.Bool.{cases_lt, both_ways}
 use Rattle.std.proofs.Math.Nat.{mul-le-mul_right}
 use Rattle.bench_types.specs.declared.entries.Entry.{Entry}
 use Rattle.bench_types.specs.declared.exchanges.Budget.{Budget}
 use Rattle.bench_types.specs.declared.exchanges.Budget.TheVariants.{Entries, Bytes}
+use Rattle.bench_types.specs.Budget.{amount_of}
 use Rattle.bench_types.specs.declared.limits.TheConstants.{MOST_NODES, MOST_KEYS, MOST_ENTRY_SIZE}
 use Rattle.owner_lists.specs.Numbers.{write_numbered}
 use Rattle.owner_lists.specs.OwnerListView.{all_writes}
 use Rattle.version_tables.specs.declared.weights.Offer.{Offer}
-use Rattle.version_tables.specs.inner.Offered.{cells_in, weights_in, weight_in, count_in, IsOffer}
+use Rattle.version_tables.specs.inner.Offered.{cells_in, marks, weights_in, weight_in, count_in, IsOffer}
 use Rattle.version_tables.specs.inner.Weights.{share_or_none, one_each}
 use Rattle.version_tables.proofs.Columns.{sum_below-none}
 use Rattle.version_tables.proofs.WeightLaws.{weight_of-none, weight_between-same, weight_between-most, number_share-one, count_all_between-most}
@@ -45,3 +48,14 @@ module _ {N : Type 0} (number : N → ℕ) (most : ℕ) (offer : Offer N) (is : 
       weight_between-same (weights_in offer) one_each (cells_in number offer) offer.nodes offer.keys low high
       (λ owner key in_nodes in_keys above upto.
       number_share-one offer.budget n (all_writes offer.lists.now owner) (cells_in number offer owner key) counted (omega (arith, above)) (is.written owner key in_nodes in_keys))
+
+-- what a test found of marks, of the same ones
+module _ {N : Type 0} (number : N → ℕ) (offer : Offer N) (low : ℕ → ℕ) (asked items : List N) (same : asked ≡ items) (fits : Bool) (tested : (fits ≡ true) ↔ (weight_in number offer low (marks number asked) ≤ amount_of offer.budget)) where
+  pub offer-fits : fits ≡ true → weight_in number offer low (marks number items) ≤ amount_of offer.budget
+  offer-fits yes' = subst (λ xs. weight_in number offer low (marks number xs) ≤ amount_of offer.budget) same (tested.0 yes')
+
+  pub offer-cut : fits ≡ false → amount_of offer.budget < weight_in number offer low (marks number items)
+  offer-cut no' = elim (cases_lt (amount_of offer.budget) (weight_in number offer low (marks number items))) [
+    | inl over ↦ over
+    | inr within ↦ absurd (both_ways fits no' (tested.1 (subst (λ xs. weight_in number offer low (marks number xs) ≤ amount_of offer.budget) (sym same) within)))
+  ]

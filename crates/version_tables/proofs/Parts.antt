@@ -21,9 +21,10 @@ use Rattle.planes.proofs.Counts.{count_le}
 use Rattle.staleness.proofs.Counting.{at_place}
 use Rattle.staleness.proofs.Places.{one_more}
 use Rattle.staleness.proofs.Sums.{sum_below-le}
+use Rattle.version_tables.specs.declared.lags.Piece.{Piece}
 use Rattle.version_tables.specs.Views.{VersionTableView, IsKept}
 use Rattle.version_tables.specs.inner.Missed.{base_of, IsNumberAt}
-use Rattle.version_tables.specs.inner.Pieces.{tables_of_views, keys_in, AreLaidAsNumbers, AreLastNumbers, IsPieceOf, numbers_at, AreGrids, AreNumbersOf, CountsPiece, view_at, numbers_in, AreCellsUpto, AreCellsOf}
+use Rattle.version_tables.specs.inner.Pieces.{tables_of_views, keys_in, AreLaidAsNumbers, AreLastNumbers, IsPieceOf, numbers_at, AreGrids, AreNumbersOf, CountsPiece, CountsPart, view_at, numbers_in, AreCellsUpto, AreCellsOf}
 use Rattle.version_tables.proofs.Pieces.{piece-none, piece-more, piece-joined}
 use Rattle.version_tables.proofs.Standing.{count-tables_in, one-list-each, cells-count, numbers-at}
 
@@ -188,6 +189,12 @@ part-found {X} P count items parts k r x same each lt is ok =
     let here : 0 + k ≡ k = omega arith in
     let at : IfOk (get_or parts k r) (P (0 + k)) = at_place (λ part found. IfOk found (P part)) 0 count parts each k r below in
     (subst (λ n. P n x) here (subst (λ o. IfOk o (P (0 + k))) (sym (is ∙ ap (λ xs. get_or xs k r) same) ∙ ok) at), below)
+
+pub part-counted : {N : Type 0} {nodes keys : ℕ} {cells : List (List ℕ)} {bases last : List ℕ} (number : N → ℕ) (size : ℕ) {count : ℕ} {items parts : List (Result (Piece N) Fault)} {k : ℕ} {r : Result (Piece N) Fault} {p : Piece N} → items ≡ parts
+    → AllZip (λ part found. IfOk found (λ q. CountsPart nodes keys cells bases last size part q.stale q.leftover (map number q.least.items))) (range_with_len 0 count) parts
+    → k < length items → r ≡ get_or items k r → r ≡ Ok p → CountsPart nodes keys cells bases last size k p.stale p.leftover (map number p.least.items) × (k < count)
+part-counted {N} {nodes} {keys} {cells} {bases} {last} number size {count} {items} {parts} {k} {r} {p} items_are each lt is ok =
+    part-found (λ part q. CountsPart nodes keys cells bases last size part q.stale q.leftover (map number q.least.items)) count items parts k r p items_are each lt is ok
 
 pub many-parts : {X : Type 0} (P : ℕ → X → Type 0) (count : ℕ) (parts : List (Result X Fault)) → AllZip (λ part found. IfOk found (P part)) (range_with_len 0 count) parts → length parts ≡ count
 many-parts P count parts each = AllZip-long (λ part found. IfOk found (P part)) (range_with_len 0 count) parts each ∙ length-range_with_len 0 count

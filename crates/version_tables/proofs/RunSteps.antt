@@ -105,14 +105,11 @@ module _ {N : Type 0} (number : N → ℕ) (most : ℕ) (offer : Offer N) (is : 
   abbrev low : ℕ → ℕ
   low = low_in number offer
 
-  abbrev counts : ℕ → ℕ
-  counts = owner_count_in number offer
-
   -- runs of one size, which some owners have
   runs-added : (near far : ℕ → ℕ) (size count added : ℕ)
       → AreMarksFrom number offer (size + 1) near
-      → ((owner : ℕ) → owner < offer.nodes → far owner ≡ cond (eqb (counts owner) size) (high_in number offer owner) (near owner))
-      → added ≡ sum_below offer.nodes (λ owner. where_true (eqb (counts owner) size) 1) * size
+      → ((owner : ℕ) → owner < offer.nodes → far owner ≡ cond (eqb (owner_count_in number offer owner) size) (high_in number offer owner) (near owner))
+      → added ≡ sum_below offer.nodes (λ owner. where_true (eqb (owner_count_in number offer owner) size) 1) * size
       → count ≡ count_in number offer low near → weight_in number offer low near ≤ amount_of offer.budget
       → AreRunsSoFar number offer near far size count added
   runs-added near far size count added longer marked counted whole within = record {
@@ -120,17 +117,17 @@ module _ {N : Type 0} (number : N → ℕ) (most : ℕ) (offer : Offer N) (is : 
     next = next;
     whole = whole;
     more =
-        (λ i. whole i + (counted ∙ sym (sum_below-scaled offer.nodes size (λ owner. where_true (eqb (counts owner) size) 1))) i)
-        ∙ sym (sum_below-plus offer.nodes (λ owner. count_between cells offer.keys owner (low owner) (near owner)) (λ owner. where_true (eqb (counts owner) size) 1 * size))
+        (λ i. whole i + (counted ∙ sym (sum_below-scaled offer.nodes size (λ owner. where_true (eqb (owner_count_in number offer owner) size) 1))) i)
+        ∙ sym (sum_below-plus offer.nodes (λ owner. count_between cells offer.keys owner (low owner) (near owner)) (λ owner. where_true (eqb (owner_count_in number offer owner) size) 1 * size))
         ∙ sym (sum_below-same offer.nodes _ _ (λ owner lt. run-count cells offer.keys owner (low owner) (high_in number offer owner) (is.covered owner lt) size (near owner) (far owner) (longer owner lt) (next owner lt)));
     within = within;
   }
     where
       next : AreMarksFrom number offer size far
-      next owner lt = from-next (counts owner) (low owner) (high_in number offer owner) size (near owner) (far owner) (longer owner lt) (marked owner lt)
+      next owner lt = from-next (owner_count_in number offer owner) (low owner) (high_in number offer owner) size (near owner) (far owner) (longer owner lt) (marked owner lt)
 
   -- before the longest runs
-  pub runs-first : (size : ℕ) → ((owner : ℕ) → owner < offer.nodes → counts owner ≤ size) → AreMarksFrom number offer (size + 1) low
+  pub runs-first : (size : ℕ) → ((owner : ℕ) → owner < offer.nodes → owner_count_in number offer owner ≤ size) → AreMarksFrom number offer (size + 1) low
   runs-first size longest owner lt = record { all = λ le. absurd (omega (arith, le, longest owner lt)); none = λ _. refl }
 
   -- where what fits isn't all, the runs that are next have something
@@ -141,7 +138,7 @@ module _ {N : Type 0} (number : N → ℕ) (most : ℕ) (offer : Offer N) (is : 
   ]
     where
       all : size ≡ 0 → weight_in number offer low near ≡ weight_in number offer low (high_in number offer)
-      all none = sum_below-same offer.nodes _ _ (λ owner lt. elim (cases_lt 0 (counts owner)) [
+      all none = sum_below-same offer.nodes _ _ (λ owner lt. elim (cases_lt 0 (owner_count_in number offer owner)) [
         | inl some ↦ ap (weight_of (weights_in offer owner) cells offer.keys owner (low owner)) ((so_far.longer owner lt).all (omega (arith, none, some)))
         | inr empty ↦
             ap (weight_of (weights_in offer owner) cells offer.keys owner (low owner)) ((so_far.longer owner lt).none (omega (arith, none, empty)))
@@ -150,7 +147,7 @@ module _ {N : Type 0} (number : N → ℕ) (most : ℕ) (offer : Offer N) (is : 
       ])
 
   -- the longest runs are next
-  pub runs-start : (size : ℕ) (step : Step N) → ((owner : ℕ) → owner < offer.nodes → counts owner ≤ size) → AreNextRuns number offer low size step
+  pub runs-start : (size : ℕ) (step : Step N) → ((owner : ℕ) → owner < offer.nodes → owner_count_in number offer owner ≤ size) → AreNextRuns number offer low size step
       → AreRunsSoFar number offer low (marks number step.marks.items) size 0 step.more
   runs-start size step longest runs =
       runs-added low (marks number step.marks.items) size 0 step.more (runs-first size longest) runs.marked runs.more
@@ -176,15 +173,15 @@ module _ {N : Type 0} (number : N → ℕ) (most : ℕ) (offer : Offer N) (is : 
   }
 
   pub runs-farther : (near far : ℕ → ℕ) (size count added : ℕ) → AreRunsSoFar number offer near far size count added → 0 < size → (owner : ℕ) → owner < offer.nodes → (low owner ≤ near owner) × (near owner ≤ far owner)
-  runs-farther near far size count added so_far some owner lt = elim (cases_lt (counts owner) size) [
+  runs-farther near far size count added so_far some owner lt = elim (cases_lt (owner_count_in number offer owner) size) [
     | inl shorter ↦ omega (arith, (so_far.longer owner lt).none (omega (arith, shorter)), (so_far.next owner lt).none shorter)
-    | inr no_shorter ↦ elim (cases_lt size (counts owner)) [
+    | inr no_shorter ↦ elim (cases_lt size (owner_count_in number offer owner)) [
       | inl more ↦ omega (arith, (so_far.longer owner lt).all (omega (arith, more)), (so_far.next owner lt).all (omega (arith, no_shorter)), higher (omega (arith, some, no_shorter)))
       | inr no_more ↦ omega (arith, (so_far.longer owner lt).none (omega (arith, no_more)), (so_far.next owner lt).all (omega (arith, no_shorter)), higher (omega (arith, some, no_shorter)))
     ]
   ]
     where
-      higher : 0 < counts owner → low owner < high_in number offer owner
+      higher : 0 < owner_count_in number offer owner → low owner < high_in number offer owner
       higher there = elim (cases_lt (low owner) (high_in number offer owner)) [
         | inl above ↦ above
         | inr not_above ↦ absurd (omega (

@@ -1,11 +1,11 @@
 -- An owner's numbers gone over one after another.
 -- Serves `Offer::next_down`, `Offer::next_up` and `Offer::stop_from`.
-use Rattle.std.proofs.Common.{◌≡◌, ◌≢◌, ℕ, zero, suc, ◌+◌, ◌<◌, ◌≤◌, ◌⊎◌, Bool, true, false, not, min, max, inl, inr, refl, sym, ap, ◌∙◌, subst, arith}
+use Rattle.std.proofs.Common.{◌≡◌, ◌≢◌, ℕ, zero, suc, ◌+◌, ◌-◌, ◌<◌, ◌≤◌, ◌⊎◌, Bool, true, false, not, min, max, inl, inr, refl, sym, ap, ◌∙◌, subst, arith}
 use Rattle.std.proofs.lemmas.Bool.{cases_lt}
 use Rattle.planes.specs.Planes.{Cells}
 use Rattle.planes.specs.Sums.{sum_below}
 use Rattle.version_tables.specs.inner.Shares.{NumbersDiffer}
-use Rattle.version_tables.specs.inner.Stops.{weight_from, HasBetween, HasNext, IsNext, IsNextUp, IsNextDown, IsOn, IsPast}
+use Rattle.version_tables.specs.inner.Stops.{weight_from, HasBetween, HasNext, IsNext, IsNextUp, IsNextDown, IsOn, IsPast, IsStopFrom}
 use Rattle.version_tables.specs.inner.Weights.{weight_of}
 use Rattle.version_tables.proofs.WeightLaws.{part, part-in, part-low, part-high, part-cases, weight_of-none, weight_of-split, count_between-most}
 
@@ -125,6 +125,55 @@ module _ (cells : Cells) (keys owner : ℕ) where
 pub on-start : (newest : Bool) (near : ℕ) → IsOn newest near near
 on-start false near = omega arith
 on-start true near = omega arith
+
+-- where an owner's part stops, as far as its numbers were gone over: those up to the mark fit, and the next one is known
+pub record IsStopSoFar (newest : Bool) (weight : ℕ → ℕ) (cells : Cells) (keys owner near far room mark number taken left sent : ℕ) : Type 0 where
+  pub next : IsNext newest cells keys owner mark far number
+  pub on : IsOn newest near mark
+  pub takes : taken ≡ weight number
+  pub rest : room ≡ left + weight_from newest weight cells keys owner near mark
+  pub beyond : left < weight_from newest weight cells keys owner mark far
+  pub count : sent ≡ weight_from newest (λ _. 1) cells keys owner near mark
+
+module _ (newest : Bool) (weight : ℕ → ℕ) (cells : Cells) (keys owner near far room : ℕ) where
+  pub stop-first : (number taken : ℕ) → IsNext newest cells keys owner near far number → taken ≡ weight number → room < weight_from newest weight cells keys owner near far
+      → IsStopSoFar newest weight cells keys owner near far room near number taken room 0
+  stop-first number taken next takes beyond = record {
+    next = next;
+    on = on-start newest near;
+    takes = takes;
+    rest = omega (arith, none-from cells keys owner newest weight near);
+    beyond = beyond;
+    count = sym (none-from cells keys owner newest (λ _. 1) near);
+  }
+
+  module _ (mark number taken left sent : ℕ) (so_far : IsStopSoFar newest weight cells keys owner near far room mark number taken left sent) where
+    module _ (differ : NumbersDiffer cells keys owner) (past : ℕ) (is : IsPast newest number past) (fits : taken ≤ left) where
+      past_beyond : left - taken < weight_from newest weight cells keys owner past far
+      past_beyond = omega (arith, past-rest weight cells keys owner differ newest mark far number past so_far.next is, so_far.beyond, so_far.takes, fits)
+
+      pub stop-more : HasNext newest cells keys owner past far
+      stop-more = some-next cells keys owner newest weight past far (omega (arith, past_beyond))
+
+      pub stop-next : (other takes : ℕ) → IsNext newest cells keys owner past far other → takes ≡ weight other → IsStopSoFar newest weight cells keys owner near far room past other takes (left - taken) (sent + 1)
+      stop-next other takes next weighs = record {
+        next = next;
+        on = past-on cells keys owner newest near mark far number past so_far.on so_far.next is;
+        takes = weighs;
+        rest = omega (arith, so_far.rest, past-next weight cells keys owner differ newest near mark far number past so_far.on so_far.next is, so_far.takes, fits);
+        beyond = past_beyond;
+        count = ap (λ n. n + 1) so_far.count ∙ sym (past-next (λ _. 1) cells keys owner differ newest near mark far number past so_far.on so_far.next is);
+      }
+
+    pub stop-found : left < taken → IsStopFrom newest weight cells keys owner near far room mark sent
+    stop-found over = record {
+      number = number;
+      next = so_far.next;
+      on = so_far.on;
+      within = omega (arith, so_far.rest);
+      beyond = omega (arith, so_far.rest, so_far.takes, over);
+      count = so_far.count;
+    }
 
 -- a number is beyond a near mark, which it is in one of the two directions
 abbrev pub IsBeyond : Bool → ℕ → ℕ → Type 0

@@ -1,11 +1,9 @@
-use Rattle.std.proofs.Common.{◌≡◌, ℕ, ◌+◌, ◌≤◌, ◌<◌, length, inl, inr, sym, ap, ◌∙◌, subst, arith}
-use Rattle.std.proofs.lemmas.Bool.{cases_lt, both_ways}
+use Rattle.std.proofs.Common.{◌≡◌, ℕ, ◌+◌, ◌<◌, length, sym, ap, ◌∙◌, subst, arith}
 use Rattle.std.proofs.lemmas.List.{length-map}
-use Rattle.bench_types.specs.Budget.{amount_of}
-use Rattle.version_tables.specs.inner.Offered.{cells_in, marks, count_in, weight_in}
+use Rattle.version_tables.specs.inner.Offered.{cells_in, low_in, marks, count_in}
 use Rattle.version_tables.specs.inner.Plans.{AreLayersSoFar, IsNextMark, raised}
 use Rattle.version_tables.proofs.LayerSteps.{layers-first, layers-count, layers-upto, layers-more, layers-next, layers-far, layers-farther, smaller_by}
-use Rattle.version_tables.proofs.OfferWeights.{offer-few}
+use Rattle.version_tables.proofs.OfferWeights.{offer-few, offer-fits, offer-cut}
 use Rattle.version_tables.proofs.breadths.breadth.Goals as goal
 
 pub loop-alloc-init : goal.loop-alloc-init
@@ -51,9 +49,7 @@ overflow_add-whole-in-loop-alloc g c =
 pub loop-alloc-smaller : goal.loop-alloc-smaller
 loop-alloc-smaller g c =
     let number = g.N.Number.number in
-    let fits = subst (λ xs. weight_in number c.args.offer.now (marks number c.args.offer.now.low.now) (marks number xs) ≤ amount_of c.args.offer.now.budget) c.deref-in-loop-alloc.ensures.value
-    (c.fits.ensures.0 c.loop-alloc-test.true)
-    in
+    let fits = offer-fits number c.args.offer.now (low_in number c.args.offer.now) _ _ c.deref-in-loop-alloc.ensures.value c.fits.result c.fits.ensures c.loop-alloc-test.true in
     smaller_by _ c.loop-alloc.whole c.loop-alloc.more
     (layers-more number g.N.Number.most c.args.offer.now c.requires.offer.is_offer (marks number c.loop-alloc.near.items) (marks number c.loop-alloc.far.items) c.loop-alloc.whole c.loop-alloc.more c.loop-alloc.invariant.so_far fits c.requires.offer.beyond)
     (layers-upto number g.N.Number.most c.args.offer.now c.requires.offer.is_offer (marks number c.loop-alloc.near.items) (marks number c.loop-alloc.far.items) c.loop-alloc.whole c.loop-alloc.more c.loop-alloc.invariant.so_far)
@@ -63,9 +59,7 @@ loop-alloc-preserved g c =
     let number = g.N.Number.number in
     let offer = c.args.offer.now in
     let next = c.in_ok-next.ensures.marks in
-    let fits = subst (λ xs. weight_in number offer (marks number offer.low.now) (marks number xs) ≤ amount_of offer.budget) c.deref-in-loop-alloc.ensures.value
-    (c.fits.ensures.0 c.loop-alloc-test.true)
-    in
+    let fits = offer-fits number offer (low_in number offer) _ _ c.deref-in-loop-alloc.ensures.value c.fits.result c.fits.ensures c.loop-alloc-test.true in
     record {
       near = c.loop-alloc.invariant.far;
       far = sym (length-map c.in_ok-next.next.marks.items number) ∙ next.size;
@@ -97,11 +91,7 @@ returns-clause-level g c =
         farther = layers-farther number g.N.Number.most offer c.requires.offer.is_offer (marks number c.loop-alloc.near.items) (marks number c.loop-alloc.far.items) c.loop-alloc.whole c.loop-alloc.more so_far;
         whole = so_far.whole;
         within = so_far.within;
-        beyond = elim (cases_lt (amount_of offer.budget) (weight_in number offer (marks number offer.low.now) (marks number c.loop-alloc.far.items))) [
-          | inl over ↦ over
-          | inr within ↦ absurd (both_ways c.fits.result c.loop-alloc-test.false
-              (c.fits.ensures.1 (subst (λ xs. weight_in number offer (marks number offer.low.now) (marks number xs) ≤ amount_of offer.budget) (sym c.deref-in-loop-alloc.ensures.value) (omega (arith, within)))))
-        ];
+        beyond = offer-cut number offer (low_in number offer) _ _ c.deref-in-loop-alloc.ensures.value c.fits.result c.fits.ensures c.loop-alloc-test.false;
       };
       of_layers = record {
         layers = c.loop-alloc.invariant.so_far.layers;

@@ -1,12 +1,10 @@
-use Rattle.std.proofs.Common.{◌≡◌, ℕ, ◌+◌, ◌-◌, ◌≤◌, ◌<◌, length, get_or, map, inl, inr, sym, ap, ◌∙◌, subst, arith}
-use Rattle.std.proofs.lemmas.Bool.{cases_lt, both_ways}
+use Rattle.std.proofs.Common.{◌≡◌, ℕ, ◌+◌, ◌-◌, ◌≤◌, ◌<◌, length, get_or, map, sym, ap, ◌∙◌, subst, arith}
 use Rattle.std.proofs.lemmas.List.{length-map}
-use Rattle.bench_types.specs.Budget.{amount_of}
 use Rattle.bench_types.specs.declared.limits.TheConstants.{MOST_KEYS}
 use Rattle.planes.specs.Planes.{HasEach}
-use Rattle.version_tables.specs.inner.Offered.{marks, count_in, owner_count_in, weight_in}
+use Rattle.version_tables.specs.inner.Offered.{low_in, marks, count_in, owner_count_in}
 use Rattle.version_tables.specs.inner.Plans.{AreRunsSoFar, AreNextRuns}
-use Rattle.version_tables.proofs.OfferWeights.{offer-few}
+use Rattle.version_tables.proofs.OfferWeights.{offer-few, offer-fits, offer-cut}
 use Rattle.version_tables.proofs.RunSteps.{runs-start, runs-next, runs-some, runs-of_level, runs-farther, counts-few}
 use Rattle.version_tables.proofs.depths.depth.Goals as goal
 
@@ -71,9 +69,7 @@ loop-alloc-preserved g c =
     let number = g.N.Number.number in
     let offer = c.args.offer.now in
     let some = runs-some number g.N.Number.most offer c.requires.offer.is_offer (marks number c.loop-alloc.near.items) (marks number c.loop-alloc.far.items) c.loop-alloc.size c.loop-alloc.whole c.loop-alloc.more c.loop-alloc.invariant.so_far c.requires.offer.beyond in
-    let fits = subst (λ xs. weight_in number offer (marks number offer.low.now) (marks number xs) ≤ amount_of offer.budget) c.deref-in-loop-alloc.ensures.value
-    (c.fits.ensures.0 c.loop-alloc-test.true)
-    in
+    let fits = offer-fits number offer (low_in number offer) _ _ c.deref-in-loop-alloc.ensures.value c.fits.result c.fits.ensures c.loop-alloc-test.true in
     let runs = subst (λ xs. AreNextRuns number offer (marks number xs) (c.loop-alloc.size - 1) c.in_ok-next.next) c.deref-in-loop-alloc-3.ensures.value c.in_ok-next.ensures.runs in
     record {
       near = c.loop-alloc.invariant.far;
@@ -97,11 +93,7 @@ returns-clause-level g c =
         farther = runs-farther number g.N.Number.most offer c.requires.offer.is_offer (marks number c.loop-alloc.near.items) (marks number c.loop-alloc.far.items) c.loop-alloc.size c.loop-alloc.whole c.loop-alloc.more so_far some;
         whole = so_far.whole;
         within = so_far.within;
-        beyond = elim (cases_lt (amount_of offer.budget) (weight_in number offer (marks number offer.low.now) (marks number c.loop-alloc.far.items))) [
-          | inl over ↦ over
-          | inr within ↦ absurd (both_ways c.fits.result c.loop-alloc-test.false
-              (c.fits.ensures.1 (subst (λ xs. weight_in number offer (marks number offer.low.now) (marks number xs) ≤ amount_of offer.budget) (sym c.deref-in-loop-alloc.ensures.value) (omega (arith, within)))))
-        ];
+        beyond = offer-cut number offer (low_in number offer) _ _ c.deref-in-loop-alloc.ensures.value c.fits.result c.fits.ensures c.loop-alloc-test.false;
       };
       of_runs =
           runs-of_level number g.N.Number.most offer c.requires.offer.is_offer (record { near = c.loop-alloc.near; far = c.loop-alloc.far; whole = c.loop-alloc.whole }) c.loop-alloc.size c.loop-alloc.whole c.loop-alloc.more so_far some;

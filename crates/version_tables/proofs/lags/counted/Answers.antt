@@ -3,10 +3,9 @@ use Rattle.std.proofs.lemmas.List.{length-map, with_items_is}
 use Rattle.planes.specs.Planes.{cell, ArePlanesChanged}
 use Rattle.staleness.proofs.Counting.{enough}
 use Rattle.staleness.proofs.Merging.{part_within}
-use Rattle.version_tables.specs.declared.lags.Piece.{Piece}
-use Rattle.version_tables.specs.inner.Pieces.{tables_of_views, numbers_in, AreLastNumbers, IsPieceOf, CountsPart}
+use Rattle.version_tables.specs.inner.Pieces.{tables_of_views, numbers_in, AreLastNumbers, IsPieceOf}
 use Rattle.version_tables.proofs.Standing.{one-list-each}
-use Rattle.version_tables.proofs.Parts.{grids-of, numbers-of, part-none, part-next, part-found, many-parts, piece-size}
+use Rattle.version_tables.proofs.Parts.{grids-of, numbers-of, part-none, part-next, part-counted, many-parts, piece-size}
 use Rattle.version_tables.proofs.lags.counted.Goals as goal
 
 pub parts_of-requires-clause-numbers : goal.parts_of-requires-clause-numbers
@@ -32,28 +31,20 @@ loop-part-init g c =
 
 pub overflow_add-stale : goal.overflow_add-stale
 overflow_add-stale g c =
-    let size = c.tables_of_a_thread-size.result in
-    let found = part-found (λ part (p : Piece _). CountsPart (length c.args.tables.now) c.keys_of-keys.result (numbers_in g.N.Number.number c.deref.result.now) (map g.N.Number.number c.bases-bases.result.now) (map g.N.Number.number c.args.last.now) size part p.stale p.leftover (map g.N.Number.number p.least.items)) (length c.args.tables.now / size + 1) c.deref-part-items.result.now c.in_ok-parts.parts.items
-    c.loop-part.part-index c.part-item.result c.in-Ok.part c.deref-part-items.ensures.value c.in_ok-parts.ensures c.loop-part-test.true c.part-item.is c.in-Ok.is in
+    let found = part-counted g.N.Number.number c.tables_of_a_thread-size.result c.deref-part-items.ensures.value c.in_ok-parts.ensures c.loop-part-test.true c.part-item.is c.in-Ok.is in
     omega (arith, c.loop-part.invariant.few_stale, found.0.few_stale, c.requires.laid.together.few_nodes, length-map c.args.tables.now (Rattle.version_tables.specs.Views.table_in g.H.Written.lists))
 
 pub overflow_add-leftover : goal.overflow_add-leftover
 overflow_add-leftover g c =
-    let size = c.tables_of_a_thread-size.result in
-    let found = part-found (λ part (p : Piece _). CountsPart (length c.args.tables.now) c.keys_of-keys.result (numbers_in g.N.Number.number c.deref.result.now) (map g.N.Number.number c.bases-bases.result.now) (map g.N.Number.number c.args.last.now) size part p.stale p.leftover (map g.N.Number.number p.least.items)) (length c.args.tables.now / size + 1) c.deref-part-items.result.now c.in_ok-parts.parts.items
-    c.loop-part.part-index c.part-item.result c.in-Ok.part c.deref-part-items.ensures.value c.in_ok-parts.ensures c.loop-part-test.true c.part-item.is c.in-Ok.is in
+    let found = part-counted g.N.Number.number c.tables_of_a_thread-size.result c.deref-part-items.ensures.value c.in_ok-parts.ensures c.loop-part-test.true c.part-item.is c.in-Ok.is in
     omega (arith, c.loop-part.invariant.few_leftover, found.0.few_leftover, c.requires.laid.together.few_nodes, length-map c.args.tables.now (Rattle.version_tables.specs.Views.table_in g.H.Written.lists))
 
 pub lower_all-requires-clause-cells : goal.lower_all-requires-clause-cells
 lower_all-requires-clause-cells g c κs within =
     let views = c.args.tables.now in
-    let tables = tables_of_views g.H.Written.lists views in
     let lists = c.args.histories.now.lists in
-    let size = c.tables_of_a_thread-size.result in
     let number = g.N.Number.number in
-    let p = c.loop-part.part-index in
-    let found = part-found (λ part (p : Piece _). CountsPart (length c.args.tables.now) c.keys_of-keys.result (numbers_in g.N.Number.number c.deref.result.now) (map g.N.Number.number c.bases-bases.result.now) (map g.N.Number.number c.args.last.now) size part p.stale p.leftover (map g.N.Number.number p.least.items)) (length views / size + 1) c.deref-part-items.result.now c.in_ok-parts.parts.items
-    p c.part-item.result c.in-Ok.part c.deref-part-items.ensures.value c.in_ok-parts.ensures c.loop-part-test.true c.part-item.is c.in-Ok.is in
+    let found = part-counted g.N.Number.number c.tables_of_a_thread-size.result c.deref-part-items.ensures.value c.in_ok-parts.ensures c.loop-part-test.true c.part-item.is c.in-Ok.is in
     ap length c.deref-in-Ok.ensures.value
     ∙ piece-size g.H.Written.lists views lists c.requires.laid number _ _ c.in-Ok.part.stale c.in-Ok.part.leftover c.in-Ok.part.least.items (found.0.pieces g.H.Written.lists c.args.tables.now c.args.histories.now.lists (numbers-of g.H.Written.lists c.args.tables.now c.args.histories.now.lists g.N.Number.number c.keys_of-keys.result c.deref.result.now c.in_ok-cells.cells.items (map g.N.Number.number c.bases-bases.result.now) (map g.N.Number.number c.args.last.now) c.requires.laid c.keys_of-keys.ensures c.deref.ensures.value c.in_ok-cells.ensures.cells c.bases-bases.ensures.value c.requires.last))
     ∙ sym (piece-size g.H.Written.lists views lists c.requires.laid number _ _ c.loop-part.stale c.loop-part.leftover c.loop-part.least.items c.loop-part.invariant)
@@ -71,8 +62,7 @@ loop-part-preserved g c =
     let part = c.in-Ok.part in
     let new = c.lower_all.new.least in
     let items = c.loop-part.least.items in
-    let found = part-found (λ part (p : Piece _). CountsPart (length c.args.tables.now) c.keys_of-keys.result (numbers_in g.N.Number.number c.deref.result.now) (map g.N.Number.number c.bases-bases.result.now) (map g.N.Number.number c.args.last.now) size part p.stale p.leftover (map g.N.Number.number p.least.items)) (n / size + 1) c.deref-part-items.result.now c.in_ok-parts.parts.items
-    p c.part-item.result part c.deref-part-items.ensures.value c.in_ok-parts.ensures c.loop-part-test.true c.part-item.is c.in-Ok.is in
+    let found = part-counted g.N.Number.number c.tables_of_a_thread-size.result c.deref-part-items.ensures.value c.in_ok-parts.ensures c.loop-part-test.true c.part-item.is c.in-Ok.is in
     let moved = subst (λ xs. ArePlanesChanged (λ r k x y. y ≡ min x (cell (map number c.deref-in-Ok.result.now) n r k)) n c.keys_of-keys.result (map number xs) (map number new)) c.deref_mut.ensures.value c.lower_all.ensures.least in
     let changed = subst (λ xs. ArePlanesChanged (λ r k x y. y ≡ min x (cell (map number xs) n r k)) n c.keys_of-keys.result (map number items) (map number new)) c.deref-in-Ok.ensures.value moved in
     subst (λ xs. IsPieceOf tables lists 0 (min ((p + 1) * size) n) (c.loop-part.stale + part.stale) (c.loop-part.leftover + part.leftover) (map number xs))
@@ -82,15 +72,11 @@ loop-part-preserved g c =
 
 pub returns-clause-piece : goal.returns-clause-piece
 returns-clause-piece g c =
-    let views = c.args.tables.now in
-    let tables = tables_of_views g.H.Written.lists views in
-    let lists = c.args.histories.now.lists in
     let size = c.tables_of_a_thread-size.result in
-    let n = length views in
-    let many = many-parts (λ part (p : Piece _). CountsPart n c.keys_of-keys.result (numbers_in g.N.Number.number c.deref.result.now) (map g.N.Number.number c.bases-bases.result.now) (map g.N.Number.number c.args.last.now) size part p.stale p.leftover (map g.N.Number.number p.least.items)) (n / size + 1) c.in_ok-parts.parts.items c.in_ok-parts.ensures in
-    let last : c.loop-part.part-index ≡ n / size + 1 = omega (arith, c.loop-part-test.false, c.loop-part.auto.part-index-end, ap length c.deref-part-items.ensures.value, many) in
+    let n = length c.args.tables.now in
+    let last : c.loop-part.part-index ≡ n / size + 1 = omega (arith, c.loop-part-test.false, c.loop-part.auto.part-index-end, ap length c.deref-part-items.ensures.value, many-parts _ _ _ c.in_ok-parts.ensures) in
     let whole : min (c.loop-part.part-index * size) n ≡ n = ap (λ p. min (p * size) n) last ∙ omega (arith, enough n size c.tables_of_a_thread-size.ensures) in
-    subst (λ m. IsPieceOf tables lists 0 m c.loop-part.stale c.loop-part.leftover (map g.N.Number.number c.loop-part.least.items)) whole c.loop-part.invariant
+    subst (λ m. IsPieceOf (tables_of_views g.H.Written.lists c.args.tables.now) c.args.histories.now.lists 0 m c.loop-part.stale c.loop-part.leftover (map g.N.Number.number c.loop-part.least.items)) whole c.loop-part.invariant
 
 pub parts_of-requires-clause-some : goal.parts_of-requires-clause-some
 parts_of-requires-clause-some g c κs out = c.tables_of_a_thread-size.ensures

@@ -1,6 +1,6 @@
 //! Simulations of two nodes of which one forgets, round by round.
 
-use crate::steps::{sim_of, step};
+use crate::tests::steps::{sim_of, step};
 use bench::Sim;
 use bench_types::{Fault, Figures};
 use fixtures::changed_in_bytes;

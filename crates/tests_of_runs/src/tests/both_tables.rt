@@ -4,8 +4,8 @@
 ghost use Rattle.simulation.specs.Simulation.{MayWriteAll};
 ghost use Rattle.bench.specs.inner.Writes.{AreWrittenIn, HasWritesBelow};
 
-use crate::steps::{begin, step};
-use crate::workers::expect_same_round;
+use crate::tests::steps::{begin, step};
+use crate::tests::workers::expect_same_round;
 use bench::{FreeGate, Sim};
 use bench_types::limits::MOST_WRITES;
 use bench_types::{Entry, Fault, Mode};

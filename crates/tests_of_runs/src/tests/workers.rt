@@ -3,7 +3,7 @@
 ghost use Rattle.std.specs.Prelude.{◌≤◌};
 ghost use Rattle.bench_types.specs.declared.limits.TheConstants.{MOST_WORKERS};
 
-use crate::steps::{sim_of, step};
+use crate::tests::steps::{sim_of, step};
 use bench::{FreeGate, Round, Sim};
 use bench_types::limits::MOST_WORKERS;
 use bench_types::{Fault, Row};

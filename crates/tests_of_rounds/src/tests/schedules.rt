@@ -1,8 +1,8 @@
 //! How far a schedule comes, event by event.
 
-use crate::comparing::expect_at;
-use crate::exchange_lists::CROSSING;
-use crate::predecessors::schedule_of;
+use crate::tests::comparing::expect_at;
+use crate::tests::exchange_lists::CROSSING;
+use crate::tests::predecessors::schedule_of;
 use bench_types::Fault;
 use planner::{Event, Schedule};
 use std::process::Abort;

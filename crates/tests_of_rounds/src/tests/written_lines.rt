@@ -1,7 +1,7 @@
 //! Lines that are written to memory.
 
-use crate::comparing::{expect, expect_at};
-use crate::exchange_lists::{PAIR, list_of};
+use crate::tests::comparing::{expect, expect_at};
+use crate::tests::exchange_lists::{PAIR, list_of};
 use bench_types::{Fate, Mode, Push, Record, Row};
 use fixtures::row;
 use report::{

@@ -1,6 +1,6 @@
 //! What faults, fields and tables print.
 
-use crate::comparing::expect_printed;
+use crate::tests::comparing::expect_printed;
 use bench_types::{Fault, Field, TableName};
 
 const LINES: [(Fault, &str); 20] = [

@@ -1,7 +1,7 @@
 //! Schedules of lists of four nodes, carried out.
 
-use crate::comparing::{expect, expect_at};
-use crate::exchange_lists::{CROSSING, TWICE, list_of};
+use crate::tests::comparing::{expect, expect_at};
+use crate::tests::exchange_lists::{CROSSING, TWICE, list_of};
 use bench_types::{Budget, Fate, Fault, Mode, Record, Rules};
 use fixtures::{WRITTEN, Writers, tables_of};
 use node_table::NodeTable;

@@ -1,9 +1,9 @@
 //! The words of nodes, and what a round takes from them.
 
-use crate::comparing::{expect, expect_at};
-use crate::exchange_lists::between;
-use crate::small_scenarios::{PLAIN, RANDOM, expect_counts, listed, scenario_of};
-use crate::word_tables::{NODES, PLACES, SEEDS, WORDS};
+use crate::tests::comparing::{expect, expect_at};
+use crate::tests::exchange_lists::between;
+use crate::tests::small_scenarios::{PLAIN, RANDOM, expect_counts, listed, scenario_of};
+use crate::tests::word_tables::{NODES, PLACES, SEEDS, WORDS};
 use bench_types::Exchange;
 use bench_types::limits::MOST_ROUNDS;
 use round_plan::{OwnWrite, ROUND_WORDS, RunWords, draw, peer, round_list_by, writes_of};

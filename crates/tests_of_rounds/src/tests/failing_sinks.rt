@@ -1,8 +1,8 @@
 //! Lines that are written to sinks that fail.
 
-use crate::comparing::expect_at;
-use crate::exchange_lists::{PAIR, list_of};
-use crate::written_lines::{
+use crate::tests::comparing::expect_at;
+use crate::tests::exchange_lists::{PAIR, list_of};
+use crate::tests::written_lines::{
     REPORT_HEADER, TRACE_HEADER, TWO_NODES, TWO_NODES_LINE, TWO_NODES_TRACE, two_nodes_records,
 };
 use bench_types::{Fault, Mode, Push};

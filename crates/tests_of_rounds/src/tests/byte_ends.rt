@@ -1,6 +1,6 @@
 //! Sources and sinks that work and that fail.
 
-use crate::comparing::expect;
+use crate::tests::comparing::expect;
 use bench_types::{Discard, Failed, Pull, Push, Sink, Source};
 use std::alloc::AllocGlobal;
 use std::io;

@@ -1,6 +1,6 @@
 //! Scenarios of four rounds, and their lists.
 
-use crate::comparing::expect;
+use crate::tests::comparing::expect;
 use bench_types::limits::MOST_ROUNDS;
 use round_plan::{RoundList, round_list};
 use scenario::{Scenario, read};

@@ -1,11 +1,11 @@
 //! Nodes that forgot: what their tables hold, and which of two generations is sent and kept.
 
-use crate::deltas::answer;
-use crate::fixtures::{
+use crate::tests::deltas::answer;
+use crate::tests::fixtures::{
     expect_entries, expect_held, expect_items, expect_mark, expect_number, forget, item, new_table,
     take, write,
 };
-use crate::model::Turn;
+use crate::tests::model::Turn;
 use bench_types::{Budget, Item, Mark, Mode};
 use node_table::NodeTable;
 use reconcile::Digest;

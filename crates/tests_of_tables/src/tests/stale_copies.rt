@@ -6,7 +6,7 @@ ghost use Rattle.owner_lists.specs.OwnerListView.{written};
 ghost use Rattle.owner_lists.specs.Writes.{AreBornBy};
 ghost use Rattle.tests_of_tables.specs.Missed.{missed, missed_in};
 
-use crate::fixtures::{item, may_take, new_table};
+use crate::tests::fixtures::{item, may_take, new_table};
 use bench_types::{Figures, Item};
 use node_table::NodeTable;
 use staleness::{OwnerList, figures};
@@ -42,33 +42,8 @@ fn forget_both(rt: &impl Abort, table: &mut NodeTable, list: &mut OwnerList)
     list.begin_generation();
 }
 
-// A node of two that has forgotten so often, each time one write, and the list of its writes.
-fn forgetter(
-    rt: &impl Abort,
-    alloc: Global,
-    node: u32,
-    keys: u32,
-    forgets: u32,
-    round: u32,
-) -> (NodeTable, OwnerList)
-    requires node { node < 2 }
-    requires some_key { 1 ≤ keys }
-    requires keys { keys ≤ 64 }
-    ensures node { result.0.table.node ≡ node }
-    ensures nodes { result.0.table.nodes ≡ 2 }
-    ensures keys { result.0.table.keys ≡ keys }
-    ensures born { AreBornBy round (written result.1) }
-{
-    let mut table = new_table(rt, alloc, node, 2, keys);
-    let mut list = OwnerList::new(alloc);
-    for _ in 0..forgets {
-        write_both(rt, &mut table, &mut list, 0, 0);
-        forget_both(rt, &mut table, &mut list);
-    }
-    (table, list)
-}
-
-// Such a node that then wrote these keys in these rounds.
+// A node of two that has forgotten so often, each time one write, and then wrote these keys in these rounds, and
+// the list of its writes.
 fn writer(
     rt: &impl Abort,
     alloc: Global,
@@ -86,7 +61,12 @@ fn writer(
     ensures keys { result.0.table.keys ≡ keys }
     ensures born { AreBornBy round (written result.1) }
 {
-    let (mut table, mut list) = forgetter(rt, alloc, node, keys, forgets, round);
+    let mut table = new_table(rt, alloc, node, 2, keys);
+    let mut list = OwnerList::new(alloc);
+    for _ in 0..forgets {
+        write_both(rt, &mut table, &mut list, 0, 0);
+        forget_both(rt, &mut table, &mut list);
+    }
     for (key, born) in writes {
         assert!(rt; *born <= round);
         write_both(rt, &mut table, &mut list, *key, *born);
@@ -110,7 +90,7 @@ fn reader(
     ensures keys { result.0.table.keys ≡ keys }
     ensures born { AreBornBy round (written result.1) }
 {
-    let (mut table, list) = forgetter(rt, alloc, 1, keys, forgets, round);
+    let (mut table, list) = writer(rt, alloc, 1, keys, forgets, &[], round);
     table.reserve_for(held).expect(rt, "memory");
     assert!(rt; may_take(1, 2, keys, held));
     table.apply(held);

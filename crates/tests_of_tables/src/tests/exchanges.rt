@@ -1,6 +1,6 @@
 //! Exchanges of two tables, with records and tables worked out from the rules.
 
-use crate::fixtures::{expect_held, item, lawful, new_table, take, write};
+use crate::tests::fixtures::{expect_held, item, lawful, new_table, take, write};
 use bench_types::{Budget, Exchange, Fate, Fault, Item, Mode, Record, Rules};
 use exchange::exchange;
 use node_table::NodeTable;

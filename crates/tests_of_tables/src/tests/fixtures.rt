@@ -26,11 +26,19 @@ macro_rules! item {
         }
     };
     ($owner:expr, $key:expr, $version:expr, $value:expr, $born:expr) => {
-        crate::fixtures::item!($owner, $key, generation 0, $version, $value, $born)
+        crate::tests::fixtures::item!($owner, $key, generation 0, $version, $value, $born)
+    };
+}
+
+// Items of generation 0 that were born in round 1: by owner and key, the version and the value.
+macro_rules! items {
+    ($($owner:literal $key:literal: $version:literal $value:literal),+) => {
+        [$(crate::tests::fixtures::item!($owner, $key, $version, $value, 1)),+]
     };
 }
 
 pub(crate) use item;
+pub(crate) use items;
 
 /// Whether a node may take the items.
 pub(crate) fn may_take(node: u32, nodes: u32, keys: u32, items: &[Item]) -> bool

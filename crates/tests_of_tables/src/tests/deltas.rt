@@ -1,10 +1,12 @@
 //! Deltas by hand: what is sent of one table in each mode, and of many tables against a program that
 //! places each candidate by counting those that come before it.
 
-use crate::fixtures::{
+use crate::tests::fixtures::{
     expect_items, expect_mark, expect_number, item, lawful, new_table, next, take,
 };
-use crate::model::{BUDGETS, NODES, Turn, count_before, is_sent, lacked, list_of, small_table};
+use crate::tests::model::{
+    BUDGETS, NODES, Turn, count_before, is_sent, lacked, list_of, small_table,
+};
 use bench_types::{Budget, Item, Mode};
 use node_table::NodeTable;
 use reconcile::{Delta, Digest, delta};

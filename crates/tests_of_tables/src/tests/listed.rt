@@ -1,8 +1,8 @@
 //! Exchanges of many small tables against a program that keeps what a node holds as a list of items.
 
-use crate::exchanges::{Plan, expect_sent};
-use crate::fixtures::next;
-use crate::model::{
+use crate::tests::exchanges::{Plan, expect_sent};
+use crate::tests::fixtures::next;
+use crate::tests::model::{
     BUDGETS, NODES, Turn, expect_listed, is_sent, lacked, list_of, merge, small_table,
 };
 use bench_types::{Fate, Item, Mode};

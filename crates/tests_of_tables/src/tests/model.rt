@@ -1,7 +1,7 @@
 //! A plain model of what a node holds, as a list of items, and of the orders in which candidates are sent,
 //! and small tables to hold the program against it.
 
-use crate::fixtures::{forget, item, new_table, next, take, try_write};
+use crate::tests::fixtures::{forget, item, new_table, next, take, try_write};
 use bench_types::{Budget, Item, Mark, Mode};
 use node_table::NodeTable;
 use std::alloc::Global;

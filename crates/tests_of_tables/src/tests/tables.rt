@@ -1,10 +1,10 @@
 //! Tables by hand: what they hold is worked out from the rules, and for long lists by a plain model.
 
-use crate::fixtures::{
-    expect_held, expect_mark, expect_number, expect_same, item, new_table, next, take, try_write,
-    write,
+use crate::tests::fixtures::{
+    expect_held, expect_mark, expect_number, expect_same, item, items, new_table, next, take,
+    try_write, write,
 };
-use crate::model::{expect_listed, merge};
+use crate::tests::model::{expect_listed, merge};
 use bench_types::{Entry, Item, Mark};
 use node_table::NodeTable;
 use std::alloc::Global;
@@ -47,27 +47,13 @@ fn expect_copy(rt: &impl Abort, copy: &NodeTable) {
     expect_number(rt, "keys", copy.keys(), 1);
 }
 
-const FIRST_TAKEN: [Item; 2] = [item!(3, 1, 4, 10, 1), item!(0, 2, 2, 20, 1)];
+const FIRST_TAKEN: [Item; 2] = items!(3 1: 4 10, 0 2: 2 20);
 
-const TAKEN: [Item; 9] = [
-    item!(3, 1, 4, 11, 1),
-    item!(1, 0, 5, 30, 1),
-    item!(0, 2, 1, 21, 1),
-    item!(1, 0, 7, 31, 1),
-    item!(3, 0, 1, 40, 1),
-    item!(1, 0, 7, 32, 1),
-    item!(0, 2, 3, 22, 1),
-    item!(1, 0, 6, 33, 1),
-    item!(0, 2, 3, 23, 1),
-];
+const TAKEN: [Item; 9] = items!(
+    3 1: 4 11, 1 0: 5 30, 0 2: 1 21, 1 0: 7 31, 3 0: 1 40, 1 0: 7 32, 0 2: 3 22, 1 0: 6 33, 0 2: 3 23
+);
 
-const LEFT: [Item; 5] = [
-    item!(0, 2, 3, 22, 1),
-    item!(1, 0, 7, 31, 1),
-    item!(2, 1, 1, 50, 1),
-    item!(3, 0, 1, 40, 1),
-    item!(3, 1, 4, 10, 1),
-];
+const LEFT: [Item; 5] = items!(0 2: 3 22, 1 0: 7 31, 2 1: 1 50, 3 0: 1 40, 3 1: 4 10);
 
 #[test]
 fn several_items_of_one_place(rt: HostRuntime) {
@@ -158,26 +144,13 @@ fn write_at_last(rt: &impl Abort, table: &mut NodeTable, entry: Entry) {
     expect_number(rt, "count before", before.count(), entry.key);
 }
 
-const ADDED: [Item; 3] = [
-    item!(3, 0, 9, 10, 1),
-    item!(0, 2, 4, 20, 1),
-    item!(2, 1, 7, 30, 1),
-];
+const ADDED: [Item; 3] = items!(3 0: 9 10, 0 2: 4 20, 2 1: 7 30);
 
-const WRITTEN: [Item; 3] = [
-    item!(1, 0, 1, 50, 1),
-    item!(1, 1, 2, 50, 1),
-    item!(1, 2, 3, 50, 1),
-];
+const WRITTEN: [Item; 3] = items!(1 0: 1 50, 1 1: 2 50, 1 2: 3 50);
 
-const WRITTEN_AND_ADDED: [Item; 6] = [
-    item!(0, 2, 4, 20, 1),
-    item!(1, 0, 1, 50, 1),
-    item!(1, 1, 2, 50, 1),
-    item!(1, 2, 3, 50, 1),
-    item!(2, 1, 7, 30, 1),
-    item!(3, 0, 9, 10, 1),
-];
+const WRITTEN_AND_ADDED: [Item; 6] = items!(
+    0 2: 4 20, 1 0: 1 50, 1 1: 2 50, 1 2: 3 50, 2 1: 7 30, 3 0: 9 10
+);
 
 // Where a call is tried again until memory suffices, the table is what one call makes of it.
 #[test]

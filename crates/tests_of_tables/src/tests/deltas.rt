@@ -58,8 +58,8 @@ fn expect_sent(rt: &impl Abort, alloc: Global, turn: Turn, items: &[Item], cut: 
     expect_number(rt, "cut", delta.cut(), cut);
 }
 
-// The order of a mode with no rotation.
-fn unturned(mode: Mode, budget: u32) -> Turn {
+/// The order of a mode with no rotation, and so many entries.
+pub(crate) fn unturned(mode: Mode, budget: u32) -> Turn {
     Turn {
         mode,
         rotation: 0,

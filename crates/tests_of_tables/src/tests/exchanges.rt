@@ -1,6 +1,8 @@
 //! Exchanges of two tables, with records and tables worked out from the rules.
 
+use crate::tests::deltas::unturned;
 use crate::tests::fixtures::{expect_held, item, lawful, new_table, take, write};
+use crate::tests::model::Turn;
 use bench_types::{Budget, Exchange, Fate, Fault, Item, Mode, Record, Rules};
 use exchange::exchange;
 use node_table::NodeTable;
@@ -11,16 +13,16 @@ use std::process::Abort;
 #[derive(Clone, Copy)]
 pub(crate) struct Plan {
     pub(crate) fate: Fate,
-    pub(crate) rotation: u32,
-    pub(crate) mode: Mode,
-    pub(crate) budget: Budget,
+    pub(crate) turn: Turn,
 }
 
 const PLAN: Plan = Plan {
     fate: Fate::Ok,
-    rotation: 0,
-    mode: Mode::ScuttleBreadth,
-    budget: Budget::Entries(1),
+    turn: Turn {
+        mode: Mode::ScuttleBreadth,
+        rotation: 0,
+        budget: Budget::Entries(1),
+    },
 };
 
 // An exchange that the first table's node begins with the second's.
@@ -32,18 +34,19 @@ fn meet(
     plan: Plan,
 ) -> Result<Record, Fault> {
     assert!(rt; first.nodes() == second.nodes() && first.keys() == second.keys());
-    assert!(rt; plan.rotation < first.nodes());
+    let Plan { fate, turn } = plan;
+    assert!(rt; turn.rotation < first.nodes());
     let planned = Exchange {
         initiator: first.node(),
         responder: second.node(),
-        lost1: plan.fate == Fate::Lost1,
-        lost2: plan.fate == Fate::Lost2,
-        lost3: plan.fate == Fate::Lost3,
-        rotation: plan.rotation,
+        lost1: fate == Fate::Lost1,
+        lost2: fate == Fate::Lost2,
+        lost3: fate == Fate::Lost3,
+        rotation: turn.rotation,
     };
     let rules = Rules {
-        mode: plan.mode,
-        budget: lawful(rt, plan.budget),
+        mode: turn.mode,
+        budget: lawful(rt, turn.budget),
     };
     exchange(alloc, first, second, &planned, &rules)
 }
@@ -148,7 +151,10 @@ fn lost_messages_of_one_exchange(rt: HostRuntime) {
 
 // Two exchanges, each of which carries one entry each way. The first cuts one each way.
 fn expect_cut(rt: &impl Abort, alloc: Global, mode: Mode, digests: [u32; 2], first_then: &[Item]) {
-    let plan = Plan { mode, ..PLAN };
+    let plan = Plan {
+        turn: unturned(mode, 1),
+        ..PLAN
+    };
     let [before, after] = digests;
     let mut first = with_two_keys(rt, alloc, A1, A2);
     let mut second = with_two_keys(rt, alloc, B1, B2);
@@ -173,7 +179,10 @@ fn two_nodes_cut_by_the_budget(rt: HostRuntime) {
 
 // An exchange that goes through or leaves both tables.
 fn expect_all_or_nothing(rt: &impl Abort, alloc: Global, mode: Mode) {
-    let plan = Plan { mode, ..PLAN };
+    let plan = Plan {
+        turn: unturned(mode, 1),
+        ..PLAN
+    };
     let mut first = with_one_key(rt, alloc, A1);
     let mut second = with_one_key(rt, alloc, B1);
     match meet(rt, alloc, &mut first, &mut second, plan) {
@@ -240,11 +249,12 @@ fn expect_turned(
     sent: &[Item],
     sizes: [u32; 2],
 ) {
-    let plan = Plan {
+    let turn = Turn {
         rotation,
         budget: Budget::Entries(budget),
-        ..PLAN
+        ..PLAN.turn
     };
+    let plan = Plan { turn, ..PLAN };
     expect_back(rt, alloc, plan, sent, sizes);
     expect_forth(rt, alloc, plan, sent, sizes);
 }

@@ -98,17 +98,13 @@ fn expect_meeting(
     second: &NodeTable,
     plan: Plan,
 ) {
-    let turn = Turn {
-        mode: plan.mode,
-        rotation: plan.rotation,
-        budget: plan.budget,
-    };
+    let turn = plan.turn;
     let (p, q) = (list_of(rt, alloc, first), list_of(rt, alloc, second));
-    let to_first = lacked(rt, alloc, &q, &p, first.node(), plan.mode);
-    let to_second = lacked(rt, alloc, &p, &q, second.node(), plan.mode);
+    let to_first = lacked(rt, alloc, &q, &p, first.node(), turn.mode);
+    let to_second = lacked(rt, alloc, &p, &q, second.node(), turn.mode);
     let back = sent_of(rt, alloc, &to_first, turn);
     let forth = sent_of(rt, alloc, &to_second, turn);
-    let sizes = [size_of_digest(&p, plan.mode), size_of_digest(&q, plan.mode)];
+    let sizes = [size_of_digest(&p, turn.mode), size_of_digest(&q, turn.mode)];
     let wanted = counted(plan.fate, sizes, &back, &forth);
     let mut initiator = first.try_clone().expect(rt, "memory");
     let mut responder = second.try_clone().expect(rt, "memory");
@@ -130,13 +126,12 @@ fn expect_mode(
 ) {
     for fate in [Fate::Ok, Fate::Lost1, Fate::Lost2, Fate::Lost3] {
         for budget in BUDGETS {
-            let plan = Plan {
-                fate,
-                rotation,
+            let turn = Turn {
                 mode,
+                rotation,
                 budget,
             };
-            expect_meeting(rt, alloc, first, second, plan);
+            expect_meeting(rt, alloc, first, second, Plan { fate, turn });
         }
     }
 }

@@ -68,86 +68,58 @@ pub(crate) const EIGHT_PAIRS: FirstRound = FirstRound {
     ],
 };
 
+// A case, by its name, its texts, its rows, and its first round.
+macro_rules! case {
+    (
+        $name:literal, $texts:expr, rows [$(($($column:literal),+)),+],
+        nodes $nodes:literal, keys $keys:literal, writers $writers:literal, budget $budget:expr,
+        pairs $pairs:expr, records [$(($($size:literal),+)),+], held [$($held:expr),+]
+    ) => {
+        Case {
+            name: $name,
+            texts: $texts,
+            rows: &[$(row!($($column),+)),+],
+            first: FirstRound {
+                writers: Writers {
+                    nodes: $nodes,
+                    keys: $keys,
+                    writers: $writers,
+                },
+                budget: $budget,
+                pairs: &$pairs,
+                records: &[$(sent!($($size),+)),+],
+                held: &[$(&$held),+],
+            },
+        }
+    };
+}
+
 // A node is down for two rounds, and apart from the others.
-const DOWN: Case = Case {
-    name: "a node that is down",
-    texts: A_NODE_DOWN,
-    rows: &[
-        row!(1, 1, 1, 0, 2, 0, 2, 1, 0),
-        row!(2, 1, 1, 0, 0, 0, 2, 2, 0),
-    ],
-    first: FirstRound {
-        writers: Writers {
-            nodes: 3,
-            keys: 1,
-            writers: 2,
-        },
-        budget: Budget::Entries(10),
-        pairs: &[(0, 1)],
-        records: &[sent!(1, 1, 1, 1, 0, 0)],
-        held: &[&[0, 1], &[0, 1], &[]],
-    },
-};
+const DOWN: Case = case!(
+    "a node that is down", A_NODE_DOWN, rows [(1, 1, 1, 0, 2, 0, 2, 1, 0), (2, 1, 1, 0, 0, 0, 2, 2, 0)],
+    nodes 3, keys 1, writers 2, budget Budget::Entries(10),
+    pairs [(0, 1)], records [(1, 1, 1, 1, 0, 0)], held [[0, 1], [0, 1], []]
+);
 
 // Two nodes whose budget cuts.
-const CUT: Case = Case {
-    name: "two nodes with a budget that cuts",
-    texts: TWO_NODES_CUT,
-    rows: &[row!(1, 2, 0, 0, 4, 2, 0, 0, 0)],
-    first: FirstRound {
-        writers: Writers {
-            nodes: 2,
-            keys: 2,
-            writers: 2,
-        },
-        budget: Budget::Entries(1),
-        pairs: &[(0, 1), (1, 0)],
-        records: &[sent!(1, 1, 1, 1, 1, 1), sent!(2, 2, 1, 1, 0, 0)],
-        held: &[&[0, 1], &[0, 1]],
-    },
-};
+const CUT: Case = case!(
+    "two nodes with a budget that cuts", TWO_NODES_CUT, rows [(1, 2, 0, 0, 4, 2, 0, 0, 0)],
+    nodes 2, keys 2, writers 2, budget Budget::Entries(1),
+    pairs [(0, 1), (1, 0)], records [(1, 1, 1, 1, 1, 1), (2, 2, 1, 1, 0, 0)], held [[0, 1], [0, 1]]
+);
 
 // Four nodes on a ring, of which each misses one.
-const RING: Case = Case {
-    name: "a ring of four",
-    texts: RING_OF_FOUR,
-    rows: &[row!(1, 4, 0, 0, 8, 2, 4, 1, 0)],
-    first: FirstRound {
-        writers: Writers {
-            nodes: 4,
-            keys: 1,
-            writers: 4,
-        },
-        budget: Budget::Entries(1),
-        pairs: &[(0, 1), (1, 2), (2, 3), (3, 0)],
-        records: &[
-            sent!(1, 1, 1, 1, 0, 0),
-            sent!(2, 1, 1, 1, 0, 1),
-            sent!(2, 1, 1, 1, 0, 1),
-            sent!(2, 2, 1, 1, 0, 0),
-        ],
-        held: &[&[0, 1, 3], &[0, 1, 2], &[0, 2, 3], &[0, 1, 3]],
-    },
-};
+const RING: Case = case!(
+    "a ring of four", RING_OF_FOUR, rows [(1, 4, 0, 0, 8, 2, 4, 1, 0)],
+    nodes 4, keys 1, writers 4, budget Budget::Entries(1), pairs [(0, 1), (1, 2), (2, 3), (3, 0)],
+    records [(1, 1, 1, 1, 0, 0), (2, 1, 1, 1, 0, 1), (2, 1, 1, 1, 0, 1), (2, 2, 1, 1, 0, 0)],
+    held [[0, 1, 3], [0, 1, 2], [0, 2, 3], [0, 1, 3]]
+);
 
 // A node forgets, and its copy is left over for a round.
-const FORGETFUL: Case = Case {
-    name: "a node that forgets",
-    texts: A_NODE_FORGETS,
-    rows: &[
-        row!(1, 2, 0, 0, 2, 0, 0, 0, 0),
-        row!(2, 0, 1, 0, 0, 0, 1, 2, 1),
-        row!(3, 2, 0, 0, 2, 0, 0, 0, 0),
-    ],
-    first: FirstRound {
-        writers: Writers {
-            nodes: 2,
-            keys: 1,
-            writers: 2,
-        },
-        budget: Budget::Bytes(1023),
-        pairs: &[(0, 1), (1, 0)],
-        records: &[sent!(1, 1, 1, 1, 0, 0), sent!(2, 2, 0, 0, 0, 0)],
-        held: &[&[0, 1], &[0, 1]],
-    },
-};
+const FORGETFUL: Case = case!(
+    "a node that forgets", A_NODE_FORGETS,
+    rows [(1, 2, 0, 0, 2, 0, 0, 0, 0), (2, 0, 1, 0, 0, 0, 1, 2, 1), (3, 2, 0, 0, 2, 0, 0, 0, 0)],
+    nodes 2, keys 1, writers 2, budget Budget::Bytes(1023),
+    pairs [(0, 1), (1, 0)], records [(1, 1, 1, 1, 0, 0), (2, 2, 0, 0, 0, 0)], held [[0, 1], [0, 1]]
+);

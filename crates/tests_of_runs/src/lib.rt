@@ -4,16 +4,4 @@
 #![tactic(auto)]
 
 #[cfg(test)]
-mod both_tables;
-#[cfg(test)]
-mod failing_ends;
-#[cfg(test)]
-mod forgetting;
-#[cfg(test)]
-mod inputs;
-#[cfg(test)]
-mod steps;
-#[cfg(test)]
-mod values;
-#[cfg(test)]
-mod workers;
+mod tests;

@@ -4,24 +4,4 @@
 #![tactic(auto)]
 
 #[cfg(test)]
-mod above_marks;
-#[cfg(test)]
-mod deltas;
-#[cfg(test)]
-mod exchanges;
-#[cfg(test)]
-mod fixtures;
-#[cfg(test)]
-mod generations;
-#[cfg(test)]
-mod listed;
-#[cfg(test)]
-mod model;
-#[cfg(test)]
-mod owner_entries;
-#[cfg(test)]
-mod records;
-#[cfg(test)]
-mod stale_copies;
-#[cfg(test)]
-mod tables;
+mod tests;

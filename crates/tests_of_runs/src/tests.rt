@@ -1,0 +1,7 @@
+mod both_tables;
+mod failing_ends;
+mod forgetting;
+mod inputs;
+mod steps;
+mod values;
+mod workers;

@@ -1,0 +1,11 @@
+mod above_marks;
+mod deltas;
+mod exchanges;
+mod fixtures;
+mod generations;
+mod listed;
+mod model;
+mod owner_entries;
+mod records;
+mod stale_copies;
+mod tables;

@@ -24,12 +24,16 @@ use Rattle.exchange.proofs.ExchangeLaws.{marks_stay, marks_then}
 use Rattle.cluster.specs.Clusters.{own_mark, own_parts, generations_of, AreCopiesOf, HaveNoGap}
 use Rattle.std.proofs.lemmas.Option.{same_Some}
 
--- what a round's begin makes of a node's table and of its list of writes
-pub record IsBegun (before : List Entry) (old : Table) (after : List Entry) (new : Table) : Type 0 where
-  pub proper : IsProper new
+-- the node stays, and so does how many nodes and keys there are
+pub record KeepsBounds (old new : Table) : Type 0 where
   pub node : new.node ≡ old.node
   pub nodes : new.nodes ≡ old.nodes
   pub keys : new.keys ≡ old.keys
+
+-- what a round's begin makes of a node's table and of its list of writes
+pub record IsBegun (before : List Entry) (old : Table) (after : List Entry) (new : Table) : Type 0 where
+  pub proper : IsProper new
+  pub bounds : KeepsBounds old new
   -- no write is gone, and the new own part is the last write of each key in the node's generation
   pub kept : (e : Entry) → Contains before e → Contains after e
   pub last : IsLastOf new.generation after (λ key. entry_at new new.node key)
@@ -68,9 +72,7 @@ module _ (writes : List Entry) (t : Table) (proper : IsProper t) (last : IsLastO
   pub begun_same : IsBegun writes t writes t
   begun_same = record {
     proper = proper;
-    node = refl;
-    nodes = refl;
-    keys = refl;
+    bounds = record { node = refl; nodes = refl; keys = refl };
     kept = λ e there. there;
     last = last;
     written = λ key e held. inl held;
@@ -82,9 +84,7 @@ module _ (writes : List Entry) (t : Table) (proper : IsProper t) (last : IsLastO
   pub begun_forget : IsBegun writes t writes (without_all t)
   begun_forget = record {
     proper = proper-without_all t proper;
-    node = refl;
-    nodes = refl;
-    keys = refl;
+    bounds = record { node = refl; nodes = refl; keys = refl };
     kept = λ e there. there;
     last = record {
       apart = last.apart;
@@ -103,9 +103,7 @@ module _ (writes : List Entry) (t : Table) (proper : IsProper t) (last : IsLastO
   pub begun_restart : IsBegun writes t writes (without_others t)
   begun_restart = record {
     proper = proper-without_others t proper;
-    node = refl;
-    nodes = refl;
-    keys = refl;
+    bounds = record { node = refl; nodes = refl; keys = refl };
     kept = λ e there. there;
     last = subst (IsLastOf t.generation writes) (λ i key. sym (entry_at-without_others_own t key) i) last;
     written = λ key e held. inl (sym (entry_at-without_others_own t key) ∙ held);
@@ -150,9 +148,7 @@ module _ (writes : List Entry) (t : Table) (proper : IsProper t) (last : IsLastO
     pub begun_write : IsBegun writes t (writes ++ own_write t k v b ∷ []) (with_own_write t k v b)
     begun_write = record {
       proper = proper-with_own_write t k v b proper below;
-      node = refl;
-      nodes = refl;
-      keys = refl;
+      bounds = record { node = refl; nodes = refl; keys = refl };
       kept = λ e there. Contains-append_left writes (own_write t k v b ∷ []) e there;
       last = last_written;
       written = λ key e held. elim (cases_eq key k) [
@@ -169,9 +165,7 @@ module _ (writes : List Entry) (t : Table) (proper : IsProper t) (last : IsLastO
 pub begun_then : (a b c : List Entry) (t u v : Table) → IsBegun a t b u → IsBegun b u c v → IsBegun a t c v
 begun_then a b c t u v first second = record {
   proper = second.proper;
-  node = second.node ∙ first.node;
-  nodes = second.nodes ∙ first.nodes;
-  keys = second.keys ∙ first.keys;
+  bounds = record { node = second.bounds.node ∙ first.bounds.node; nodes = second.bounds.nodes ∙ first.bounds.nodes; keys = second.bounds.keys ∙ first.bounds.keys };
   kept = λ e there. second.kept e (first.kept e there);
   last = second.last;
   written = λ key e held. elim (second.written key e held) [
@@ -179,7 +173,7 @@ begun_then a b c t u v first second = record {
     | inr above ↦ inr (up_to-before (own_mark t) (own_mark u) (mark_of e) first.rises above)
   ];
   rises = up_to-then (own_mark t) (own_mark u) (own_mark v) first.rises second.rises;
-  copies = λ owner other. elim (second.copies owner (λ same. other (same ∙ first.node))) [
+  copies = λ owner other. elim (second.copies owner (λ same. other (same ∙ first.bounds.node))) [
     | inl kept ↦ elim (first.copies owner other) [
       | inl before ↦ inl (λ key. kept key ∙ before key)
       | inr none ↦ inr (λ key. kept key ∙ none key)
@@ -305,7 +299,7 @@ module _ (nodes keys : ℕ) (ts : List Table) (tables : AreTablesInOrder nodes k
 -- each node of a list begins its round
 module _ (writes writes' : WritesBy) (nodes keys : ℕ) (ts us : List Table) (copies : AreCopiesOf writes nodes keys ts) (size : length us ≡ length ts) (begun : (n : ℕ) → n < nodes → IsBegun (writes n) (table_of_node ts n) (writes' n) (table_of_node us n)) where
   at_node : (n : ℕ) → n < nodes → (table_of_node us n).node ≡ n
-  at_node n lt = (begun n lt).node ∙ (copies.tables.tables n lt).node
+  at_node n lt = (begun n lt).bounds.node ∙ (copies.tables.tables n lt).node
 
   -- what is held of another owner was held before
   held_before : (n owner key : ℕ) (e : Entry) → n < nodes → owner ≢ n → entry_at (table_of_node us n) owner key ≡ Some e → entry_at (table_of_node ts n) owner key ≡ Some e
@@ -323,8 +317,8 @@ module _ (writes writes' : WritesBy) (nodes keys : ℕ) (ts us : List Table) (co
       size = size ∙ copies.tables.size;
       tables = λ n lt. record {
         node = at_node n lt;
-        nodes = (begun n lt).nodes ∙ (copies.tables.tables n lt).nodes;
-        keys = (begun n lt).keys ∙ (copies.tables.tables n lt).keys;
+        nodes = (begun n lt).bounds.nodes ∙ (copies.tables.tables n lt).nodes;
+        keys = (begun n lt).bounds.keys ∙ (copies.tables.tables n lt).keys;
       };
     };
     proper = λ n lt. (begun n (omega (arith, lt, size, copies.tables.size))).proper;
@@ -366,7 +360,7 @@ module _ (writes writes' : WritesBy) (nodes keys : ℕ) (ts us : List Table) (co
       of_other : owner < nodes → owner ≢ n → entry_at (table_of_node us n) owner key ≡ Some e
       of_other in_owner other = elim ((begun n in_n).copies owner (λ same. other (same ∙ (copies.tables.tables n in_n).node))) [
         | inl kept ↦
-            let same = greatest_mark-same (table_of_node us n) (table_of_node ts n) owner (begun n in_n).keys (λ j _. ap mark_held (kept j)) in
+            let same = greatest_mark-same (table_of_node us n) (table_of_node ts n) owner (begun n in_n).bounds.keys (λ j _. ap mark_held (kept j)) in
             kept key ∙ gapless n (omega (arith, in_n, copies.tables.size)) owner key e (was_current in_owner same) (subst (IsUpTo (mark_of e)) same upto)
         | inr none ↦
             let behind = subst (IsUpTo (mark_of e)) (greatest_mark-none (table_of_node us n) owner (λ j _. none j)) upto in

@@ -4,7 +4,7 @@ ghost use Rattle.std.specs.Prelude.{◌≡◌, ℕ, ◌+◌, ◌^◌, ◌<◌, �
 ghost use Rattle.scenario.specs.declared.choices.Choice.TheVariants.{Random};
 ghost use Rattle.round_plan.specs.Words.{AreWordsOf};
 ghost use Rattle.round_plan.specs.Writes.{writes_in, numbered_write, born_in, AreWritesOf};
-ghost use Rattle.round_plan.specs.inner.Rounds.{AreWriteNumbers};
+ghost use Rattle.round_plan.specs.inner.Rounds.{AreWriteNumbers, IsInRun};
 
 use crate::outages::{is_between, is_up};
 use crate::words::{ROUND_WORDS, WRITE_PLACE, words_of};
@@ -107,9 +107,7 @@ pub fn writes_of(scenario: &Scenario, node: u32, round: u32, count_before: u32) 
 
 // The words of a node's round where writes are random, and else none.
 fn write_words(scenario: &Scenario, node: u32, round: u32) -> [u32; ROUND_WORDS as usize]
-    requires node { node < scenario.now.nodes }
-    requires first { 1 ≤ round }
-    requires last { round ≤ MOST_ROUNDS }
+    requires { IsInRun scenario.now node round }
     ensures { scenario.now.choice ≡ Random → AreWordsOf scenario.now.seed node round result }
 {
     match scenario.choice() {
@@ -157,9 +155,6 @@ fn numbers_by(
     count_before: u32,
     words: &[u32; ROUND_WORDS as usize],
 ) -> [u32; MOST_WRITES as usize]
-    requires node { node < scenario.now.nodes }
-    requires first { 1 ≤ round }
-    requires last { round ≤ MOST_ROUNDS }
     requires fits { count_before + MOST_WRITES < 2 ^ 32 }
     requires words { scenario.now.choice ≡ Random → AreWordsOf scenario.now.seed node round words.now }
     ensures { AreWriteNumbers scenario.now node round count_before result }

@@ -157,7 +157,7 @@ module _ (s : Settings) (some : 2 ≤ s.nodes) (most : s.nodes ≤ 4096) (some_k
       node_counted : greatest_version (table_of_node (begun s round ts) n) n ≡ count_upto s n round
       node_counted =
           ap (λ (u : Table). greatest_version u n) (begun_at s round ts n lt)
-          ∙ ap (greatest_version (with_own_writes r (writes n))) (sym (restarted_from.begun.node ∙ node_is))
+          ∙ ap (greatest_version (with_own_writes r (writes n))) (sym (restarted_from.begun.bounds.node ∙ node_is))
           ∙ counted_writes (writes n) r restarted_from.begun.proper keys_below
           ∙ ap (λ m. m + length (writes n)) restarted_from.counted
           ∙ sym (count_upto-grown s n round first)

@@ -1,16 +1,15 @@
-use Rattle.std.proofs.Common.{◌≡◌, ◌<◌, ◌≤◌, ◌-◌, ℕ, List, [], ◌∷◌, All, map, subst, sym, ap, ◌∙◌, arith}
+use Rattle.std.proofs.Common.{◌≡◌, ◌-◌, ℕ, List, [], ◌∷◌, All, map, subst, sym, ap, ◌∙◌, arith}
 use Rattle.std.specs.List.{range_with_len, AllZip}
 use Rattle.std.proofs.lemmas.List.Elements.{All-nil, All-cons}
 use Rattle.std.proofs.lemmas.Slice.Zip.{AllZip-map}
 use Rattle.bench_types.specs.declared.exchanges.Exchange.{Exchange}
-use Rattle.bench_types.specs.declared.limits.TheConstants.{MOST_ROUNDS}
 use Rattle.rayon.specs.Numbers.{nat_range}
 use Rattle.rayon.proofs.ListFacts.{IfOk-then, AllZip-weaken}
 use Rattle.rayon.proofs.ToStd.{nat_range-All}
 use Rattle.scenario.specs.Settings.{Settings}
 use Rattle.bench_types.specs.Exchange.{IsPlanned}
 use Rattle.round_plan.specs.Plan.{exchange_of}
-use Rattle.round_plan.specs.inner.Rounds.{AreChosen}
+use Rattle.round_plan.specs.inner.Rounds.{IsInRun, AreChosen}
 use Rattle.round_plan.proofs.rounds.choices.Goals as goal
 
 -- the closure may be called at each node
@@ -18,7 +17,7 @@ pub collect-requires-clause-ready : goal.collect-requires-clause-ready
 collect-requires-clause-ready g c κs within =
     let ends = c.into_par_iter.ensures in
     let s = c.args.scenario.now in
-    let inside = nat_range-All (λ n. (n < s.nodes) × (1 ≤ c.args.round) × (c.args.round ≤ MOST_ROUNDS)) 0 c.nodes.result
+    let inside = nat_range-All (λ n. IsInRun s n c.args.round) 0 c.nodes.result
     (λ n low high. (omega (arith, c.nodes.ensures.value), c.requires.first, c.requires.last)) in
     rw (c.map.ensures.base, c.map.ensures.f, ends.0, ends.1) (λ k d lt. (inside k d lt, λ y p. tt))
 

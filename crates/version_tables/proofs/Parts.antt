@@ -1,5 +1,5 @@
 -- Pieces of tables as code counts them, table by table and part by part.
--- Serves `cells_of`, `counted` and `piece_of`.
+-- Serves `Numbers::piece_of`, `cells_of` and `counted`.
 use Rattle.std.proofs.Common.{◌≡◌, ℕ, ◌+◌, ◌-◌, ◌*◌, ◌<◌, ◌≤◌, min, Bool, cond, ◌&&◌, List, [], ◌∷◌, ◌++◌, length, get_or, map, inl, inr, refl, sym, ap, ◌∙◌, subst, arith}
 use Rattle.std.specs.Prelude.{slice_index, nat_lt, nat_le, Result, Ok, IfOk}
 use Rattle.std.specs.List.{AllZip, range_with_len}

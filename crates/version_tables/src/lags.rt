@@ -162,58 +162,50 @@ struct Numbers<'a, N: Number> {
     forgot: bool,
 }
 
-// What so many tables from one on say.
-fn piece_of<N: Number>(
-    alloc: Global,
-    numbers: &Numbers<N>,
-    from: usize,
-    count: usize,
-) -> Result<Piece<N>, Fault>
-    requires numbers { MayBeCountedUp N.number numbers.now }
-    requires within { from + count ≤ numbers.now.nodes }
-    ensures piece { IfOk result (CountsPieceOf N.number numbers.now from count) }
-    ensures only { IsOkUnless result OutOfMemory }
-{
-    let Numbers {
-        cells,
-        bases,
-        last,
-        nodes,
-        keys,
-        forgot,
-    } = *numbers;
-    let mut stale = 0;
-    let mut leftover = 0;
-    let mut least = copied(alloc, last)?;
-    for at in 0..count {
-        let here = cells[from + at];
-        let behind = count_behind(&mut least, here, last, nodes, keys);
-        stale += u64::from(behind);
-        leftover += u64::from(left_over(here, bases, nodes, keys, forgot));
+impl<'a, N: Number> Numbers<'a, N> {
+    // What so many tables from one on say.
+    fn piece_of(&self, alloc: Global, from: usize, count: usize) -> Result<Piece<N>, Fault>
+        requires numbers { MayBeCountedUp N.number self.now }
+        requires within { from + count ≤ self.now.nodes }
+        ensures piece { IfOk result (CountsPieceOf N.number self.now from count) }
+        ensures only { IsOkUnless result OutOfMemory }
+    {
+        let Numbers {
+            cells,
+            bases,
+            last,
+            nodes,
+            keys,
+            forgot,
+        } = *self;
+        let mut stale = 0;
+        let mut leftover = 0;
+        let mut least = copied(alloc, last)?;
+        for at in 0..count {
+            let here = cells[from + at];
+            let behind = count_behind(&mut least, here, last, nodes, keys);
+            stale += u64::from(behind);
+            leftover += u64::from(left_over(here, bases, nodes, keys, forgot));
+        }
+        Ok(Piece {
+            stale,
+            leftover,
+            least,
+        })
     }
-    Ok(Piece {
-        stale,
-        leftover,
-        least,
-    })
-}
 
-// What the tables of a part of so many say.
-fn part_of<N: Number>(
-    alloc: Global,
-    numbers: &Numbers<N>,
-    size: usize,
-    part: usize,
-) -> Result<Piece<N>, Fault>
-    requires numbers { MayBeCountedUp N.number numbers.now }
-    requires some { 1 ≤ size }
-    requires part { part ≤ numbers.now.nodes / size }
-    ensures piece { IfOk result (CountsPartOf N.number numbers.now size part) }
-    ensures only { IsOkUnless result OutOfMemory }
-{
-    let from = part * size;
-    let count = size.min(numbers.nodes - from);
-    piece_of(alloc, numbers, from, count)
+    // What the tables of a part of so many say.
+    fn part_of(&self, alloc: Global, size: usize, part: usize) -> Result<Piece<N>, Fault>
+        requires numbers { MayBeCountedUp N.number self.now }
+        requires some { 1 ≤ size }
+        requires part { part ≤ self.now.nodes / size }
+        ensures piece { IfOk result (CountsPartOf N.number self.now size part) }
+        ensures only { IsOkUnless result OutOfMemory }
+    {
+        let from = part * size;
+        let count = size.min(self.nodes - from);
+        self.piece_of(alloc, from, count)
+    }
 }
 
 // What the tables of each part of so many say, in order.
@@ -235,7 +227,7 @@ fn parts_of<N: Number>(
             |part: usize| -> Result<Piece<N>, Fault>
                 requires { MayBeCountedUp N.number numbers.now × (1 ≤ size) × (part ≤ numbers.now.nodes / size) }
                 ensures { IfOk result (CountsPartOf N.number numbers.entry.now size part) }
-            { part_of(alloc, numbers, size, part) },
+            { numbers.part_of(alloc, size, part) },
         )
         .collect(rt, alloc)
 }

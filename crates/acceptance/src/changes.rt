@@ -23,10 +23,9 @@ use std::{fs, io};
 /// How many rows of a table are as stored, or the first that is not.
 pub fn table_line<R: Files + Threads + Wait + AllocGlobal + Sync>(
     rt: &R,
-    case: &str,
+    table: &str,
 ) -> io::Result<String> {
     let alloc = rt.alloc();
-    let table = fs::read_to_string(rt, format!(in alloc; "{case}.txt")?)?;
     let text = fs::read_to_string(rt, "small/two_nodes.toml")?;
     let mut rows = 0u32;
     for row in table.lines() {

@@ -45,13 +45,16 @@ fn line_of<R: Files + Threads + Wait + AllocGlobal + Sync>(
     rt: &R,
     case: &str,
 ) -> io::Result<String> {
+    let alloc = rt.alloc();
     if case.starts_with("changed/") {
-        return table_line(rt, case);
+        let table = fs::read_to_string(rt, format!(in alloc; "{case}.txt")?)?;
+        return table_line(rt, table.as_str());
     }
     if case.starts_with("texts/") {
-        return texts_line(rt, case);
+        let file = fs::read(rt, format!(in alloc; "{case}.txt")?)?;
+        return Ok(texts_line(rt, &file)?);
     }
-    let text = fs::read(rt, format!(in rt.alloc(); "{case}.toml")?)?;
+    let text = fs::read(rt, format!(in alloc; "{case}.toml")?)?;
     if case.starts_with("refused/") {
         Ok(refusal(rt, &text)?)
     } else {

@@ -2,20 +2,17 @@
 //! its fault, or `ok` where it is accepted. A line's end follows each.
 
 use crate::outcomes::check_line;
-use std::alloc::AllocGlobal;
-use std::rt::Files;
+use std::alloc::{AllocError, AllocGlobal};
+use std::str;
 use std::sync::Wait;
 use std::thread::Threads;
-use std::{fs, io, str};
 
 /// How many texts of a file are as stored, or the first that is not.
-pub fn texts_line<R: Files + Threads + Wait + AllocGlobal + Sync>(
+pub fn texts_line<R: Threads + Wait + AllocGlobal + Sync>(
     rt: &R,
-    case: &str,
-) -> io::Result<String> {
-    let alloc = rt.alloc();
-    let file = fs::read(rt, format!(in alloc; "{case}.txt")?)?;
-    let mut rest = file.as_slice();
+    file: &[u8],
+) -> Result<String, AllocError> {
+    let mut rest = file;
     let mut texts = 0u32;
     for _ in 0..file.len() {
         let Some(first) = Stored::first(rest) else {
@@ -23,12 +20,12 @@ pub fn texts_line<R: Files + Threads + Wait + AllocGlobal + Sync>(
         };
         let found = check_line(rt, first.text)?;
         if found.as_str() != first.outcome {
-            return Ok(format!(in alloc; "{found} behind {texts} texts as stored")?);
+            return format!(in rt.alloc(); "{found} behind {texts} texts as stored");
         }
         texts = texts.saturating_add(1);
         rest = first.behind;
     }
-    Ok(format!(in alloc; "{texts} texts as stored")?)
+    format!(in rt.alloc(); "{texts} texts as stored")
 }
 
 // A stored text, what comes of it, and what stands behind both.

@@ -3,22 +3,4 @@
 #![tactic(auto)]
 
 #[cfg(test)]
-mod gates;
-#[cfg(test)]
-mod jobs;
-#[cfg(test)]
-mod long_lists;
-#[cfg(test)]
-mod pools;
-#[cfg(test)]
-mod scopes;
-#[cfg(test)]
-mod seats;
-#[cfg(test)]
-mod small_boards;
-#[cfg(test)]
-mod steps;
-#[cfg(test)]
-mod threads;
-#[cfg(test)]
-mod turns;
+mod tests;

@@ -3,10 +3,4 @@
 #![tactic(auto)]
 
 #[cfg(test)]
-mod endings;
-#[cfg(test)]
-mod failing_jobs;
-#[cfg(test)]
-mod programs;
-#[cfg(test)]
-mod traces;
+mod tests;

@@ -72,8 +72,8 @@ impl Theft {
 
 impl Gate for Theft {
     fn enter(&self, i: u32) {
-        if i == 0 && !comes(&self.third_done) {
-            set(&self.is_missed);
+        if i == 0 {
+            wait_for(&self.third_done, &self.is_missed);
         }
         if i == 2 && !is_set(&self.fourth_begun) {
             set(&self.is_early);
@@ -115,8 +115,8 @@ impl Handover {
 
 impl Gate for Handover {
     fn enter(&self, i: u32) {
-        if i == 1 && !comes(&self.first_left) {
-            set(&self.is_missed);
+        if i == 1 {
+            wait_for(&self.first_left, &self.is_missed);
         }
         if i == 2 {
             set(&self.third_begun);
@@ -125,10 +125,7 @@ impl Gate for Handover {
 
     fn leave(&self, i: u32) {
         if i == 0 {
-            set(&self.first_left);
-            if !comes(&self.third_begun) {
-                set(&self.is_missed);
-            }
+            meet(&self.first_left, &self.third_begun, &self.is_missed);
         }
     }
 }
@@ -237,7 +234,11 @@ impl<R: Wait + Abort> Gate for Notes<'_, R> {
 
 fn meet(mine: &AtomicBool, other: &AtomicBool, is_missed: &AtomicBool) {
     set(mine);
-    if !comes(other) {
+    wait_for(other, is_missed);
+}
+
+fn wait_for(flag: &AtomicBool, is_missed: &AtomicBool) {
+    if !comes(flag) {
         set(is_missed);
     }
 }

@@ -4,10 +4,10 @@ ghost use Rattle.std.specs.Prelude.{◌≤◌, ◌<◌, length};
 ghost use Rattle.exchange.specs.Exchanging.{kept_table};
 ghost use Rattle.board.specs.Boards.{exchanges_of, IsSeatOf};
 
-use crate::jobs::Job;
-use crate::small_boards::{ONE_ENTRY, TWICE, expect_owners, list_of};
-use crate::threads::{Worked, together};
-use crate::turns::{expect_next, held};
+use crate::tests::jobs::Job;
+use crate::tests::small_boards::{ONE_ENTRY, TWICE, expect_owners, list_of};
+use crate::tests::threads::{Worked, together};
+use crate::tests::turns::{expect_next, held};
 use bench_types::Fault;
 use board::{Board, Seat};
 use node_table::NodeTable;
@@ -52,12 +52,10 @@ fn do_both(
 fn do_all<R: Abort + AllocGlobal + Threads + Wait + Sync>(
     rt: &R,
     job: &Job,
-    first: Seat,
-    second: Seat,
+    seats: (Seat, Seat),
 ) -> Worked
     requires four { 4 ≤ length (exchanges_of job.now.board) }
-    requires first { IsSeatOf kept_table first job.now.board }
-    requires second { IsSeatOf kept_table second job.now.board }
+    requires seats { IsSeatOf kept_table seats.0 job.now.board × IsSeatOf kept_table seats.1 job.now.board }
     ensures seat { IsSeatOf kept_table result.seat job.now.board }
 {
     thread::scope(
@@ -65,10 +63,8 @@ fn do_all<R: Abort + AllocGlobal + Threads + Wait + Sync>(
         rt,
         |scope| -> Worked
             requires four { 4 ≤ length (exchanges_of job.now.board) }
-            requires first { IsSeatOf kept_table first job.now.board }
-            requires second { IsSeatOf kept_table second job.now.board }
-            ensures seat { IsSeatOf kept_table result.seat job.entry.now.board }
-        { do_all_in_scope(scope, rt, job, first, second) },
+            requires seats { IsSeatOf kept_table seats.0 job.now.board × IsSeatOf kept_table seats.1 job.now.board }
+        { do_all_in_scope(scope, rt, job, seats) },
     )
 }
 
@@ -77,29 +73,20 @@ fn do_all_in_scope<'s, 'e: 's, R: Abort + AllocGlobal + Threads + Sync>(
     scope: &Scope<'s, &'e ()>,
     rt: &'e R,
     job: &'e Job,
-    first: Seat,
-    second: Seat,
+    seats: (Seat, Seat),
 ) -> Worked
     requires four { 4 ≤ length (exchanges_of job.now.board) }
-    requires first { IsSeatOf kept_table first job.now.board }
-    requires second { IsSeatOf kept_table second job.now.board }
+    requires seats { IsSeatOf kept_table seats.0 job.now.board × IsSeatOf kept_table seats.1 job.now.board }
     ensures seat { IsSeatOf kept_table result.seat job.now.board }
 {
+    let (first, second) = seats;
     let one = scope.spawn_with(
         SeatOf(Snapshot::of(&job.board)),
-        move || -> Worked
-            requires four { 4 ≤ length (exchanges_of job.now.board) }
-            requires seat { IsSeatOf kept_table first job.now.board }
-            ensures seat { IsSeatOf kept_table result.seat job.entry.now.board }
-        { do_both(rt, job, first, 0, 2) },
+        move || do_both(rt, job, first, 0, 2),
     );
     let two = scope.spawn_with(
         SeatOf(Snapshot::of(&job.board)),
-        move || -> Worked
-            requires four { 4 ≤ length (exchanges_of job.now.board) }
-            requires seat { IsSeatOf kept_table second job.now.board }
-            ensures seat { IsSeatOf kept_table result.seat job.entry.now.board }
-        { do_both(rt, job, second, 1, 3) },
+        move || do_both(rt, job, second, 1, 3),
     );
     let (Ok(one), Ok(two)) = (one, two) else {
         panic!(rt; "a thread didn't start")
@@ -125,7 +112,7 @@ fn expect_each_once(rt: &impl Abort, mut made: Vec<u32>) {
 fn two_scoped_threads_on_one_board(rt: HostRuntime) -> Result<(), Fault> {
     let (job, mut first) = Job::new(&rt, list_of(&rt, 4, TWICE), 1, ONE_ENTRY)?;
     let second = job.board.split(&mut first);
-    let Worked { mut seat, made } = do_all(&rt, &job, first, second);
+    let Worked { mut seat, made } = do_all(&rt, &job, (first, second));
     expect_each_once(&rt, made);
     assert_eq!(rt; job.board.look(&mut seat).finished, 4);
     let Job { board, .. } = job;

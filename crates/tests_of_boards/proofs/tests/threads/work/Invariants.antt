@@ -1,6 +1,6 @@
 use Rattle.exchange.specs.Exchanging.{kept_table}
 use Rattle.board.specs.Boards.{IsSeatOf}
-use Rattle.tests_of_boards.proofs.threads.work.Given as goal
+use Rattle.tests_of_boards.proofs.tests.threads.work.Given as goal
 
 abbrev pub invariant-loop : goal.invariant-loop
 invariant-loop g l = IsSeatOf kept_table l.worked.seat l.job.board

@@ -1,7 +1,7 @@
 use Rattle.exchange.specs.Exchanging.{kept_table}
 use Rattle.board.specs.Boards.{plan_of, seat_view}
 use Rattle.board.proofs.Claimed.{parts_stay, held_stay}
-use Rattle.tests_of_boards.proofs.seats.expect_claim.Goals as goal
+use Rattle.tests_of_boards.proofs.tests.seats.expect_claim.Goals as goal
 
 pub returns-clause-parts : goal.returns-clause-parts
 returns-clause-parts g c = parts_stay kept_table (plan_of kept_table c.args.board.now) (seat_view c.args.seat.now) c.args.i c.claim-claim.result (seat_view c.claim-claim.new.seat) c.claim-claim.ensures.claim

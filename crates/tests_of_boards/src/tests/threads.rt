@@ -4,8 +4,8 @@ ghost use Rattle.std.specs.Prelude.{◌<◌, length};
 ghost use Rattle.exchange.specs.Exchanging.{kept_table};
 ghost use Rattle.board.specs.Boards.{exchanges_of, IsSeatOf};
 
-use crate::jobs::Job;
-use crate::small_boards::{CROSSING, ONE_ENTRY, list_of};
+use crate::tests::jobs::Job;
+use crate::tests::small_boards::{CROSSING, ONE_ENTRY, list_of};
 use bench_types::Fault;
 use board::{Board, Claim, Seat};
 use std::alloc::AllocGlobal;
@@ -111,14 +111,8 @@ pub(crate) fn work_in_two<R: Abort + AllocGlobal + Threads + Sync>(
     let (first, second) = seats;
     let (one, two) = thread::join(
         rt,
-        move || -> Worked
-            requires seat { IsSeatOf kept_table first job.now.board }
-            ensures seat { IsSeatOf kept_table result.seat job.entry.now.board }
-        { work(rt, job, first, order) },
-        move || -> Worked
-            requires seat { IsSeatOf kept_table second job.now.board }
-            ensures seat { IsSeatOf kept_table result.seat job.entry.now.board }
-        { work(rt, job, second, Order::Descending) },
+        move || work(rt, job, first, order),
+        move || work(rt, job, second, Order::Descending),
     );
     together(rt, &job.board, one, two)
 }
@@ -136,13 +130,9 @@ pub(crate) fn work_in_three<R: Abort + AllocGlobal + Threads + Sync>(
 {
     let (one, two) = thread::join(
         rt,
-        move || -> Worked
-            requires seat { IsSeatOf kept_table first job.now.board }
-            ensures seat { IsSeatOf kept_table result.seat job.entry.now.board }
-        { work(rt, job, first, Order::Shuffled) },
+        move || work(rt, job, first, Order::Shuffled),
         move || -> Worked
             requires seats { IsSeatOf kept_table others.0 job.now.board × IsSeatOf kept_table others.1 job.now.board }
-            ensures seat { IsSeatOf kept_table result.seat job.entry.now.board }
         { work_in_two(rt, job, others, Order::Ascending) },
     );
     together(rt, &job.board, one, two)
@@ -163,11 +153,9 @@ pub(crate) fn work_in_four<R: Abort + AllocGlobal + Threads + Sync>(
         rt,
         move || -> Worked
             requires seats { IsSeatOf kept_table firsts.0 job.now.board × IsSeatOf kept_table firsts.1 job.now.board }
-            ensures seat { IsSeatOf kept_table result.seat job.entry.now.board }
         { work_in_two(rt, job, firsts, Order::Ascending) },
         move || -> Worked
             requires seats { IsSeatOf kept_table others.0 job.now.board × IsSeatOf kept_table others.1 job.now.board }
-            ensures seat { IsSeatOf kept_table result.seat job.entry.now.board }
         { work_in_two(rt, job, others, Order::Shuffled) },
     );
     together(rt, &job.board, one, two)

@@ -3,13 +3,14 @@
 ghost use Rattle.std.specs.Prelude.{◌≡◌, ◌<◌, ◌≤◌};
 ghost use Rattle.bench_types.specs.declared.limits.TheConstants.{MOST_WORKERS};
 ghost use Rattle.bench_types.specs.Budget.{IsLawfulBudget};
-ghost use Rattle.tests_of_boards.specs.declared.long_lists.TheConstants.{NODES};
+ghost use Rattle.tests_of_boards.specs.declared.tests.long_lists.TheConstants.{NODES};
 
-use crate::jobs::{Job, checked_exchange};
-use crate::pools::run_fresh;
-use crate::threads::{Order, Worked, work_in_four, work_in_three, work_in_two};
+use crate::tests::jobs::{Job, expect_tables_of};
+use crate::tests::pools::run_fresh;
+use crate::tests::threads::{Order, Worked, work_in_four, work_in_three, work_in_two};
 use bench_types::limits::MOST_WORKERS;
 use bench_types::{Budget, Exchange, Fault, Mode, Record, Rules};
+use exchange::exchange;
 use fixtures::{Writers, tables_of};
 use node_table::NodeTable;
 use pool::FreeGate;
@@ -108,13 +109,15 @@ fn exchange_two(
     let initiator = plan.initiator as usize;
     let responder = plan.responder as usize;
     assert!(rt; initiator < tables.len() && responder < tables.len() && initiator != responder);
-    if initiator < responder {
+    let (initiator, responder) = if initiator < responder {
         let (below, from) = tables.split_at_mut(responder);
-        checked_exchange(rt, &mut below[initiator], &mut from[0], plan, rules)
+        (&mut below[initiator], &mut from[0])
     } else {
         let (below, from) = tables.split_at_mut(initiator);
-        checked_exchange(rt, &mut from[0], &mut below[responder], plan, rules)
-    }
+        (&mut from[0], &mut below[responder])
+    };
+    expect_tables_of(rt, plan, initiator, responder);
+    exchange(rt.alloc(), initiator, responder, plan, rules)
 }
 
 fn holds_the_same(one: &NodeTable, two: &NodeTable) -> bool {

@@ -3,14 +3,13 @@
 ghost use Rattle.std.specs.Prelude.{◌≡◌, ◌≤◌, IfOk};
 ghost use Rattle.bench_types.specs.declared.limits.TheConstants.{MOST_KEYS};
 ghost use Rattle.bench_types.specs.Budget.{IsLawfulBudget};
-ghost use Rattle.exchange.specs.Exchanged.{IsExchanged};
 ghost use Rattle.board.specs.Weights.{Has};
 ghost use Rattle.board.specs.SeatView.{first_seat};
-ghost use Rattle.exchange.specs.Exchanging.{kept_table};
+ghost use Rattle.exchange.specs.Exchanging.{MayBeExchanged, kept_table};
 ghost use Rattle.board.specs.Boards.{plan_of, IsSeatOf, IsHoldOf, seat_view};
 
-use crate::small_boards::board_of;
-use bench_types::{Exchange, Fault, Record, Rules};
+use crate::tests::small_boards::board_of;
+use bench_types::{Exchange, Fault, Rules};
 use board::{Board, Freed, Hold, Seat};
 use exchange::exchange;
 use node_table::NodeTable;
@@ -63,21 +62,20 @@ impl Job {
             .list
             .get(hold.index)
             .expect(rt, "an exchange of the list");
-        checked_exchange(rt, initiator, responder, &plan, &self.rules)?;
+        expect_tables_of(rt, &plan, initiator, responder);
+        exchange(rt.alloc(), initiator, responder, &plan, &self.rules)?;
         Ok(self.board.put_back(seat, hold))
     }
 }
 
-/// An exchange of two tables that are seen to be its.
-pub(crate) fn checked_exchange(
-    rt: &(impl Abort + AllocGlobal),
-    initiator: &mut NodeTable,
-    responder: &mut NodeTable,
+/// Sees that the exchange may be carried out on these tables.
+pub(crate) fn expect_tables_of(
+    rt: &impl Abort,
     plan: &Exchange,
-    rules: &Rules,
-) -> Result<Record, Fault>
-    requires budget { IsLawfulBudget rules.now.budget }
-    ensures { IfOk result (IsExchanged rules.now plan.now initiator.old responder.old initiator.new responder.new) }
+    initiator: &NodeTable,
+    responder: &NodeTable,
+)
+    ensures { MayBeExchanged plan.now initiator.now.table responder.now.table }
 {
     assert!(rt; initiator.node() == plan.initiator && responder.node() == plan.responder);
     assert!(rt;
@@ -85,5 +83,4 @@ pub(crate) fn checked_exchange(
             && initiator.keys() == responder.keys()
             && plan.rotation < initiator.nodes()
     );
-    exchange(rt.alloc(), initiator, responder, plan, rules)
 }

@@ -1,6 +1,6 @@
 //! The file of a trace.
 
-use crate::endings::ending_of;
+use crate::tests::endings::ending_of;
 use fixtures::{TWO_NODES, TWO_NODES_REPORT, TWO_NODES_TRACE};
 use std::fs;
 use std::test::Fail;

@@ -1,6 +1,6 @@
 //! Rounds of a simulation by several workers.
 
-use crate::gates::Meeting;
+use crate::tests::gates::Meeting;
 use bench_types::Fault;
 use fixtures::changed;
 use pool::FreeGate;

@@ -6,9 +6,9 @@ ghost use Rattle.board.specs.SeatView.{first_seat};
 ghost use Rattle.exchange.specs.Exchanging.{kept_table};
 ghost use Rattle.board.specs.Boards.{plan_of, exchanges_of, IsSeatOf, IsHoldOf, seat_view};
 
-use crate::jobs::Job;
-use crate::seats::expect_claim;
-use crate::small_boards::{ONE_ENTRY, list_of};
+use crate::tests::jobs::Job;
+use crate::tests::seats::expect_claim;
+use crate::tests::small_boards::{ONE_ENTRY, list_of};
 use bench_types::Fault;
 use board::{Board, Claim, Freed, Hold, Seat};
 use std::alloc::AllocGlobal;

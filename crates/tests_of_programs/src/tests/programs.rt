@@ -1,6 +1,6 @@
 //! What the program prints and ends with, by its words.
 
-use crate::endings::ending_of;
+use crate::tests::endings::ending_of;
 use bench_types::{Pull, Push};
 use command_line::main_with;
 use fixtures::{FOUR_MODES, FOUR_MODES_COMPARED, TWO_NODES, TWO_NODES_REPORT};
@@ -158,67 +158,32 @@ fn lines_of_faults(rt: HostRuntime) -> Result<(), Fail> {
     Ok(())
 }
 
+// The words and the message of each row, which stands behind `error: `.
+macro_rules! refused {
+    ($([$($word:literal),*] $message:literal),+) => {
+        [$((&[$($word),*], concat!("error: ", $message))),+]
+    };
+}
+
 // Words that are refused, and how the text on standard error begins.
-const REFUSED: [(&[&str], &str); 16] = [
-    (
-        &[],
-        "error: 'gossip_bench' requires a subcommand but one was not provided",
-    ),
-    (&["walk"], "error: unrecognized subcommand 'walk'"),
-    (&["help"], "error: unrecognized subcommand 'help'"),
-    (
-        &["check", "more"],
-        "error: unexpected argument 'more' found",
-    ),
-    (
-        &["check", "--trace", "file"],
-        "error: unexpected argument '--trace' found",
-    ),
-    (
-        &["compare", "--trace", "file"],
-        "error: unexpected argument '--trace' found",
-    ),
-    (
-        &["run", "--trace"],
-        "error: a value is required for '--trace <FILE>' but none was supplied",
-    ),
-    (
-        &["run", "--trace", "a", "--trace", "b"],
-        "error: the argument '--trace <FILE>' cannot be used multiple times",
-    ),
-    (
-        &["check", "--workers", "2"],
-        "error: unexpected argument '--workers' found",
-    ),
-    (
-        &["run", "--workers", "65"],
-        "error: invalid value '65' for '--workers <N>': 65 is not in 1..=64",
-    ),
-    (
-        &["run", "--workers", "0"],
-        "error: invalid value '0' for '--workers <N>': 0 is not in 1..=64",
-    ),
-    (
-        &["compare", "--workers", "65"],
-        "error: invalid value '65' for '--workers <N>': 65 is not in 1..=64",
-    ),
-    (
-        &["compare", "--workers", "two"],
-        "error: invalid value 'two' for '--workers <N>': invalid digit found in string",
-    ),
-    (
-        &["run", "--workers"],
-        "error: a value is required for '--workers <N>' but none was supplied",
-    ),
-    (
-        &["run", "--workers", "1", "--workers", "2"],
-        "error: the argument '--workers <N>' cannot be used multiple times",
-    ),
-    (
-        &["--version"],
-        "error: unexpected argument '--version' found",
-    ),
-];
+const REFUSED: [(&[&str], &str); 16] = refused!(
+    [] "'gossip_bench' requires a subcommand but one was not provided",
+    ["walk"] "unrecognized subcommand 'walk'",
+    ["help"] "unrecognized subcommand 'help'",
+    ["check", "more"] "unexpected argument 'more' found",
+    ["check", "--trace", "file"] "unexpected argument '--trace' found",
+    ["compare", "--trace", "file"] "unexpected argument '--trace' found",
+    ["run", "--trace"] "a value is required for '--trace <FILE>' but none was supplied",
+    ["run", "--trace", "a", "--trace", "b"] "the argument '--trace <FILE>' cannot be used multiple times",
+    ["check", "--workers", "2"] "unexpected argument '--workers' found",
+    ["run", "--workers", "65"] "invalid value '65' for '--workers <N>': 65 is not in 1..=64",
+    ["run", "--workers", "0"] "invalid value '0' for '--workers <N>': 0 is not in 1..=64",
+    ["compare", "--workers", "65"] "invalid value '65' for '--workers <N>': 65 is not in 1..=64",
+    ["compare", "--workers", "two"] "invalid value 'two' for '--workers <N>': invalid digit found in string",
+    ["run", "--workers"] "a value is required for '--workers <N>' but none was supplied",
+    ["run", "--workers", "1", "--workers", "2"] "the argument '--workers <N>' cannot be used multiple times",
+    ["--version"] "unexpected argument '--version' found"
+);
 
 #[test]
 fn command_lines_of_the_program(rt: HostRuntime) -> Result<(), Fail> {

@@ -5,7 +5,7 @@ ghost use Rattle.board.specs.Weights.{Has};
 ghost use Rattle.exchange.specs.Exchanging.{kept_table};
 ghost use Rattle.board.specs.Boards.{exchanges_of, IsSeatOf, seat_view};
 
-use crate::small_boards::{ONE_ENTRY, TWICE, board_of, expect_owners, list_of};
+use crate::tests::small_boards::{ONE_ENTRY, TWICE, board_of, expect_owners, list_of};
 use bench_types::Fault;
 use board::{Board, Claim, Hold, Progress, Seat};
 use std::alloc::AllocGlobal;

@@ -1,0 +1,10 @@
+mod gates;
+mod jobs;
+mod long_lists;
+mod pools;
+mod scopes;
+mod seats;
+mod small_boards;
+mod steps;
+mod threads;
+mod turns;

@@ -1,0 +1,4 @@
+mod endings;
+mod failing_jobs;
+mod programs;
+mod traces;

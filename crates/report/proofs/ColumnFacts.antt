@@ -1,5 +1,5 @@
 -- The cells of a line, pushed column by column.
--- Serves the functions of `columns`.
+-- Serves `push_names` and `push_numbers`.
 use Rattle.std.proofs.Common.{◌≡◌, Bor, ℕ, suc, ◌+◌, ◌<◌, ◌≤◌, Bool, true, false, ◌&&◌, nat_le, List, [], ◌∷◌, ◌++◌, length, take, map, filter, get_or, cond, refl, sym, ap, ◌∙◌, append-nil, append_assoc, length-append, decimal, arith}
 use Rattle.std.specs.List.{list_all, AllZip}
 use Rattle.std.proofs.lemmas.Bool.{and_parts, le-leb}

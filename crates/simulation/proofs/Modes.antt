@@ -1,18 +1,14 @@
 -- What owners write is the same under each mode.
 -- Serves `bench`.
-use Rattle.std.proofs.Common.{◌≡◌, ℕ, zero, suc, ◌+◌, ◌++◌, [], map, if◌then◌else◌, refl, subst}
-use Rattle.std.specs.Prelude.{Some}
+use Rattle.std.proofs.Common.{◌≡◌, ℕ, zero, suc, ◌+◌, ◌++◌, [], map, if◌then◌else◌, refl}
 use Rattle.std.specs.List.{range_with_len}
-use Rattle.bench_types.specs.declared.entries.Entry.{Entry}
 use Rattle.bench_types.specs.declared.exchanges.Mode.{Mode}
-use Rattle.owner_lists.specs.Numbers.{write_numbered}
 use Rattle.round_plan.specs.Generations.{generation_upto}
 use Rattle.round_plan.specs.Outages.{is_up, forgets_now}
 use Rattle.round_plan.specs.Words.{word_of}
 use Rattle.round_plan.specs.Writes.{writes_in, number_by, count_upto, count_before, numbered_write, own_writes, written_upto}
 use Rattle.bench_types.specs.Entry.{next_version}
 use Rattle.scenario.specs.Settings.{Settings, with_mode}
-use Rattle.simulation.specs.Simulation.{MayWriteAll}
 
 module _ (s : Settings) (mode : Mode) (n : ℕ) where
   abbrev s' : Settings
@@ -51,8 +47,3 @@ module _ (s : Settings) (mode : Mode) (n : ℕ) where
   pub written_under : (round : ℕ) → written_upto s' n round ≡ written_upto s n round
   written_under zero = refl
   written_under (suc round) = λ i. written_under round i ++ now (suc round) i
-
--- so what may be written under one may be under another
-pub may_write_under : (May : ℕ → ℕ → Entry → Type 0) (s : Settings) (mode : Mode) → MayWriteAll May s → MayWriteAll May (with_mode s mode)
-may_write_under May s mode all owner number e below is =
-    all owner number e below (subst (λ ws. write_numbered ws number ≡ Some e) (written_under s mode owner s.rounds) is)

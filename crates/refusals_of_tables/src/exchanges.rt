@@ -1,16 +1,12 @@
 //! Exchanges of two nodes that have written one of their keys.
 
-use crate::tables::written;
+use crate::tables::{OTHER, OWN, written};
 use bench_types::{Budget, Exchange, Fate, Item, Mode, Record, Rules};
 use exchange::exchange;
-use fixtures::{between, holds, item};
+use fixtures::{between, holds};
 use node_table::NodeTable;
 use refusals::{Failure, check, pass, retried};
 use std::alloc::Global;
-
-const OWN: Item = item!(0, 0, 1, 0, 1);
-
-const OTHER: Item = item!(1, 0, 1, 0, 1);
 
 // The fate of an exchange, what is sent until then, and what the two nodes then hold.
 #[derive(Clone, Copy)]

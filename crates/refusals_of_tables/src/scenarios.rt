@@ -4,25 +4,19 @@ ghost use Rattle.std.specs.Prelude.{◌≡◌, ◌≤◌, IfOk};
 ghost use Rattle.round_plan.specs.Words.{run_words_of};
 
 use bench_types::{Budget, Exchange, Fault, Field, Mode, TableName};
+use fixtures::{changed, changed_in_bytes};
 use refusals::{Failure, check, pass, refused, retried};
 use round_plan::{RoundList, RunWords, round_list, round_list_by};
 use scenario::{Scenario, read};
 use std::thread::Threads;
 
-// Ten nodes at random.
-const TEN_NODES: &str = r#"format = 1
-nodes = 10
-keys = 1
-rounds = 1
-seed = 0
-mode = "scuttle-breadth"
-budget = 1
-peers = "random"
-rotation = "random"
-choice = "cycle"
-loss_ppm = 509331
-writes = 1
-"#;
+// What makes ten nodes at random of two nodes.
+const TEN_NODES: [(&str, &str); 4] = [
+    ("nodes = 2", "nodes = 10"),
+    ("ring", "random"),
+    ("none", "random"),
+    ("loss_ppm = 0", "loss_ppm = 509331"),
+];
 
 // What the words of its first node come to in round 1.
 const FIRST: Exchange = Exchange {
@@ -34,19 +28,13 @@ const FIRST: Exchange = Exchange {
     rotation: 3,
 };
 
-const FORGETFUL: &str = r#"format = 2
-nodes = 2
-keys = 1
-rounds = 3
-seed = 0
-mode = "precise-newest"
-budget_bytes = 1023
-peers = "ring"
-rotation = "none"
-choice = "cycle"
-loss_ppm = 0
-writes = 1
-[[partition]]
+// What makes of them two that are parted, one of which then forgets.
+const FORGETFUL: [(&str, &str); 2] = [
+    ("rounds = 1", "rounds = 3"),
+    ("scuttle-breadth", "precise-newest"),
+];
+
+const TABLES: &str = "[[partition]]
 from = 1
 to = 2
 apart = [0, 1]
@@ -59,7 +47,7 @@ forget = true
 from = 2
 to = 3
 writes = 0
-"#;
+";
 
 const REFUSED: [(&str, Fault); 6] = [
     ("[[parti", Fault::NotToml),
@@ -119,7 +107,13 @@ fn check_forgetful(scenario: &Scenario) -> Result<(), Failure> {
 }
 
 fn try_read<R: Eprint + AllocGlobal>(rt: &R) -> Result<(), Failure> {
-    check_forgetful(&accepted(rt, FORGETFUL)?)?;
+    let alloc = rt.alloc();
+    let text = retried!(
+        rt,
+        "changed_in_bytes",
+        changed_in_bytes(alloc, &FORGETFUL, TABLES).map_err(Fault::from)
+    );
+    check_forgetful(&accepted(rt, text.as_str())?)?;
     for (text, fault) in REFUSED {
         check_fault(rt, text, &fault)?;
     }
@@ -166,7 +160,13 @@ fn try_round_list_by<R: Eprint + AllocGlobal>(rt: &R, scenario: &Scenario) -> Re
 pub(crate) fn try_scenarios<R: Print + Eprint + AllocGlobal + Threads + Sync>(
     rt: &R,
 ) -> Result<(), Failure> {
-    let ten_nodes = accepted(rt, TEN_NODES)?;
+    let alloc = rt.alloc();
+    let text = retried!(
+        rt,
+        "changed",
+        changed(alloc, &TEN_NODES, "").map_err(Fault::from)
+    );
+    let ten_nodes = accepted(rt, text.as_str())?;
     check_ten_nodes(&ten_nodes)?;
     try_read(rt)?;
     pass(rt, "read")?;

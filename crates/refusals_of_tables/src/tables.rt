@@ -8,11 +8,12 @@ use fixtures::{holds, item};
 use node_table::NodeTable;
 use refusals::{Failure, check, pass, retried};
 
-// What each of two nodes writes of its first key, and what the first writes then.
-const OWN: Item = item!(0, 0, 1, 0, 1);
+/// What each of two nodes writes of its first key.
+pub(crate) const OWN: Item = item!(0, 0, 1, 0, 1);
 
-const OTHER: Item = item!(1, 0, 1, 0, 1);
+pub(crate) const OTHER: Item = item!(1, 0, 1, 0, 1);
 
+// What the first writes then.
 const SECOND: Item = item!(0, 0, 2, 7, 2);
 
 /// An empty table.

@@ -10,7 +10,7 @@ ghost use Rattle.bench.specs.inner.Starts.{IsAtStart};
 ghost use Rattle.bench.specs.Runs.{TellsOfFailing, ComesOnceAccepted};
 ghost use Rattle.bench.specs.Comparisons.{lines_upto, lines_of_modes, IsFaultInRounds, IsFaultInModes, IsCompared, IsCompareFault};
 
-use crate::runs::{Begun, begin, check_input};
+use crate::runs::{Opened, begin, check_input};
 use bench_types::limits::MOST_WORKERS;
 use bench_types::{Fault, Mode, Sink, Source};
 use pool::FreeGate;
@@ -92,8 +92,8 @@ fn write_all_rounds<L: Written + Send + Sync, H: Threads + Wait + Sync, W: Sink>
 {
     let mode = scenario.mode();
     match begin::<L>(alloc, scenario)? {
-        Begun::Narrow(sim) => write_rows(rt, alloc, sim, mode, writer, workers),
-        Begun::Wide(sim) => write_rows(rt, alloc, sim, mode, writer, workers),
+        Opened::Narrow(sim) => write_rows(rt, alloc, sim, mode, writer, workers),
+        Opened::Wide(sim) => write_rows(rt, alloc, sim, mode, writer, workers),
     }
 }
 

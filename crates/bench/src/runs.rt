@@ -6,7 +6,7 @@ ghost use Rattle.simulation.specs.Simulation.{MayWriteAll};
 ghost use Rattle.bench.specs.Inputs.{IsRead, IsInputFault};
 ghost use Rattle.scenario.specs.Settings.{IsLawfulScenario, IsWithin};
 ghost use Rattle.bench.specs.inner.Writes.{AreWrittenIn, HasWritesBelow};
-ghost use Rattle.bench.specs.inner.Starts.{IsAtStart, HasBegun};
+ghost use Rattle.bench.specs.inner.Starts.{IsAtStart, IsOpened};
 ghost use Rattle.bench.specs.Runs.{AreWritten, IsWritingFault, IsReported, IsRunFault, TellsOfFailing, ComesOnceAccepted};
 
 use crate::inputs::read_all;
@@ -72,7 +72,7 @@ fn has_few_writes(scenario: &Scenario) -> bool
 
 /// A simulation by tables that keep versions alone, in numbers of 16 bits or of 32.
 #[derive(Drop)]
-pub(crate) enum Begun<L: Written + Send + Sync> {
+pub(crate) enum Opened<L: Written + Send + Sync> {
     Narrow(Sim<VersionTable<u16, L>>),
     Wide(Sim<VersionTable<u32, L>>),
 }
@@ -81,20 +81,20 @@ pub(crate) enum Begun<L: Written + Send + Sync> {
 pub(crate) fn begin<L: Written + Send + Sync>(
     alloc: Global,
     scenario: Scenario,
-) -> Result<Begun<L>, Fault>
+) -> Result<Opened<L>, Fault>
     requires { AreWrittenIn L.lists scenario }
-    ensures begun { IfOk result (λ begun. HasBegun begun scenario) }
+    ensures begun { IfOk result (λ begun. IsOpened begun scenario) }
     ensures lawful { IsLawfulScenario scenario }
     ensures only { IsOkUnless result Fault.OutOfMemory }
 {
     if has_few_writes(&scenario) {
-        Ok(Begun::Narrow(open(alloc, scenario)?))
+        Ok(Opened::Narrow(open(alloc, scenario)?))
     } else {
-        Ok(Begun::Wide(open(alloc, scenario)?))
+        Ok(Opened::Wide(open(alloc, scenario)?))
     }
 }
 
-// A simulation by tables of any representation.
+// A simulation of the scenario by tables of any representation, before its first round.
 fn open<T: RoundTable>(alloc: Global, scenario: Scenario) -> Result<Sim<T>, Fault>
     requires may_write { MayWriteAll T.may_write scenario }
     ensures begun { IfOk result (λ sim. IsAtStart sim × (sim.settings ≡ scenario)) }
@@ -122,8 +122,8 @@ fn write_run<L: Written + Send + Sync, H: Threads + Wait + Sync, W: Sink, X: Sin
         (IsWritingFault W.Sink writer.old writer.new X.Sink trace.old trace.new scenario workers) }
 {
     match begin::<L>(alloc, scenario)? {
-        Begun::Narrow(mut sim) => write_texts(rt, alloc, &mut sim, writer, trace, workers),
-        Begun::Wide(mut sim) => write_texts(rt, alloc, &mut sim, writer, trace, workers),
+        Opened::Narrow(mut sim) => write_texts(rt, alloc, &mut sim, writer, trace, workers),
+        Opened::Wide(mut sim) => write_texts(rt, alloc, &mut sim, writer, trace, workers),
     }
 }
 

@@ -10,7 +10,7 @@ ghost use Rattle.node_table.specs.Table.{IsItemInPlace};
 ghost use Rattle.node_table.specs.Entries.{AreAbove};
 ghost use Rattle.node_table.specs.NodeTableView.{blocks_below, blocks_for};
 ghost use Rattle.node_table.specs.inner.Flags.{AreFlagged, AreUnflagged};
-ghost use Rattle.node_table.specs.inner.Layouts.{entries_in_row, row_at, block_len, table_laid, AreLaid, IsLayout, IsEmptyRow, IsInSlots, IsFilledRow, AreOthersKept, IsRenewed, IsPut, KeepOutside, KeepsRoom, IsHeld, HasRoomForBlock};
+ghost use Rattle.node_table.specs.inner.Layouts.{entries_in_row, row_at, block_len, table_laid, AreLaid, IsLayout, IsEmptyRow, IsInSlots, IsFilledRow, AreOthersKept, IsRenewed, IsPut, KeepOutside, SameRoom, IsHeld, HasRoomForBlock};
 
 use crate::rows::{find, put_in, rank_above};
 use bench_types::limits::{MOST_KEYS, MOST_NODES};
@@ -186,7 +186,7 @@ impl Layout {
         requires newer { (mark_at (table_laid self.old) item.owner item.entry.key).version < item.entry.version }
         ensures layout { IsLayout self.new }
         ensures table { table_laid self.new ≡ taken (table_laid self.old) item }
-        ensures room { KeepsRoom self.old self.new }
+        ensures room { SameRoom self.old self.new }
     {
         let at = item.owner as usize;
         let row = self.rows[at];
@@ -205,7 +205,7 @@ impl Layout {
         requires newer { generation_held (table_laid self.old) item.owner < item.entry.generation }
         ensures layout { IsLayout self.new }
         ensures table { table_laid self.new ≡ taken (table_laid self.old) item }
-        ensures room { KeepsRoom self.old self.new }
+        ensures room { SameRoom self.old self.new }
     {
         let at = item.owner as usize;
         let row = self.rows[at];

@@ -1,2 +1,2 @@
 pub mod Elementwise
-pub mod Tests
+pub mod Answering

@@ -8,7 +8,7 @@ ghost use Rattle.planes.specs.Planes.{count_above};
 ghost use Rattle.planes.specs.Planes.{cell, number_ahead, total_above, total_of, AreCovered, ArePlanesChanged, AreRaised, AreTaken, HasEach, HasEachPlace, IsGrid, IsNextAbove};
 ghost use Rattle.planes.specs.Planes.{count_between};
 ghost use Rattle.planes.specs.Sums.{sum_below};
-ghost use Rattle.planes.specs.inner.Tests.{IsTestBy};
+ghost use Rattle.planes.specs.inner.Answering.{AnswersAs};
 
 use crate::numbers::Number;
 use crate::{owners, planes};
@@ -60,7 +60,7 @@ fn counts<N: Number, F: Fn(usize, N) -> bool>(
 ) -> Result<Vec<N>, Fault>
     requires grid { IsGrid nodes keys (length cells.now) }
     requires passes { (r : ℕ) (n : N) → r < nodes → F.pre passes r n }
-    ensures counts { IfOk result (λ v. (test : ℕ → ℕ → Bool) → IsTestBy N.number (F.post passes) nodes test
+    ensures counts { IfOk result (λ v. (test : ℕ → ℕ → Bool) → AnswersAs N.number (F.post passes) nodes test
         → HasEach nodes (λ r n. n ≡ sum_below keys (λ key. if test r (cell (map N.number cells.now) nodes r key)
         then 1 else 0)) (map N.number v.items)) }
     ensures only { IsOkUnless result OutOfMemory }
@@ -213,7 +213,7 @@ fn total<N: Number, F: Fn(usize, N) -> bool>(
 ) -> u32
     requires grid { IsGrid nodes keys (length cells.now) }
     requires passes { (r : ℕ) (n : N) → r < nodes → F.pre passes r n }
-    ensures { (test : ℕ → ℕ → Bool) → IsTestBy N.number (F.post passes) nodes test
+    ensures { (test : ℕ → ℕ → Bool) → AnswersAs N.number (F.post passes) nodes test
         → result ≡ total_of nodes keys (λ r k. test r (cell (map N.number cells.now) nodes r k)) }
 {
     let mut total = 0;

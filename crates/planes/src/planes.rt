@@ -3,7 +3,7 @@
 ghost use Rattle.std.specs.Prelude.{◌≡◌, ℕ, ◌+◌, ◌<◌, ◌≤◌, ◌&&◌, Bool, length, map, max, min, nat_le, nat_lt, slice_index, if◌then◌else◌};
 ghost use Rattle.bench_types.specs.declared.limits.TheConstants.{MOST_NODES};
 ghost use Rattle.planes.specs.inner.Elementwise.{AreChanged};
-ghost use Rattle.planes.specs.inner.Tests.{IsTestBy};
+ghost use Rattle.planes.specs.inner.Answering.{AnswersAs};
 ghost use Rattle.planes.specs.Sums.{sum_below};
 ghost use Rattle.planes.specs.Planes.{next_above, IsLowered, number_ahead, number_taken};
 
@@ -27,7 +27,7 @@ pub fn count<N: Number, F: Fn(usize, N) -> bool>(counts: &mut [N], plane: &[N], 
     requires passes { (r : ℕ) (n : N) → r < length counts.old → F.pre passes r n }
     requires room { (r : ℕ) → r < length counts.old → slice_index (map N.number counts.old) r < N.most }
     ensures upto { AreChanged (λ r x y. y ≤ x + 1) (map N.number counts.old) (map N.number counts.new) }
-    ensures counts { (test : ℕ → ℕ → Bool) → IsTestBy N.number (F.post passes) (length counts.old) test → AreChanged
+    ensures counts { (test : ℕ → ℕ → Bool) → AnswersAs N.number (F.post passes) (length counts.old) test → AreChanged
         (λ r x y. y ≡ x + (if test r (slice_index (map N.number plane.now) r) then 1 else 0))
         (map N.number counts.old) (map N.number counts.new) }
 {
@@ -116,7 +116,7 @@ pub fn how_many<N: Number, F: Fn(usize, N) -> bool>(plane: &[N], passes: F) -> u
     requires room { length plane.now ≤ MOST_NODES }
     requires passes { (r : ℕ) (n : N) → r < length plane.now → F.pre passes r n }
     ensures upto { result ≤ length plane.now }
-    ensures count { (test : ℕ → ℕ → Bool) → IsTestBy N.number (F.post passes) (length plane.now) test
+    ensures count { (test : ℕ → ℕ → Bool) → AnswersAs N.number (F.post passes) (length plane.now) test
         → result ≡ sum_below (length plane.now) (λ r. if test r (slice_index (map N.number plane.now) r) then 1 else 0) }
 {
     let mut count = N::zero();

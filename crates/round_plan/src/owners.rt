@@ -4,7 +4,7 @@ ghost use Rattle.std.specs.Prelude.{◌≡◌, ℕ, ◌+◌, ◌^◌, ◌<◌, �
 ghost use Rattle.scenario.specs.declared.choices.Choice.TheVariants.{Random};
 ghost use Rattle.round_plan.specs.Words.{AreWordsOf};
 ghost use Rattle.round_plan.specs.Writes.{writes_in, numbered_write, born_in, AreWritesOf};
-ghost use Rattle.round_plan.specs.inner.Rounds.{AreWriteNumbers, IsInRun};
+ghost use Rattle.round_plan.specs.inner.Rounds.{AreWriteNumbers, IsNodeInRound};
 
 use crate::outages::{is_between, is_up};
 use crate::words::{ROUND_WORDS, WRITE_PLACE, words_of};
@@ -107,7 +107,7 @@ pub fn writes_of(scenario: &Scenario, node: u32, round: u32, count_before: u32) 
 
 // The words of a node's round where writes are random, and else none.
 fn write_words(scenario: &Scenario, node: u32, round: u32) -> [u32; ROUND_WORDS as usize]
-    requires { IsInRun scenario.now node round }
+    requires { IsNodeInRound scenario.now node round }
     ensures { scenario.now.choice ≡ Random → AreWordsOf scenario.now.seed node round result }
 {
     match scenario.choice() {

@@ -3,7 +3,7 @@
 ghost use Rattle.std.specs.Prelude.{◌≡◌, ◌≢◌, ◌<◌, ◌≤◌};
 ghost use Rattle.round_plan.specs.Peer.{peer_of, random_peer, ring_peer};
 ghost use Rattle.round_plan.specs.Words.{word_of};
-ghost use Rattle.round_plan.specs.inner.Rounds.{IsInRun};
+ghost use Rattle.round_plan.specs.inner.Rounds.{IsNodeInRound};
 
 use crate::words::{PEER_PLACE, draw};
 use bench_types::limits::{LEAST_NODES, MOST_NODES, MOST_ROUNDS};
@@ -30,7 +30,7 @@ pub fn peer(scenario: &Scenario, node: u32, round: u32) -> u32
 
 // As `peer`, by the word that picks it.
 pub(crate) fn peer_by(scenario: &Scenario, node: u32, round: u32, word: u32) -> u32
-    requires node { IsInRun scenario.now node round }
+    requires node { IsNodeInRound scenario.now node round }
     requires word { word ≡ word_of scenario.now node round PEER_PLACE }
     ensures value { result ≡ peer_of scenario.now node round }
     ensures below { result < scenario.now.nodes }

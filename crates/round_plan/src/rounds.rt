@@ -4,7 +4,7 @@ ghost use Rattle.std.specs.Prelude.{◌≡◌, ◌<◌, ◌≤◌, IfOk, IsOkUnl
 ghost use Rattle.bench_types.specs.Exchange.{IsPlanned};
 ghost use Rattle.round_plan.specs.Plan.{exchange_of, is_lost, reaches, round_list_of};
 ghost use Rattle.round_plan.specs.Words.{run_words_of, AreWordsOf};
-ghost use Rattle.round_plan.specs.inner.Rounds.{AreChosen, IsInRun};
+ghost use Rattle.round_plan.specs.inner.Rounds.{AreChosen, IsNodeInRound};
 ghost use Rattle.bench_types.specs.declared.faults.Fault.TheVariants.{OutOfMemory};
 
 use crate::lists::RoundList;
@@ -95,7 +95,7 @@ fn choices(
         .into_par_iter()
         .map(
             |node: u32| -> Exchange
-                requires { IsInRun scenario.now node round }
+                requires { IsNodeInRound scenario.now node round }
                 ensures { (result ≡ exchange_of scenario.entry.now round node)
                     × IsPlanned scenario.entry.now.nodes result }
             { exchange_of(scenario, node, round) },
@@ -105,7 +105,7 @@ fn choices(
 
 // The exchange of a node with its peer, by one block of words.
 fn exchange_of(scenario: &Scenario, node: u32, round: u32) -> Exchange
-    requires { IsInRun scenario.now node round }
+    requires { IsNodeInRound scenario.now node round }
     ensures value { result ≡ exchange_of scenario.now round node }
     ensures planned { IsPlanned scenario.now.nodes result }
 {
@@ -119,7 +119,7 @@ fn exchange_by(
     round: u32,
     words: &[u32; ROUND_WORDS as usize],
 ) -> Exchange
-    requires node { IsInRun scenario.now node round }
+    requires node { IsNodeInRound scenario.now node round }
     requires words { AreWordsOf scenario.now.seed node round words.now }
     ensures value { result ≡ exchange_of scenario.now round node }
     ensures planned { IsPlanned scenario.now.nodes result }

@@ -3,7 +3,7 @@
 ghost use Rattle.std.specs.Prelude.{◌≡◌, ◌+◌, ◌^◌, ◌<◌, ◌≤◌};
 ghost use Rattle.round_plan.specs.Words.{word_of, AreWordsOf};
 ghost use Rattle.round_plan.specs.inner.Streams.{stream_of, AreNextWords};
-ghost use Rattle.round_plan.specs.inner.Rounds.{IsInRun};
+ghost use Rattle.round_plan.specs.inner.Rounds.{IsNodeInRound};
 
 use bench_types::limits::MOST_ROUNDS;
 use rand_chacha::ChaCha20Rng;
@@ -34,7 +34,7 @@ pub fn draw(scenario: &Scenario, node: u32, round: u32, place: u32) -> u32
 
 // All words of a node's round.
 pub(crate) fn words_of(scenario: &Scenario, node: u32, round: u32) -> [u32; ROUND_WORDS as usize]
-    requires { IsInRun scenario.now node round }
+    requires { IsNodeInRound scenario.now node round }
     ensures { AreWordsOf scenario.now.seed node round result }
 {
     next_words(&mut stream_at(scenario, node, round, 0))

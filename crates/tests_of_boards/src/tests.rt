@@ -1,3 +1,5 @@
+//! The modules of tests, and what they share.
+
 mod gates;
 mod jobs;
 mod long_lists;

@@ -1,3 +1,5 @@
+//! The modules of tests, and what they share.
+
 mod byte_ends;
 mod comparing;
 mod exchange_lists;

@@ -1,3 +1,5 @@
+//! The modules of tests, and what they share.
+
 mod both_tables;
 mod failing_ends;
 mod forgetting;

@@ -1,3 +1,5 @@
+//! The modules of tests, and what they share.
+
 mod above_marks;
 mod deltas;
 mod exchanges;

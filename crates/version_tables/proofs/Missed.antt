@@ -22,7 +22,7 @@ write_from-here (e ∷ es) zero d lt = refl
 write_from-here (e ∷ es) (suc place) d lt = write_from-here es place d (omega arith)
 
 -- a search that finds nothing, or the first that passes
-pub record IsFound (test : Write → Bool) (ws : List Write) (i : ℕ) (w : Write) : Type 0 where
+pub record IsCountOffered (test : Write → Bool) (ws : List Write) (i : ℕ) (w : Write) : Type 0 where
   pub within : i < length ws
   pub there : (d : Write) → get_or ws i d ≡ w
   pub passes : test w ≡ true
@@ -31,7 +31,7 @@ pub record IsFound (test : Write → Bool) (ws : List Write) (i : ℕ) (w : Writ
 NoneFound : (Write → Bool) → List Write → Type 0
 NoneFound test ws = (i : ℕ) (d : Write) → i < length ws → test (get_or ws i d) ≡ false
 
-find_cases : (test : Write → Bool) (ws : List Write) → ((find test ws ≡ None) × NoneFound test ws) ⊎ ((i : ℕ) × ((w : Write) × ((find test ws ≡ Some w) × IsFound test ws i w)))
+find_cases : (test : Write → Bool) (ws : List Write) → ((find test ws ≡ None) × NoneFound test ws) ⊎ ((i : ℕ) × ((w : Write) × ((find test ws ≡ Some w) × IsCountOffered test ws i w)))
 unfolding NoneFound
 find_cases test [] = inl (refl, λ i d lt. absurd (omega (arith, lt)))
 find_cases test (w ∷ ws) = elim (cases_Bool (test w)) [

@@ -13,7 +13,7 @@ ghost use Rattle.reconcile.specs.Deltas.{DeltaView};
 ghost use Rattle.reconcile.specs.Digests.{digest_size};
 ghost use Rattle.version_tables.specs.Views.{table_in, IsKept, VersionTableView};
 ghost use Rattle.version_tables.specs.inner.Deltas.{AreMarksOf};
-ghost use Rattle.version_tables.specs.inner.Histories.{bases_in, FitsHistories, MayExchange};
+ghost use Rattle.version_tables.specs.inner.Histories.{bases_in, FitsHistories, IsReadyExchange};
 ghost use Rattle.version_tables.specs.inner.Offers.{IsNumberedHistory};
 ghost use Rattle.version_tables.specs.inner.Taken.{HasTaken, HasTakenUnless, StaysOne};
 
@@ -68,7 +68,7 @@ fn exchange_deltas<N: Number, H: Written>(
     requires came { plan.now.lost1 ≡ false }
     requires kept { IsKept H.lists initiator.old }
     requires digest1 { digest1 ≡ digest_size (digest_kind rules.now.mode) (table_in H.lists initiator.old) }
-    requires may { MayExchange rules.now plan.now histories.now (table_in H.lists initiator.old)
+    requires may { IsReadyExchange rules.now plan.now histories.now (table_in H.lists initiator.old)
         (table_in H.lists responder.old) }
     ensures ok { IfOk result
         (MakesOf (table_in H.lists) rules.now plan.now initiator.old responder.old initiator.new responder.new) }

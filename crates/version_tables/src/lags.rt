@@ -13,7 +13,7 @@ ghost use Rattle.planes.specs.Planes.{cell, total_of, ArePlanesChanged, HasEach,
 ghost use Rattle.round_tables.specs.Histories.{BirthsRise, AreWrittenBy, StandsAmong};
 ghost use Rattle.staleness.specs.Figures.{most_below, rounds_behind, figures_of};
 ghost use Rattle.version_tables.specs.inner.Missed.{IsLastNumber};
-ghost use Rattle.version_tables.specs.inner.Pieces.{keys_in, tables_of_views, AreAlike, MayBeCounted, AreLaidAsNumbers, AreLastNumbers, AreCellsOf, MayBeCountedUp, CountsPieceOf, CountsPartOf, numbers_in, IsOwnNumber, IsPieceOf, MayWalk, WalksFrom, most_lag};
+ghost use Rattle.version_tables.specs.inner.Pieces.{keys_in, tables_of_views, AreAlike, MayBeCounted, AreLaidAsNumbers, AreLastNumbers, AreCellsOf, AreCountedGrids, CountsPieceOf, CountsPartOf, numbers_in, IsOwnNumber, IsPieceOf, MayWalk, WalksFrom, most_lag};
 
 use crate::histories::Histories;
 use crate::tables::{VersionTable, Written};
@@ -165,7 +165,7 @@ struct Numbers<'a, N: Number> {
 impl<'a, N: Number> Numbers<'a, N> {
     // What so many tables from one on say.
     fn piece_of(&self, alloc: Global, from: usize, count: usize) -> Result<Piece<N>, Fault>
-        requires numbers { MayBeCountedUp N.number self.now }
+        requires numbers { AreCountedGrids N.number self.now }
         requires within { from + count ≤ self.now.nodes }
         ensures piece { IfOk result (CountsPieceOf N.number self.now from count) }
         ensures only { IsOkUnless result OutOfMemory }
@@ -196,7 +196,7 @@ impl<'a, N: Number> Numbers<'a, N> {
 
     // What the tables of a part of so many say.
     fn part_of(&self, alloc: Global, size: usize, part: usize) -> Result<Piece<N>, Fault>
-        requires numbers { MayBeCountedUp N.number self.now }
+        requires numbers { AreCountedGrids N.number self.now }
         requires some { 1 ≤ size }
         requires part { part ≤ self.now.nodes / size }
         ensures piece { IfOk result (CountsPartOf N.number self.now size part) }
@@ -215,7 +215,7 @@ fn parts_of<N: Number>(
     numbers: &Numbers<N>,
     size: usize,
 ) -> Result<Vec<Result<Piece<N>, Fault>>, AllocError>
-    requires numbers { MayBeCountedUp N.number numbers.now }
+    requires numbers { AreCountedGrids N.number numbers.now }
     requires some { 1 ≤ size }
     ensures { IfOk result (λ v. AllZip (λ part found. IfOk found (CountsPartOf N.number numbers.now size part))
         (range_with_len 0 (numbers.now.nodes / size + 1)) v.items) }
@@ -225,7 +225,7 @@ fn parts_of<N: Number>(
         .with_min_len(1)
         .map(
             |part: usize| -> Result<Piece<N>, Fault>
-                requires { MayBeCountedUp N.number numbers.now × (1 ≤ size) × (part ≤ numbers.now.nodes / size) }
+                requires { AreCountedGrids N.number numbers.now × (1 ≤ size) × (part ≤ numbers.now.nodes / size) }
                 ensures { IfOk result (CountsPartOf N.number numbers.entry.now size part) }
             { numbers.part_of(alloc, size, part) },
         )

@@ -3,7 +3,7 @@
 ghost use Rattle.std.specs.Prelude.{◌≡◌, ℕ, ◌<◌, ◌≤◌, length, map, IfOk, IsOkUnless};
 ghost use Rattle.bench_types.specs.declared.faults.Fault.TheVariants.{OutOfMemory};
 ghost use Rattle.version_tables.specs.inner.Marked.{HasShapeIn, AreMarked, whole_marks};
-ghost use Rattle.version_tables.specs.inner.Offered.{marks, IsFound, IsOffer, IsTooLarge};
+ghost use Rattle.version_tables.specs.inner.Offered.{marks, IsCountOffered, IsOffer, IsTooLarge};
 ghost use Rattle.version_tables.specs.inner.Plans.{IsLevel};
 ghost use Rattle.version_tables.specs.inner.RoundLevels.{AreEndsOf};
 
@@ -36,7 +36,7 @@ pub(crate) fn planned<N: Number>(
     ends: Ends<N>,
 ) -> Result<Marked<N>, Fault>
     requires offer { IsOffer N.number N.most offer.now }
-    requires found { IsFound N.number offer.now found }
+    requires found { IsCountOffered N.number offer.now found }
     requires rotation { rotation < offer.now.nodes }
     requires ends { AreEndsOf N.number offer.now ends }
     ensures size { IfOk result (λ m. length m.mark.items ≡ offer.now.nodes) }
@@ -85,7 +85,7 @@ fn level_of<N: Number>(
 ) -> Result<Level<N>, Fault>
     requires offer { IsTooLarge N.number N.most offer.now }
     requires ends { AreEndsOf N.number offer.now ends }
-    requires found { IsFound N.number offer.now found }
+    requires found { IsCountOffered N.number offer.now found }
     ensures level { IfOk result (λ l. IsLevel mode N.number offer.now l) }
     ensures shape { IfOk result
         (λ l. HasShapeIn mode N.number offer.now (marks N.number l.near.items) (marks N.number l.far.items)) }

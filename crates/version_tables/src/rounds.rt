@@ -6,7 +6,7 @@ ghost use Rattle.bench_types.specs.declared.faults.Fault.TheVariants.{OutOfMemor
 ghost use Rattle.bench_types.specs.declared.limits.TheConstants.{MOST_NODES};
 ghost use Rattle.planes.specs.Planes.{cell, HasEach};
 ghost use Rattle.planes.specs.inner.Elementwise.{AreChanged};
-ghost use Rattle.version_tables.specs.inner.Offered.{marks, IsFound, IsOffer, IsTooLarge};
+ghost use Rattle.version_tables.specs.inner.Offered.{marks, IsCountOffered, IsOffer, IsTooLarge};
 ghost use Rattle.version_tables.specs.inner.Plans.{weight_on, count_on, IsLevel};
 ghost use Rattle.version_tables.specs.inner.RoundLevels.{round_mode, round_at, end_mark, round_mark, AreEndsOf, AreFewAndEnough, AreRounds};
 ghost use Rattle.version_tables.specs.inner.Stops.{is_newest};
@@ -17,7 +17,7 @@ use bench_types::Fault;
 use planes::Number;
 use std::alloc::Global;
 
-/// For each round from 0 on a row with how many writes each owner has made up to its end.
+/// For each round from 0 up to `rounds` a row with how many writes each owner has made up to its end.
 #[derive(Clone, Copy)]
 pub(crate) struct Ends<'a, N: Number> {
     pub(crate) numbers: &'a [N],
@@ -48,7 +48,7 @@ pub(crate) fn rounds<N: Number>(
 ) -> Result<Level<N>, Fault>
     requires offer { IsTooLarge N.number N.most offer.now }
     requires ends { AreEndsOf N.number offer.now ends }
-    requires found { IsFound N.number offer.now found }
+    requires found { IsCountOffered N.number offer.now found }
     ensures level { IfOk result (IsLevel (round_mode (is_newest first)) N.number offer.now) }
     ensures rounds { IfOk result (AreRounds (is_newest first) N.number offer.now) }
     ensures only { IsOkUnless result OutOfMemory }
@@ -73,7 +73,7 @@ fn few_rounds<N: Number>(
 ) -> Result<Few, Fault>
     requires offer { IsTooLarge N.number N.most offer.now }
     requires ends { AreEndsOf N.number offer.now ends }
-    requires found { IsFound N.number offer.now found }
+    requires found { IsCountOffered N.number offer.now found }
     ensures few { IfOk result (λ few. AreFewAndEnough (is_newest first) N.number offer.now
         (round_mark (is_newest first) ends.entry.rounds (map N.number ends.entry.numbers.now) offer.now.nodes
         (marks N.number offer.now.low.now))
@@ -104,7 +104,7 @@ fn look<N: Number>(offer: &Offer<N>, mark: &[N], found: u32, first: First) -> Fo
     requires offer { IsOffer N.number N.most offer.now }
     requires mark { length mark.now ≡ offer.now.nodes }
     requires above { (r : ℕ) → r < offer.now.nodes → marks N.number offer.now.low.now r ≤ marks N.number mark.now r }
-    requires found { IsFound N.number offer.now found }
+    requires found { IsCountOffered N.number offer.now found }
     ensures count { result.count
         ≡ count_on (round_mode (is_newest first)) N.number offer.now (marks N.number mark.now) }
     ensures fits { IsTrue result.fits

@@ -115,7 +115,7 @@ fn take_numbers<N: Number>(
     bases: &[N],
     lists: &[OwnerList],
 )
-    requires taken { MayTake N.number nodes keys cells.old greatest.old sent.now
+    requires may { MayTake N.number nodes keys cells.old greatest.old sent.now
         marks.now.low.items marks.now.high.items }
     requires before { map N.number before.now ≡ map N.number greatest.old }
     requires bases { HasEach nodes (λ r n. n ≡ bases_in lists.now r) (map N.number bases.now) }

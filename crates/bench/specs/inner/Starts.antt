@@ -1,7 +1,7 @@
 -- A simulation that stands before its first round. Source: this project.
 use Rattle.std.specs.Prelude.{◌≡◌, false}
-use Rattle.bench.specs.declared.runs.Begun.{Begun}
-use Rattle.bench.specs.declared.runs.Begun.TheVariants.{Narrow, Wide}
+use Rattle.bench.specs.declared.runs.Opened.{Opened}
+use Rattle.bench.specs.declared.runs.Opened.TheVariants.{Narrow, Wide}
 use Rattle.scenario.specs.Settings.{Settings}
 use Rattle.simulation.specs.Simulation.{SimView}
 
@@ -10,6 +10,6 @@ abbrev pub IsAtStart : {T : Type 0} → SimView T → Type 0
 IsAtStart sim = (sim.broken ≡ false) × (sim.rounds_done ≡ 0)
 
 -- the simulation of these settings, before its first round
-abbrev pub HasBegun : {L : Type 0} → Begun L → Settings → Type 0
-HasBegun (Narrow sim) s = IsAtStart sim × (sim.settings ≡ s)
-HasBegun (Wide sim) s = IsAtStart sim × (sim.settings ≡ s)
+abbrev pub IsOpened : {L : Type 0} → Opened L → Settings → Type 0
+IsOpened (Narrow sim) s = IsAtStart sim × (sim.settings ≡ s)
+IsOpened (Wide sim) s = IsAtStart sim × (sim.settings ≡ s)

@@ -111,7 +111,7 @@ abbrev pub HasRoomForBlock : Layout → Type 0
 HasRoomForBlock l = vec_len l.slots + l.keys ≤ vec_capacity l.slots
 
 -- as many slots, and memory for as many
-pub record KeepsRoom (before after : Layout) : Type 0 where
+pub record SameRoom (before after : Layout) : Type 0 where
   pub slots : vec_len after.slots ≡ vec_len before.slots
   pub capacity : vec_capacity after.slots ≡ vec_capacity before.slots
 

@@ -7,7 +7,7 @@ use Rattle.board.specs.Boards.{seat_view, IsSeatOf}
 use Rattle.board.specs.declared.boards.Board.{Board}
 use Rattle.board.specs.declared.boards.Seat.{Seat}
 
--- so many workers are several
+-- from two workers up to the most
 abbrev pub AreSeveral : ℕ → Type 0
 AreSeveral workers = (2 ≤ workers) × (workers ≤ MOST_WORKERS)
 

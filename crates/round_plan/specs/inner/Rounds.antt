@@ -9,8 +9,8 @@ use Rattle.round_plan.specs.Plan.{exchange_of}
 use Rattle.round_plan.specs.Writes.{count_before, write_number}
 
 -- a node of a scenario, in a round that a run may have
-abbrev pub IsInRun : Settings → ℕ → ℕ → Type 0
-IsInRun s node round = (node < s.nodes) × (1 ≤ round) × (round ≤ MOST_ROUNDS)
+abbrev pub IsNodeInRound : Settings → ℕ → ℕ → Type 0
+IsNodeInRound s node round = (node < s.nodes) × (1 ≤ round) × (round ≤ MOST_ROUNDS)
 
 -- what each node would begin in a round, whoever is out of reach
 pub record AreChosen (s : Settings) (round : ℕ) (es : List Exchange) : Type 0 where

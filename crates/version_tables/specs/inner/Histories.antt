@@ -54,7 +54,7 @@ pub record FitsHistories (h : HistoriesView) (t : Table) : Type 0 where
   pub made : (owner : ℕ) → AreMadeBy h.rounds (all_writes h.lists owner)
 
 -- two tables of which an exchange may be made
-pub record MayExchange (rules : Rules) (plan : Exchange) (h : HistoriesView) (initiator responder : Table) : Type 0 where
+pub record IsReadyExchange (rules : Rules) (plan : Exchange) (h : HistoriesView) (initiator responder : Table) : Type 0 where
   pub budget : IsLawfulBudget rules.budget
   pub tables : MayBeExchanged plan initiator responder
   pub initiator_fits : FitsHistories h initiator

@@ -51,8 +51,8 @@ pub record IsOffer {N : Type 0} (number : N → ℕ) (most : ℕ) (offer : Offer
       → HasNoneAbove (cells_in number offer) offer.keys owner (high_in number offer owner)
 
 -- so many numbers are offered
-abbrev pub IsFound : {N : Type 0} → (N → ℕ) → Offer N → ℕ → Type 0
-IsFound number offer found = found ≡ count_in number offer (low_in number offer) (high_in number offer)
+abbrev pub IsCountOffered : {N : Type 0} → (N → ℕ) → Offer N → ℕ → Type 0
+IsCountOffered number offer found = found ≡ count_in number offer (low_in number offer) (high_in number offer)
 
 -- an offer that weighs more than the budget
 pub record IsTooLarge {N : Type 0} (number : N → ℕ) (most : ℕ) (offer : Offer N) : Type 0 where

@@ -122,7 +122,7 @@ abbrev pub AreZero : List ℕ → ℕ → Type 0
 AreZero bases nodes = (r : ℕ) → r < nodes → slice_index bases r ≡ 0
 
 -- grids of numbers, and no write is of an earlier generation where no node has forgotten
-pub record MayBeCountedUp {N : Type 0} (number : N → ℕ) (numbers : Numbers N) : Type 0 where
+pub record AreCountedGrids {N : Type 0} (number : N → ℕ) (numbers : Numbers N) : Type 0 where
   pub grids : AreGrids numbers.nodes numbers.keys (numbers_in number numbers.cells.now) (map number numbers.bases.now) (map number numbers.last.now)
   pub forgot : IsFalse numbers.forgot → AreZero (map number numbers.bases.now) numbers.nodes
 

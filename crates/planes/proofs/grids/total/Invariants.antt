@@ -1,12 +1,12 @@
 use Rattle.std.proofs.Common.{◌≡◌, ℕ, ◌*◌, ◌≤◌, Bool, map, if◌then◌else◌}
 use Rattle.planes.specs.Sums.{sum_below}
 use Rattle.planes.specs.Planes.{cell}
-use Rattle.planes.specs.inner.Tests.{IsTestBy}
+use Rattle.planes.specs.inner.Answering.{AnswersAs}
 use Rattle.planes.proofs.grids.total.Given as goal
 
 abbrev pub invariant-loop-key : goal.invariant-loop-key
 invariant-loop-key g l = record {
   upto : l.total ≤ l.key * l.nodes;
-  total : (test : ℕ → ℕ → Bool) → IsTestBy g.N.Number.number (goal.F-post g l.passes) l.nodes test
+  total : (test : ℕ → ℕ → Bool) → AnswersAs g.N.Number.number (goal.F-post g l.passes) l.nodes test
       → l.total ≡ sum_below l.key (λ k. sum_below l.nodes (λ r. if test r (cell (map g.N.Number.number l.cells) l.nodes r k) then 1 else 0));
 }

@@ -9,7 +9,7 @@ use Rattle.rayon.proofs.ToStd.{nat_range-All}
 use Rattle.scenario.specs.Settings.{Settings}
 use Rattle.bench_types.specs.Exchange.{IsPlanned}
 use Rattle.round_plan.specs.Plan.{exchange_of}
-use Rattle.round_plan.specs.inner.Rounds.{IsInRun, AreChosen}
+use Rattle.round_plan.specs.inner.Rounds.{IsNodeInRound, AreChosen}
 use Rattle.round_plan.proofs.rounds.choices.Goals as goal
 
 -- the closure may be called at each node
@@ -17,7 +17,7 @@ pub collect-requires-clause-ready : goal.collect-requires-clause-ready
 collect-requires-clause-ready g c κs within =
     let ends = c.into_par_iter.ensures in
     let s = c.args.scenario.now in
-    let inside = nat_range-All (λ n. IsInRun s n c.args.round) 0 c.nodes.result
+    let inside = nat_range-All (λ n. IsNodeInRound s n c.args.round) 0 c.nodes.result
     (λ n low high. (omega (arith, c.nodes.ensures.value), c.requires.first, c.requires.last)) in
     rw (c.map.ensures.base, c.map.ensures.f, ends.0, ends.1) (λ k d lt. (inside k d lt, λ y p. tt))
 

@@ -25,18 +25,18 @@ returns g c =
     }))
 
 pub take-requires-clause-low : goal.take-requires-clause-low
-take-requires-clause-low g c κs out = ap length c.deref.ensures.value ∙ c.requires.taken.low_count
+take-requires-clause-low g c κs out = ap length c.deref.ensures.value ∙ c.requires.may.low_count
 
 pub take-requires-clause-high : goal.take-requires-clause-high
-take-requires-clause-high g c κs out = ap length c.deref-2.ensures.value ∙ c.requires.taken.high_count
+take-requires-clause-high g c κs out = ap length c.deref-2.ensures.value ∙ c.requires.may.high_count
 
 pub drop_older-requires-clause-grid : goal.drop_older-requires-clause-grid
 drop_older-requires-clause-grid g c κs out =
-    subst (IsGrid c.args.nodes c.args.keys) (sym (sym (length-map c.take.new.cells g.N.Number.number) ∙ c.take.ensures.cells.size ∙ length-map c.args.cells.now g.N.Number.number)) c.requires.taken.grid
+    subst (IsGrid c.args.nodes c.args.keys) (sym (sym (length-map c.take.new.cells g.N.Number.number) ∙ c.take.ensures.cells.size ∙ length-map c.args.cells.now g.N.Number.number)) c.requires.may.grid
 
 pub drop_older-requires-clause-before : goal.drop_older-requires-clause-before
 drop_older-requires-clause-before g c κs out =
-    sym (length-map c.args.before.now g.N.Number.number) ∙ ap length c.requires.before ∙ length-map c.args.greatest.now g.N.Number.number ∙ c.requires.taken.greatest_count
+    sym (length-map c.args.before.now g.N.Number.number) ∙ ap length c.requires.before ∙ length-map c.args.greatest.now g.N.Number.number ∙ c.requires.may.greatest_count
 
 pub drop_older-requires-clause-greatest : goal.drop_older-requires-clause-greatest
 drop_older-requires-clause-greatest g c κs out = sym (length-map c.take.new.greatest g.N.Number.number) ∙ c.take.ensures.greatest.size

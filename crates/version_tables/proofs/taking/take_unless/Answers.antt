@@ -42,8 +42,8 @@ returns g c =
     has-taken (all_writes c.args.lists.now) (bases_in c.args.lists.now) (map g.N.Number.number c.args.sent.now) (map g.N.Number.number c.args.marks.now.low.items) (map g.N.Number.number c.args.marks.now.high.items)
     (old g c) c.args.table.now c.table.view_is _ _ (taken g c) c.args.nothing c.if-nothing.false
 
-pub take_numbers-requires-clause-taken : goal.take_numbers-requires-clause-taken
-take_numbers-requires-clause-taken g c κs out =
+pub take_numbers-requires-clause-may : goal.take_numbers-requires-clause-may
+take_numbers-requires-clause-may g c κs out =
     let number = g.N.Number.number in
     let inside = c.table.inside in
     record {

@@ -112,7 +112,8 @@ fn write_rows<T: RoundTable, H: Threads + Wait + Sync, W: Sink>(
     requires sound { W.failed writer.old ≡ false }
     requires flushed { W.flushed writer.old ≡ true }
     ensures same { IfOk result (λ s. s ≡ sim.settings) }
-    ensures written { OnOk result (IsWritten W.Sink writer.old writer.new (lines_upto sim.settings sim.settings.rounds)) }
+    ensures written { OnOk result
+        (IsWritten W.Sink writer.old writer.new (lines_upto sim.settings sim.settings.rounds)) }
     ensures fault { IfErr result (IsFaultInRounds W.Sink writer.old writer.new [] sim.settings workers) }
 {
     let format = sim.format();

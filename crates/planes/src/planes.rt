@@ -117,7 +117,8 @@ pub fn how_many<N: Number, F: Fn(usize, N) -> bool>(plane: &[N], passes: F) -> u
     requires passes { (r : ℕ) (n : N) → r < length plane.now → F.pre passes r n }
     ensures upto { result ≤ length plane.now }
     ensures count { (test : ℕ → ℕ → Bool) → AnswersAs N.number (F.post passes) (length plane.now) test
-        → result ≡ sum_below (length plane.now) (λ r. if test r (slice_index (map N.number plane.now) r) then 1 else 0) }
+        → result
+        ≡ sum_below (length plane.now) (λ r. if test r (slice_index (map N.number plane.now) r) then 1 else 0) }
 {
     let mut count = N::zero();
     for r in 0..plane.len() {

@@ -137,8 +137,8 @@ impl<'a, N: Number> Offer<'a, N> {
         requires offer { IsOffer N.number N.most self.now }
         requires turns { AreTurnsOf N.number self.now turns.now }
         requires mark { mark.old ≡ turns.now.level.now.near.items }
-        requires room { weight_on turns.now.mode N.number self.now (marks N.number turns.now.level.now.near.items) + room
-            ≡ amount_of self.now.budget }
+        requires room { weight_on turns.now.mode N.number self.now
+            (marks N.number turns.now.level.now.near.items) + room ≡ amount_of self.now.budget }
         ensures owner { result.owner < self.now.nodes }
         ensures size { length mark.new ≡ self.now.nodes }
         ensures passed { AreTurnsPassed turns.now.mode N.number self.now turns.now.rotation

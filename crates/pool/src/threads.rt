@@ -123,7 +123,7 @@ fn run_workers<
 >(
     rt: &R,
     shop: &Workshop<T, G>,
-    mut seat: Seat<T>,
+    seat: Seat<T>,
     tasks: Vec<Tasks<L>>,
 ) -> Result<(Seat<T>, Vec<Stamped>), Fault>
     requires shop { IsWorkshop T.table T.fits shop.now }
@@ -141,19 +141,41 @@ fn run_workers<
             requires begin { MaySplit T.table shop.now.board.now seat (vec_len tasks) }
             ensures made { IfOk result (λ p. HasSeenAll T.table shop.entry.now.board.now p.0 p.1.items) }
             ensures fault { IfErr result (IsPoolFault (vec_len tasks)) }
-        {
-            let mut handles = Vec::with_capacity(shop.alloc, tasks.len())?;
-            let started = start_all(scope, rt, shop, &mut seat, tasks, &mut handles);
-            if started.is_err() {
-                shop.board.stop(&mut seat);
-            }
-            let joined = join_all(rt, shop.alloc, shop.board, &mut seat, handles);
-            let stamps = outcome_of(started, joined)?;
-            // A whole seat, so it learns that all exchanges are put back.
-            shop.board.look(&mut seat);
-            Ok((seat, stamps))
-        },
+        { run_in_scope(scope, rt, shop, seat, tasks) },
     )
+}
+
+// The same, in an open scope.
+fn run_in_scope<
+    's,
+    'e: 's,
+    L: Limit + Send + Sync + 'e,
+    R: Threads + Wait + Sync,
+    T: Exchanging + Send + Sync,
+    G: Gate + Sync,
+>(
+    scope: &Scope<'s, &'e ()>,
+    rt: &'e R,
+    shop: &'e Workshop<'e, T, G>,
+    mut seat: Seat<T>,
+    tasks: Vec<Tasks<L>>,
+) -> Result<(Seat<T>, Vec<Stamped>), Fault>
+    requires shop { IsWorkshop T.table T.fits shop.now }
+    requires limit { L.limit ≡ length shop.now.list.now.exchanges }
+    requires begin { MaySplit T.table shop.now.board.now seat (vec_len tasks) }
+    ensures made { IfOk result (λ p. HasSeenAll T.table shop.now.board.now p.0 p.1.items) }
+    ensures fault { IfErr result (IsPoolFault (vec_len tasks)) }
+{
+    let mut handles = Vec::with_capacity(shop.alloc, tasks.len())?;
+    let started = start_all(scope, rt, shop, &mut seat, tasks, &mut handles);
+    if started.is_err() {
+        shop.board.stop(&mut seat);
+    }
+    let joined = join_all(rt, shop.alloc, shop.board, &mut seat, handles);
+    let stamps = outcome_of(started, joined)?;
+    // A whole seat, so it learns that all exchanges are put back.
+    shop.board.look(&mut seat);
+    Ok((seat, stamps))
 }
 
 // What both came to. That a thread couldn't be started goes before what the others met.

@@ -1,6 +1,6 @@
 use Rattle.std.proofs.Common.{ap}
 use Rattle.board.specs.SeatView.{SeatView}
-use Rattle.pool.proofs.threads.fn.run_workers.scope.Goals as goal
+use Rattle.pool.proofs.threads.run_in_scope.Goals as goal
 
 pub start_all-started-requires-clause-seat : goal.start_all-started-requires-clause-seat
 start_all-started-requires-clause-seat g c = λ κs out. record {

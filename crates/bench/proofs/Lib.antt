@@ -1,5 +1,1 @@
-pub mod InputFacts
-pub mod Reporting
-pub mod Comparison
-pub mod Endings
-pub mod Numbers
+pub mod Born

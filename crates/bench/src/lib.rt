@@ -1,13 +1,15 @@
-//! From a scenario's bytes to those of its report and its trace, or of the comparison of the modes:
-//! reading, rounds in order, lines.
+//! The front of the library: from a scenario's bytes to those of its report and its trace, or of the comparison
+//! of the modes; and simulations, round by round, over tables that have their entries themselves.
 #![tactic(auto)]
 
-mod comparing;
-mod inputs;
-mod runs;
+mod entry_histories;
 
-pub use comparing::compare;
-pub use inputs::read_all;
-pub use pool::{FreeGate, Gate};
-pub use runs::{check_input, run};
-pub use simulation::{Round, Sim, every_run_is_sound};
+pub use entry_histories::EntryHistories;
+pub use runs::{check_input, compare, read_all, run};
+pub use simulation::{Round, every_run_is_sound};
+pub use workers::{FreeGate, Gate};
+
+use node_table::NodeTable;
+
+/// A simulation over tables with entries.
+pub type Sim = simulation::Sim<NodeTable, EntryHistories>;

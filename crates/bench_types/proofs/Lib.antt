@@ -2,3 +2,5 @@
 pub mod Comparing
 pub mod Marks
 pub mod Sinking
+pub mod Sums
+pub mod EqualParts

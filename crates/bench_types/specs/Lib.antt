@@ -5,3 +5,4 @@ pub mod Field
 pub mod Mark
 pub mod Mode
 pub mod Output
+pub mod Sums

@@ -5,8 +5,8 @@ use Rattle.std.proofs.lemmas.Bool.{cases_eq, eq-eqb, ne_eqb}
 use Rattle.std.specs.Prelude.{IfSome}
 use Rattle.atomic_table.specs.Table.{step, rest, turned, Me, Step}
 use mathlib.Core.Option.{none}
-use Rattle.node_table.specs.Table.{Table}
-use Rattle.round_plan.specs.Plan.{RoundListView}
+use Rattle.model.specs.Table.{Table}
+use Rattle.model.specs.RoundLists.{RoundListView}
 use Rattle.dependencies.specs.Neighbours.{predecessors, as_list, successors}
 use Rattle.board.specs.Weights.{only, times, Has}
 use Rattle.board.specs.SeatView.{SeatView, IsWhole, with_held, with_told, without_held, with_made, freed_by, joined}

@@ -1,7 +1,7 @@
 -- What a claim leaves of a seat.
 -- Serves `pool` and `tests_of_boards`.
 use Rattle.std.proofs.Common.{◌≡◌, ℕ, [], ◌∷◌, sym, ap, subst, arith}
-use Rattle.node_table.specs.Table.{Table}
+use Rattle.model.specs.Table.{Table}
 use Rattle.board.specs.Weights.{Has, only}
 use Rattle.board.specs.SeatView.{SeatView}
 use Rattle.board.specs.Plan.{BoardPlan}

@@ -12,16 +12,16 @@ use Rattle.atomic_table.specs.Table.{State, Me, step, Act, keeps, takes, gives, 
 use Rattle.atomic_table.proofs.Lists.{set_here, set_else, exchanged}
 use Rattle.dependencies.specs.Sharing.{takes_part}
 use Rattle.dependencies.proofs.Sharers.{initiator_part, responder_part, not_initiator, not_responder, part_cases}
-use Rattle.board.specs.Weights.{total, only, times}
+use Rattle.board.specs.Weights.{only}
 use Rattle.board.specs.SeatView.{SeatView, with_told}
 use Rattle.board.specs.Plan.{BoardPlan, table_at, initiator_of, responder_of}
 use Rattle.board.specs.Rule.{Slot, Home, TAKEN, exchange_word, made_in, held_in, running_in, freed_in, owed_to, finished_in, Orderly}
 use Rattle.board.specs.Seats.{Sat, view, resting}
 use Rattle.board.specs.inner.Plays.{ClaimTells, TookOut, slots_of, claimed}
 use Rattle.board.specs.declared.views.View.{View}
-use Rattle.board.proofs.Sums.{total-append, only-same, only-other, times-without, term_le}
+use Rattle.board.proofs.Sums.{total-append, only-other, term_le}
 use Rattle.board.proofs.Parts.{order_claimed, words_claimed, freed_kept, tables_claimed}
-use Rattle.board.proofs.Keeps.{IsAside, steps_aside, made-set, held-set, moving-set, freed-set, told-set, known-set, from-set, to-set, finished-set, sound_set, seats_set}
+use Rattle.board.proofs.Keeps.{steps_aside, made-set, held-set, moving-set, freed-set, told-set, known-set, from-set, to-set, finished-set, sound_set, seats_set}
 use Rattle.board.proofs.Telling.{planned_at, was_claimed, fresh, ready, earlier_made, table_there, claim_tells}
 
 abbrev pub St : Type 0

@@ -7,10 +7,10 @@ use mathlib.Core.Option.{some, some-injective, some-ne-none}
 use lib.ListN.{get_elem?}
 use Rattle.atomic_table.specs.Table.{State, Splits, Joins, opening, Final, Seen}
 use Rattle.atomic_table.proofs.Lists.{at_set, at_snoc, at_map, set_else}
-use Rattle.node_table.specs.Table.{Table}
+use Rattle.model.specs.Table.{Table}
 use Rattle.dependencies.specs.Sharing.{takes_part}
 use Rattle.dependencies.specs.Neighbours.{predecessors, pending_of}
-use Rattle.cluster.specs.Tables.{table_of_node}
+use Rattle.model.specs.Tables.{table_of_node}
 use Rattle.board.specs.Weights.{total, only, times, flag}
 use Rattle.board.specs.SeatView.{SeatView, IsWhole, split_left, split_right, joined}
 use Rattle.board.specs.inner.Plays.{spent_seat}
@@ -21,7 +21,7 @@ use Rattle.board.specs.inner.Plays.{opened_view, is_odd}
 use Rattle.board.specs.declared.views.View.{View}
 use Rattle.board.proofs.Sums.{total-append, total-set, term_le, terms_le}
 use Rattle.board.proofs.Parts.{order_kept, words_kept, freed_kept, tables_kept, table_quiet}
-use Rattle.board.proofs.Telling.{none_owed, look_tells, finished_upto, all_finished, whole_made}
+use Rattle.board.proofs.Telling.{none_owed, look_tells, all_finished, whole_made}
 
 or_most : (a b : Bool) → flag (a || b) ≤ flag a + flag b
 or_most true b = omega arith

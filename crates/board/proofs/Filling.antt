@@ -8,13 +8,13 @@ use Rattle.std.proofs.lemmas.List.{length-map}
 use Rattle.std.proofs.lemmas.List.FromFn.{length-map-range_with_len, get_or-map-range_with_len}
 use mathlib.Core.Option.{some, some-injective, some-ne-none}
 use lib.ListN.{get_elem?}
-use Rattle.node_table.specs.Table.{Table}
-use Rattle.round_plan.specs.Plan.{RoundListView, IsRoundPlan}
+use Rattle.model.specs.Table.{Table}
+use Rattle.model.specs.RoundLists.{RoundListView, IsRoundPlan}
 use Rattle.dependencies.specs.Neighbours.{pending_of}
 use Rattle.dependencies.specs.inner.Slots.{in_place}
-use Rattle.cluster.specs.Tables.{table_of_node, IsCluster}
-use Rattle.cluster.specs.Folds.{fold_of}
-use Rattle.cluster.proofs.FoldLaws.{fold_counts_tables}
+use Rattle.model.specs.Tables.{table_of_node, IsCluster}
+use Rattle.model.specs.Folds.{fold_of}
+use Rattle.model.proofs.FoldLaws.{fold_counts_tables}
 use Rattle.board.specs.Plan.{BoardPlan, IsBoardPlan, table_at}
 use Rattle.board.specs.Rule.{Slot}
 use Rattle.board.specs.Keys.{IsBoardKey, key_plan}

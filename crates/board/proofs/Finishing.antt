@@ -10,7 +10,7 @@ use lib.Seq.{set-get_or}
 use lib.Bits.{bit_or, or_shifted, or_add_and, and_mask}
 use Rattle.atomic_table.specs.Table.{step, keeps, gives, chain, Allows}
 use Rattle.atomic_table.proofs.Lists.{at_set}
-use Rattle.node_table.specs.Table.{Table}
+use Rattle.model.specs.Table.{Table}
 use Rattle.dependencies.specs.Sharing.{takes_part}
 use Rattle.dependencies.specs.Neighbours.{predecessors, pending_of}
 use Rattle.dependencies.proofs.Moves.{initiator_left, responder_left}
@@ -19,7 +19,7 @@ use Rattle.board.specs.SeatView.{SeatView, IsWhole, with_made, having_seen, havi
 use Rattle.board.specs.inner.Plays.{with_freed}
 use Rattle.board.specs.Plan.{BoardPlan, table_at, initiator_of, responder_of, exchanged_at}
 use Rattle.board.specs.inner.Plays.{successor_list}
-use Rattle.board.specs.Rule.{Slot, Home, TAKEN, exchange_word, made_in, held_in, moving_in, running_in, freed_in, told_in, known_in, owed_from, owed_to, from_only, to_only, finished_in, HasTable, Orderly}
+use Rattle.board.specs.Rule.{Home, exchange_word, made_in, held_in, running_in, freed_in, owed_to, from_only, to_only, finished_in, HasTable, Orderly}
 use Rattle.board.specs.Seats.{Sat, view, resting}
 use Rattle.board.specs.inner.Plays.{releases_by, is_odd, finished, released, looked, halted, shown}
 use Rattle.board.specs.declared.views.View.{View}

@@ -9,7 +9,7 @@ use Rattle.atomic_table.proofs.Lists.{at_set}
 use Rattle.bench_types.specs.declared.exchanges.Exchange.{Exchange}
 use Rattle.board.specs.Weights.{total, times, flag}
 use Rattle.board.specs.Plan.{BoardPlan}
-use Rattle.board.specs.Rule.{Slot, Home, made_in, held_in, moving_in, running_in, freed_in, told_in, known_in, owed_from, owed_to, from_only, to_only, finished_in, parts_in, stops_known, stops_called, AreInformed, OwesForMade, IsSpent, AreSeats, Orderly}
+use Rattle.board.specs.Rule.{Slot, Home, made_in, held_in, moving_in, running_in, freed_in, told_in, known_in, owed_from, owed_to, from_only, to_only, finished_in, parts_in, stops_known, stops_called, AreInformed, OwesForMade, AreSeats, Orderly}
 use Rattle.board.specs.declared.views.View.{View}
 use Rattle.board.proofs.Sums.{total-set, term_le}
 use Rattle.board.proofs.Parts.{order_kept, words_kept, freed_kept, tables_kept}

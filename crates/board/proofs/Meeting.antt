@@ -2,9 +2,9 @@
 -- Serves `every_hold_may_be_exchanged` and `pool`.
 use Rattle.std.proofs.Common.{◌<◌, ◌∙◌, sym, subst}
 use Rattle.bench_types.specs.Exchange.{IsPlanned}
-use Rattle.node_table.specs.Table.{Table}
-use Rattle.cluster.specs.Tables.{table_of_node, IsTableOf}
-use Rattle.cluster.proofs.FoldLaws.{before_tables}
+use Rattle.model.specs.Table.{Table}
+use Rattle.model.specs.Tables.{table_of_node, IsTableOf}
+use Rattle.model.proofs.FoldLaws.{before_tables}
 use Rattle.dependencies.specs.Sharing.{exchange_at, no_exchange}
 use Rattle.board.specs.Laws.{EachHoldMayBeExchanged}
 

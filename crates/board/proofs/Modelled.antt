@@ -7,7 +7,7 @@ use mathlib.Core.Option.{some, none, some-injective, some-ne-none}
 use lib.ListN.{get_elem?}
 use Rattle.atomic_table.specs.Table.{State, Me, Act, keeps, takes, gives, chain, Valid, carried_after, homes_after, Allows, Splits, Joins, opening, Final, Seen}
 use Rattle.atomic_table.proofs.Lists.{at_map}
-use Rattle.node_table.specs.Table.{Table}
+use Rattle.model.specs.Table.{Table}
 use Rattle.board.specs.Rule.{Slot}
 use Rattle.board.specs.Seats.{Sat}
 use Rattle.board.specs.Models.{slot_model, home_model, state_model, carried_model, seat_model}

@@ -11,7 +11,7 @@ use Rattle.dependencies.proofs.Sharers.{initiator_part, responder_part}
 use Rattle.board.specs.Weights.{total, only, times, flag, Has}
 use Rattle.board.specs.SeatView.{SeatView, with_held, without_held}
 use Rattle.board.specs.Plan.{BoardPlan, initiator_of, responder_of}
-use Rattle.board.specs.Rule.{Slot, Home, TAKEN, exchange_word, made_in, held_in, moving_in, running_in, freed_in, told_in, known_in, owed_from, owed_to, from_only, to_only, finished_in, HasTable, Orderly}
+use Rattle.board.specs.Rule.{Home, made_in, held_in, running_in, freed_in, owed_from, owed_to, from_only, to_only, finished_in, Orderly}
 use Rattle.board.specs.Seats.{Sat, view, resting}
 use Rattle.board.specs.inner.Plays.{emptied, retaken}
 use Rattle.board.specs.declared.views.View.{View}

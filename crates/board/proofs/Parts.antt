@@ -10,7 +10,7 @@ use Rattle.dependencies.specs.Sharing.{takes_part, share_node}
 use Rattle.dependencies.specs.Neighbours.{predecessors, pending_of}
 use Rattle.dependencies.proofs.Predecessors.{share_from}
 use Rattle.dependencies.proofs.Moves.{table_still}
-use Rattle.node_table.specs.Table.{Table}
+use Rattle.model.specs.Table.{Table}
 use Rattle.board.specs.Weights.{only, times}
 use Rattle.board.specs.Plan.{BoardPlan, table_at}
 use Rattle.board.specs.inner.Plays.{successor_list}

@@ -1,8 +1,8 @@
 -- What an exchange leaves of a hold's tables may be put back.
 -- Serves `every_exchange_may_be_put_back`, `pool` and `tests_of_boards`.
 use Rattle.std.proofs.Common.{◌≡◌, ◌∙◌, sym, ap, subst}
-use Rattle.node_table.specs.Table.{Table}
-use Rattle.exchange.specs.Exchanged.{Exchanged, exchanged}
+use Rattle.model.specs.Table.{Table}
+use Rattle.model.specs.Exchanged.{Exchanged, exchanged}
 use Rattle.dependencies.specs.Sharing.{exchange_at}
 use Rattle.board.specs.Weights.{Has}
 use Rattle.board.specs.Plan.{table_at, responder_of, exchanged_at}

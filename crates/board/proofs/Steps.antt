@@ -5,7 +5,7 @@ use mathlib.Core.Option.{none}
 use lib.Bits.{bit_or}
 use prog.Atomic.{either}
 use Rattle.atomic_table.specs.Table.{Me, Step, step, Allows, Splits, Joins}
-use Rattle.node_table.specs.Table.{Table}
+use Rattle.model.specs.Table.{Table}
 use Rattle.board.specs.Weights.{Has}
 use Rattle.board.specs.SeatView.{SeatView}
 use Rattle.board.specs.Plan.{BoardPlan, initiator_of, responder_of, exchanged_at}

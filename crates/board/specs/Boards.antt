@@ -1,19 +1,19 @@
 -- What the calls of a board say. Source: this project.
 use Rattle.std.specs.Prelude.{◌≡◌, ◌≢◌, ℕ, ◌+◌, ◌<◌, ◌≤◌, ◌↔◌, ◌⊎◌, Bool, true, List, ◌++◌, length, map, All, Option, None, Some}
-use Rattle.round_plan.specs.Plan.{RoundListView}
+use Rattle.model.specs.RoundLists.{RoundListView}
 use Rattle.bench_types.specs.declared.exchanges.Rules.{Rules}
 use Rattle.bench_types.specs.declared.faults.Fault.{Fault}
 use Rattle.bench_types.specs.declared.faults.Fault.TheVariants.{Unfinished}
 use Rattle.atomic_table.specs.Seated.{TableId}
 use Rattle.bench_types.specs.declared.exchanges.Exchange.{Exchange}
-use Rattle.node_table.specs.Table.{Table}
+use Rattle.model.specs.Table.{Table}
 use Rattle.dependencies.specs.Neighbours.{predecessors, pending_of, successors}
 use Rattle.board.specs.Weights.{times, Has}
 use Rattle.board.specs.SeatView.{SeatView, IsWhole, with_held, with_told, without_held, with_made, freed_by, having_seen, having_stopped}
 use Rattle.board.specs.Plan.{BoardPlan, table_at, initiator_of, responder_of, exchanged_at}
 use Rattle.board.specs.Keys.{key_plan}
 use Rattle.board.specs.Seats.{Rests, LookTells}
-use Rattle.cluster.specs.Folds.{fold_of}
+use Rattle.model.specs.Folds.{fold_of}
 use Rattle.board.specs.declared.boards.Board.{Board}
 use Rattle.board.specs.declared.boards.Seat.{Seat}
 use Rattle.board.specs.declared.boards.Hold.{Hold}

@@ -8,7 +8,7 @@ pub mod Models
 pub mod Keys
 pub mod Boards
 pub mod inner
-pub use Rattle.exchange.specs.Exchanged
-pub use Rattle.cluster.specs.Tables
-pub use Rattle.cluster.specs.Folds
+pub use Rattle.model.specs.Exchanged
+pub use Rattle.model.specs.Tables
+pub use Rattle.model.specs.Folds
 pub use Rattle.dependencies.specs.Neighbours

@@ -2,7 +2,7 @@
 -- Source: this project.
 use Rattle.std.specs.Prelude.{ℕ, List, map, Option, Some, None}
 use mathlib.Core.Option.{some, none}
-use Rattle.node_table.specs.Table.{Table}
+use Rattle.model.specs.Table.{Table}
 use Rattle.atomic_table.specs.Table.{State, Me, Step}
 use Rattle.board.specs.Rule.{Slot, Home}
 use Rattle.board.specs.Seats.{Sat}

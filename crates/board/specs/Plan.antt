@@ -1,11 +1,11 @@
 -- What a board was made of. Source: this project.
 use Rattle.std.specs.Prelude.{◌≡◌, ℕ, List, length}
 use Rattle.bench_types.specs.declared.exchanges.Rules.{Rules}
-use Rattle.node_table.specs.Table.{Table}
-use Rattle.round_plan.specs.Plan.{RoundListView, IsRoundPlan}
-use Rattle.cluster.specs.Tables.{table_of_node}
-use Rattle.cluster.specs.Folds.{tables_before}
-use Rattle.exchange.specs.Exchanged.{Exchanged, exchanged}
+use Rattle.model.specs.Table.{Table}
+use Rattle.model.specs.RoundLists.{RoundListView, IsRoundPlan}
+use Rattle.model.specs.Tables.{table_of_node}
+use Rattle.model.specs.Folds.{tables_before}
+use Rattle.model.specs.Exchanged.{Exchanged, exchanged}
 use Rattle.dependencies.specs.Sharing.{exchange_at}
 
 -- the rules of the exchanges, the round's list, and the tables of all nodes before it

@@ -6,7 +6,7 @@ use Rattle.std.specs.Prelude.{◌≡◌, ℕ, ◌+◌, ◌*◌, ◌<◌, ◌≤�
 use mathlib.Core.Option.{some}
 use lib.ListN.{get_elem?}
 use Rattle.bench_types.specs.declared.exchanges.Exchange.{Exchange}
-use Rattle.node_table.specs.Table.{Table}
+use Rattle.model.specs.Table.{Table}
 use Rattle.dependencies.specs.Sharing.{takes_part, share_node}
 use Rattle.dependencies.specs.Neighbours.{predecessors, pending_of}
 use Rattle.atomic_table.specs.Table.{State}

@@ -1,11 +1,11 @@
 //! A board, the seats that use it, and what its calls answer.
 ghost use Rattle.std.specs.Prelude.{List, ◌≡◌, ◌+◌, ◌/◌, ◌<◌, ◌≤◌, None, Some, [], length, map, reverse, IfSome, IfErr, IfOk, IsOkUnless, vec_capacity};
 ghost use Rattle.bench_types.specs.declared.faults.Fault.TheVariants.{OutOfMemory};
-ghost use Rattle.round_plan.specs.Plan.{IsRoundPlan};
+ghost use Rattle.model.specs.RoundLists.{IsRoundPlan};
 ghost use Rattle.dependencies.specs.inner.Slots.{in_place};
 ghost use Rattle.std.specs.Mem.Slots.{slots_items, slots_len, IsFull};
 ghost use Rattle.bench_types.specs.declared.faults.Fault.TheVariants.{Unfinished};
-ghost use Rattle.cluster.specs.Tables.{IsCluster};
+ghost use Rattle.model.specs.Tables.{IsCluster};
 ghost use Rattle.board.specs.SeatView.{IsWhole, first_seat, split_left, split_right, joined, with_held};
 ghost use Rattle.board.specs.Keys.{IsBoardKey};
 ghost use Rattle.board.specs.Seats.{resting, IsApart};
@@ -18,8 +18,7 @@ use crate::views::View;
 use atomic_table::{Closed, Refused, Table};
 use bench_types::{Fault, Rules};
 use dependencies::Deps;
-use exchange::MemoryTable;
-use node_table::NodeTable;
+use model::MemoryTable;
 use std::alloc::Global;
 use std::snapshot::Snapshot;
 
@@ -37,13 +36,13 @@ const STOP: u64 = 1;
 
 /// What one thread uses a board with. It has no bytes.
 #[derive(Drop)]
-pub struct Seat<T = NodeTable> {
+pub struct Seat<T> {
     raw: Raw<T>,
 }
 
 /// A claimed exchange, and the tables of its two nodes, taken out of the board.
 #[derive(Drop)]
-pub struct Hold<T = NodeTable> {
+pub struct Hold<T> {
     pub index: u32,
     pub initiator: T,
     pub responder: T,
@@ -51,7 +50,7 @@ pub struct Hold<T = NodeTable> {
 
 /// What came of a claim.
 #[derive(Drop)]
-pub enum Claim<T = NodeTable> {
+pub enum Claim<T> {
     Held(Hold<T>),
     /// The exchange was claimed before.
     Taken,
@@ -76,7 +75,7 @@ pub struct Progress {
 
 /// The tables of all nodes, which threads take out two at a time and put back.
 #[derive(Drop)]
-pub struct Board<T: MemoryTable = NodeTable> {
+pub struct Board<T: MemoryTable> {
     table: Table<Option<T>, View, BoardKey<T>, Order<T>, Global>,
     deps: Deps,
     // Room for all tables, for `close`.

@@ -2,7 +2,7 @@
 
 ghost use Rattle.board.specs.Laws.{EachKeepsASchedule, EachWholeSeatKnowsItsOwn, EachHoldMayBeExchanged, EachMayBePutBack};
 
-use exchange::MemoryTable;
+use model::MemoryTable;
 
 /// At each moment what seats have put back and what they hold are the finished and the running exchanges
 /// of some lawful schedule, and the table of a node of which none runs is the one of its state.

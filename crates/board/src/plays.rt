@@ -8,7 +8,7 @@ use crate::views::View;
 use atomic_table::{Join, Play, Split, TableRule};
 use bench_types::Rules;
 use dependencies::Deps;
-use exchange::MemoryTable;
+use model::MemoryTable;
 use std::marker::PhantomData;
 use std::snapshot::Snapshot;
 

@@ -5,9 +5,9 @@ use Rattle.bench_types.specs.declared.faults.Fault.{Fault}
 use Rattle.bench_types.specs.declared.faults.Fault.TheVariants.{WriteFailed}
 use Rattle.bench_types.specs.declared.sinks.Sink.{Ghosts as Sink}
 use Rattle.bench_types.specs.declared.sources.Source.{Ghosts as Source}
-use Rattle.bench.specs.Inputs.{IsRead, IsInputFault}
-use Rattle.bench.specs.Runs.{IsReported, IsRunFault}
-use Rattle.bench.specs.Comparisons.{IsCompared, IsCompareFault}
+use Rattle.runs.specs.Inputs.{IsRead, IsInputFault}
+use Rattle.runs.specs.Runs.{IsReported, IsRunFault}
+use Rattle.runs.specs.Comparisons.{IsCompared, IsCompareFault}
 use Rattle.bench_types.specs.Output.{IsWritten, IsWriteFault}
 use Rattle.scenario.specs.Settings.{Settings}
 use Rattle.command_words.specs.declared.jobs.Job.{Job}

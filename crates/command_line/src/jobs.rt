@@ -4,9 +4,9 @@ ghost use Rattle.std.specs.Prelude.{OnOk, IfErr};
 ghost use Rattle.command_words.specs.Workers.{AreLawfulWorkers, HasLawfulWorkers};
 ghost use Rattle.command_line.specs.Jobs.{IsChecked, IsCheckFault, IsReportedWith, IsRunFaultWith, IsPerformed, IsJobFault};
 
-use bench::{check_input, compare, run};
 use bench_types::{Discard, Fault, Push, Sink, Source, write_text};
 use command_words::Job;
+use runs::{check_input, compare, run};
 use std::alloc::Global;
 use std::fs;
 use std::rt::Files;

@@ -7,9 +7,9 @@ use Rattle.std.proofs.lemmas.List.Sums.{fold_push}
 use Rattle.std.proofs.lemmas.Option.{slice_get-get_or}
 use Rattle.bench_types.specs.declared.exchanges.Exchange.{Exchange}
 use Rattle.bench_types.specs.declared.exchanges.Rules.{Rules}
-use Rattle.node_table.specs.Table.{Table, empty_table}
-use Rattle.exchange.specs.Exchanged.{Exchanged}
-use Rattle.cluster.specs.Folds.{fold_of}
+use Rattle.model.specs.Table.{Table, empty_table}
+use Rattle.model.specs.Exchanged.{Exchanged}
+use Rattle.model.specs.Folds.{fold_of}
 use Rattle.dependencies.specs.declared.events.Event.{Event}
 use Rattle.dependencies.specs.declared.events.Event.TheVariants.{Start, Finish}
 use Rattle.dependencies.specs.Sharing.{exchange_at, takes_part, share_node}

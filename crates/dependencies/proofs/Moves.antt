@@ -10,11 +10,11 @@ use Rattle.std.proofs.lemmas.List.Elements.{All-get_or}
 use Rattle.std.proofs.lemmas.Option.{slice_get-get_or}
 use Rattle.bench_types.specs.declared.exchanges.Exchange.{Exchange}
 use Rattle.bench_types.specs.declared.exchanges.Rules.{Rules}
-use Rattle.node_table.specs.Table.{Table, empty_table}
-use Rattle.exchange.specs.Exchanged.{Exchanged, exchanged}
-use Rattle.cluster.specs.Tables.{table_of_node}
-use Rattle.cluster.proofs.FoldLaws.{fold_counts_records, fold_counts_tables}
-use Rattle.cluster.specs.Folds.{Folded, exchange_in, fold_of, tables_before}
+use Rattle.model.specs.Table.{Table, empty_table}
+use Rattle.model.specs.Exchanged.{Exchanged, exchanged}
+use Rattle.model.specs.Tables.{table_of_node}
+use Rattle.model.proofs.FoldLaws.{fold_counts_records, fold_counts_tables}
+use Rattle.model.specs.Folds.{Folded, exchange_in, fold_of, tables_before}
 use Rattle.bench_types.specs.Exchange.{IsPlanned}
 use Rattle.dependencies.specs.declared.events.Event.{Event}
 use Rattle.dependencies.specs.Sharing.{no_exchange, exchange_at, takes_part}

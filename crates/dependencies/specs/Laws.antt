@@ -2,7 +2,7 @@
 use Rattle.std.specs.Prelude.{◌≡◌, ℕ, ◌<◌, ◌⊎◌, ◌↔◌, Bool, true, List, length, All}
 use Rattle.bench_types.specs.declared.exchanges.Exchange.{Exchange}
 use Rattle.bench_types.specs.declared.exchanges.Rules.{Rules}
-use Rattle.node_table.specs.Table.{Table}
+use Rattle.model.specs.Table.{Table}
 use Rattle.dependencies.specs.declared.events.Event.{Event}
 use Rattle.dependencies.specs.Sharing.{share_node}
 use Rattle.dependencies.specs.Schedules.{is_finished, AreFinished, IsLawful}

@@ -5,8 +5,8 @@ pub mod States
 pub mod ListOrder
 pub mod Laws
 pub mod inner
-pub use Rattle.exchange.specs.Exchanged
-pub use Rattle.cluster.specs.Tables
-pub use Rattle.cluster.specs.Folds
-pub use Rattle.round_plan.specs.Plan
+pub use Rattle.model.specs.Exchanged
+pub use Rattle.model.specs.Tables
+pub use Rattle.model.specs.Folds
+pub use Rattle.model.specs.RoundLists
 pub use Rattle.bench_types.specs.Exchange

@@ -3,9 +3,9 @@ use Rattle.std.specs.Prelude.{◌≡◌, ◌≢◌, ℕ, zero, suc, ◌<◌, ◌
 use Rattle.std.specs.List.{range_with_len, filter}
 use Rattle.bench_types.specs.declared.exchanges.Exchange.{Exchange}
 use Rattle.bench_types.specs.declared.exchanges.Rules.{Rules}
-use Rattle.node_table.specs.Table.{Table}
-use Rattle.cluster.specs.Tables.{table_of_node}
-use Rattle.cluster.specs.Folds.{fold_of, tables_before}
+use Rattle.model.specs.Table.{Table}
+use Rattle.model.specs.Tables.{table_of_node}
+use Rattle.model.specs.Folds.{fold_of, tables_before}
 use Rattle.bench_types.specs.Exchange.{IsPlanned}
 use Rattle.dependencies.specs.declared.events.Event.{Event}
 use Rattle.dependencies.specs.declared.events.Event.TheVariants.{Start, Finish}

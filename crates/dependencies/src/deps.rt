@@ -4,15 +4,15 @@ ghost use Rattle.std.specs.Prelude.{◌≡◌, ◌<◌, ◌≤◌, ◌++◌, All
 ghost use Rattle.bench_types.specs.declared.exchanges.Exchange.{Exchange};
 ghost use Rattle.bench_types.specs.declared.faults.Fault.TheVariants.{OutOfMemory};
 ghost use Rattle.bench_types.specs.Exchange.{IsPlanned};
-ghost use Rattle.round_plan.specs.Plan.{IsRoundPlan};
-ghost use Rattle.round_plan.specs.declared.lists.TheConstants.{MOST_EXCHANGES};
+ghost use Rattle.model.specs.RoundLists.{IsRoundPlan};
+ghost use Rattle.model.specs.declared.lists.TheConstants.{MOST_EXCHANGES};
 ghost use Rattle.dependencies.specs.Sharing.{exchange_at};
 ghost use Rattle.dependencies.specs.inner.Dependencies.{AreFirstReady};
 ghost use Rattle.dependencies.specs.Neighbours.{predecessors_of, successors, as_list, unless_same, pending_of, first_ready_of};
 ghost use Rattle.dependencies.specs.inner.Dependencies.{all_predecessors, all_successors};
 
 use bench_types::{Exchange, Fault};
-use round_plan::RoundList;
+use model::RoundList;
 use std::alloc::Global;
 use std::marker::Model;
 
@@ -46,7 +46,7 @@ pub struct Deps {
 }
 
 impl Model for Deps {
-    ghost use Rattle.round_plan.specs.Plan.{RoundListView, round_list_view};
+    ghost use Rattle.model.specs.RoundLists.{RoundListView, round_list_view};
     ghost use Rattle.dependencies.specs.inner.Dependencies.{AreKept};
 
     ghost Value = { RoundListView };

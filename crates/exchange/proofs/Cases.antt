@@ -7,10 +7,11 @@ use Rattle.bench_types.specs.declared.exchanges.Fate.TheVariants as fate
 use Rattle.bench_types.specs.declared.exchanges.Record.{Record}
 use Rattle.bench_types.specs.declared.exchanges.Rules.{Rules}
 use Rattle.bench_types.specs.Mode.{digest_kind}
-use Rattle.node_table.specs.Table.{Table, applied}
-use Rattle.reconcile.specs.Digests.{DigestView, IsDigestOf, digest_size}
-use Rattle.reconcile.specs.Deltas.{DeltaView, delta_between}
-use Rattle.exchange.specs.Exchanged.{Exchanged, exchanged, fate_of, last_fate, initiator_after, responder_after, sent_until}
+use Rattle.model.specs.Table.{Table, applied}
+use Rattle.reconcile.specs.Digests.{DigestView, IsDigestOf}
+use Rattle.model.specs.Digests.{digest_size}
+use Rattle.model.specs.Deltas.{DeltaView, delta_between}
+use Rattle.model.specs.Exchanged.{Exchanged, exchanged, fate_of, last_fate, initiator_after, responder_after, sent_until}
 use Rattle.exchange.specs.inner.Messages.{after_message}
 
 -- where the third message was sent, the second came
@@ -62,16 +63,3 @@ module _ (rules : Rules) (e : Exchange) (p q : Table) where
           responder = (responder_after-last e.lost3 q (delta_between rules.mode e.rotation rules.budget p q) ∙ ap (after_message e.lost3 q) (sym forth_is) ∙ sym q'_is) i;
           sent = ((λ j. sent_until (last_fate e.lost3) (size_is p d1 is1 j) (size_is q d2 is2 j) (sym back_is j) (sym forth_is j)) ∙ sym sent) i;
         })
-
--- what holds of a table before an exchange and with what it receives holds after the exchange
-pub initiator_after-either : (P : Table → Type 0) (f : Fate) (p : Table) (back : DeltaView) → P p → P (applied p back.items) → P (initiator_after f p back)
-initiator_after-either P fate.Lost1 p back old new = old
-initiator_after-either P fate.Lost2 p back old new = old
-initiator_after-either P fate.Lost3 p back old new = new
-initiator_after-either P fate.Ok p back old new = new
-
-pub responder_after-either : (P : Table → Type 0) (f : Fate) (q : Table) (forth : DeltaView) → P q → P (applied q forth.items) → P (responder_after f q forth)
-responder_after-either P fate.Lost1 q forth old new = old
-responder_after-either P fate.Lost2 q forth old new = old
-responder_after-either P fate.Lost3 q forth old new = old
-responder_after-either P fate.Ok q forth old new = new

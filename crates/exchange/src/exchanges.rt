@@ -5,14 +5,16 @@ ghost use Rattle.bench_types.specs.declared.faults.Fault.TheVariants.{OutOfMemor
 ghost use Rattle.bench_types.specs.declared.exchanges.Fate.TheVariants as fate;
 ghost use Rattle.bench_types.specs.Budget.{IsLawfulBudget};
 ghost use Rattle.bench_types.specs.Mode.{digest_kind};
-ghost use Rattle.node_table.specs.NodeTableView.{IsFor, MayReceive};
-ghost use Rattle.node_table.specs.Table.{applied};
+ghost use Rattle.model.specs.Table.{IsFor, MayReceive};
+ghost use Rattle.model.specs.Table.{applied};
 ghost use Rattle.reconcile.specs.Digests.{IsDigestOf, IsOfKind};
-ghost use Rattle.reconcile.specs.Deltas.{DeltaView};
+ghost use Rattle.model.specs.Deltas.{DeltaView};
 ghost use Rattle.exchange.specs.inner.Messages.{IsAnswer, MayAnswerEachOther, after_message};
-ghost use Rattle.exchange.specs.Exchanged.{IsExchanged, BothTablesStay, last_fate, sent_until};
+ghost use Rattle.exchange.specs.InMemory.{IsExchanged, BothTablesStay};
+ghost use Rattle.model.specs.Exchanged.{last_fate, sent_until};
 
 use bench_types::{Exchange, Fate, Fault, Record, Rules};
+use model::sent_before_an_answer;
 use node_table::NodeTable;
 use reconcile::{Delta, Digest, delta};
 use std::alloc::Global;
@@ -135,21 +137,6 @@ fn answer(
         plan.rotation,
         rules.budget,
     )
-}
-
-/// The record where the first message was lost, of which the size is given.
-pub fn sent_before_an_answer(digest1: u32) -> Record
-    ensures { (size2 : ℕ) (back forth : DeltaView) → result ≡ sent_until fate.Lost1 digest1 size2 back forth }
-{
-    Record {
-        digest1,
-        digest2: 0,
-        back: 0,
-        forth: 0,
-        back_cut: 0,
-        forth_cut: 0,
-        fate: Fate::Lost1,
-    }
 }
 
 // The record where the second message was lost.

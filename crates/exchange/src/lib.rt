@@ -1,9 +1,8 @@
-//! One exchange of two nodes' tables, with the messages that get lost.
+//! One exchange of two nodes' tables with entries, with the messages that get lost.
 #![tactic(auto)]
 
 mod exchanges;
 mod exchanging;
-pub mod laws;
 
-pub use exchanges::{exchange, sent_before_an_answer};
-pub use exchanging::{Exchanging, MemoryTable};
+pub use exchanges::exchange;
+pub use exchanging::Entries;

@@ -10,14 +10,15 @@ use Rattle.bench_types.specs.Mark.{absent}
 use Rattle.bench_types.specs.declared.entries.Entry.{Entry}
 use Rattle.node_table.specs.declared.layouts.Row.{Row}
 use Rattle.node_table.specs.declared.layouts.Layout.{Layout}
-use Rattle.node_table.specs.Table.{place_cmp, Table, entry_at, greatest_mark, IsProper}
+use Rattle.model.specs.Table.{place_cmp, Table, entry_at, greatest_mark, IsProper}
 use Rattle.node_table.specs.Entries.{AreGenerations, AreGreatest}
-use Rattle.node_table.specs.Held.{held_by_lists}
-use Rattle.node_table.specs.inner.Layouts.{entries_in_row, rows_of, row_at, row_len, block_len, entry_in, table_laid, IsInSlots, AreLaid, IsLayout}
-use Rattle.node_table.proofs.Laws.{same_table}
+use Rattle.model.specs.Held.{held_by_lists}
+use Rattle.node_table.specs.inner.Layouts.{entries_in_row, rows_of, row_at, row_len, block_len, table_laid, IsInSlots, AreLaid, IsLayout}
+use Rattle.model.specs.Held.{entry_in}
+use Rattle.model.proofs.TableLaws.{same_table}
 use Rattle.node_table.proofs.Laid.{row_at-get_or, row_at-past}
-use Rattle.node_table.proofs.Greatest.{greatest_mark-none}
-use Rattle.node_table.proofs.InRows.{get-held_by_lists}
+use Rattle.model.proofs.Greatest.{greatest_mark-none}
+use Rattle.model.proofs.InLists.{get-held_by_lists}
 use Rattle.node_table.proofs.Forgotten.{empty_row, empty_is_row, sum_none}
 
 module _ (nodes keys : ℕ) where

@@ -8,11 +8,12 @@ use Rattle.bench_types.specs.declared.entries.Item.{Item}
 use Rattle.bench_types.specs.Mark.{mark_held}
 use Rattle.node_table.specs.declared.layouts.Row.{Row}
 use Rattle.node_table.specs.declared.layouts.Layout.{Layout}
-use Rattle.node_table.specs.Table.{greatest_version}
+use Rattle.model.specs.Table.{greatest_version}
 use Rattle.node_table.specs.Entries.{AreGreatest}
-use Rattle.node_table.specs.inner.Items.{no_item}
+use Rattle.model.specs.inner.Items.{no_item}
 use Rattle.node_table.specs.NodeTableView.{blocks_below}
-use Rattle.node_table.specs.inner.Layouts.{row_at, entry_in, table_laid, IsRow, IsLayout}
+use Rattle.node_table.specs.inner.Layouts.{row_at, table_laid, IsRow, IsLayout}
+use Rattle.model.specs.Held.{entry_in}
 use Rattle.node_table.specs.inner.Flags.{ComesWithin, AreFlagged, AreUnflagged}
 use Rattle.node_table.proofs.Room.{blocks-upto, blocks-came_held, blocks-came_new}
 use Rattle.node_table.proofs.Taking.{version-le-greatest}

@@ -13,14 +13,15 @@ use Rattle.bench_types.specs.declared.entries.Mark.{Mark}
 use Rattle.bench_types.specs.Mark.{absent, mark_of, IsBefore, IsUpTo}
 use Rattle.node_table.specs.declared.layouts.Row.{Row}
 use Rattle.node_table.specs.declared.layouts.Layout.{Layout}
-use Rattle.node_table.specs.Table.{Table, entry_at, greatest_mark, generation_held, greatest_version, count_of, taken}
+use Rattle.model.specs.Table.{Table, entry_at, greatest_mark, generation_held, greatest_version, count_of, taken}
 use Rattle.node_table.specs.Entries.{StandsBefore, AreAbove}
-use Rattle.node_table.specs.Held.{held_by_lists}
-use Rattle.node_table.specs.inner.Layouts.{entries_in_row, rows_of, row_at, row_len, entry_in, table_laid, with_entry, HaveTwoKeys, IsRow, IsInSlots, AreLaid, IsLayout, IsIndexOf, IsRankAbove, IsPlaced, IsRenewed}
-use Rattle.node_table.proofs.Greatest.{greatest_mark-none, place_less}
-use Rattle.node_table.proofs.Laws.{same_table, entry_at-taken_other, entry_at-taken_newer, frame-taken}
+use Rattle.model.specs.Held.{held_by_lists}
+use Rattle.node_table.specs.inner.Layouts.{entries_in_row, rows_of, row_at, row_len, table_laid, with_entry, IsRow, IsInSlots, AreLaid, IsLayout, IsIndexOf, IsRankAbove, IsPlaced, IsRenewed}
+use Rattle.model.specs.Held.{entry_in, HaveTwoKeys}
+use Rattle.model.proofs.Greatest.{greatest_mark-none, place_less}
+use Rattle.model.proofs.TableLaws.{same_table, entry_at-taken_other, entry_at-taken_newer, frame-taken}
 use Rattle.node_table.proofs.InRow.{rank_place, absent_from_end}
-use Rattle.node_table.proofs.InRows.{get-held_by_lists, len-held_by_lists, held_by_lists-put, entry_in-none}
+use Rattle.model.proofs.InLists.{get-held_by_lists, len-held_by_lists, held_by_lists-put, entry_in-none}
 use Rattle.node_table.proofs.Laid.{entries_in_row-empty, row_at-get_or, row_at-past, total-rows, length-entries_in_row}
 
 -- the entry of a key is the first that has it

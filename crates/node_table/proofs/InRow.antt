@@ -15,11 +15,12 @@ use Rattle.std.proofs.lemmas.Map.Made.{IsDistinct-from_AllPairs}
 use Rattle.std.proofs.lemmas.Map.Steps.{length-le_from_distinct_below}
 use Rattle.std.proofs.lemmas.Map.Views.{Contains-from_any}
 use Rattle.bench_types.specs.declared.entries.Entry.{Entry}
-use Rattle.node_table.specs.Table.{Place}
+use Rattle.model.specs.Table.{Place}
 use Rattle.node_table.specs.Entries.{entry_cmp, StandsBefore}
-use Rattle.node_table.specs.inner.Layouts.{entry_in, HaveTwoKeys, IsRow, IsIndexOf, IsRankOf, IsPut}
+use Rattle.model.specs.Held.{entry_in, HaveTwoKeys}
+use Rattle.node_table.specs.inner.Layouts.{IsRow, IsIndexOf, IsRankOf, IsPut}
 use Rattle.bench_types.proofs.Comparing.{nat_cmp-less}
-use Rattle.node_table.proofs.Order.{place_total, place_same, place_turned}
+use Rattle.model.proofs.Order.{place_total, place_same, place_turned}
 
 abbrev pub no_entry : Entry
 no_entry = record { key = 0; generation = 0; version = 0; value = 0; born = 0 }

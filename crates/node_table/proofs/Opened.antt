@@ -11,13 +11,14 @@ use Rattle.bench_types.specs.Mark.{absent, mark_of, mark_held, later}
 use Rattle.bench_types.proofs.Marks.{later-second}
 use Rattle.node_table.specs.declared.layouts.Layout.{Layout}
 use Rattle.node_table.specs.declared.layouts.Row.{Row}
-use Rattle.node_table.specs.Held.{held_by_lists}
-use Rattle.node_table.specs.Table.{Table, mark_at, greatest_mark, generation_held, greatest_version, taken, IsProper, IsItemInPlace}
-use Rattle.node_table.specs.inner.Layouts.{entries_in_row, entry_in, rows_of, row_at, table_laid, block_len, IsRow, IsInSlots, AreApart, AreLaid, IsPut, IsPlaced, IsRenewed}
+use Rattle.model.specs.Held.{held_by_lists}
+use Rattle.model.specs.Table.{Table, mark_at, greatest_mark, generation_held, greatest_version, taken, IsProper, IsItemInPlace}
+use Rattle.node_table.specs.inner.Layouts.{entries_in_row, rows_of, row_at, table_laid, block_len, IsRow, IsInSlots, AreApart, AreLaid, IsPut, IsPlaced, IsRenewed}
+use Rattle.model.specs.Held.{entry_in}
 use Rattle.node_table.proofs.Blocks.{take-behind, take-new}
 use Rattle.node_table.proofs.InLayout.{entry_at-in, nothing_held, table_placed, table_renewed}
 use Rattle.node_table.proofs.Laid.{laid_after, renewed_after, block_len-some, block_len-none}
-use Rattle.node_table.proofs.MarkLaws.{greatest_mark-taken}
+use Rattle.model.proofs.MarkLaws.{greatest_mark-taken}
 use Rattle.node_table.proofs.Taking.{taken_put}
 
 -- a row of one entry

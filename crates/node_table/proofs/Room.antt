@@ -6,11 +6,11 @@ use Rattle.std.proofs.Math.Nat.{mul-le-mul_right}
 use Rattle.std.proofs.lemmas.Nat.{le-div, div-add-mod'}
 use Rattle.bench_types.specs.declared.entries.Item.{Item}
 use Rattle.bench_types.specs.declared.entries.Mark.{Mark}
-use Rattle.node_table.specs.Table.{Table, greatest_version, taken, IsProper}
-use Rattle.node_table.specs.Table.{IsItemInPlace}
+use Rattle.model.specs.Table.{Table, greatest_version, taken, IsProper}
+use Rattle.model.specs.Table.{IsItemInPlace}
 use Rattle.node_table.specs.NodeTableView.{comes_in, needs_block, blocks_below, blocks_for}
-use Rattle.node_table.proofs.Laws.{frame-taken}
-use Rattle.node_table.proofs.MarkLaws.{greatest_mark-taken_other}
+use Rattle.model.proofs.TableLaws.{frame-taken}
+use Rattle.model.proofs.MarkLaws.{greatest_mark-taken_other}
 use Rattle.node_table.proofs.Taking.{held-taken}
 
 -- greatest versions before and after an item came in, or its owner was flagged

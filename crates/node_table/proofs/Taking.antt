@@ -12,13 +12,13 @@ use Rattle.bench_types.specs.declared.entries.Mark.{Mark}
 use Rattle.bench_types.specs.Entry.{newer}
 use Rattle.bench_types.specs.Mark.{absent, mark_of, mark_held, IsUpTo, later}
 use Rattle.bench_types.proofs.Marks.{before-yes, before-no, cases_later, later-second, second-later}
-use Rattle.node_table.specs.Table.{Place, place_cmp, Held, Table, entry_at, mark_at, greatest_mark, generation_held, greatest_version, taken, own_write, with_own_write, IsProper}
+use Rattle.model.specs.Table.{Place, place_cmp, Held, Table, entry_at, mark_at, greatest_mark, generation_held, greatest_version, taken, own_write, with_own_write, IsProper}
 use Rattle.node_table.specs.Entries.{AreGenerations, AreGreatest}
 use Rattle.node_table.specs.inner.Layouts.{with_entry, AreOthersKept}
-use Rattle.node_table.proofs.Order.{place_total, place_same}
-use Rattle.node_table.proofs.Laws.{place_tied, same_table, cases_taken, entry_at-taken_other, entry_at-taken_newer, entry_at-own_write, entry_at-own_write_other, frame-taken}
-use Rattle.node_table.proofs.Greatest.{greatest_mark-from, greatest_mark-none, mark_at-up_to_greatest}
-use Rattle.node_table.proofs.MarkLaws.{greatest_mark-taken, greatest_mark-taken_other}
+use Rattle.model.proofs.Order.{place_total, place_same}
+use Rattle.model.proofs.TableLaws.{place_tied, same_table, cases_taken, entry_at-taken_other, entry_at-taken_newer, entry_at-own_write, entry_at-own_write_other, frame-taken}
+use Rattle.model.proofs.Greatest.{greatest_mark-from, greatest_mark-none, mark_at-up_to_greatest}
+use Rattle.model.proofs.MarkLaws.{greatest_mark-taken, greatest_mark-taken_other}
 
 nothing : (e : Entry) → None ≡ Some e → ⊥
 nothing e h = cc

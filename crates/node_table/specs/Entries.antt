@@ -7,7 +7,7 @@ use Rattle.std.specs.declared.cmp.Ordering.TheVariants.{Less}
 use Rattle.bench_types.specs.declared.entries.Entry.{Entry}
 use Rattle.bench_types.specs.declared.entries.Mark.{Mark}
 use Rattle.bench_types.specs.Mark.{mark_of, IsBefore}
-use Rattle.node_table.specs.Table.{Table, entry_at, generation_held, greatest_version}
+use Rattle.model.specs.Table.{Table, entry_at, generation_held, greatest_version}
 
 abbrev pub entry_cmp : Entry → Entry → Ordering
 entry_cmp d e = ordering_then (nat_cmp d.version e.version) (nat_cmp d.key e.key)

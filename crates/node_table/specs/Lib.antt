@@ -1,6 +1,4 @@
-pub mod Table
 pub mod NodeTableView
 pub mod Entries
-pub mod Held
 pub mod inner
 pub use Rattle.bench_types.specs.Entry

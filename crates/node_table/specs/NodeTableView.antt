@@ -4,7 +4,7 @@
 use Rattle.std.specs.Prelude.{◌≢◌, ℕ, zero, suc, ◌+◌, ◌≤◌, ◌==◌, ◌&&◌, Bool, List, All, if◌then◌else◌}
 use Rattle.std.specs.List.{list_any}
 use Rattle.bench_types.specs.declared.entries.Item.{Item}
-use Rattle.node_table.specs.Table.{Table, greatest_version, IsItemInPlace}
+use Rattle.model.specs.Table.{Table, greatest_version, IsItemInPlace, MayReceive}
 
 pub record NodeTableView : Type 0 where
   pub table : Table
@@ -31,14 +31,15 @@ blocks_for t added = blocks_below (greatest_version t) added t.nodes
 abbrev pub HasRoom : NodeTableView → List Item → Type 0
 HasRoom kept added = blocks_for kept.table added ≤ kept.room
 
--- an item that a node may receive, of so many nodes with so many keys: another node's, in its place
-abbrev pub IsFor : ℕ → ℕ → ℕ → Item → Type 0
-IsFor node nodes keys i = (i.owner ≢ node) × IsItemInPlace nodes keys i
-
-abbrev pub MayReceive : Table → Item → Type 0
-MayReceive t = IsFor t.node t.nodes t.keys
-
 -- the items that a table may take without memory
 pub record MayApply (kept : NodeTableView) (added : List Item) : Type 0 where
   pub room : HasRoom kept added
   pub received : All (MayReceive kept.table) added
+
+-- the model's table of a table that has its entries itself
+abbrev pub kept_table : NodeTableView → Table
+kept_table kept = kept.table
+
+-- the tables in memory, without their room
+abbrev pub tables_in : List NodeTableView → List Table
+tables_in kept = map (λ k. k.table) kept

@@ -8,6 +8,7 @@ use crate::layouts::{Layout, Row};
 use crate::rows::find;
 use bench_types::limits::{LEAST_KEYS, MOST_KEYS, MOST_NODES};
 use bench_types::{Entry, Fault, Item, Mark};
+use model::MemoryTable;
 use std::alloc::Global;
 use std::marker::Model;
 
@@ -31,10 +32,17 @@ impl Model for NodeTable {
     ghost invariant = { λ t. IsLayout t.layout };
 }
 
+impl MemoryTable for NodeTable {
+    ghost use Rattle.node_table.specs.NodeTableView.{kept_table};
+
+    ghost table = { kept_table };
+}
+
 impl NodeTable {
-    ghost use Rattle.node_table.specs.Table.{empty_table, entry_at, greatest_mark, greatest_version, count_of, with_own_write, applied, without_others, without_all, IsProper};
-    ghost use Rattle.node_table.specs.NodeTableView.{blocks_for, HasRoom, MayApply, MayReceive};
-    ghost use Rattle.node_table.specs.Table.{IsItemInPlace};
+    ghost use Rattle.model.specs.Table.{empty_table, entry_at, greatest_mark, greatest_version, count_of, with_own_write, applied, without_others, without_all, IsProper};
+    ghost use Rattle.node_table.specs.NodeTableView.{blocks_for, HasRoom, MayApply};
+    ghost use Rattle.model.specs.Table.{MayReceive};
+    ghost use Rattle.model.specs.Table.{IsItemInPlace};
     ghost use Rattle.node_table.specs.Entries.{AreAbove, AreGenerations, AreGreatest};
     ghost use Rattle.bench_types.specs.Mark.{absent};
 

@@ -1,7 +1,7 @@
 -- Whether writes stand in the order of their rounds, once one is added.
 -- Serves `OwnerList::write` and `comes_in_order`.
 use Rattle.std.proofs.Common.{◌≡◌, ℕ, suc, ◌-◌, ◌<◌, Bool, true, false, leb, ◌&&◌, List, [], ◌∷◌, ◌++◌, length, get_or, refl, ap, ◌∙◌, arith}
-use Rattle.owner_lists.specs.declared.lists.Write.{Write}
+use Rattle.model.specs.declared.writes.Write.{Write}
 use Rattle.owner_lists.specs.Missed.{last_born, in_order_from}
 
 and_turned : (a : Bool) → (a && true) ≡ (true && a)

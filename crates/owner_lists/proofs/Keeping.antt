@@ -9,9 +9,9 @@ use Rattle.bench_types.specs.declared.entries.Entry.{Entry}
 use Rattle.bench_types.specs.Entry.{IsNextAfter, AreNextAfter}
 use Rattle.bench_types.specs.Mark.{mark_of, IsBefore}
 use Rattle.owner_lists.specs.declared.lists.Link.{Link}
-use Rattle.owner_lists.specs.declared.lists.Write.{Write}
-use Rattle.owner_lists.specs.OwnerListView.{OwnerListView, entries_of, written, MarksRise, AreWrites, next_entry, with_write, begun_generation}
-use Rattle.owner_lists.specs.Writes.{IsNumbered, write_of_entry}
+use Rattle.model.specs.declared.writes.Write.{Write}
+use Rattle.model.specs.OwnerListView.{OwnerListView, entries_of, written, MarksRise, AreWrites, next_entry, with_write, begun_generation}
+use Rattle.model.specs.Writes.{IsNumbered, write_of_entry}
 use Rattle.owner_lists.specs.inner.Linked.{entries_linked, writes_linked, view_of, IsOwnerList, IsKeptList}
 use Rattle.owner_lists.proofs.Linking.{written_linked}
 

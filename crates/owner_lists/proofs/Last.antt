@@ -8,31 +8,13 @@ use Rattle.std.proofs.lemmas.Bool.{cases_lt, lt-ltb, le-ltb, ne_eqb, eq-eqb}
 use Rattle.std.proofs.lemmas.List.{reverse-append}
 use Rattle.std.proofs.lemmas.List.Folds.{find-append}
 use Rattle.std.proofs.lemmas.List.Elements.{All-head, All-tail}
-use Rattle.owner_lists.specs.declared.lists.Write.{Write}
-use Rattle.owner_lists.specs.Writes.{IsNumbered, is_write_of, last_write}
+use Rattle.model.specs.declared.writes.Write.{Write}
+use Rattle.model.specs.Writes.{IsNumbered, is_write_of, last_write}
 use Rattle.owner_lists.specs.Missed.{is_missed, first_missed}
-use Rattle.bench_types.proofs.Comparing.{nat_cmp-less, nat_cmp-equal, nat_cmp-greater}
-
--- a write at the end is the last of its key
-pub last_write-push : (ws : List Write) (w : Write) (key : ℕ) → last_write (ws ++ w ∷ []) key ≡ (if is_write_of key w then Some w else last_write ws key)
-last_write-push ws w key = ap (find (is_write_of key)) (reverse-append ws (w ∷ []))
 
 -- a write at the front is the last of its key where none follows
 last_write-cons : (w : Write) (ws : List Write) (key : ℕ) → last_write (w ∷ ws) key ≡ option_or (last_write ws key) (if is_write_of key w then Some w else None)
 last_write-cons w ws key = ap (find (is_write_of key)) (reverse-append (w ∷ []) ws) ∙ find-append (is_write_of key) (reverse ws) (w ∷ [])
-
-pub same_key : (m n : ℕ) → is_eq (nat_cmp m n) ≡ eqb n m
-same_key m n = elim (cases_lt m n) [
-  | inl lt ↦ let ne : n ≢ m = omega arith in ap is_eq (nat_cmp-less m n lt) ∙ sym (ne_eqb n m ne)
-  | inr le ↦ elim (cases_lt n m) [
-    | inl gt ↦ let ne : n ≢ m = omega arith in ap is_eq (nat_cmp-greater m n gt) ∙ sym (ne_eqb n m ne)
-    | inr ge ↦ let e : n ≡ m = omega arith in ap is_eq (nat_cmp-equal m n (sym e)) ∙ sym (eq-eqb n m e)
-  ]
-]
-
--- a write of a version
-abbrev pub with_version : ℕ → ℕ → ℕ → Write
-with_version version key born = record { key = key; version = version; born = born }
 
 -- the versions count up from n
 abbrev CountsFrom : ℕ → List Write → Type 0

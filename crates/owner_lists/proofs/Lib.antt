@@ -4,5 +4,4 @@ pub mod Linking
 pub mod InOrder
 pub mod Marked
 pub mod Keeping
-pub mod Owners
 mod Numbered

@@ -13,15 +13,16 @@ use Rattle.std.proofs.lemmas.List.{drop_all, length-reverse, get_or-reverse, get
 use Rattle.std.proofs.lemmas.List.Folds.{find-append}
 use Rattle.bench_types.specs.declared.entries.Entry.{Entry}
 use Rattle.owner_lists.specs.declared.lists.Link.{Link}
-use Rattle.owner_lists.specs.declared.lists.Write.{Write}
+use Rattle.model.specs.declared.writes.Write.{Write}
 use Rattle.bench_types.specs.Entry.{AreNextAfter}
-use Rattle.owner_lists.specs.Writes.{write_of_entry, next_write, IsNumbered, is_write_of, last_write}
+use Rattle.model.specs.Writes.{write_of_entry, next_write, IsNumbered, is_write_of, last_write}
 use Rattle.owner_lists.specs.Missed.{is_missed, first_missed, born_in_order}
 use Rattle.owner_lists.specs.inner.Linked.{as_write, entries_linked, writes_linked, writes_linked_from, version_or_zero, IsLinked, IsRelinked, IsOwnerList}
 use Rattle.owner_lists.specs.Latest.{keyed, write_of, IsLatest}
 use Rattle.owner_lists.specs.inner.Keys.{AreFirst}
 use Rattle.owner_lists.proofs.Rising.{rising_put}
-use Rattle.owner_lists.proofs.Last.{last_write-push, first_missed-drop, fresh, same_key, All-find}
+use Rattle.model.proofs.LastWrites.{last_write-push, same_key}
+use Rattle.owner_lists.proofs.Last.{first_missed-drop, fresh, All-find}
 
 -- what stands past the end, which no proof reads
 abbrev pub no_link : Link

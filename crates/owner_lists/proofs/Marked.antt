@@ -13,8 +13,8 @@ use Rattle.bench_types.specs.Entry.{AreNextAfter}
 use Rattle.bench_types.specs.Mark.{mark_of, is_before, IsBefore}
 use Rattle.bench_types.proofs.Marks.{before-true, before-false, before-yes, before-up_to, up_to-before}
 use Rattle.owner_lists.specs.declared.lists.Link.{Link}
-use Rattle.owner_lists.specs.OwnerListView.{OwnerListView, entries_of, has_mark, entry_of, MarksRise, AreWrites}
-use Rattle.owner_lists.specs.Numbers.{write_numbered}
+use Rattle.model.specs.OwnerListView.{OwnerListView, entries_of, has_mark, entry_of, MarksRise, AreWrites}
+use Rattle.model.specs.Numbers.{write_numbered}
 use Rattle.owner_lists.specs.inner.Linked.{entries_linked}
 use Rattle.owner_lists.proofs.Numbered.{write_from-here, write_from-past}
 

@@ -2,7 +2,7 @@
 -- Serves `linked_entry` and `Marked`.
 use Rattle.std.proofs.Common.{◌≡◌, ℕ, zero, suc, ◌<◌, ◌≤◌, List, [], ◌∷◌, length, get_or, Some, None, refl, arith}
 use Rattle.bench_types.specs.declared.entries.Entry.{Entry}
-use Rattle.owner_lists.specs.Numbers.{write_from}
+use Rattle.model.specs.Numbers.{write_from}
 
 pub write_from-here : (es : List Entry) (place : ℕ) (d : Entry) → place < length es → write_from es place ≡ Some (get_or es place d)
 write_from-here [] place d lt = absurd (omega arith)

@@ -11,7 +11,7 @@ use Rattle.std.specs.FinMap.{find, put, is_sorted}
 use Rattle.std.specs.FinMap.Entries.{below_all, by_order, is_sorted-put}
 use Rattle.std.proofs.lemmas.Bool.{cases_lt}
 use Rattle.std.proofs.lemmas.List.Sorted.{searchable_from_sorted}
-use Rattle.owner_lists.specs.declared.lists.Write.{Write}
+use Rattle.model.specs.declared.writes.Write.{Write}
 use Rattle.owner_lists.specs.Latest.{keyed, KeysRise}
 use Rattle.owner_lists.specs.inner.Keys.{IsIndexOfKey, IsGapForKey}
 use Rattle.bench_types.proofs.Comparing.{first, second, less, nat_cmp-less, nat_cmp-equal, nat_cmp-greater}

@@ -1,6 +1,6 @@
-pub mod Writes
-pub mod OwnerListView
 pub mod Missed
 pub mod Latest
-pub mod Numbers
 pub mod inner
+pub use Rattle.model.specs.Writes
+pub use Rattle.model.specs.OwnerListView
+pub use Rattle.model.specs.Numbers

@@ -1,6 +1,6 @@
 -- The writes that a copy missed, and the order of a list's rounds. Source: this project.
 use Rattle.std.specs.Prelude.{ℕ, ◌==◌, ◌&&◌, nat_lt, nat_le, List, [], ◌∷◌, find, Bool, true, Option}
-use Rattle.owner_lists.specs.declared.lists.Write.{Write}
+use Rattle.model.specs.declared.writes.Write.{Write}
 
 -- a write of this key above a version
 abbrev pub is_missed : ℕ → ℕ → Write → Bool

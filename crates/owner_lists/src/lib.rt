@@ -3,4 +3,5 @@
 
 mod lists;
 
-pub use lists::{OwnerList, Write};
+pub use lists::OwnerList;
+pub use model::Write;

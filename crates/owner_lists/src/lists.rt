@@ -3,29 +3,20 @@
 ghost use Rattle.std.specs.Prelude.{◌≡◌, ℕ, ◌+◌, ◌^◌, ◌-◌, ◌<◌, ◌≤◌, ◌==◌, nat_le, None, Some, ◌++◌, ◌∷◌, [], Result, Ok, Err, OnOk, OnErr, IfOk, IfErr, IsOkUnless, List, length, find, take, drop, slice_index_or, vec_len, vec_capacity};
 ghost use Rattle.std.specs.FinMap.{put as put_entry};
 ghost use Rattle.std.specs.Ordering.{nat_cmp};
-ghost use Rattle.owner_lists.specs.OwnerListView.{has_mark, MarksRise};
-ghost use Rattle.owner_lists.specs.Writes.{is_write_of, last_write};
+ghost use Rattle.model.specs.OwnerListView.{has_mark, MarksRise};
+ghost use Rattle.model.specs.Writes.{is_write_of, last_write};
 ghost use Rattle.owner_lists.specs.Missed.{first_missed, last_born};
 ghost use Rattle.owner_lists.specs.Latest.{keyed, write_of, KeysRise};
 ghost use Rattle.owner_lists.specs.inner.Keys.{IsIndexOfKey, IsGapForKey};
-ghost use Rattle.owner_lists.specs.Numbers.{write_numbered};
+ghost use Rattle.model.specs.Numbers.{write_numbered};
 ghost use Rattle.owner_lists.specs.inner.Linked.{entries_linked, writes_linked, version_or_zero, IsLinked, IsRelinked};
 ghost use Rattle.bench_types.specs.Entry.{next_version, AreNextAfter};
 ghost use Rattle.bench_types.specs.declared.faults.Fault.TheVariants.{OutOfMemory};
 
 use bench_types::{Entry, Fault, Mark};
+use model::Write;
 use std::alloc::Global;
 use std::marker::Model;
-
-/// One write of an owner, without its generation and its value.
-#[derive(Clone, Copy, Debug, PartialEq, Eq)]
-pub struct Write {
-    pub key: u32,
-    /// The n-th write of an owner's generation has version n, from 1.
-    pub version: u32,
-    /// The round in which the owner made it.
-    pub born: u32,
-}
 
 // A write as it is kept.
 #[derive(Clone, Copy, Debug)]
@@ -51,7 +42,7 @@ pub struct OwnerList {
 }
 
 impl Model for OwnerList {
-    ghost use Rattle.owner_lists.specs.OwnerListView.{OwnerListView};
+    ghost use Rattle.model.specs.OwnerListView.{OwnerListView};
     ghost use Rattle.owner_lists.specs.inner.Codes.{list_code};
     ghost use Rattle.owner_lists.specs.inner.Linked.{view_of, IsKeptList};
 
@@ -65,9 +56,9 @@ impl Model for OwnerList {
 }
 
 impl OwnerList {
-    ghost use Rattle.owner_lists.specs.OwnerListView.{entries_of, written, no_writes, with_write, begun_generation, entry_of, AreWrites};
-    ghost use Rattle.owner_lists.specs.Numbers.{write_numbered};
-    ghost use Rattle.owner_lists.specs.Writes.{IsNumbered};
+    ghost use Rattle.model.specs.OwnerListView.{entries_of, written, no_writes, with_write, begun_generation, entry_of, AreWrites};
+    ghost use Rattle.model.specs.Numbers.{write_numbered};
+    ghost use Rattle.model.specs.Writes.{IsNumbered};
     ghost use Rattle.owner_lists.specs.Missed.{first_missed, born_in_order};
     ghost use Rattle.owner_lists.specs.Latest.{IsLatest};
 

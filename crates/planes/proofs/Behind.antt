@@ -3,7 +3,7 @@
 use Rattle.std.proofs.Common.{◌≡◌, ℕ, ◌+◌, ◌<◌, ◌≤◌, cond, nat_lt, get_or, List, inl, inr, refl, sym, ap, ◌∙◌, subst, arith}
 use Rattle.std.proofs.lemmas.Bool.{cases_lt, lt-ltb, le-ltb}
 use Rattle.planes.specs.Planes.{Cells, HasEach, IsLowered}
-use Rattle.planes.specs.Sums.{sum_below}
+use Rattle.bench_types.specs.Sums.{sum_below}
 use Rattle.planes.proofs.Places.{plane_count}
 use Rattle.planes.specs.Lags.{next_behind, IsLeastBehind}
 

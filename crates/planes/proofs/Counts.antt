@@ -2,7 +2,7 @@
 -- Serves the functions of `grids`, `lags`, `owners` and `planes`, `ByOwner`, `Places` and `version_tables`.
 use Rattle.std.proofs.Common.{◌≡◌, ℕ, zero, suc, ◌+◌, ◌<◌, ◌≤◌, Bool, true, false, cond, ap, ◌∙◌, arith}
 use Rattle.bench_types.specs.declared.limits.TheConstants.{MOST_NODES}
-use Rattle.planes.specs.Sums.{sum_below}
+use Rattle.bench_types.specs.Sums.{sum_below}
 
 pub one_le : (b : Bool) → cond b 1 0 ≤ 1
 one_le true = omega arith

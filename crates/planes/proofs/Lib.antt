@@ -1,4 +1,3 @@
-pub mod Sums
 pub mod Elementwise
 pub mod Counts
 pub mod Places

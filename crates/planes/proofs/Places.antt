@@ -7,13 +7,13 @@ use Rattle.std.proofs.lemmas.List.{get_or-take, get_or-drop, length-map, length-
 use Rattle.std.specs.List.{drop-map}
 use borrow.Rule.Slice.PartMut.{put_mid, post_of}
 use Rattle.bench_types.specs.declared.limits.TheConstants.{MOST_NODES, MOST_KEYS}
-use Rattle.planes.specs.inner.Elementwise.{AreChanged}
-use Rattle.planes.specs.Sums.{sum_below}
+use Rattle.planes.specs.Elementwise.{AreChanged}
+use Rattle.bench_types.specs.Sums.{sum_below}
 use Rattle.planes.specs.Planes.{Cells}
 use Rattle.planes.specs.Planes.{IsLeastAbove, IsRaised, HasNoneAbove, count_between}
 use Rattle.planes.specs.Planes.{cell, next_above, number_ahead, total_above, total_of, IsLowered, IsGrid, HasEach, IsNextAbove, ArePlanesChangedUpto, ArePlanesChanged}
 use Rattle.planes.proofs.Counts.{count_le}
-use Rattle.planes.proofs.Sums.{sum_below-same, sum_below-turned}
+use Rattle.bench_types.proofs.Sums.{sum_below-same, sum_below-turned}
 
 -- a key's plane lies within the planes
 pub plane-within : (nodes keys size key : ℕ) → IsGrid nodes keys size → key < keys → key * nodes + nodes ≤ size

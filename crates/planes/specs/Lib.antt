@@ -1,4 +1,4 @@
-pub mod Sums
+pub mod Elementwise
 pub mod Planes
 pub mod Lags
 pub mod inner

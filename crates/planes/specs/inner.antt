@@ -1,2 +1,1 @@
-pub mod Elementwise
 pub mod Answering

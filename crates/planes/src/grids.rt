@@ -7,7 +7,7 @@ ghost use Rattle.bench_types.specs.declared.limits.TheConstants.{MOST_NODES, MOS
 ghost use Rattle.planes.specs.Planes.{count_above};
 ghost use Rattle.planes.specs.Planes.{cell, number_ahead, total_above, total_of, AreCovered, ArePlanesChanged, AreRaised, AreTaken, HasEach, HasEachPlace, IsGrid, IsNextAbove};
 ghost use Rattle.planes.specs.Planes.{count_between};
-ghost use Rattle.planes.specs.Sums.{sum_below};
+ghost use Rattle.bench_types.specs.Sums.{sum_below};
 ghost use Rattle.planes.specs.inner.Answering.{AnswersAs};
 
 use crate::numbers::Number;

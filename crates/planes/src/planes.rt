@@ -2,9 +2,9 @@
 
 ghost use Rattle.std.specs.Prelude.{◌≡◌, ℕ, ◌+◌, ◌<◌, ◌≤◌, ◌&&◌, Bool, length, map, max, min, nat_le, nat_lt, slice_index, if◌then◌else◌};
 ghost use Rattle.bench_types.specs.declared.limits.TheConstants.{MOST_NODES};
-ghost use Rattle.planes.specs.inner.Elementwise.{AreChanged};
+ghost use Rattle.planes.specs.Elementwise.{AreChanged};
 ghost use Rattle.planes.specs.inner.Answering.{AnswersAs};
-ghost use Rattle.planes.specs.Sums.{sum_below};
+ghost use Rattle.bench_types.specs.Sums.{sum_below};
 ghost use Rattle.planes.specs.Planes.{next_above, IsLowered, number_ahead, number_taken};
 
 use crate::numbers::Number;

@@ -9,12 +9,13 @@ use Rattle.std.proofs.lemmas.Option.{same_Some, none-some, slice_get_within, get
 use Rattle.bench_types.specs.declared.exchanges.Exchange.{Exchange}
 use Rattle.bench_types.specs.declared.exchanges.Record.{Record}
 use Rattle.bench_types.specs.declared.exchanges.Rules.{Rules}
-use Rattle.node_table.specs.Table.{Table, empty_table}
+use Rattle.model.specs.Table.{Table, empty_table}
 use Rattle.node_table.specs.NodeTableView.{NodeTableView}
-use Rattle.exchange.specs.Exchanged.{Exchanged, exchanged}
-use Rattle.cluster.specs.Tables.{tables_in, IsTableOf, AreTablesInOrder}
-use Rattle.cluster.proofs.Tables.{still_table_of}
-use Rattle.exchange.proofs.OwnParts.{initiator_keeps_own, responder_keeps_own}
+use Rattle.model.specs.Exchanged.{Exchanged, exchanged}
+use Rattle.node_table.specs.NodeTableView.{tables_in}
+use Rattle.model.specs.Tables.{IsTableOf, AreTablesInOrder}
+use Rattle.model.proofs.Tables.{still_table_of}
+use Rattle.model.proofs.Owns.{initiator_keeps_own, responder_keeps_own}
 use Rattle.dependencies.specs.declared.events.Event.{Event}
 use Rattle.dependencies.specs.declared.events.Event.TheVariants.{Start, Finish}
 use Rattle.planner.specs.declared.plays.Pair.{Pair}

@@ -9,14 +9,15 @@ use Rattle.bench_types.specs.declared.exchanges.Exchange.{Exchange}
 use Rattle.bench_types.specs.declared.exchanges.Record.{Record}
 use Rattle.bench_types.specs.declared.exchanges.Rules.{Rules}
 use Rattle.bench_types.specs.declared.faults.Fault.{Fault}
-use Rattle.node_table.specs.Table.{Table}
+use Rattle.model.specs.Table.{Table}
 use Rattle.node_table.specs.NodeTableView.{NodeTableView}
 use Rattle.bench_types.specs.Exchange.{IsPlanned}
-use Rattle.round_plan.specs.Plan.{RoundListView, IsRoundPlan}
-use Rattle.cluster.specs.Tables.{tables_in, table_of_node, IsCluster}
-use Rattle.cluster.specs.Folds.{fold_of}
-use Rattle.cluster.proofs.Tables.{length-tables_in}
-use Rattle.cluster.proofs.FoldLaws.{fold_tables, fold_counts_records}
+use Rattle.model.specs.RoundLists.{RoundListView, IsRoundPlan}
+use Rattle.node_table.specs.NodeTableView.{tables_in}
+use Rattle.model.specs.Tables.{table_of_node, IsCluster}
+use Rattle.model.specs.Folds.{fold_of}
+use Rattle.node_table.proofs.InOrder.{length-tables_in}
+use Rattle.model.proofs.FoldLaws.{fold_tables, fold_counts_records}
 use Rattle.dependencies.specs.declared.events.Event.{Event}
 use Rattle.dependencies.specs.declared.events.Event.TheVariants.{Start, Finish}
 use Rattle.planner.specs.declared.plays.Places.{Places}

@@ -7,9 +7,9 @@ pub use Rattle.dependencies.specs.Schedules
 pub use Rattle.dependencies.specs.States
 pub use Rattle.dependencies.specs.ListOrder
 pub use Rattle.dependencies.specs.Laws
-pub use Rattle.exchange.specs.Exchanged
-pub use Rattle.cluster.specs.Tables
-pub use Rattle.cluster.specs.Folds
-pub use Rattle.cluster.specs.Clusters
-pub use Rattle.round_plan.specs.Plan
+pub use Rattle.model.specs.Exchanged
+pub use Rattle.model.specs.Tables
+pub use Rattle.model.specs.Folds
+pub use Rattle.model.specs.Clusters
+pub use Rattle.model.specs.RoundLists
 pub use Rattle.bench_types.specs.Exchange

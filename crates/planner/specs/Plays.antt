@@ -5,11 +5,11 @@ use Rattle.bench_types.specs.declared.exchanges.Record.{Record}
 use Rattle.bench_types.specs.declared.exchanges.Rules.{Rules}
 use Rattle.bench_types.specs.declared.faults.Fault.{Fault}
 use Rattle.bench_types.specs.declared.faults.Fault.TheVariants as fault
-use Rattle.node_table.specs.Table.{Table}
+use Rattle.model.specs.Table.{Table}
 use Rattle.node_table.specs.NodeTableView.{NodeTableView}
-use Rattle.round_plan.specs.Plan.{RoundListView}
-use Rattle.cluster.specs.Tables.{tables_in}
-use Rattle.cluster.specs.Folds.{fold_of}
+use Rattle.model.specs.RoundLists.{RoundListView}
+use Rattle.node_table.specs.NodeTableView.{tables_in}
+use Rattle.model.specs.Folds.{fold_of}
 use Rattle.dependencies.specs.declared.events.Event.{Event}
 use Rattle.dependencies.specs.declared.events.Event.TheVariants.{Start, Finish}
 use Rattle.dependencies.specs.Schedules.{is_running, MayStart, IsLawful, AreFinished}

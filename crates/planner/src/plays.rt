@@ -8,7 +8,8 @@ ghost use Rattle.dependencies.specs.declared.events.Event.TheVariants.{Start, Fi
 ghost use Rattle.planner.specs.Stages.{not_started};
 ghost use Rattle.dependencies.specs.inner.Slots.{in_place};
 ghost use Rattle.planner.specs.inner.Places.{state_in, AreEmpty, HasPlaces, ShowsEvent, AreInPlace, StandIn, itself, both_or_none};
-ghost use Rattle.cluster.specs.Tables.{tables_in, IsCluster};
+ghost use Rattle.node_table.specs.NodeTableView.{tables_in};
+ghost use Rattle.model.specs.Tables.{IsCluster};
 ghost use Rattle.planner.specs.Plays.{ArePlayed, IsRefusal};
 ghost use Rattle.planner.specs.inner.Plays.{Follows, IsEventRefused};
 
@@ -17,7 +18,7 @@ use bench_types::{Fault, Record, Rules};
 use dependencies::{Deps, Event};
 use exchange::exchange;
 use node_table::NodeTable;
-use round_plan::RoundList;
+use model::RoundList;
 use std::alloc::Global;
 
 // The tables that a running exchange has taken out.

@@ -1,14 +1,7 @@
-//! The exchanges of a round, carried out by any number of workers. The tables and the records are those of
-//! one thread that goes through the list in order, whatever order the workers take.
+//! The exchanges of a round, carried out by any number of workers on tables with entries.
 #![tactic(auto)]
 
-mod deques;
-mod gates;
-mod gathering;
-mod in_order;
-mod runs;
-mod threads;
-mod workers;
+mod lists;
 
-pub use gates::{FreeGate, Gate};
-pub use runs::{run_list, run_list_with};
+pub use lists::run_list;
+pub use workers::{FreeGate, Gate, run_list_with};

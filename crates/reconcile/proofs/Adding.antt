@@ -11,12 +11,12 @@ use Rattle.bench_types.specs.declared.entries.Item.{Item}
 use Rattle.bench_types.specs.declared.exchanges.Budget.{Budget}
 use Rattle.bench_types.specs.declared.exchanges.Budget.TheVariants.{Entries, Bytes}
 use Rattle.bench_types.specs.declared.limits.TheConstants.{LEAST_ENTRY_SIZE}
-use Rattle.reconcile.specs.Deltas.{item_share}
+use Rattle.model.specs.Deltas.{item_share}
 use Rattle.reconcile.specs.inner.Newer.{item_with}
 use Rattle.reconcile.specs.inner.Parcels.{AddsFitting}
-use Rattle.reconcile.specs.inner.Parcels.{fitting, left_after}
+use Rattle.model.specs.inner.Fitting.{fitting, left_after}
 use Rattle.reconcile.specs.declared.parcels.Parcel.{Parcel}
-use Rattle.reconcile.proofs.Fitting.{fitting-all, left_after-all, fitting-append, left_after-append}
+use Rattle.model.proofs.Fitting.{fitting-all, left_after-all, fitting-append, left_after-append}
 
 -- each item takes something
 pub some_share : (budget : Budget) (i : Item) → 1 ≤ item_share budget i

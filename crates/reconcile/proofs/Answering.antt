@@ -12,20 +12,21 @@ use Rattle.bench_types.specs.declared.exchanges.Mode.{Mode}
 use Rattle.bench_types.specs.declared.exchanges.DigestKind.TheVariants.{Precise}
 use Rattle.bench_types.specs.Mark.{mark_of, is_before}
 use Rattle.bench_types.specs.Mode.{digest_kind}
-use Rattle.node_table.specs.Table.{Table, items_of, IsProper}
-use Rattle.reconcile.specs.Candidates.{IsScuttleMode, items_above}
-use Rattle.reconcile.specs.Deltas.{DeltaView, item_share, answer_of, AreWithin}
+use Rattle.model.specs.Table.{Table, items_of, IsProper}
+use Rattle.model.specs.Candidates.{IsScuttleMode, items_above}
+use Rattle.model.specs.Deltas.{DeltaView, item_share, AreWithin}
+use Rattle.reconcile.specs.Answers.{answer_of}
 use Rattle.reconcile.specs.Digests.{DigestView, told_mark}
 use Rattle.reconcile.specs.inner.Keys.{item_in, items_in, AllSet, AreFirstItems, IsSentOf}
 use Rattle.reconcile.specs.inner.Newer.{AreCandidates}
 use Rattle.reconcile.specs.inner.Suffixes.{items_of_suffixes, IsTurned, layered, AreLayered}
 use Rattle.reconcile.specs.declared.candidates.Candidate.{Candidate}
 use Rattle.reconcile.specs.declared.suffixes.Suffix.{Suffix}
-use Rattle.reconcile.proofs.Fitting.{length-fitting-le, sum-fitting}
+use Rattle.model.proofs.Fitting.{length-fitting-le, sum-fitting}
 use Rattle.reconcile.proofs.Layers.{layered-permutation, order_layers}
 use Rattle.reconcile.proofs.Newer.{candidates-permuted}
 use Rattle.reconcile.proofs.Ordered.{first_key, order_numbers}
-use Rattle.reconcile.proofs.Sending.{length-candidates-lt, sorted_sent}
+use Rattle.model.proofs.Sending.{length-candidates-lt, sorted_sent}
 use Rattle.reconcile.proofs.Turned.{turned-permutation, turned-pairs}
 
 -- no more are sent than there are

@@ -7,7 +7,7 @@ use Rattle.std.proofs.lemmas.List.{get_or_default, get_or-set_same, get_or-set_o
 use Rattle.std.proofs.lemmas.List.Elements.{All-head, All-tail, Contains-get_or}
 use Rattle.bench_types.specs.declared.entries.Entry.{Entry}
 use Rattle.bench_types.specs.Mark.{absent, mark_held}
-use Rattle.node_table.specs.Table.{Table, entry_at, mark_at, generation_held, IsProper}
+use Rattle.model.specs.Table.{Table, entry_at, mark_at, generation_held, IsProper}
 use Rattle.node_table.specs.Entries.{AreAbove, AreGenerations}
 use Rattle.reconcile.specs.Digests.{mark_with, version_index}
 use Rattle.reconcile.specs.inner.Inside.{AreVersions, with_row}

@@ -9,13 +9,13 @@ use Rattle.std.proofs.lemmas.List.Elements.{All-nil, All-cons, All-append, All-w
 use Rattle.bench_types.specs.declared.entries.Entry.{Entry}
 use Rattle.bench_types.specs.declared.entries.Mark.{Mark}
 use Rattle.bench_types.specs.Mark.{IsUpTo}
-use Rattle.node_table.specs.Table.{Table, greatest_mark, IsProper}
+use Rattle.model.specs.Table.{Table, greatest_mark, IsProper}
 use Rattle.node_table.specs.Entries.{StandsBefore, AreAbove, AreGenerations, AreGreatest}
 use Rattle.reconcile.specs.Digests.{DigestView, Greatest, told_up_to, told_mark_at}
 use Rattle.reconcile.specs.inner.Newer.{AreCandidates, item_with}
 use Rattle.reconcile.specs.inner.Suffixes.{suffix_items, items_of_suffixes, OwnersRise, AreSuffixes}
 use Rattle.reconcile.specs.declared.suffixes.Suffix.{Suffix}
-use Rattle.reconcile.proofs.Members.{AllPairs-append}
+use Rattle.model.proofs.Members.{AllPairs-append}
 use Rattle.reconcile.proofs.Newer.{newer-above, newer_items-above, above-none, candidates-none, candidates-own, candidates-more}
 
 -- the suffixes of the owners below a bound

@@ -11,7 +11,7 @@ use Rattle.std.proofs.lemmas.List.{get_or_default, get_or_append_left, get_or-ap
 use Rattle.std.proofs.lemmas.List.Elements.{All-cons, All-weaker}
 use Rattle.std.proofs.lemmas.List.Kept.{AllPairs-cons}
 use Rattle.std.proofs.lemmas.List.Sorted.{sorted_far, ranks_by, All-permutation, Contains-permutation, IsPermutation-refl, IsPermutation-sym, IsPermutation-trans, IsPermutation-cons, IsPermutation-swap, IsPermutation-append_left, IsPermutation-append_right}
-use Rattle.reconcile.proofs.Members.{AllPairs-append}
+use Rattle.model.proofs.Members.{AllPairs-append}
 
 -- the first so many of a list stand in order, and none of the others is less than one of them
 pub record IsFront {X : Type 0} (order : X → X → Ordering) (count : ℕ) (xs : List X) : Type 0 where

@@ -16,15 +16,15 @@ use Rattle.bench_types.specs.declared.entries.Item.{Item}
 use Rattle.bench_types.specs.declared.exchanges.Mode.{Mode}
 use Rattle.bench_types.specs.declared.exchanges.Mode.TheVariants.{ScuttleBreadth, ScuttleDepth, PreciseOldest, PreciseNewest}
 use Rattle.bench_types.proofs.Comparing.{nat_cmp-less, nat_cmp-equal, nat_cmp-greater}
-use Rattle.reconcile.specs.Candidates.{IsScuttleMode}
-use Rattle.reconcile.specs.Order.{rotated, sending_order}
-use Rattle.reconcile.specs.inner.Parcels.{fitting, left_after}
+use Rattle.model.specs.Candidates.{IsScuttleMode}
+use Rattle.model.specs.Order.{rotated, sending_order}
+use Rattle.model.specs.inner.Fitting.{fitting, left_after}
 use Rattle.reconcile.specs.inner.Suffixes.{layer_of, layered}
-use Rattle.reconcile.proofs.Apart.{sending_total}
-use Rattle.reconcile.proofs.DeltaLaws.{sending_order-ascending}
-use Rattle.reconcile.proofs.Fitting.{length-fitting-le, fitting-zero, fitting-append, left_after-append}
+use Rattle.model.proofs.Apart.{sending_total}
+use Rattle.model.proofs.DeltaLaws.{sending_order-ascending}
+use Rattle.model.proofs.Fitting.{length-fitting-le, fitting-zero, fitting-append, left_after-append}
 use Rattle.reconcile.proofs.Front.{up-sorted}
-use Rattle.reconcile.proofs.Members.{AllPairs-append}
+use Rattle.model.proofs.Members.{AllPairs-append}
 use Rattle.reconcile.proofs.Ordered.{first_key, second_key, scuttle-sending}
 
 -- one filter after another

@@ -15,19 +15,19 @@ use Rattle.bench_types.specs.declared.entries.Item.{Item}
 use Rattle.bench_types.specs.declared.entries.Mark.{Mark}
 use Rattle.bench_types.specs.Mark.{absent, mark_of, mark_held, is_before, IsBefore, IsUpTo}
 use Rattle.bench_types.proofs.Marks.{before-true, before-yes, before-no, up_to-then}
-use Rattle.node_table.specs.Table.{Table, entry_at, greatest_mark, generation_held, items_of, IsProper}
+use Rattle.model.specs.Table.{Table, entry_at, greatest_mark, generation_held, items_of, IsProper}
 use Rattle.node_table.specs.Entries.{AreAbove}
-use Rattle.node_table.specs.inner.Applied.{stands_at}
+use Rattle.model.specs.inner.Applied.{stands_at}
 use Rattle.bench_types.proofs.Comparing.{nat_cmp-less, nat_cmp-equal}
-use Rattle.node_table.proofs.Items.{IsApart, apart-items_of, entry_at-items_of, Contains-items_of}
-use Rattle.node_table.proofs.Laws.{tied-stands_at}
-use Rattle.node_table.proofs.Greatest.{mark_at-up_to_greatest}
-use Rattle.reconcile.specs.Candidates.{items_above}
+use Rattle.model.proofs.Items.{IsApart, apart-items_of, entry_at-items_of, Contains-items_of}
+use Rattle.model.proofs.TableLaws.{tied-stands_at}
+use Rattle.model.proofs.Greatest.{mark_at-up_to_greatest}
+use Rattle.model.specs.Candidates.{items_above}
 use Rattle.reconcile.specs.Digests.{DigestView, told_generation, told_mark_at, told_mark}
 use Rattle.reconcile.specs.inner.Newer.{AreNewer, item_with, newer_items, version_order, IsCandidate, AreCandidates}
 use Rattle.reconcile.specs.inner.Keys.{item_in, items_in}
 use Rattle.reconcile.specs.declared.candidates.Candidate.{Candidate}
-use Rattle.reconcile.proofs.Members.{Contains-filter, Contains-kept, Contains-map, AllPairs-append, AllPairs-map, same_members}
+use Rattle.model.proofs.Members.{Contains-filter, Contains-kept, Contains-map, AllPairs-append, AllPairs-map, same_members}
 
 pub version_total : IsTotalOrder version_order
 version_total = then_total (on_total (λ (i : Item). i.owner) nat_cmp_total) (then_total (on_total (λ (i : Item). i.entry.version) nat_cmp_total) (on_total (λ (i : Item). i.entry.key) nat_cmp_total))

@@ -20,12 +20,12 @@ use Rattle.bench_types.specs.declared.exchanges.Mode.TheVariants.{ScuttleBreadth
 use Rattle.reconcile.specs.declared.candidates.Candidate.{Candidate}
 use Rattle.bench_types.specs.Mode.{digest_kind}
 use Rattle.bench_types.specs.declared.exchanges.DigestKind.TheVariants.{Precise}
-use Rattle.reconcile.specs.Order.{rotated, rank_among, owner_count, sending_order}
-use Rattle.reconcile.specs.Candidates.{IsScuttleMode}
-use Rattle.reconcile.specs.Deltas.{item_share}
+use Rattle.model.specs.Order.{rotated, rank_among, owner_count, sending_order}
+use Rattle.model.specs.Candidates.{IsScuttleMode}
+use Rattle.model.specs.Deltas.{item_share}
 use Rattle.reconcile.specs.inner.Parcels.{first_within}
 use Rattle.reconcile.specs.inner.Keys.{item_in, items_in, reversed, IsSet, AllSet, AreFirstItems, number_order}
-use Rattle.reconcile.proofs.Fitting.{fitting-take, sum-within}
+use Rattle.model.proofs.Fitting.{fitting-take, sum-within}
 use Rattle.reconcile.proofs.Front.{IsFront, whole, whole-permutation, whole-sorted, whole-front, front-split, split-permutation}
 use Rattle.bench_types.proofs.Comparing.{nat_cmp-less, nat_cmp-equal, nat_cmp-greater}
 

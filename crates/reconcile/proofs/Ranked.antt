@@ -10,7 +10,7 @@ use Rattle.std.proofs.lemmas.Bool.{cases_lt, eq-eqb, ne_eqb, lt-ltb, le-ltb}
 use Rattle.bench_types.specs.declared.entries.Entry.{Entry}
 use Rattle.node_table.specs.Entries.{StandsBefore}
 use Rattle.reconcile.specs.inner.Suffixes.{rank_in, entries_ranked}
-use Rattle.reconcile.proofs.Counts.{count_by-cons_true, count_by-cons_false, filter-stretch}
+use Rattle.model.proofs.Counts.{count_by-cons_true, count_by-cons_false, filter-stretch}
 
 abbrev pub no_entry : Entry
 no_entry = record { key = 0; generation = 0; version = 0; value = 0; born = 0 }

@@ -15,10 +15,10 @@ use Rattle.bench_types.specs.declared.entries.Item.{Item}
 use Rattle.node_table.specs.Entries.{StandsBefore}
 use Rattle.reconcile.specs.inner.Keys.{reversed}
 use Rattle.reconcile.specs.inner.Newer.{item_with}
-use Rattle.reconcile.specs.Order.{rank_among, owner_count}
+use Rattle.model.specs.Order.{rank_among, owner_count}
 use Rattle.reconcile.specs.inner.Suffixes.{suffix_items, items_of_suffixes, AreSuffixes, rank_in, ranked, of_length, lengths_first, layer_of}
 use Rattle.reconcile.specs.declared.suffixes.Suffix.{Suffix}
-use Rattle.reconcile.proofs.Counts.{count_by-cons_true, count_by-cons_false}
+use Rattle.model.proofs.Counts.{count_by-cons_true, count_by-cons_false}
 use Rattle.reconcile.proofs.Ranked.{count_by-front_le, rank-le, ranked-beyond, versions-rise}
 use Rattle.reconcile.proofs.Turned.{owners-items}
 

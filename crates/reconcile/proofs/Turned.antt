@@ -15,12 +15,12 @@ use Rattle.std.proofs.lemmas.List.Sorted.{IsPermutation-append_comm}
 use Rattle.bench_types.specs.declared.entries.Item.{Item}
 use Rattle.node_table.specs.Entries.{StandsBefore}
 use Rattle.reconcile.specs.inner.Newer.{item_with, version_order}
-use Rattle.reconcile.specs.Order.{rotated}
+use Rattle.model.specs.Order.{rotated}
 use Rattle.reconcile.specs.inner.Suffixes.{suffix_items, items_of_suffixes, OwnersRise, AreSuffixes, IsTurned}
 use Rattle.reconcile.specs.declared.suffixes.Suffix.{Suffix}
-use Rattle.reconcile.proofs.Apart.{rotated-is}
+use Rattle.model.proofs.Apart.{rotated-is}
 use Rattle.reconcile.proofs.Layers.{InTurn}
-use Rattle.reconcile.proofs.Members.{AllPairs-append}
+use Rattle.model.proofs.Members.{AllPairs-append}
 
 -- what holds of the suffixes' owners holds of the items'
 pub owners-items : (P : ℕ → Type 0) (suffixes : List Suffix) → All (λ (r : Suffix). P r.owner) suffixes → All (λ (i : Item). P i.owner) (items_of_suffixes suffixes)

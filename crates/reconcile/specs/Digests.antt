@@ -10,11 +10,8 @@ use Rattle.bench_types.specs.declared.exchanges.DigestKind.{DigestKind}
 use Rattle.bench_types.specs.declared.exchanges.DigestKind.TheVariants as kinds
 use Rattle.bench_types.specs.declared.entries.Mark.{Mark}
 use Rattle.bench_types.specs.Mark.{absent}
-use Rattle.node_table.specs.Table.{Table, mark_at, greatest_mark, greatest_version, generation_held, count_of}
-
-abbrev pub digest_size : DigestKind → Table → ℕ
-digest_size kinds.Scuttle t = count_by (λ r. nat_lt 0 (greatest_version t r)) (range_with_len 0 t.nodes)
-digest_size kinds.Precise t = count_of t
+use Rattle.model.specs.Table.{Table, mark_at, greatest_mark, greatest_version, generation_held, count_of}
+use Rattle.model.specs.Digests.{digest_size}
 
 -- which versions a digest tells: the greatest one of each owner, in order, or that of each key of each owner, owner by
 -- owner, 0 where none is held

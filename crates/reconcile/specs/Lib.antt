@@ -1,10 +1,6 @@
-pub mod Candidates
-pub mod Order
-pub mod Picks
+pub mod Answers
 pub mod Digests
-pub mod Deltas
-pub mod Laws
 pub mod inner
-pub use Rattle.node_table.specs.Table
+pub use Rattle.model.specs.Table
 pub use Rattle.node_table.specs.NodeTableView
 pub use Rattle.bench_types.specs.Entry

@@ -4,8 +4,9 @@ ghost use Rattle.std.specs.Prelude.{◌≡◌, ◌^◌, ◌<◌, ◌≤◌, All,
 ghost use Rattle.bench_types.specs.declared.faults.Fault.TheVariants.{OutOfMemory};
 ghost use Rattle.bench_types.specs.Budget.{IsLawfulBudget};
 ghost use Rattle.bench_types.specs.Mode.{digest_kind};
-ghost use Rattle.node_table.specs.NodeTableView.{IsFor};
-ghost use Rattle.reconcile.specs.Deltas.{answer_of, AreWithin, IsDeltaToReceiver};
+ghost use Rattle.model.specs.Table.{IsFor};
+ghost use Rattle.reconcile.specs.Answers.{answer_of, IsDeltaToReceiver};
+ghost use Rattle.model.specs.Deltas.{AreWithin};
 ghost use Rattle.reconcile.specs.Digests.{IsOfKind};
 
 use crate::candidates::precise_delta;

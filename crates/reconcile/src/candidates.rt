@@ -7,12 +7,13 @@ ghost use Rattle.bench_types.specs.declared.faults.Fault.TheVariants.{OutOfMemor
 ghost use Rattle.bench_types.specs.declared.limits.TheConstants.{MOST_NODES};
 ghost use Rattle.bench_types.specs.Budget.{amount_of};
 ghost use Rattle.bench_types.specs.Mode.{digest_kind};
-ghost use Rattle.node_table.specs.Table.{IsProper};
-ghost use Rattle.reconcile.specs.Deltas.{answer_of, item_share, AreWithin};
+ghost use Rattle.model.specs.Table.{IsProper};
+ghost use Rattle.reconcile.specs.Answers.{answer_of};
+ghost use Rattle.model.specs.Deltas.{item_share, AreWithin};
 ghost use Rattle.reconcile.specs.inner.Parcels.{first_within};
 ghost use Rattle.reconcile.specs.Digests.{IsOfKind};
 ghost use Rattle.reconcile.specs.inner.Newer.{AddsNewer, AreCandidates};
-ghost use Rattle.reconcile.specs.Order.{rotated};
+ghost use Rattle.model.specs.Order.{rotated};
 ghost use Rattle.reconcile.specs.inner.Keys.{items_in, age_first, AllSet, AreFirstItems, IsSentOf, IsSet, SetsStay, number_order};
 
 use crate::deltas::Delta;

@@ -13,7 +13,7 @@ pub struct Delta {
 }
 
 impl Model for Delta {
-    ghost use Rattle.reconcile.specs.Deltas.{DeltaView};
+    ghost use Rattle.model.specs.Deltas.{DeltaView};
 
     ghost Value = { DeltaView };
 

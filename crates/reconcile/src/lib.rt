@@ -6,7 +6,6 @@ mod answers;
 mod candidates;
 mod deltas;
 mod digests;
-pub mod laws;
 mod parcels;
 mod suffixes;
 mod turns;

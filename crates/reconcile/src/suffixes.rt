@@ -6,11 +6,12 @@ ghost use Rattle.std.specs.List.{AllPairs};
 ghost use Rattle.bench_types.specs.declared.faults.Fault.TheVariants.{OutOfMemory};
 ghost use Rattle.bench_types.specs.Mode.{digest_kind};
 ghost use Rattle.node_table.specs.Entries.{StandsBefore};
-ghost use Rattle.node_table.specs.Table.{IsProper};
-ghost use Rattle.reconcile.specs.Deltas.{answer_of, AreWithin};
+ghost use Rattle.model.specs.Table.{IsProper};
+ghost use Rattle.reconcile.specs.Answers.{answer_of};
+ghost use Rattle.model.specs.Deltas.{AreWithin};
 ghost use Rattle.reconcile.specs.Digests.{IsOfKind};
 ghost use Rattle.reconcile.specs.inner.Newer.{AreCandidates};
-ghost use Rattle.reconcile.specs.Order.{rank_among, owner_count};
+ghost use Rattle.model.specs.Order.{rank_among, owner_count};
 ghost use Rattle.reconcile.specs.inner.Suffixes.{items_of_suffixes, entries_ranked, ranked, of_length, AddsLayer, AreLayered, AreSuffixes, IsTurned, OwnersRise, lengths_first};
 
 use crate::deltas::Delta;

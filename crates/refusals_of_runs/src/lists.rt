@@ -1,7 +1,8 @@
 //! The list of a first round, carried out by workers.
 
 ghost use Rattle.std.specs.Prelude.{◌≡◌, ◌≤◌, IfOk};
-ghost use Rattle.cluster.specs.Tables.{tables_in, IsCluster};
+ghost use Rattle.node_table.specs.NodeTableView.{tables_in};
+ghost use Rattle.model.specs.Tables.{IsCluster};
 
 use crate::cases::{Case, EIGHT_PAIRS, FirstRound};
 use crate::counting::Counter;

@@ -1,15 +1,19 @@
 //! Boards, and what collects records.
 
 ghost use Rattle.std.specs.Prelude.{IfOk};
-ghost use Rattle.exchange.specs.Exchanging.{kept_table};
+ghost use Rattle.node_table.specs.NodeTableView.{kept_table};
 ghost use Rattle.board.specs.Boards.{IsSeatOf};
 
 use crate::schedules::{ALL_ENTRIES, FOUR, crossing, deps_of};
 use bench_types::{Fault, Record};
-use board::{Board, Seat};
 use collector::{Collector, Stamped};
 use fixtures::{sent, tables_of};
+use node_table::NodeTable;
 use refusals::{Failure, check, pass, refused, retried};
+
+type Board = board::Board<NodeTable>;
+
+type Seat = board::Seat<NodeTable>;
 
 const FIRST: Record = sent!(1, 1, 1, 1, 0, 0);
 

@@ -1,7 +1,7 @@
 //! Tables of nodes.
 
 ghost use Rattle.std.specs.Prelude.{◌≡◌, ◌<◌, ◌≤◌, IfOk};
-ghost use Rattle.node_table.specs.Table.{empty_table};
+ghost use Rattle.model.specs.Table.{empty_table};
 
 use bench_types::{Item, Mark};
 use fixtures::{holds, item};

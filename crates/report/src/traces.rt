@@ -3,14 +3,14 @@
 ghost use Rattle.std.specs.Prelude.{◌≡◌, ◌≤◌, ◌++◌, length, IsTrue, IfOk, OnOk, IsOkUnless};
 ghost use Rattle.report.specs.inner.Cells.{is_plain, bytes_written, IsBetweenLines};
 ghost use Rattle.report.specs.Writing.{WritesText};
-ghost use Rattle.round_plan.specs.declared.lists.TheConstants.{MOST_EXCHANGES};
+ghost use Rattle.model.specs.declared.lists.TheConstants.{MOST_EXCHANGES};
 ghost use Rattle.report.specs.Trace.{trace_header_line, fate_name, trace_line, trace_lines};
 
 use crate::cells::{Cell, put_line};
 use crate::outputs::write_line;
 use bench_types::{Exchange, Fate, Fault, Record, Sink, write_text};
 use csv::{Writer, WriterBuilder};
-use round_plan::RoundList;
+use model::RoundList;
 use std::alloc::Global;
 
 /// Writes the header of the trace, the names of its columns, and flushes. An error is

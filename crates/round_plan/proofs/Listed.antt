@@ -10,7 +10,8 @@ use Rattle.bench_types.specs.declared.exchanges.Exchange.{Exchange}
 use Rattle.scenario.specs.Settings.{Settings}
 use Rattle.round_plan.specs.Outages.{is_up}
 use Rattle.bench_types.specs.Exchange.{IsPlanned}
-use Rattle.round_plan.specs.Plan.{exchange_of, begins, is_unreached, reaches, round_list_view, round_list_of}
+use Rattle.round_plan.specs.Plan.{exchange_of, begins, is_unreached, reaches, round_list_of}
+use Rattle.model.specs.RoundLists.{round_list_view}
 use Rattle.round_plan.specs.inner.Rounds.{AreChosen}
 
 -- what the nodes below i begin, and how many of them are unreached

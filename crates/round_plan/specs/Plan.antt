@@ -4,30 +4,14 @@
 use Rattle.std.specs.Prelude.{ℕ, ◌%◌, ◌≤◌, Bool, not, ◌&&◌, nat_lt, List, length, map, All, count_by}
 use Rattle.std.specs.List.{range_with_len, filter}
 use Rattle.bench_types.specs.declared.exchanges.Exchange.{Exchange}
-use Rattle.bench_types.specs.Exchange.{IsPlanned}
-use Rattle.bench_types.specs.declared.limits.TheConstants.{LEAST_NODES, MOST_NODES, MOST_LOSS}
+use Rattle.bench_types.specs.declared.limits.TheConstants.{MOST_LOSS}
 use Rattle.scenario.specs.declared.choices.Rotation.{Rotation}
 use Rattle.scenario.specs.declared.choices.Rotation.TheVariants.{Random, Off}
 use Rattle.scenario.specs.Settings.{Settings}
-use Rattle.round_plan.specs.declared.lists.TheConstants.{MOST_EXCHANGES}
 use Rattle.round_plan.specs.Outages.{is_up, separated}
 use Rattle.round_plan.specs.Peer.{peer_of}
 use Rattle.round_plan.specs.Words.{word_of}
-
-pub record RoundListView : Type 0 where
-  pub nodes : ℕ
-  pub unreached : ℕ
-  pub exchanges : List Exchange
-
-abbrev pub round_list_view : ℕ → ℕ → List Exchange → RoundListView
-round_list_view n u es = record { nodes = n; unreached = u; exchanges = es }
-
--- what each plan of a round keeps
-pub record IsRoundPlan (p : RoundListView) : Type 0 where
-  pub least : LEAST_NODES ≤ p.nodes
-  pub most : p.nodes ≤ MOST_NODES
-  pub size : length p.exchanges ≤ MOST_EXCHANGES
-  pub planned : All (IsPlanned p.nodes) p.exchanges
+use Rattle.model.specs.RoundLists.{RoundListView, round_list_view}
 
 -- a message is lost where its word, among as many as there are parts of a rate, is below the scenario's rate
 abbrev pub is_lost : Settings → ℕ → Bool

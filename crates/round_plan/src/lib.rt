@@ -3,7 +3,6 @@
 //! from the scenario and the number of the round alone.
 #![tactic(auto)]
 
-mod lists;
 mod outages;
 mod owners;
 mod peers;
@@ -11,7 +10,7 @@ mod rounds;
 mod run_words;
 mod words;
 
-pub use lists::{MOST_EXCHANGES, RoundList};
+pub use model::{MOST_EXCHANGES, RoundList};
 pub use outages::{forgets_now, is_up, restarts_now, separated};
 pub use owners::{OwnWrite, Writes, writes_by, writes_in, writes_of};
 pub use peers::peer;

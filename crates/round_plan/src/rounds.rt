@@ -7,7 +7,7 @@ ghost use Rattle.round_plan.specs.Words.{run_words_of, AreWordsOf};
 ghost use Rattle.round_plan.specs.inner.Rounds.{AreChosen, IsNodeInRound};
 ghost use Rattle.bench_types.specs.declared.faults.Fault.TheVariants.{OutOfMemory};
 
-use crate::lists::RoundList;
+use model::RoundList;
 use crate::outages::{is_up, separated};
 use crate::peers::peer_by;
 use crate::run_words::RunWords;

@@ -1,7 +1,6 @@
-//! What a simulation asks of its nodes' tables, whatever their representation is.
+//! What a simulation asks of what it keeps beside its nodes' tables, whatever their representation is.
 #![tactic(auto)]
 
-mod entry_tables;
 mod round_tables;
 
-pub use round_tables::RoundTable;
+pub use round_tables::RoundHistories;

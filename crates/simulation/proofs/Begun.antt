@@ -4,15 +4,15 @@ use Rattle.std.proofs.Common.{◌≡◌, ◌≢◌, ℕ, ◌+◌, ◌-◌, ◌<�
 use Rattle.std.proofs.lemmas.Bool.{cases_eq}
 use Rattle.std.proofs.lemmas.List.{get_or-map, length-map, length-set, map-set}
 use Rattle.std.proofs.lemmas.List.FromFn.{length-map-range_with_len}
-use Rattle.node_table.specs.Table.{Table, empty_table, with_own_writes}
+use Rattle.model.specs.Table.{Table, empty_table, with_own_writes}
 use Rattle.round_plan.specs.Writes.{count_before, own_writes}
 use Rattle.scenario.specs.Settings.{Settings}
-use Rattle.owner_lists.specs.OwnerListView.{OwnerListView, list_of_owner}
-use Rattle.cluster.specs.Tables.{table_of_node}
+use Rattle.model.specs.OwnerListView.{OwnerListView, list_of_owner}
+use Rattle.model.specs.Tables.{table_of_node}
 use Rattle.simulation.specs.Rounds.{restarted_table, restarted, written_table, begun}
 use Rattle.simulation.specs.inner.Steps.{begun_table, OthersStay}
 use Rattle.simulation.specs.Standing.{IsOwner, StandAfterRound}
-use Rattle.cluster.proofs.Tables.{table_of_node-set_same, table_of_node-set_other, table_of_node-made, same_tables}
+use Rattle.model.proofs.Tables.{table_of_node-set_same, table_of_node-set_other, table_of_node-made, same_tables}
 
 -- the nodes below n have begun the round
 pub record HaveBegun (s : Settings) (round : ℕ) (old new : List Table) (lists : List OwnerListView) (n : ℕ) : Type 0 where

@@ -9,17 +9,18 @@ use Rattle.bench_types.specs.declared.exchanges.Budget.TheVariants.{Entries, Byt
 use Rattle.bench_types.specs.declared.exchanges.Record.{Record}
 use Rattle.bench_types.specs.declared.exchanges.Rules.{Rules}
 use Rattle.bench_types.specs.declared.rows.Figures.{Figures}
-use Rattle.node_table.specs.Table.{Table}
-use Rattle.cluster.specs.Clusters.{KeepOwnParts}
-use Rattle.cluster.specs.Folds.{Folded, fold_of}
-use Rattle.cluster.specs.Tables.{AreTablesInOrder, AreProper, HoldsOfEach, IsCluster}
-use Rattle.cluster.proofs.FoldLaws.{fold_counts_tables, fold_counts_records, fold_keeps_own, fold_proper}
-use Rattle.cluster.proofs.Tables.{cluster_of}
-use Rattle.round_plan.specs.Plan.{RoundListView, IsRoundPlan, round_list_of}
+use Rattle.model.specs.Table.{Table}
+use Rattle.model.specs.Clusters.{KeepOwnParts}
+use Rattle.model.specs.Folds.{Folded, fold_of}
+use Rattle.model.specs.Tables.{AreTablesInOrder, AreProper, HoldsOfEach, IsCluster}
+use Rattle.model.proofs.FoldLaws.{fold_counts_tables, fold_counts_records, fold_keeps_own, fold_proper}
+use Rattle.model.proofs.Tables.{cluster_of}
+use Rattle.model.specs.RoundLists.{RoundListView, IsRoundPlan}
+use Rattle.round_plan.specs.Plan.{round_list_of}
 use Rattle.round_plan.specs.Words.{RunWordsView, run_words_of}
 use Rattle.scenario.specs.Settings.{Settings, IsBudgetOf, IsLawfulScenario}
-use Rattle.staleness.specs.Figures.{figures_of}
-use Rattle.owner_lists.specs.OwnerListView.{OwnerListView, lists_in}
+use Rattle.model.specs.Figures.{figures_of}
+use Rattle.model.specs.OwnerListView.{OwnerListView, lists_in}
 use Rattle.simulation.specs.Outcomes.{played_with}
 use Rattle.simulation.specs.inner.Steps.{IsPlayedFrom}
 use Rattle.simulation.specs.RoundView.{RoundView}

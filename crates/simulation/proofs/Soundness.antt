@@ -9,9 +9,9 @@ use Rattle.bench_types.specs.declared.entries.Entry.{Entry}
 use Rattle.bench_types.specs.declared.entries.Mark.{Mark}
 use Rattle.bench_types.specs.declared.exchanges.Exchange.{Exchange}
 use Rattle.bench_types.specs.Entry.{AreNextAfter}
-use Rattle.node_table.specs.Table.{Table, empty_table, entry_at, greatest_version, with_own_writes, without_others, without_all, IsProper}
-use Rattle.node_table.proofs.Laws.{entry_at-empty_table}
-use Rattle.node_table.proofs.MarkLaws.{greatest_mark-empty_table, greatest_mark-without_all, greatest_mark-without_others_own}
+use Rattle.model.specs.Table.{Table, empty_table, entry_at, greatest_version, with_own_writes, without_others, without_all, IsProper}
+use Rattle.model.proofs.TableLaws.{entry_at-empty_table}
+use Rattle.model.proofs.MarkLaws.{greatest_mark-empty_table, greatest_mark-without_all, greatest_mark-without_others_own}
 use Rattle.round_plan.specs.Generations.{generation_upto}
 use Rattle.round_plan.specs.Outages.{forgets_now, restarts_now}
 use Rattle.round_plan.specs.Plan.{round_list_of}
@@ -21,15 +21,15 @@ use Rattle.round_plan.proofs.Growth.{count_before-grown, count_upto-grown, keys-
 use Rattle.round_plan.proofs.Planned.{planned_list}
 use Rattle.scenario.specs.Settings.{Settings}
 use Rattle.bench_types.specs.Exchange.{IsPlanned}
-use Rattle.cluster.specs.Clusters.{NoMarksFall}
-use Rattle.exchange.specs.Copies.{IsLastOf}
-use Rattle.cluster.specs.Tables.{table_of_node, AreTablesInOrder, AreProper}
-use Rattle.cluster.specs.Folds.{fold_of, tables_before}
-use Rattle.exchange.specs.Laws.{NoMarkFalls}
-use Rattle.exchange.proofs.ExchangeLaws.{marks_stay, marks_then}
-use Rattle.cluster.proofs.BeginLaws.{IsBegun, begun_same, begun_forget, begun_restart, begun_then, begun_writes, counted_writes, generation-written, written_rises, empty_copies, empty_no_gap, begun_copies, begun_no_gap}
-use Rattle.cluster.proofs.Tables.{table_of_node-made}
-use Rattle.cluster.proofs.FoldLaws.{before_copies, before_no_gap, before_rises, before_keeps_own}
+use Rattle.model.specs.Clusters.{NoMarksFall}
+use Rattle.model.specs.Copies.{IsLastOf}
+use Rattle.model.specs.Tables.{table_of_node, AreTablesInOrder, AreProper}
+use Rattle.model.specs.Folds.{fold_of, tables_before}
+use Rattle.model.specs.ExchangeLaws.{NoMarkFalls}
+use Rattle.model.proofs.ExchangeLaws.{marks_stay, marks_then}
+use Rattle.model.proofs.BeginLaws.{IsBegun, begun_same, begun_forget, begun_restart, begun_then, begun_writes, counted_writes, generation-written, written_rises, empty_copies, empty_no_gap, begun_copies, begun_no_gap}
+use Rattle.model.proofs.Tables.{table_of_node-made}
+use Rattle.model.proofs.FoldLaws.{before_copies, before_no_gap, before_rises, before_keeps_own}
 use Rattle.simulation.specs.Rounds.{opening_tables, restarted, written_table, after_restart, begun, rules_of, round_of, tables_after}
 use Rattle.simulation.specs.Soundness.{writes_by, AreSound, OnlyRestartsLowerMarks, tables_within, IsSoundRun}
 use Rattle.simulation.proofs.Begun.{begun_at}

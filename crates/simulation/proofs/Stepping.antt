@@ -3,12 +3,12 @@
 use Rattle.std.proofs.Common.{◌≡◌, ℕ, ◌<◌, ◌≤◌, List, [], length, map, get_or, sym, ◌∙◌, arith, suc, ◌+◌, ◌-◌, false, Option, Some, refl, ap, subst}
 use Rattle.std.proofs.lemmas.List.{ext_get_or}
 use Rattle.std.proofs.lemmas.List.FromFn.{get_or-map-range_with_len, length-map-range_with_len}
-use Rattle.node_table.specs.Table.{Table}
+use Rattle.model.specs.Table.{Table}
 use Rattle.scenario.specs.Settings.{Settings, IsLawfulScenario}
-use Rattle.owner_lists.specs.OwnerListView.{OwnerListView, no_writes, lists_in}
-use Rattle.owner_lists.specs.Writes.{write_of_entry}
-use Rattle.owner_lists.proofs.Owners.{length-lists_in, list_read}
-use Rattle.staleness.specs.Figures.{figures_of}
+use Rattle.model.specs.OwnerListView.{OwnerListView, no_writes, lists_in}
+use Rattle.model.specs.Writes.{write_of_entry}
+use Rattle.model.proofs.Owners.{length-lists_in, list_read}
+use Rattle.model.specs.Figures.{figures_of}
 use Rattle.simulation.specs.Rounds.{tables_after, round_of, records_in}
 use Rattle.simulation.specs.Lists.{list_after, lists_after}
 use Rattle.simulation.specs.Outcomes.{figures_in, played_with}
@@ -16,7 +16,7 @@ use Rattle.simulation.specs.Standing.{StandAfterRound}
 use Rattle.std.specs.Prelude.{is_none, IfSome}
 use Rattle.simulation.specs.declared.sims.Cluster.{Cluster}
 use Rattle.simulation.specs.RoundView.{RoundView}
-use Rattle.cluster.specs.Folds.{Folded}
+use Rattle.model.specs.Folds.{Folded}
 use Rattle.bench_types.specs.declared.entries.Entry.{Entry}
 use Rattle.bench_types.specs.declared.exchanges.Record.{Record}
 use Rattle.bench_types.specs.declared.exchanges.Rules.{Rules}

@@ -6,17 +6,17 @@ use Rattle.std.proofs.lemmas.List.Elements.{All-push}
 use Rattle.std.proofs.lemmas.List.{append_assoc, get_or-map, length-map, length-take-le, map-append, take_more}
 use Rattle.bench_types.specs.declared.entries.Entry.{Entry}
 use Rattle.bench_types.specs.Entry.{next_version, IsNextAfter, AreNextAfter}
-use Rattle.node_table.specs.Table.{Table, greatest_version, with_own_write, with_own_writes, IsProper}
-use Rattle.node_table.proofs.ProperLaws.{proper-with_own_write}
-use Rattle.cluster.proofs.BeginLaws.{counted_write}
+use Rattle.model.specs.Table.{Table, greatest_version, with_own_write, with_own_writes, IsProper}
+use Rattle.model.proofs.ProperLaws.{proper-with_own_write}
+use Rattle.model.proofs.BeginLaws.{counted_write}
 use Rattle.round_plan.specs.declared.owners.OwnWrite.{OwnWrite}
 use Rattle.round_plan.specs.Writes.{born_in}
-use Rattle.owner_lists.specs.declared.lists.Write.{Write}
-use Rattle.owner_lists.specs.OwnerListView.{OwnerListView, all_writes, written, next_entry, with_write, list_of_owner, ListBecomes}
-use Rattle.owner_lists.specs.Writes.{write_of_entry, AreBornBy, next_write}
-use Rattle.owner_lists.proofs.Owners.{written_more}
-use Rattle.staleness.specs.OwnParts.{OwnPartIsLastWrites}
-use Rattle.staleness.proofs.OwnParts.{own_part-written}
+use Rattle.model.specs.declared.writes.Write.{Write}
+use Rattle.model.specs.OwnerListView.{OwnerListView, all_writes, written, next_entry, with_write, list_of_owner, ListBecomes}
+use Rattle.model.specs.Writes.{write_of_entry, AreBornBy, next_write}
+use Rattle.model.proofs.Owners.{written_more}
+use Rattle.model.specs.OwnParts.{OwnPartIsLastWrites}
+use Rattle.model.proofs.OwnParts.{own_part-written}
 use Rattle.round_tables.specs.Histories.{own_list, StandsBeside, MayWrite, AddsWrite}
 use Rattle.simulation.specs.inner.Steps.{MayWriteEach, OthersStay}
 

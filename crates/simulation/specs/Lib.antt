@@ -7,18 +7,18 @@ pub mod RoundView
 pub mod Outcomes
 pub mod Simulation
 pub mod inner
-pub use Rattle.exchange.specs.Exchanged
-pub use Rattle.cluster.specs.Tables
-pub use Rattle.cluster.specs.Folds
-pub use Rattle.pool.specs.Runs
-pub use Rattle.exchange.specs.Owns
+pub use Rattle.model.specs.Exchanged
+pub use Rattle.model.specs.Tables
+pub use Rattle.model.specs.Folds
+pub use Rattle.model.specs.RoundLists
+pub use Rattle.model.specs.Runs
+pub use Rattle.model.specs.Owns
 pub use Rattle.round_plan.specs.Plan
 pub use Rattle.round_plan.specs.Writes
-pub use Rattle.staleness.specs.Figures
-pub use Rattle.staleness.specs.OwnParts
-pub use Rattle.owner_lists.specs.Writes as OwnerLists
-pub use Rattle.owner_lists.specs.OwnerListView
+pub use Rattle.model.specs.Figures
+pub use Rattle.model.specs.OwnParts
+pub use Rattle.model.specs.Writes as OwnerLists
+pub use Rattle.model.specs.OwnerListView
 pub use Rattle.scenario.specs.Settings
-pub use Rattle.node_table.specs.Table
-pub use Rattle.node_table.specs.NodeTableView
+pub use Rattle.model.specs.Table
 pub use Rattle.round_tables.specs.Histories

@@ -4,8 +4,8 @@ use Rattle.std.specs.Prelude.{ℕ, List, map}
 use Rattle.std.specs.List.{range_with_len}
 use Rattle.round_plan.specs.Writes.{writes_upto}
 use Rattle.scenario.specs.Settings.{Settings}
-use Rattle.owner_lists.specs.declared.lists.Write.{Write}
-use Rattle.owner_lists.specs.Writes.{write_of_entry}
+use Rattle.model.specs.declared.writes.Write.{Write}
+use Rattle.model.specs.Writes.{write_of_entry}
 
 -- the list of an owner after a round
 abbrev pub list_after : Settings → ℕ → ℕ → List Write

@@ -3,9 +3,10 @@ use Rattle.std.specs.Prelude.{ℕ, List}
 use Rattle.bench_types.specs.declared.exchanges.Record.{Record}
 use Rattle.bench_types.specs.declared.rows.Figures.{Figures}
 use Rattle.bench_types.specs.declared.rows.Row.{Row}
-use Rattle.round_plan.specs.Plan.{RoundListView, round_list_of}
+use Rattle.model.specs.RoundLists.{RoundListView}
+use Rattle.round_plan.specs.Plan.{round_list_of}
 use Rattle.scenario.specs.Settings.{Settings}
-use Rattle.staleness.specs.Figures.{figures_of}
+use Rattle.model.specs.Figures.{figures_of}
 use Rattle.simulation.specs.RoundView.{RoundView}
 use Rattle.simulation.specs.Rounds.{tables_after, records_in}
 use Rattle.simulation.specs.Lists.{lists_after}

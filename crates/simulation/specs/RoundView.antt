@@ -3,7 +3,7 @@ use Rattle.std.specs.Prelude.{List}
 use Rattle.bench_types.specs.declared.exchanges.Record.{Record}
 use Rattle.bench_types.specs.declared.rows.Figures.{Figures}
 use Rattle.bench_types.specs.declared.rows.Row.{Row}
-use Rattle.round_plan.specs.Plan.{RoundListView}
+use Rattle.model.specs.RoundLists.{RoundListView}
 
 pub record RoundView : Type 0 where
   pub row : Row

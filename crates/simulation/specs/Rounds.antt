@@ -6,13 +6,13 @@ use Rattle.std.specs.Prelude.{ℕ, zero, suc, ◌-◌, if◌then◌else◌, List
 use Rattle.std.specs.List.{range_with_len}
 use Rattle.bench_types.specs.declared.exchanges.Record.{Record}
 use Rattle.bench_types.specs.declared.exchanges.Rules.{Rules}
-use Rattle.node_table.specs.Table.{Table, empty_table, with_own_writes, without_others, without_all}
+use Rattle.model.specs.Table.{Table, empty_table, with_own_writes, without_others, without_all}
 use Rattle.round_plan.specs.Outages.{forgets_now, restarts_now}
 use Rattle.round_plan.specs.Plan.{round_list_of}
 use Rattle.round_plan.specs.Writes.{count_before, own_writes}
 use Rattle.scenario.specs.Settings.{Settings}
-use Rattle.cluster.specs.Tables.{table_of_node}
-use Rattle.cluster.specs.Folds.{Folded, fold_of}
+use Rattle.model.specs.Tables.{table_of_node}
+use Rattle.model.specs.Folds.{Folded, fold_of}
 
 abbrev pub opening_tables : Settings → List Table
 opening_tables s = map (λ n. empty_table n s.nodes s.keys) (range_with_len 0 s.nodes)

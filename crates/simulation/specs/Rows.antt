@@ -5,7 +5,7 @@ use Rattle.bench_types.specs.declared.exchanges.Fate.TheVariants as fate
 use Rattle.bench_types.specs.declared.exchanges.Record.{Record}
 use Rattle.bench_types.specs.declared.rows.Figures.{Figures}
 use Rattle.bench_types.specs.declared.rows.Row.{Row}
-use Rattle.round_plan.specs.Plan.{RoundListView}
+use Rattle.model.specs.RoundLists.{RoundListView}
 
 -- whether an exchange lost a message
 abbrev pub has_lost : Fate → Bool

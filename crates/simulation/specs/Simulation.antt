@@ -4,13 +4,13 @@ use Rattle.std.specs.Prelude.{◌≡◌, ℕ, ◌+◌, ◌<◌, ◌⊎◌, Bool,
 use Rattle.bench_types.specs.declared.faults.Fault.{Fault}
 use Rattle.bench_types.specs.declared.faults.Fault.TheVariants.{Broken, Finished}
 use Rattle.bench_types.specs.declared.entries.Entry.{Entry}
-use Rattle.node_table.specs.Table.{Table}
+use Rattle.model.specs.Table.{Table}
 use Rattle.scenario.specs.Settings.{Settings}
-use Rattle.owner_lists.specs.OwnerListView.{OwnerListView}
+use Rattle.model.specs.OwnerListView.{OwnerListView}
 use Rattle.simulation.specs.RoundView.{RoundView}
-use Rattle.owner_lists.specs.Numbers.{write_numbered}
+use Rattle.model.specs.Numbers.{write_numbered}
 use Rattle.round_plan.specs.Writes.{written_upto}
-use Rattle.pool.specs.Runs.{IsPoolFault}
+use Rattle.model.specs.Runs.{IsPoolFault}
 use Rattle.simulation.specs.Rounds.{tables_after}
 use Rattle.simulation.specs.Outcomes.{played_of}
 use Rattle.simulation.specs.Soundness.{AreSound, OnlyRestartsLowerMarks}

@@ -3,17 +3,17 @@
 -- restart of the copy's holder, and within one generation no key's. Source: the LADIS 2008 paper; restarts and
 -- generations are this project's.
 use Rattle.std.specs.Prelude.{◌≡◌, ℕ, ◌-◌, ◌≤◌, false, List, length}
-use Rattle.node_table.specs.Table.{Table}
-use Rattle.exchange.specs.Candidates.{IsScuttleMode}
+use Rattle.model.specs.Table.{Table}
+use Rattle.model.specs.Candidates.{IsScuttleMode}
 use Rattle.round_plan.specs.Outages.{restarts_now}
 use Rattle.round_plan.specs.Plan.{round_list_of}
 use Rattle.round_plan.specs.Writes.{written_upto}
 use Rattle.scenario.specs.Settings.{Settings}
-use Rattle.cluster.specs.Clusters.{AreCopiesOf, HaveNoGap, NoMarksFall}
-use Rattle.exchange.specs.Copies.{WritesBy}
-use Rattle.cluster.specs.Tables.{table_of_node}
-use Rattle.cluster.specs.Folds.{tables_before}
-use Rattle.exchange.specs.Laws.{NoMarkFalls}
+use Rattle.model.specs.Clusters.{AreCopiesOf, HaveNoGap, NoMarksFall}
+use Rattle.model.specs.Copies.{WritesBy}
+use Rattle.model.specs.Tables.{table_of_node}
+use Rattle.model.specs.Folds.{tables_before}
+use Rattle.model.specs.ExchangeLaws.{NoMarkFalls}
 use Rattle.simulation.specs.Rounds.{begun, rules_of, tables_after}
 
 -- the writes of all owners up to a round, of all their generations

@@ -1,15 +1,15 @@
 -- What holds of all nodes between two rounds. Source: this project.
 use Rattle.std.specs.Prelude.{◌≡◌, ℕ, ◌*◌, ◌<◌, ◌≤◌, List, length}
 use Rattle.bench_types.specs.declared.entries.Entry.{Entry}
-use Rattle.node_table.specs.Table.{Table, greatest_version, IsProper}
-use Rattle.cluster.specs.Tables.{table_of_node, IsTableOf}
+use Rattle.model.specs.Table.{Table, greatest_version, IsProper}
+use Rattle.model.specs.Tables.{table_of_node, IsTableOf}
 use Rattle.round_plan.specs.Generations.{generation_upto}
 use Rattle.round_plan.specs.Writes.{writes_upto, written_upto}
 use Rattle.bench_types.specs.declared.limits.TheConstants.{MOST_WRITES}
 use Rattle.scenario.specs.Settings.{Settings}
-use Rattle.owner_lists.specs.OwnerListView.{OwnerListView, entries_of, written, list_of_owner}
-use Rattle.staleness.specs.OwnParts.{OwnPartIsLastWrites}
-use Rattle.owner_lists.specs.Writes.{AreBornBy}
+use Rattle.model.specs.OwnerListView.{OwnerListView, entries_of, written, list_of_owner}
+use Rattle.model.specs.OwnParts.{OwnPartIsLastWrites}
+use Rattle.model.specs.Writes.{AreBornBy}
 
 -- a node's table of a generation beside its list, which has these writes of it, and these of all, up to a round
 pub record IsOwnerOf (s : Settings) (n current : ℕ) (of_it of_all : List Entry) (round : ℕ) (t : Table)

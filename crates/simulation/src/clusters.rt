@@ -3,12 +3,12 @@
 ghost use Rattle.std.specs.Prelude.{◌≡◌, ℕ, ◌+◌, ◌-◌, ◌^◌, ◌<◌, ◌≤◌, All, length, map, IfOk, OnOk, IsOkUnless};
 ghost use Rattle.bench_types.specs.declared.faults.Fault.TheVariants.{OutOfMemory};
 ghost use Rattle.bench_types.specs.Entry.{AreNextAfter};
-ghost use Rattle.node_table.specs.Table.{IsProper};
-ghost use Rattle.owner_lists.specs.OwnerListView.{all_writes, written, list_of_owner};
-ghost use Rattle.owner_lists.specs.Writes.{AreBornBy};
+ghost use Rattle.model.specs.Table.{IsProper};
+ghost use Rattle.model.specs.OwnerListView.{all_writes, written, list_of_owner};
+ghost use Rattle.model.specs.Writes.{AreBornBy};
 ghost use Rattle.round_plan.specs.Words.{run_words_of, AreWordsOf};
 ghost use Rattle.round_plan.specs.Writes.{born_in};
-ghost use Rattle.cluster.specs.Tables.{AreProper};
+ghost use Rattle.model.specs.Tables.{AreProper};
 ghost use Rattle.round_tables.specs.Histories.{own_list, StandsBeside};
 ghost use Rattle.simulation.specs.Rounds.{opening_tables, after_restart, begun};
 ghost use Rattle.simulation.specs.Simulation.{MayWriteAll};
@@ -17,13 +17,14 @@ ghost use Rattle.simulation.specs.inner.Steps.{begun_table, MayWriteEach, Others
 
 use bench_types::Fault;
 use bench_types::limits::MOST_ROUNDS;
+use model::MemoryTable;
 use round_plan::{OwnWrite, ROUND_WORDS, RunWords, forgets_now, restarts_now, writes_by};
-use round_tables::RoundTable;
+use round_tables::RoundHistories;
 use scenario::Scenario;
 use std::alloc::Global;
 
 /// The empty tables of all nodes, in order.
-pub(crate) fn empty_tables<T: RoundTable>(
+pub(crate) fn empty_tables<T: MemoryTable, H: RoundHistories<T>>(
     alloc: Global,
     scenario: &Scenario,
 ) -> Result<Vec<T>, Fault>
@@ -35,16 +36,16 @@ pub(crate) fn empty_tables<T: RoundTable>(
     let keys = scenario.keys();
     let mut tables = Vec::with_capacity(alloc, nodes as usize)?;
     for node in 0..nodes {
-        tables.push(T::empty(alloc, node, nodes, keys)?)?;
+        tables.push(H::empty_table(alloc, node, nodes, keys)?)?;
     }
     Ok(tables)
 }
 
 /// What a round begins with: its restarts and its writes, by node.
-pub(crate) fn begin_round<T: RoundTable>(
+pub(crate) fn begin_round<T: MemoryTable, H: RoundHistories<T>>(
     scenario: &Scenario,
     tables: &mut [T],
-    histories: &mut T::Histories,
+    histories: &mut H,
     words: &RunWords,
     round: u32,
 ) -> Result<(), Fault>
@@ -52,13 +53,13 @@ pub(crate) fn begin_round<T: RoundTable>(
     requires last { round ≤ MOST_ROUNDS }
     requires within { round ≤ scenario.now.rounds }
     requires words { words.now ≡ run_words_of scenario.now round }
-    requires may_write { MayWriteAll T.may_write scenario.now }
-    requires ended { T.has_ended histories.old (round - 1) }
-    requires standing { StandAfterRound scenario.now (round - 1) (map T.table tables.old) (T.lists histories.old) }
+    requires may_write { MayWriteAll H.may_write scenario.now }
+    requires ended { H.has_ended histories.old (round - 1) }
+    requires standing { StandAfterRound scenario.now (round - 1) (map T.table tables.old) (H.lists histories.old) }
     ensures standing { OnOk result
-        (StandAfterRound scenario.now round (map T.table tables.new) (T.lists histories.new)) }
+        (StandAfterRound scenario.now round (map T.table tables.new) (H.lists histories.new)) }
     ensures tables { OnOk result (map T.table tables.new ≡ begun scenario.now round (map T.table tables.old)) }
-    ensures ended { OnOk result (T.has_ended histories.new round) }
+    ensures ended { OnOk result (H.has_ended histories.new round) }
     ensures only { IsOkUnless result OutOfMemory }
 {
     for node in 0..scenario.nodes() {
@@ -72,16 +73,16 @@ pub(crate) fn begin_round<T: RoundTable>(
             round,
         )?;
     }
-    T::end_writes(histories, round)
+    histories.end_writes(round)
 }
 
 // What a node begins a round with: its restarts, and then its writes. No other node's table or list matters
 // to it.
-fn begin_node<T: RoundTable>(
+fn begin_node<T: MemoryTable, H: RoundHistories<T>>(
     scenario: &Scenario,
     node: u32,
     table: &mut T,
-    histories: &mut T::Histories,
+    histories: &mut H,
     words: &[u32; ROUND_WORDS as usize],
     round: u32,
 ) -> Result<(), Fault>
@@ -90,82 +91,82 @@ fn begin_node<T: RoundTable>(
     requires within { round ≤ scenario.now.rounds }
     requires node { node < scenario.now.nodes }
     requires words { AreWordsOf scenario.now.seed node round words.now }
-    requires may_write { MayWriteAll T.may_write scenario.now }
-    requires ended { T.has_ended histories.old (round - 1) }
-    requires lists { length (T.lists histories.old) ≡ scenario.now.nodes }
+    requires may_write { MayWriteAll H.may_write scenario.now }
+    requires ended { H.has_ended histories.old (round - 1) }
+    requires lists { length (H.lists histories.old) ≡ scenario.now.nodes }
     requires owner { IsOwner scenario.now (round - 1) node (T.table table.old)
-        (list_of_owner (T.lists histories.old) node) }
+        (list_of_owner (H.lists histories.old) node) }
     ensures owner { OnOk result
-        (IsOwner scenario.now round node (T.table table.new) (list_of_owner (T.lists histories.new) node)) }
+        (IsOwner scenario.now round node (T.table table.new) (list_of_owner (H.lists histories.new) node)) }
     ensures table { OnOk result (T.table table.new ≡ begun_table scenario.now round node (T.table table.old)) }
-    ensures others { OnOk result (OthersStay node (T.lists histories.old) (T.lists histories.new)) }
-    ensures ended { OnOk result (T.has_ended histories.new (round - 1)) }
+    ensures others { OnOk result (OthersStay node (H.lists histories.old) (H.lists histories.new)) }
+    ensures ended { OnOk result (H.has_ended histories.new (round - 1)) }
     ensures only { IsOkUnless result OutOfMemory }
 {
     restart(scenario, node, table, histories, round);
-    let writes = writes_by(scenario, node, round, T::count(histories, node), words);
+    let writes = writes_by(scenario, node, round, histories.count(node), words);
     write_own(table, histories, writes.as_slice(), round)
 }
 
 // The restarts of a node in a round: they empty its copies of all others, or where it forgets its whole table.
-fn restart<T: RoundTable>(
+fn restart<T: MemoryTable, H: RoundHistories<T>>(
     scenario: &Scenario,
     node: u32,
     table: &mut T,
-    histories: &mut T::Histories,
+    histories: &mut H,
     round: u32,
 )
     requires first { 1 ≤ round }
     requires last { round ≤ MOST_ROUNDS }
     requires node { node < scenario.now.nodes }
-    requires ended { T.has_ended histories.old (round - 1) }
-    requires lists { length (T.lists histories.old) ≡ scenario.now.nodes }
+    requires ended { H.has_ended histories.old (round - 1) }
+    requires lists { length (H.lists histories.old) ≡ scenario.now.nodes }
     requires owner { IsOwner scenario.now (round - 1) node (T.table table.old)
-        (list_of_owner (T.lists histories.old) node) }
+        (list_of_owner (H.lists histories.old) node) }
     ensures owner { HasRestarted scenario.now round node (T.table table.new)
-        (list_of_owner (T.lists histories.new) node) }
+        (list_of_owner (H.lists histories.new) node) }
     ensures table { T.table table.new ≡ after_restart scenario.now round node (T.table table.old) }
-    ensures others { OthersStay node (T.lists histories.old) (T.lists histories.new) }
-    ensures ended { T.has_ended histories.new (round - 1) }
+    ensures others { OthersStay node (H.lists histories.old) (H.lists histories.new) }
+    ensures ended { H.has_ended histories.new (round - 1) }
 {
     if forgets_now(scenario, node, round) {
-        table.forget(histories);
+        histories.forget(table);
     } else if restarts_now(scenario, node, round) {
-        table.restart();
+        H::restart(table);
     }
 }
 
 // The writes of one node in a round, in order.
-fn write_own<T: RoundTable>(
+fn write_own<T: MemoryTable, H: RoundHistories<T>>(
     table: &mut T,
-    histories: &mut T::Histories,
+    histories: &mut H,
     writes: &[OwnWrite],
     round: u32,
 ) -> Result<(), Fault>
     requires first { 1 ≤ round }
     requires last { round ≤ MOST_ROUNDS }
-    requires ended { T.has_ended histories.old (round - 1) }
-    requires owner { (T.table table.old).node < length (T.lists histories.old) }
+    requires ended { H.has_ended histories.old (round - 1) }
+    requires owner { (T.table table.old).node < length (H.lists histories.old) }
     requires proper { IsProper (T.table table.old) }
     requires keys { All (λ w. w.key < (T.table table.old).keys) writes.now }
     requires next { AreNextAfter (T.table table.old).generation
-        (length (own_list (T.table table.old) (T.lists histories.old)).current)
+        (length (own_list (T.table table.old) (H.lists histories.old)).current)
         (map (born_in round (T.table table.old).generation) writes.now) }
-    requires may { MayWriteEach T.may_write (T.table table.old).node
-        (length (all_writes (T.lists histories.old) (T.table table.old).node))
+    requires may { MayWriteEach H.may_write (T.table table.old).node
+        (length (all_writes (H.lists histories.old) (T.table table.old).node))
         (map (born_in round (T.table table.old).generation) writes.now) }
-    requires fits { length (own_list (T.table table.old) (T.lists histories.old)).current + length writes.now + 1
+    requires fits { length (own_list (T.table table.old) (H.lists histories.old)).current + length writes.now + 1
         < 2 ^ 32 }
-    requires beside { StandsBeside (T.table table.old) (own_list (T.table table.old) (T.lists histories.old)) }
-    requires born { AreBornBy round (written (own_list (T.table table.old) (T.lists histories.old))) }
+    requires beside { StandsBeside (T.table table.old) (own_list (T.table table.old) (H.lists histories.old)) }
+    requires born { AreBornBy round (written (own_list (T.table table.old) (H.lists histories.old))) }
     ensures written { OnOk result (HasWritten round writes.now (T.table table.old) (T.table table.new)
-        (own_list (T.table table.old) (T.lists histories.old)) (own_list (T.table table.old) (T.lists histories.new))) }
-    ensures others { OnOk result (OthersStay (T.table table.old).node (T.lists histories.old) (T.lists histories.new)) }
-    ensures ended { OnOk result (T.has_ended histories.new (round - 1)) }
+        (own_list (T.table table.old) (H.lists histories.old)) (own_list (T.table table.old) (H.lists histories.new))) }
+    ensures others { OnOk result (OthersStay (T.table table.old).node (H.lists histories.old) (H.lists histories.new)) }
+    ensures ended { OnOk result (H.has_ended histories.new (round - 1)) }
     ensures only { IsOkUnless result OutOfMemory }
 {
     for write in writes {
-        table.write(histories, write.key, write.value, round)?;
+        histories.write(table, write.key, write.value, round)?;
     }
     Ok(())
 }

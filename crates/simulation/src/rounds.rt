@@ -2,11 +2,11 @@
 
 ghost use Rattle.std.specs.Prelude.{◌≡◌, ◌≤◌, length};
 ghost use Rattle.simulation.specs.Outcomes.{played_with};
-ghost use Rattle.round_plan.specs.declared.lists.TheConstants.{MOST_EXCHANGES};
+ghost use Rattle.model.specs.declared.lists.TheConstants.{MOST_EXCHANGES};
 ghost use Rattle.simulation.specs.Rows.{row_of, has_lost, lost_count, entry_count, cut_total};
 
 use bench_types::{Fate, Figures, Record, Row};
-use round_plan::RoundList;
+use model::RoundList;
 use std::marker::Model;
 
 /// A round that was carried out.

@@ -4,10 +4,8 @@ ghost use Rattle.std.specs.Prelude.{◌≡◌, ℕ, ◌+◌, ◌-◌, ◌<◌, �
 ghost use Rattle.bench_types.specs.declared.faults.Fault.TheVariants.{OutOfMemory};
 ghost use Rattle.bench_types.specs.declared.limits.TheConstants.{MOST_WORKERS};
 ghost use Rattle.scenario.specs.Settings.{IsLawfulScenario};
-ghost use Rattle.pool.specs.Runs.{IsPoolFault};
-ghost use Rattle.cluster.specs.Tables.{tables_in};
+ghost use Rattle.model.specs.Runs.{IsPoolFault};
 ghost use Rattle.round_plan.specs.Words.{run_words_of};
-ghost use Rattle.exchange.specs.Exchanging.{kept_table};
 ghost use Rattle.simulation.specs.Rounds.{opening_tables, begun, round_of, rules_of, tables_after};
 ghost use Rattle.simulation.specs.Standing.{StandAfterRound};
 ghost use Rattle.simulation.specs.inner.Insides.{tables_of, HasPlayed};
@@ -17,29 +15,29 @@ use crate::clusters::{begin_round, empty_tables};
 use crate::rounds::Round;
 use bench_types::limits::{MOST_ROUNDS, MOST_WORKERS};
 use bench_types::{Fault, Rules};
-use node_table::NodeTable;
-use pool::{Gate, run_list_with};
+use model::MemoryTable;
 use round_plan::{RunWords, round_list_by};
-use round_tables::RoundTable;
+use round_tables::RoundHistories;
 use scenario::Scenario;
 use std::alloc::Global;
 use std::marker::Model;
 use std::sync::Wait;
 use std::thread::Threads;
+use workers::{Gate, run_list_with};
 
 /// A simulation of a scenario, with tables of one representation or another. A fault within a round breaks
 /// it: its tables are then given up.
 #[derive(Drop)]
-pub struct Sim<T: RoundTable = NodeTable> {
+pub struct Sim<T: MemoryTable, H: RoundHistories<T>> {
     alloc: Global,
     scenario: Scenario,
     // The scenario's.
     rules: Rules,
-    cluster: Option<Cluster<T>>,
+    cluster: Option<Cluster<T, H>>,
     rounds_done: u32,
 }
 
-impl<T: RoundTable> Model for Sim<T> {
+impl<T: MemoryTable + Send + Sync, H: RoundHistories<T>> Model for Sim<T, H> {
     ghost use Rattle.simulation.specs.Simulation.{SimView};
     ghost use Rattle.simulation.specs.inner.Insides.{IsInside, simulation_of, simulation_code};
 
@@ -47,38 +45,26 @@ impl<T: RoundTable> Model for Sim<T> {
 
     ghost coded = { simulation_code T.code };
 
-    ghost view = { λ s. simulation_of T.lists s.scenario s.cluster s.rounds_done };
+    ghost view = { λ s. simulation_of H.lists s.scenario s.cluster s.rounds_done };
 
-    ghost invariant = { λ s. IsInside T.table T.lists T.has_ended T.may_write
+    ghost invariant = { λ s. IsInside T.table H.lists H.has_ended H.may_write
         s.scenario s.rules s.cluster s.rounds_done };
 }
 
 // What all nodes hold, what each has written, and their words of the last round.
 #[derive(Drop)]
-struct Cluster<T: RoundTable> {
+struct Cluster<T: MemoryTable, H: RoundHistories<T>> {
     tables: Vec<T>,
-    histories: T::Histories,
+    histories: H,
     words: RunWords,
 }
 
-impl Sim<NodeTable> {
-    /// The simulation before its first round, where all tables are empty. It takes memory for the
-    /// nodes, and hands the scenario back where that is refused (`OutOfMemory`).
-    pub fn new(alloc: Global, scenario: Scenario) -> Result<Sim, (Fault, Scenario)>
-        ensures opens { IfOk result
-            (λ sim. (sim.settings ≡ scenario) × (sim.rounds_done ≡ 0) × (sim.broken ≡ false)) }
-        ensures empty { IfOk result (λ sim. tables_in sim.tables ≡ opening_tables scenario) }
-        ensures hands_back { IfErr result (λ e. (e.0 ≡ OutOfMemory) × (e.1 ≡ scenario)) }
-    {
-        Sim::of(alloc, scenario)
-    }
-}
-
-impl<T: RoundTable> Sim<T> {
-    /// The simulation before its first round, as `new` makes it, with tables of any representation. They may
-    /// ask something of what is written in the run.
-    pub fn of(alloc: Global, scenario: Scenario) -> Result<Sim<T>, (Fault, Scenario)>
-        requires { MayWriteAll T.may_write scenario }
+impl<T: MemoryTable + Send + Sync, H: RoundHistories<T>> Sim<T, H> {
+    /// The simulation before its first round, where all tables are empty. It takes memory for the nodes, and
+    /// hands the scenario back where that is refused (`OutOfMemory`). Tables of some representations ask
+    /// something of what is written in the run.
+    pub fn new(alloc: Global, scenario: Scenario) -> Result<Sim<T, H>, (Fault, Scenario)>
+        requires { MayWriteAll H.may_write scenario }
         ensures opens { IfOk result
             (λ sim. (sim.settings ≡ scenario) × (sim.rounds_done ≡ 0) × (sim.broken ≡ false)) }
         ensures empty { IfOk result (λ sim. map T.table sim.tables ≡ opening_tables scenario) }
@@ -200,18 +186,18 @@ impl<T: RoundTable> Sim<T> {
     }
 }
 
-impl<T: RoundTable> Cluster<T> {
-    fn new(alloc: Global, scenario: &Scenario) -> Result<Cluster<T>, Fault>
+impl<T: MemoryTable + Send + Sync, H: RoundHistories<T>> Cluster<T, H> {
+    fn new(alloc: Global, scenario: &Scenario) -> Result<Cluster<T, H>, Fault>
         ensures tables { IfOk result (λ c. tables_of T.table c ≡ opening_tables scenario.now) }
         ensures standing { IfOk result
-            (λ c. StandAfterRound scenario.now 0 (tables_of T.table c) (T.lists c.histories)) }
-        ensures ended { IfOk result (λ c. T.has_ended c.histories 0) }
+            (λ c. StandAfterRound scenario.now 0 (tables_of T.table c) (H.lists c.histories)) }
+        ensures ended { IfOk result (λ c. H.has_ended c.histories 0) }
         ensures words { IfOk result (λ c. c.words ≡ run_words_of scenario.now 0) }
         ensures only { IsOkUnless result OutOfMemory }
     {
         Ok(Cluster {
-            tables: empty_tables(alloc, scenario)?,
-            histories: T::histories(alloc, scenario.nodes())?,
+            tables: empty_tables::<T, H>(alloc, scenario)?,
+            histories: H::new(alloc, scenario.nodes())?,
             words: RunWords::new(alloc, scenario)?,
         })
     }
@@ -221,16 +207,16 @@ impl<T: RoundTable> Cluster<T> {
         requires first { 1 ≤ round }
         requires last { round ≤ MOST_ROUNDS }
         requires within { round ≤ scenario.now.rounds }
-        requires may_write { MayWriteAll T.may_write scenario.now }
-        requires ended { T.has_ended self.old.histories (round - 1) }
+        requires may_write { MayWriteAll H.may_write scenario.now }
+        requires ended { H.has_ended self.old.histories (round - 1) }
         requires words { self.old.words ≡ run_words_of scenario.now round }
         requires standing { StandAfterRound scenario.now (round - 1) (tables_of T.table self.old)
-            (T.lists self.old.histories) }
+            (H.lists self.old.histories) }
         ensures standing { OnOk result
-            (StandAfterRound scenario.now round (tables_of T.table self.new) (T.lists self.new.histories)) }
+            (StandAfterRound scenario.now round (tables_of T.table self.new) (H.lists self.new.histories)) }
         ensures tables { OnOk result
             (tables_of T.table self.new ≡ begun scenario.now round (tables_of T.table self.old)) }
-        ensures ended { OnOk result (T.has_ended self.new.histories round) }
+        ensures ended { OnOk result (H.has_ended self.new.histories round) }
         ensures words { self.new.words ≡ run_words_of scenario.now round }
         ensures only { IsOkUnless result OutOfMemory }
     {
@@ -253,24 +239,24 @@ impl<T: RoundTable> Cluster<T> {
         round: u32,
         workers: u32,
         gate: &G,
-    ) -> Result<(Cluster<T>, Round), Fault>
+    ) -> Result<(Cluster<T, H>, Round), Fault>
         requires few { 1 ≤ workers }
         requires many { workers ≤ MOST_WORKERS }
         requires lawful { IsLawfulScenario scenario.now }
         requires first { 1 ≤ round }
         requires within { round ≤ scenario.now.rounds }
         requires rules { rules.now ≡ rules_of scenario.now }
-        requires may_write { MayWriteAll T.may_write scenario.now }
-        requires ended { T.has_ended self.histories (round - 1) }
+        requires may_write { MayWriteAll H.may_write scenario.now }
+        requires ended { H.has_ended self.histories (round - 1) }
         requires words { self.words ≡ run_words_of scenario.now (round - 1) }
-        requires standing { StandAfterRound scenario.now (round - 1) (tables_of T.table self) (T.lists self.histories) }
+        requires standing { StandAfterRound scenario.now (round - 1) (tables_of T.table self) (H.lists self.histories) }
         requires after { tables_of T.table self ≡ tables_after scenario.now (round - 1) }
         ensures tables { IfOk result (λ p. tables_of T.table p.0 ≡ tables_after scenario.now round) }
         ensures standing { IfOk result
-            (λ p. StandAfterRound scenario.now round (tables_of T.table p.0) (T.lists p.0.histories)) }
-        ensures ended { IfOk result (λ p. T.has_ended p.0.histories round) }
+            (λ p. StandAfterRound scenario.now round (tables_of T.table p.0) (H.lists p.0.histories)) }
+        ensures ended { IfOk result (λ p. H.has_ended p.0.histories round) }
         ensures words { IfOk result (λ p. p.0.words ≡ run_words_of scenario.now round) }
-        ensures played { IfOk result (λ p. HasPlayed T.table T.lists scenario.now round self p.0 p.1) }
+        ensures played { IfOk result (λ p. HasPlayed T.table H.lists scenario.now round self p.0 p.1) }
         ensures fault { IfErr result (IsPoolFault workers) }
     {
         self.words.next_round();
@@ -281,11 +267,11 @@ impl<T: RoundTable> Cluster<T> {
             histories,
             words,
         } = self;
-        let shared = T::shared(&histories, round);
+        histories.stand_ready(round);
         let (tables, records) = run_list_with(
-            rt, alloc, shared, &list, tables, workers, gate, rules,
+            rt, alloc, &histories, &list, tables, workers, gate, rules,
         )?;
-        let lag = T::figures(rt, alloc, &tables, &histories, round)?;
+        let lag = histories.figures(rt, alloc, &tables, round)?;
         let played = Round::of(round, list, records, lag);
         Ok((
             Cluster {

@@ -8,20 +8,20 @@ use Rattle.std.proofs.lemmas.List.Elements.{All-head, All-tail}
 use Rattle.std.proofs.lemmas.List.Folds.{list_any_none}
 use Rattle.bench_types.specs.declared.entries.Entry.{Entry}
 use Rattle.bench_types.specs.Mark.{absent}
-use Rattle.node_table.specs.Table.{Table, entry_at, generation_held, IsProper}
+use Rattle.model.specs.Table.{Table, entry_at, generation_held, IsProper}
 use Rattle.node_table.specs.Entries.{AreAbove}
-use Rattle.cluster.specs.Tables.{table_of_node}
-use Rattle.staleness.specs.Figures.{generation_at, is_left_over, leftover_at}
-use Rattle.planes.specs.Sums.{sum_below}
+use Rattle.model.specs.Tables.{table_of_node}
+use Rattle.model.specs.Figures.{generation_at, is_left_over, leftover_at}
+use Rattle.bench_types.specs.Sums.{sum_below}
 use Rattle.staleness.specs.inner.Copies.{has_key, copy_leftover, node_leftover, nodes_leftover}
 use Rattle.staleness.proofs.Rows.{row_apart, row_held, row_below}
-use Rattle.staleness.proofs.Sums.{sum_below-le, sums, fold_below-same, fold_below-none, fold_below-both}
+use Rattle.bench_types.proofs.Sums.{sum_below-most, sums, fold_below-same, fold_below-none, fold_below-both}
 
 -- one number below a bound
 sum_one : (a n : ℕ) → a < n → sum_below n (λ k. if eqb a k then 1 else 0) ≡ 1
 sum_one a zero lt = absurd (omega arith)
 sum_one a (suc n) lt = elim (cases_eq a n) [
-  | inl last ↦ omega (arith, sum_below-le (λ k. if eqb a k then 1 else 0) n 0 (λ k below. none k (omega arith)), ap {B = ℕ} (λ b. if b then 1 else 0) (eq-eqb a n last))
+  | inl last ↦ omega (arith, sum_below-most (λ k. if eqb a k then 1 else 0) n 0 (λ k below. none k (omega arith)), ap {B = ℕ} (λ b. if b then 1 else 0) (eq-eqb a n last))
   | inr before ↦ omega (arith, sum_one a n (omega arith), ap {B = ℕ} (λ b. if b then 1 else 0) (ne_eqb a n before))
 ]
   where
@@ -102,7 +102,7 @@ module _ (tables : List Table) (p r : ℕ) where
         ] refl
 
   pub copy_leftover-le : copy_leftover tables p r ≤ t.keys
-  copy_leftover-le = omega (arith, sum_below-le (λ k. leftover_at tables p r k) t.keys 1 (λ k lt. leftover_at-le k))
+  copy_leftover-le = omega (arith, sum_below-most (λ k. leftover_at tables p r k) t.keys 1 (λ k lt. leftover_at-le k))
 
 -- where all generations are the first nothing is
 pub nodes_leftover-none : (tables : List Table) (from nodes : ℕ) → ((r : ℕ) → r < length tables → generation_at tables r ≡ 0) → nodes_leftover tables from nodes ≡ 0

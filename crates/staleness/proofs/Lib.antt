@@ -1,11 +1,9 @@
 pub mod Births
-pub mod Sums
 pub mod Rows
 pub mod Known
 pub mod Leftover
 pub mod Seen
 pub mod Places
-pub mod OwnParts
 pub mod Counting
 pub mod Merging
 pub mod EachPart

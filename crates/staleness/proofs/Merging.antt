@@ -9,15 +9,16 @@ use Rattle.std.proofs.Math.Nat.{div-mul-le_self, mul-le-mul_right}
 use Rattle.std.proofs.lemmas.List.FromFn.{length-range_with_len}
 use Rattle.std.proofs.lemmas.Slice.Zip.{AllZip-long}
 use Rattle.bench_types.specs.declared.limits.TheConstants.{MOST_NODES}
-use Rattle.node_table.specs.Table.{Table, entry_at}
-use Rattle.cluster.specs.Tables.{table_of_node}
+use Rattle.model.specs.Table.{Table, entry_at}
+use Rattle.model.specs.Tables.{table_of_node}
 use Rattle.staleness.specs.declared.copies.Copies.{Copies}
-use Rattle.owner_lists.specs.declared.lists.Write.{Write}
-use Rattle.staleness.specs.Figures.{generation_at}
+use Rattle.model.specs.declared.writes.Write.{Write}
+use Rattle.model.specs.Figures.{generation_at}
 use Rattle.staleness.specs.inner.Copies.{no_copies, version_known, with_copy, seen_in, current_of, copies_of, copies_from, merged, MayCountBoth, AreSeen}
 use Rattle.staleness.specs.inner.Parts.{IsSeenInPart, AreSeenInParts}
-use Rattle.staleness.proofs.Counting.{at_place}
-use Rattle.staleness.proofs.Places.{within, one_more, place_of}
+use Rattle.bench_types.proofs.EqualParts.{at_place}
+use Rattle.staleness.proofs.Places.{within, place_of}
+use Rattle.bench_types.proofs.Sums.{one_more}
 use Rattle.staleness.proofs.Seen.{AreFew, few_with, few_seen}
 
 -- a table leaves the owner's current version as it is
@@ -108,10 +109,6 @@ few_from tables r k from (suc p) current =
       | true ↦ record { held = omega (arith, before.held); fresh = before.fresh }
       | false ↦ few_with p c (version_known g (entry_at t r k)) before
     ]
-
--- a part's number is one of the parts'
-pub part_within : (n size p : ℕ) → p ≤ n / size → p * size ≤ n
-part_within n size p le = omega (arith, mul-le-mul_right size le, div-mul-le_self n size)
 
 -- what was seen in a part is found at its place
 pub seen_in_part : (tables : List Table) (none : List Copies) (size count : ℕ) (parts : List (Result (Vec Copies Global) AllocError)) (k : ℕ) (r : Result (Vec Copies Global) AllocError) (v : Vec Copies Global)

@@ -23,9 +23,6 @@ pub all_within : (a owners keys : ℕ) → a < owners → a * keys + keys ≤ ow
 all_within a owners zero lt = omega arith
 all_within a owners (suc n) lt = omega (arith, within a owners n (suc n) lt (omega arith))
 
-pub one_more : (a keys : ℕ) → (a + 1) * keys ≡ a * keys + keys
-one_more a keys = omega (arith, add-mul a 1 keys)
-
 -- each place among them is one of an owner's keys
 pub record IsPlaceOf (owners keys i : ℕ) : Type 0 where
   pub owner : ℕ

@@ -11,7 +11,7 @@ use Rattle.std.proofs.lemmas.List.Folds.{list_any_at, list_any_none}
 use Rattle.std.proofs.lemmas.Option.{same_Some}
 use Rattle.bench_types.specs.declared.entries.Entry.{Entry}
 use Rattle.bench_types.specs.Mark.{absent}
-use Rattle.node_table.specs.Table.{Table, entry_at, IsProper}
+use Rattle.model.specs.Table.{Table, entry_at, IsProper}
 use Rattle.node_table.specs.Entries.{AreAbove, entry_cmp}
 use Rattle.bench_types.proofs.Comparing.{nat_cmp-equal}
 use Rattle.staleness.specs.inner.Copies.{has_key}

@@ -3,18 +3,19 @@
 use Rattle.std.proofs.Common.{◌≡◌, ◌≢◌, ℕ, zero, suc, ◌+◌, ◌-◌, ◌<◌, ◌≤◌, ◌==◌, min, max, Bool, true, false, eqb, leb, List, length, Option, Some, None, if◌then◌else◌, inl, inr, refl, sym, ap, ◌∙◌, subst, arith, lt-ltb, le-ltb, eq-eqb, ne_eqb}
 use Rattle.std.proofs.lemmas.Bool.{cases_lt, cases_eq, le-leb, lt-leb}
 use Rattle.std.specs.Prelude.{unwrap_or}
-use Rattle.node_table.specs.Table.{Table, entry_at, mark_at}
-use Rattle.cluster.specs.Tables.{table_of_node}
+use Rattle.model.specs.Table.{Table, entry_at, mark_at}
+use Rattle.model.specs.Tables.{table_of_node}
 use Rattle.staleness.specs.declared.copies.Copies.{Copies}
-use Rattle.owner_lists.specs.declared.lists.Write.{Write}
-use Rattle.owner_lists.specs.Writes.{IsNumbered, last_write}
+use Rattle.model.specs.declared.writes.Write.{Write}
+use Rattle.model.specs.Writes.{IsNumbered, last_write}
 use Rattle.owner_lists.specs.Missed.{born_in_order}
 use Rattle.owner_lists.specs.inner.Linked.{version_or_zero}
-use Rattle.staleness.specs.Figures.{most_below, writes_of_owner, generation_at, staleness_of, staleness_at, stale_count, rounds_behind}
-use Rattle.planes.specs.Sums.{sum_below}
+use Rattle.bench_types.specs.Sums.{most_below}
+use Rattle.model.specs.Figures.{writes_of_owner, generation_at, staleness_of, staleness_at, stale_count, rounds_behind}
+use Rattle.bench_types.specs.Sums.{sum_below}
 use Rattle.staleness.specs.inner.Copies.{version_known, version_staleness, with_copy, current_of, copies_of, least_of, stale_of}
 use Rattle.owner_lists.proofs.Linking.{last_placed}
-use Rattle.staleness.proofs.Sums.{sums, fold_below-none}
+use Rattle.bench_types.proofs.Sums.{sums, fold_below-none}
 use Rattle.staleness.proofs.Births.{staleness_falls, not_stale, is_stale}
 use Rattle.staleness.proofs.Known.{staleness_known}
 

@@ -1,9 +1,7 @@
-pub mod Figures
-pub mod OwnParts
 pub mod inner
-pub use Rattle.node_table.specs.Table
+pub use Rattle.model.specs.Table
 pub use Rattle.node_table.specs.Entries
 pub use Rattle.node_table.specs.NodeTableView
-pub use Rattle.cluster.specs.Tables
-pub use Rattle.owner_lists.specs.Writes
-pub use Rattle.owner_lists.specs.OwnerListView
+pub use Rattle.model.specs.Tables
+pub use Rattle.model.specs.Writes
+pub use Rattle.model.specs.OwnerListView

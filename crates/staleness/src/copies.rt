@@ -2,13 +2,14 @@
 
 ghost use Rattle.std.specs.Prelude.{◌≡◌, ℕ, ◌+◌, ◌*◌, ◌^◌, ◌<◌, ◌≤◌, None, All, IfOk, IfSome, OnOk, length, slice_index, slice_index_or, vec_len};
 ghost use Rattle.bench_types.specs.declared.limits.TheConstants.{MOST_NODES, MOST_KEYS};
-ghost use Rattle.node_table.specs.Table.{entry_at, generation_held, IsProper};
-ghost use Rattle.cluster.specs.Tables.{tables_in, table_of_node};
-ghost use Rattle.owner_lists.specs.OwnerListView.{lists_in, written};
+ghost use Rattle.model.specs.Table.{entry_at, generation_held, IsProper};
+ghost use Rattle.node_table.specs.NodeTableView.{tables_in};
+ghost use Rattle.model.specs.Tables.{table_of_node};
+ghost use Rattle.model.specs.OwnerListView.{lists_in, written};
 ghost use Rattle.staleness.specs.inner.Parts.{MayBegin};
 ghost use Rattle.owner_lists.specs.Latest.{write_of, KeysRise};
 ghost use Rattle.owner_lists.specs.inner.Keys.{IsFrontForKey};
-ghost use Rattle.owner_lists.specs.declared.lists.Write.{Write};
+ghost use Rattle.model.specs.declared.writes.Write.{Write};
 ghost use Rattle.staleness.specs.declared.copies.Copies.{Copies};
 ghost use Rattle.staleness.specs.inner.Copies.{generations_in, least_known, at_least, version_known, with_version, with_copy, seen_in, no_copies, current_of, copies_from, merged, MayCountOne, MayCountBoth, HaveRoom, IsRowSeen, AreSeen, AreSeenOnce, AreAdded};
 

@@ -3,14 +3,16 @@
 ghost use Rattle.std.specs.Prelude.{◌≡◌, ℕ, ◌+◌, ◌*◌, ◌/◌, ◌^◌, ◌<◌, ◌≤◌, max, All, IfOk, IsFalse, IsOkUnless, length, slice_index_or, unwrap_or};
 ghost use Rattle.bench_types.specs.declared.faults.Fault.TheVariants.{OutOfMemory};
 ghost use Rattle.bench_types.specs.declared.limits.TheConstants.{MOST_NODES, MOST_KEYS, MOST_ROUNDS};
-ghost use Rattle.owner_lists.specs.OwnerListView.{lists_in, written};
+ghost use Rattle.model.specs.OwnerListView.{lists_in, written};
 ghost use Rattle.staleness.specs.declared.copies.Copies.{Copies};
-ghost use Rattle.owner_lists.specs.Writes.{AreBornBy, IsNumbered};
-ghost use Rattle.node_table.specs.Table.{entry_at};
-ghost use Rattle.staleness.specs.Figures.{most_below, writes_of_owner, staleness_at, rounds_behind, figures_of};
-ghost use Rattle.planes.specs.Sums.{sum_below};
+ghost use Rattle.model.specs.Writes.{AreBornBy, IsNumbered};
+ghost use Rattle.model.specs.Table.{entry_at};
+ghost use Rattle.bench_types.specs.Sums.{most_below};
+ghost use Rattle.model.specs.Figures.{writes_of_owner, staleness_at, rounds_behind, figures_of};
+ghost use Rattle.bench_types.specs.Sums.{sum_below};
 ghost use Rattle.staleness.specs.inner.Copies.{generations_in, version_known, version_staleness, copies_of, key_staleness, owner_staleness, owners_staleness, copy_leftover, node_leftover, nodes_leftover};
-ghost use Rattle.cluster.specs.Tables.{tables_in, table_of_node, IsCluster};
+ghost use Rattle.node_table.specs.NodeTableView.{tables_in};
+ghost use Rattle.model.specs.Tables.{table_of_node, IsCluster};
 ghost use Rattle.staleness.specs.inner.Parts.{AreCountable, AreFewTriples, IsCounted, AreCounted, AreAllSeen, MayBegin, IsSeenInPart, AreSeenInParts, found_at};
 
 use crate::copies::{

@@ -8,5 +8,6 @@ mod scopes;
 mod seats;
 mod small_boards;
 mod steps;
+mod tables;
 mod threads;
 mod turns;

@@ -1,7 +1,7 @@
 -- Four writes of one owner, by hand: the keys 5 and 3 in round 2, and the key 5 in the rounds 4 and 7.
 use Rattle.std.specs.Prelude.{ℕ, ◌++◌, ◌∷◌, [], List, Option, option_map}
-use Rattle.owner_lists.specs.declared.lists.Write.{Write}
-use Rattle.owner_lists.specs.Writes.{next_write, first_above}
+use Rattle.model.specs.declared.writes.Write.{Write}
+use Rattle.model.specs.Writes.{next_write, first_above}
 use Rattle.owner_lists.specs.Missed.{first_missed}
 
 -- one write more

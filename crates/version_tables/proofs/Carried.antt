@@ -3,7 +3,7 @@
 use Rattle.std.proofs.Common.{◌≡◌, ℕ, zero, suc, All, List, [], ◌∷◌, Some, subst, arith}
 use Rattle.std.proofs.lemmas.Option.{same_Some}
 use Rattle.bench_types.specs.declared.entries.Entry.{Entry}
-use Rattle.owner_lists.specs.Numbers.{write_from, write_numbered}
+use Rattle.model.specs.Numbers.{write_from, write_numbered}
 
 placed-all : (P : Entry → Type 0) (es : List Entry) (place : ℕ) (e : Entry) → All P es → write_from es place ≡ Some e → P e
 placed-all P [] place e all is = cc

@@ -3,7 +3,7 @@
 use Rattle.std.proofs.Common.{◌≡◌, ℕ, zero, suc, ◌+◌, ◌<◌, ◌≤◌, ◌&&◌, Bool, true, false, cond, List, nat_lt, nat_le, inl, inr, refl, ap, subst, arith}
 use Rattle.std.proofs.lemmas.Bool.{cases_lt, lt-leb}
 use Rattle.bench_types.specs.declared.entries.Entry.{Entry}
-use Rattle.planes.specs.Sums.{sum_below}
+use Rattle.bench_types.specs.Sums.{sum_below}
 use Rattle.planes.specs.Planes.{total_of, ArePlanesChanged}
 use Rattle.version_tables.specs.inner.Taken.{drop_start, number_kept}
 use Rattle.version_tables.specs.inner.Offers.{start_of}

@@ -6,14 +6,14 @@ use Rattle.std.proofs.lemmas.Bool.{cases_lt, cases_eq, eq-eqb, ne_eqb, lt-ltb, l
 use Rattle.bench_types.specs.declared.entries.Entry.{Entry}
 use Rattle.bench_types.specs.declared.entries.Item.{Item}
 use Rattle.bench_types.specs.declared.exchanges.Mode.{Mode}
-use Rattle.node_table.specs.Table.{Table, IsProper}
-use Rattle.reconcile.specs.Candidates.{candidates}
-use Rattle.reconcile.specs.Order.{rank_among, owner_count}
-use Rattle.planes.specs.Sums.{sum_below}
+use Rattle.model.specs.Table.{Table, IsProper}
+use Rattle.model.specs.Candidates.{candidates}
+use Rattle.model.specs.Order.{rank_among, owner_count}
+use Rattle.bench_types.specs.Sums.{sum_below}
 use Rattle.version_tables.specs.inner.Offers.{Offers, IsHistory, offered_sum, rank_above}
 use Rattle.planes.specs.Planes.{Cells, count_above}
 use Rattle.version_tables.specs.inner.Levels.{item_number}
-use Rattle.planes.proofs.Sums.{sum_below-same}
+use Rattle.bench_types.proofs.Sums.{sum_below-same}
 use Rattle.version_tables.proofs.Offers.{offered-sum, number-of_version, versions-rise}
 use Rattle.version_tables.proofs.Levels.{candidate-number, candidate-below, alike, d_number}
 

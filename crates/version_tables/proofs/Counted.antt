@@ -6,12 +6,12 @@ use Rattle.std.proofs.lemmas.Bool.{cases_lt, lt-ltb, le-ltb, lt-leb, both_ways}
 use Rattle.std.proofs.Math.Nat.{mul-le-mul_right}
 use Rattle.std.proofs.lemmas.List.{get_or_default, length-map}
 use Rattle.bench_types.specs.declared.entries.Entry.{Entry}
-use Rattle.planes.specs.Sums.{sum_below}
+use Rattle.bench_types.specs.Sums.{sum_below}
 use Rattle.planes.specs.Planes.{Cells, total_of}
 use Rattle.planes.proofs.Elementwise.{number-at}
 use Rattle.version_tables.specs.Views.{VersionTableView, IsKept}
 use Rattle.version_tables.specs.inner.Pieces.{own_number, AreAlike, IsOwnNumber}
-use Rattle.planes.proofs.Sums.{sum_below-same}
+use Rattle.bench_types.proofs.Sums.{sum_below-same}
 
 sum_of-none : (m : ℕ) → sum_below m (λ _. 0) ≡ 0
 sum_of-none zero = refl

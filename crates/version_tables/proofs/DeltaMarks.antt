@@ -7,11 +7,11 @@ use Rattle.bench_types.specs.declared.entries.Item.{Item}
 use Rattle.bench_types.specs.declared.exchanges.Budget.{Budget}
 use Rattle.bench_types.specs.declared.exchanges.Mode.{Mode}
 use Rattle.bench_types.specs.Budget.{amount_of}
-use Rattle.node_table.specs.Table.{Table, IsProper}
-use Rattle.reconcile.specs.Candidates.{candidates}
-use Rattle.reconcile.specs.Deltas.{delta_between, item_share}
-use Rattle.reconcile.specs.Order.{sending_order}
-use Rattle.reconcile.proofs.DeltaLaws.{sending_order-total}
+use Rattle.model.specs.Table.{Table, IsProper}
+use Rattle.model.specs.Candidates.{candidates}
+use Rattle.model.specs.Deltas.{delta_between, item_share}
+use Rattle.model.specs.Order.{sending_order}
+use Rattle.model.proofs.DeltaLaws.{sending_order-total}
 use Rattle.version_tables.specs.SentSets.{HasSet, size_in}
 use Rattle.version_tables.specs.inner.Offers.{Offers, IsHistory}
 use Rattle.planes.specs.Planes.{Cells}

@@ -11,15 +11,15 @@ use Rattle.bench_types.specs.declared.entries.Item.{Item}
 use Rattle.bench_types.specs.declared.entries.Mark.{Mark}
 use Rattle.bench_types.specs.declared.exchanges.DigestKind.TheVariants.{Scuttle, Precise}
 use Rattle.bench_types.specs.Mark.{IsUpTo, mark_held}
-use Rattle.node_table.specs.Table.{Table, entry_at, items_of, item_of, mark_at, greatest_mark, greatest_version}
-use Rattle.node_table.proofs.Greatest.{greatest_mark-none, mark_at-up_to_greatest}
-use Rattle.owner_lists.specs.Numbers.{write_numbered}
+use Rattle.model.specs.Table.{Table, entry_at, items_of, item_of, mark_at, greatest_mark, greatest_version}
+use Rattle.model.proofs.Greatest.{greatest_mark-none, mark_at-up_to_greatest}
+use Rattle.model.specs.Numbers.{write_numbered}
 use Rattle.planes.specs.Planes.{cell, total_of}
-use Rattle.planes.specs.Sums.{sum_below}
-use Rattle.planes.proofs.Sums.{sum_below-same}
-use Rattle.reconcile.specs.Digests.{digest_size}
-use Rattle.reconcile.proofs.Counts.{count_by-cons_true, count_by-cons_false}
-use Rattle.reconcile.proofs.Fitting.{sum_by-ones}
+use Rattle.bench_types.specs.Sums.{sum_below}
+use Rattle.bench_types.proofs.Sums.{sum_below-same}
+use Rattle.model.specs.Digests.{digest_size}
+use Rattle.model.proofs.Counts.{count_by-cons_true, count_by-cons_false}
+use Rattle.model.proofs.Fitting.{sum_by-ones}
 use Rattle.version_tables.specs.Views.{VersionTableView, table_in, IsKept}
 use Rattle.version_tables.specs.inner.Grids.{number_here, number_there}
 use Rattle.version_tables.proofs.Grids.{items_sum}

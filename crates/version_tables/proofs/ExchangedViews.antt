@@ -11,12 +11,12 @@ use Rattle.bench_types.specs.declared.exchanges.Fate.TheVariants as fate
 use Rattle.bench_types.specs.declared.exchanges.Record.{Record}
 use Rattle.bench_types.specs.declared.exchanges.Rules.{Rules}
 use Rattle.bench_types.specs.Mode.{digest_kind}
-use Rattle.exchange.specs.Exchanged.{Exchanged, last_fate, sent_until, initiator_after, responder_after}
-use Rattle.exchange.specs.Exchanging.{MakesOf}
-use Rattle.node_table.specs.Table.{Table, applied}
-use Rattle.owner_lists.specs.OwnerListView.{OwnerListView, all_writes, list_of_owner, AreWrites}
-use Rattle.reconcile.specs.Deltas.{DeltaView}
-use Rattle.reconcile.specs.Digests.{digest_size}
+use Rattle.model.specs.Exchanged.{Exchanged, last_fate, sent_until, initiator_after, responder_after}
+use Rattle.model.specs.Exchanging.{MakesOf}
+use Rattle.model.specs.Table.{Table, applied}
+use Rattle.model.specs.OwnerListView.{OwnerListView, all_writes, list_of_owner, AreWrites}
+use Rattle.model.specs.Deltas.{DeltaView}
+use Rattle.model.specs.Digests.{digest_size}
 use Rattle.version_tables.specs.Views.{VersionTableView, HistoriesView, table_in, IsKept}
 use Rattle.version_tables.specs.inner.Deltas.{delta_of_views, is_taken_at, AreMarksOf}
 use Rattle.version_tables.specs.inner.Histories.{bases_in, IsWrittenSoFar, FitsHistories}

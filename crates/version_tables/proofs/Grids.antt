@@ -13,14 +13,14 @@ use Rattle.bench_types.specs.declared.entries.Item.{Item}
 use Rattle.bench_types.specs.declared.exchanges.Mode.{Mode}
 use Rattle.bench_types.specs.Mark.{mark_of, is_before}
 use Rattle.bench_types.specs.Mode.{digest_kind}
-use Rattle.reconcile.specs.Candidates.{candidates, known_mark}
-use Rattle.node_table.specs.Table.{Table, entry_at, items_of, IsProper}
-use Rattle.node_table.specs.inner.Applied.{stands_at}
-use Rattle.node_table.proofs.Items.{IsApart, entry_at-items_of, Contains-items_of, apart-items_of}
-use Rattle.node_table.proofs.Laws.{tied-stands_at}
-use Rattle.reconcile.proofs.Members.{AllPairs-append, same_members}
+use Rattle.model.specs.Candidates.{candidates, known_mark}
+use Rattle.model.specs.Table.{Table, entry_at, items_of, IsProper}
+use Rattle.model.specs.inner.Applied.{stands_at}
+use Rattle.model.proofs.Items.{IsApart, entry_at-items_of, Contains-items_of, apart-items_of}
+use Rattle.model.proofs.TableLaws.{tied-stands_at}
+use Rattle.model.proofs.Members.{AllPairs-append, same_members}
 use Rattle.version_tables.specs.inner.Grids.{item_here, column_items, grid_items, number_here, number_there, sum_over}
-use Rattle.planes.specs.Sums.{sum_below}
+use Rattle.bench_types.specs.Sums.{sum_below}
 
 -- what stands among the items of a place, a column and the grid
 here-from : (owner : ℕ) (o : Option Entry) (i : Item) → Contains (item_here owner o) i → (i.owner ≡ owner) × (o ≡ Some i.entry)

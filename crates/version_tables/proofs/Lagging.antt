@@ -5,15 +5,15 @@ use Rattle.std.specs.Prelude.{IfSome, nat_lt, nat_le}
 use Rattle.std.proofs.lemmas.Bool.{cases_lt, lt-ltb, le-ltb, le-leb, lt-leb}
 use Rattle.std.proofs.lemmas.List.{get_or-map, length-map, get_or_append_left}
 use Rattle.bench_types.specs.declared.entries.Entry.{Entry}
-use Rattle.node_table.specs.Table.{Table, entry_at, IsProper}
-use Rattle.owner_lists.specs.declared.lists.Write.{Write}
-use Rattle.owner_lists.specs.Writes.{write_of_entry, last_write, IsNumbered}
-use Rattle.owner_lists.specs.OwnerListView.{OwnerListView, entries_of, written, AreWrites}
-use Rattle.owner_lists.specs.Numbers.{write_numbered}
+use Rattle.model.specs.Table.{Table, entry_at, IsProper}
+use Rattle.model.specs.declared.writes.Write.{Write}
+use Rattle.model.specs.Writes.{write_of_entry, last_write, IsNumbered}
+use Rattle.model.specs.OwnerListView.{OwnerListView, entries_of, written, AreWrites}
+use Rattle.model.specs.Numbers.{write_numbered}
 use Rattle.owner_lists.proofs.Last.{fresh}
 use Rattle.owner_lists.proofs.Linking.{last_placed, missed_some}
 use Rattle.round_tables.specs.Histories.{BirthsRise, StandsBeside}
-use Rattle.staleness.specs.Figures.{is_left_over, stale_count, rounds_behind}
+use Rattle.model.specs.Figures.{is_left_over, stale_count, rounds_behind}
 use Rattle.version_tables.specs.inner.Missed.{base_of, number_staleness, IsMissed, HasNoneMissed, IsLastNumber}
 use Rattle.version_tables.proofs.Offers.{write_from-at, numbers-born}
 use Rattle.version_tables.proofs.Missed.{write_from-here, current-numbered, missed_cases}

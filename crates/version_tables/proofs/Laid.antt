@@ -7,13 +7,13 @@ use Rattle.std.proofs.lemmas.List.{get_or_past}
 use Rattle.std.proofs.lemmas.List.FromFn.{get_or-map-range_with_len, length-map-range_with_len}
 use Rattle.bench_types.specs.declared.entries.Entry.{Entry}
 use Rattle.bench_types.specs.declared.limits.TheConstants.{MOST_NODES, LEAST_KEYS, MOST_KEYS}
-use Rattle.node_table.specs.Table.{Table, entry_at, empty_table, IsProper}
-use Rattle.node_table.proofs.Laws.{same_table, entry_at-empty_table}
-use Rattle.node_table.proofs.ProperLaws.{proper-empty_table}
-use Rattle.node_table.specs.inner.Layouts.{entry_in}
-use Rattle.node_table.proofs.InRows.{get-held_by_lists}
+use Rattle.model.specs.Table.{Table, entry_at, empty_table, IsProper}
+use Rattle.model.proofs.TableLaws.{same_table, entry_at-empty_table}
+use Rattle.model.proofs.ProperLaws.{proper-empty_table}
+use Rattle.model.specs.Held.{entry_in}
+use Rattle.model.proofs.InLists.{get-held_by_lists}
 use Rattle.version_tables.specs.inner.Offers.{HasCells}
-use Rattle.owner_lists.specs.Numbers.{write_numbered}
+use Rattle.model.specs.Numbers.{write_numbered}
 use Rattle.planes.specs.Planes.{Cells}
 use Rattle.version_tables.specs.Laid.{entry_list, entries_below, table_of_cells, AreNumbers}
 

@@ -5,9 +5,9 @@ use Rattle.std.proofs.lemmas.Bool.{cases_lt, lt-ltb, le-ltb}
 use Rattle.std.proofs.lemmas.List.{length-map}
 use Rattle.bench_types.specs.Budget.{amount_of}
 use Rattle.planes.specs.Planes.{Cells, count_between, HasEach, IsNextAbove, IsLeastAbove}
-use Rattle.planes.specs.inner.Elementwise.{AreChanged}
-use Rattle.planes.specs.Sums.{sum_below}
-use Rattle.planes.proofs.Sums.{sum_below-same, sum_below-plus, sum_below-le}
+use Rattle.planes.specs.Elementwise.{AreChanged}
+use Rattle.bench_types.specs.Sums.{sum_below}
+use Rattle.bench_types.proofs.Sums.{sum_below-same, sum_below-plus, sum_below-le}
 use Rattle.version_tables.specs.declared.weights.Offer.{Offer}
 use Rattle.version_tables.specs.inner.Offered.{cells_in, low_in, high_in, weights_in, weight_in, count_in, IsOffer}
 use Rattle.version_tables.specs.inner.Plans.{raised, IsNextMark, AreLayersSoFar}

@@ -2,13 +2,13 @@
 -- Serves `LayerSteps` and `LevelMarks`.
 use Rattle.std.proofs.Common.{◌≡◌, ℕ, zero, suc, ◌+◌, ◌<◌, ◌≤◌, eqb, ltb, inl, inr, refl, ap, ◌∙◌, subst, arith}
 use Rattle.std.proofs.lemmas.Bool.{cases_lt, cases_eq, lt-ltb, le-ltb, le-leb, lt-leb}
-use Rattle.planes.specs.Sums.{sum_below}
+use Rattle.bench_types.specs.Sums.{sum_below}
 use Rattle.version_tables.specs.inner.Offers.{rank_above}
 use Rattle.planes.specs.Planes.{Cells}
 use Rattle.version_tables.specs.inner.Shares.{IsLayerMark, NumbersDiffer}
 use Rattle.planes.specs.Planes.{count_between, IsLeastAbove, HasNoneAbove}
-use Rattle.planes.proofs.Sums.{sum_below-le, sum_below-plus}
-use Rattle.planes.proofs.Sums.{sum_below-same}
+use Rattle.bench_types.proofs.Sums.{sum_below-le, sum_below-plus}
+use Rattle.bench_types.proofs.Sums.{sum_below-same}
 use Rattle.version_tables.proofs.Columns.{sum_below-one, where_true, where_none}
 use Rattle.version_tables.proofs.WeightLaws.{part, part-in, part-low, part-high}
 

@@ -9,10 +9,10 @@ use Rattle.bench_types.specs.declared.entries.Entry.{Entry}
 use Rattle.bench_types.specs.declared.entries.Item.{Item}
 use Rattle.bench_types.specs.declared.exchanges.Mode.{Mode}
 use Rattle.bench_types.specs.declared.exchanges.Mode.TheVariants.{ScuttleBreadth, ScuttleDepth, PreciseOldest, PreciseNewest}
-use Rattle.node_table.specs.Table.{Table, IsProper}
+use Rattle.model.specs.Table.{Table, IsProper}
 use Rattle.bench_types.proofs.Comparing.{nat_cmp-less, nat_cmp-equal, nat_cmp-greater}
-use Rattle.reconcile.specs.Candidates.{candidates}
-use Rattle.reconcile.specs.Order.{rank_among, owner_count}
+use Rattle.model.specs.Candidates.{candidates}
+use Rattle.model.specs.Order.{rank_among, owner_count}
 use Rattle.version_tables.specs.inner.Offers.{Offers, IsHistory, rank_above}
 use Rattle.planes.specs.Planes.{Cells, count_above}
 use Rattle.version_tables.specs.inner.Levels.{item_number}

@@ -13,16 +13,16 @@ use Rattle.bench_types.specs.declared.entries.Entry.{Entry}
 use Rattle.bench_types.specs.declared.entries.Item.{Item}
 use Rattle.bench_types.specs.declared.exchanges.Mode.{Mode}
 use Rattle.bench_types.specs.declared.exchanges.Mode.TheVariants.{ScuttleBreadth, ScuttleDepth, PreciseOldest, PreciseNewest}
-use Rattle.node_table.specs.Table.{Table, entry_at, items_of, generation_held, IsProper}
-use Rattle.node_table.proofs.Items.{entry_at-items_of}
-use Rattle.reconcile.proofs.Members.{Contains-kept}
+use Rattle.model.specs.Table.{Table, entry_at, items_of, generation_held, IsProper}
+use Rattle.model.proofs.Items.{entry_at-items_of}
+use Rattle.model.proofs.Members.{Contains-kept}
 use Rattle.bench_types.proofs.Comparing.{nat_cmp-less, nat_cmp-equal, nat_cmp-greater}
-use Rattle.reconcile.specs.Candidates.{candidates}
-use Rattle.reconcile.specs.Order.{rotated, rank_among, owner_count, sending_order}
-use Rattle.reconcile.proofs.Apart.{rotated-injective}
-use Rattle.reconcile.proofs.DeltaLaws.{sending_order-total, sending_order-ascending}
+use Rattle.model.specs.Candidates.{candidates}
+use Rattle.model.specs.Order.{rotated, rank_among, owner_count, sending_order}
+use Rattle.model.proofs.Apart.{rotated-injective}
+use Rattle.model.proofs.DeltaLaws.{sending_order-total, sending_order-ascending}
 use Rattle.version_tables.specs.inner.Offers.{Offers, IsHistory, is_lacked}
-use Rattle.owner_lists.specs.Numbers.{write_numbered}
+use Rattle.model.specs.Numbers.{write_numbered}
 use Rattle.planes.specs.Planes.{Cells}
 use Rattle.version_tables.proofs.Offers.{versions-rise, numbers-born}
 use Rattle.version_tables.specs.inner.Levels.{turn_cmp, item_number, comes_first}

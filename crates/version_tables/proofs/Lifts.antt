@@ -12,15 +12,15 @@ use Rattle.bench_types.specs.declared.exchanges.Budget.{Budget}
 use Rattle.bench_types.specs.declared.exchanges.Mode.{Mode}
 use Rattle.bench_types.specs.declared.exchanges.Mode.TheVariants.{ScuttleBreadth, ScuttleDepth, PreciseOldest, PreciseNewest}
 use Rattle.bench_types.specs.Budget.{amount_of}
-use Rattle.node_table.specs.Table.{Table, entry_at, items_of, IsProper}
-use Rattle.node_table.proofs.Items.{Contains-items_of}
-use Rattle.reconcile.specs.Candidates.{candidates}
-use Rattle.reconcile.specs.Deltas.{DeltaView, delta_between, item_share}
-use Rattle.reconcile.specs.Order.{rotated}
-use Rattle.reconcile.proofs.Members.{Contains-filter}
-use Rattle.owner_lists.specs.Numbers.{write_numbered}
+use Rattle.model.specs.Table.{Table, entry_at, items_of, IsProper}
+use Rattle.model.proofs.Items.{Contains-items_of}
+use Rattle.model.specs.Candidates.{candidates}
+use Rattle.model.specs.Deltas.{DeltaView, delta_between, item_share}
+use Rattle.model.specs.Order.{rotated}
+use Rattle.model.proofs.Members.{Contains-filter}
+use Rattle.model.specs.Numbers.{write_numbered}
 use Rattle.planes.specs.Planes.{Cells, count_above, HasNoneAbove}
-use Rattle.planes.proofs.Sums.{sum_below-same}
+use Rattle.bench_types.proofs.Sums.{sum_below-same}
 use Rattle.version_tables.specs.SentSets.{HasSet}
 use Rattle.version_tables.specs.inner.Levels.{comes_first, item_number}
 use Rattle.version_tables.specs.inner.Marked.{HasShape, KeepsLow}

@@ -7,7 +7,7 @@ use Rattle.bench_types.specs.declared.exchanges.Mode.{Mode}
 use Rattle.bench_types.specs.declared.exchanges.Mode.TheVariants.{ScuttleBreadth, ScuttleDepth, PreciseOldest, PreciseNewest}
 use Rattle.bench_types.specs.Budget.{amount_of}
 use Rattle.planes.specs.Planes.{Cells, HasNoneAbove}
-use Rattle.planes.proofs.Sums.{sum_below-le}
+use Rattle.bench_types.proofs.Sums.{sum_below-le}
 use Rattle.version_tables.specs.declared.weights.Offer.{Offer}
 use Rattle.version_tables.specs.declared.weights.Level.{Level}
 use Rattle.version_tables.specs.inner.Marked.{HasShapeIn, KeepsLow, AreMarked, whole_marks}

@@ -4,8 +4,8 @@ use Rattle.std.proofs.Common.{◌≡◌, ℕ, ◌+◌, ◌<◌, ◌≤◌, Bool,
 use Rattle.std.proofs.Common.{Fits, w32}
 use Rattle.std.proofs.lemmas.List.{length-map}
 use Rattle.bench_types.specs.declared.limits.TheConstants.{MOST_NODES}
-use Rattle.planes.specs.Sums.{sum_below}
-use Rattle.planes.specs.inner.Elementwise.{AreChanged, AreChangedUpto}
+use Rattle.bench_types.specs.Sums.{sum_below}
+use Rattle.planes.specs.Elementwise.{AreChanged, AreChangedUpto}
 use Rattle.planes.proofs.Counts.{count_below, sum_next, sum_whole}
 use Rattle.planes.proofs.Elementwise.{changed_none, changed_all, written_next}
 

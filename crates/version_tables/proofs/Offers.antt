@@ -9,17 +9,17 @@ use Rattle.bench_types.specs.declared.entries.Entry.{Entry}
 use Rattle.bench_types.specs.declared.entries.Item.{Item}
 use Rattle.bench_types.specs.declared.exchanges.Mode.{Mode}
 use Rattle.bench_types.specs.Mark.{mark_of, IsBefore}
-use Rattle.node_table.specs.Table.{Table, entry_at, items_of, IsProper}
-use Rattle.node_table.proofs.Items.{Contains-items_of}
-use Rattle.reconcile.proofs.Members.{Contains-filter}
-use Rattle.reconcile.specs.Candidates.{candidates}
+use Rattle.model.specs.Table.{Table, entry_at, items_of, IsProper}
+use Rattle.model.proofs.Items.{Contains-items_of}
+use Rattle.model.proofs.Members.{Contains-filter}
+use Rattle.model.specs.Candidates.{candidates}
 use Rattle.version_tables.specs.inner.Grids.{number_here, number_there}
 use Rattle.version_tables.specs.inner.Offers.{Offers, is_lacked, offered_sum, IsHistory}
-use Rattle.owner_lists.specs.Numbers.{write_from, write_numbered}
+use Rattle.model.specs.Numbers.{write_from, write_numbered}
 use Rattle.planes.specs.Planes.{Cells}
 use Rattle.round_tables.specs.Histories.{BirthsRise}
 use Rattle.version_tables.proofs.Grids.{candidates_sum}
-use Rattle.planes.proofs.Sums.{sum_below-same}
+use Rattle.bench_types.proofs.Sums.{sum_below-same}
 
 module _ (mode : Mode) (from to : Table) (proper : IsProper from) (lists : ℕ → List Entry) (cells : Cells) (low : ℕ → ℕ) (offers : Offers mode from to lists cells low) where
   -- a number of a candidate that is told by its place sums up over the places of numbers above the marks

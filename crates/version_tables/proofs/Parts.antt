@@ -11,16 +11,16 @@ use Rattle.std.proofs.lemmas.List.{get_or-map, get_or_default, get_or_append_lef
 use Rattle.bench_types.specs.declared.entries.Entry.{Entry}
 use Rattle.bench_types.specs.declared.faults.Fault.{Fault}
 use Rattle.bench_types.specs.declared.limits.TheConstants.{MOST_NODES, MOST_KEYS}
-use Rattle.node_table.specs.Table.{Table}
-use Rattle.cluster.specs.Tables.{table_of_node}
-use Rattle.owner_lists.specs.OwnerListView.{OwnerListView, list_of_owner}
-use Rattle.planes.specs.Sums.{sum_below}
+use Rattle.model.specs.Table.{Table}
+use Rattle.model.specs.Tables.{table_of_node}
+use Rattle.model.specs.OwnerListView.{OwnerListView, list_of_owner}
+use Rattle.bench_types.specs.Sums.{sum_below}
 use Rattle.planes.specs.Planes.{cell, total_of, HasEach, HasEachPlace, ArePlanesChanged, IsGrid}
-use Rattle.planes.proofs.Sums.{sum_below-same}
+use Rattle.bench_types.proofs.Sums.{sum_below-same}
 use Rattle.planes.proofs.Counts.{count_le}
-use Rattle.staleness.proofs.Counting.{at_place}
-use Rattle.staleness.proofs.Places.{one_more}
-use Rattle.staleness.proofs.Sums.{sum_below-le}
+use Rattle.bench_types.proofs.EqualParts.{at_place}
+use Rattle.bench_types.proofs.Sums.{one_more}
+use Rattle.bench_types.proofs.Sums.{sum_below-most}
 use Rattle.version_tables.specs.declared.lags.Piece.{Piece}
 use Rattle.version_tables.specs.Views.{VersionTableView, IsKept}
 use Rattle.version_tables.specs.inner.Missed.{base_of, IsNumberAt}
@@ -30,7 +30,7 @@ use Rattle.version_tables.proofs.Standing.{count-tables_in, one-list-each, cells
 
 pub total_le : (nodes keys : ℕ) (test : ℕ → ℕ → Bool) → nodes ≤ MOST_NODES → keys ≤ MOST_KEYS → total_of nodes keys test ≤ MOST_NODES * MOST_KEYS
 total_le nodes keys test few_nodes few_keys =
-    omega (arith, few_nodes, sum_below-le (λ r. sum_below keys (λ k. cond (test r k) 1 0)) nodes MOST_KEYS (λ r lt. omega (arith, few_keys, count_le keys (test r))))
+    omega (arith, few_nodes, sum_below-most (λ r. sum_below keys (λ k. cond (test r k) 1 0)) nodes MOST_KEYS (λ r lt. omega (arith, few_keys, count_le keys (test r))))
 
 module _ (written : ℕ → List Entry) (views : List VersionTableView) (lists : List OwnerListView) (laid : AreLaidAsNumbers written views lists) where
   abbrev tables : List Table

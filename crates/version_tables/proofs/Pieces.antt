@@ -5,16 +5,17 @@ use Rattle.std.specs.Prelude.{nat_lt, nat_le}
 use Rattle.std.proofs.lemmas.Bool.{cases_lt, cases_eq, le-ltb, eq-eqb, ne_eqb, lt-leb}
 use Rattle.bench_types.specs.declared.entries.Entry.{Entry}
 use Rattle.bench_types.specs.Mark.{mark_held}
-use Rattle.node_table.specs.Table.{Table, entry_at, mark_at, IsProper}
-use Rattle.cluster.specs.Tables.{table_of_node}
-use Rattle.owner_lists.specs.OwnerListView.{OwnerListView, entries_of, list_of_owner, lists_in, no_writes, AreWrites}
-use Rattle.owner_lists.specs.Numbers.{write_numbered}
-use Rattle.owner_lists.proofs.Owners.{list_read}
-use Rattle.planes.specs.Sums.{sum_below}
+use Rattle.model.specs.Table.{Table, entry_at, mark_at, IsProper}
+use Rattle.model.specs.Tables.{table_of_node}
+use Rattle.model.specs.OwnerListView.{OwnerListView, entries_of, list_of_owner, lists_in, no_writes, AreWrites}
+use Rattle.model.specs.Numbers.{write_numbered}
+use Rattle.model.proofs.Owners.{list_read}
+use Rattle.bench_types.specs.Sums.{sum_below}
 use Rattle.planes.specs.Planes.{cell, total_of, HasEachPlace, ArePlanesChanged}
-use Rattle.planes.proofs.Sums.{sum_below-same}
+use Rattle.bench_types.proofs.Sums.{sum_below-same}
 use Rattle.round_tables.specs.Histories.{BirthsRise, StandsBeside}
-use Rattle.staleness.specs.Figures.{most_below, writes_of_owner, generation_at, staleness_of, staleness_at, is_left_over, leftover_at, stale_count, rounds_behind, node_figures}
+use Rattle.bench_types.specs.Sums.{most_below}
+use Rattle.model.specs.Figures.{writes_of_owner, generation_at, staleness_of, staleness_at, is_left_over, leftover_at, stale_count, rounds_behind, node_figures}
 use Rattle.version_tables.specs.inner.Missed.{base_of, IsNumberAt, number_staleness, IsLastNumber}
 use Rattle.version_tables.specs.inner.Pieces.{keys_in, StandTogether, MayBeCounted, AreLastNumbers, IsLeastHeld, IsPiece}
 use Rattle.version_tables.proofs.Lagging.{last_fresh, stale_by_number, lag-least, left_over-by_number, own_is_last, key_held}

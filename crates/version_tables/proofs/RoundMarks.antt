@@ -7,10 +7,10 @@ use Rattle.std.proofs.lemmas.List.{length-map}
 use Rattle.std.proofs.lemmas.Bool.{cases_lt, lt-ltb, le-ltb, le-leb, lt-leb}
 use Rattle.bench_types.specs.declared.entries.Entry.{Entry}
 use Rattle.bench_types.specs.Budget.{amount_of}
-use Rattle.owner_lists.specs.OwnerListView.{all_writes}
+use Rattle.model.specs.OwnerListView.{all_writes}
 use Rattle.planes.specs.Planes.{Cells, cell, total_of, count_between, HasNoneAbove, HasEach}
-use Rattle.planes.specs.Sums.{sum_below}
-use Rattle.planes.proofs.Sums.{sum_below-same, sum_below-plus}
+use Rattle.bench_types.specs.Sums.{sum_below}
+use Rattle.bench_types.proofs.Sums.{sum_below-same, sum_below-plus}
 use Rattle.version_tables.specs.declared.weights.Offer.{Offer}
 use Rattle.version_tables.specs.declared.weights.Level.{Level}
 use Rattle.version_tables.specs.inner.Histories.{AreMadeBy}

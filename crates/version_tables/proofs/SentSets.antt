@@ -11,23 +11,23 @@ use Rattle.std.proofs.lemmas.Bool.{both_ways, le-leb, lt-leb, and_parts, eqb-tru
 use Rattle.std.proofs.lemmas.List.{get_or_default}
 use Rattle.std.proofs.lemmas.List.Kept.{AllPairs-filter}
 use Rattle.std.proofs.lemmas.List.Sorted.{length_permutation}
-use Rattle.node_table.proofs.Laws.{tied-stands_at}
+use Rattle.model.proofs.TableLaws.{tied-stands_at}
 use Rattle.std.proofs.lemmas.Option.{same_Some}
 use Rattle.std.proofs.lemmas.List.Sums.{sum_by-cons, length-filter}
 use Rattle.bench_types.specs.declared.entries.Item.{Item}
 use Rattle.bench_types.specs.Budget.{amount_of}
 use Rattle.bench_types.specs.Mark.{is_before, mark_of}
 use Rattle.bench_types.specs.Mode.{digest_kind}
-use Rattle.node_table.specs.Table.{Table, entry_at, items_of, IsProper}
-use Rattle.node_table.specs.inner.Applied.{stands_at}
-use Rattle.node_table.proofs.Items.{IsApart, entry_at-items_of, apart-items_of}
-use Rattle.reconcile.specs.Candidates.{candidates, known_mark}
-use Rattle.reconcile.specs.Deltas.{DeltaView, delta_between, item_share}
-use Rattle.reconcile.specs.Order.{sending_order}
-use Rattle.reconcile.proofs.DeltaLaws.{sending_order-total, sending_order-strict}
-use Rattle.reconcile.proofs.Members.{Contains-filter, Contains-kept, same_members}
-use Rattle.reconcile.specs.Picks.{before_count, first_places, size_through, fits, sent, cut_count}
-use Rattle.reconcile.proofs.Places.{before_count-places, Contains-first_places, first_places-Contains}
+use Rattle.model.specs.Table.{Table, entry_at, items_of, IsProper}
+use Rattle.model.specs.inner.Applied.{stands_at}
+use Rattle.model.proofs.Items.{IsApart, entry_at-items_of, apart-items_of}
+use Rattle.model.specs.Candidates.{candidates, known_mark}
+use Rattle.model.specs.Deltas.{DeltaView, delta_between, item_share}
+use Rattle.model.specs.Order.{sending_order}
+use Rattle.model.proofs.DeltaLaws.{sending_order-total, sending_order-strict}
+use Rattle.model.proofs.Members.{Contains-filter, Contains-kept, same_members}
+use Rattle.model.specs.Picks.{before_count, first_places, size_through, fits, sent, cut_count}
+use Rattle.model.proofs.Places.{before_count-places, Contains-first_places, first_places-Contains}
 use Rattle.version_tables.specs.SentSets.{size_in, IsKeptOut, IsSentSet, EndsBefore, HasAll, DeltasHaveTheirSets}
 
 -- a sum over a list whose terms are no greater, for the elements of the list

@@ -9,11 +9,11 @@ use Rattle.std.proofs.lemmas.Bool.{cases_lt}
 use Rattle.bench_types.specs.declared.entries.Entry.{Entry}
 use Rattle.bench_types.specs.declared.entries.Item.{Item}
 use Rattle.bench_types.specs.declared.exchanges.Mode.{Mode}
-use Rattle.node_table.specs.Table.{Table, IsProper}
+use Rattle.model.specs.Table.{Table, IsProper}
 use Rattle.bench_types.proofs.Comparing.{nat_cmp-less, nat_cmp-greater}
-use Rattle.reconcile.specs.Candidates.{candidates}
-use Rattle.reconcile.specs.Order.{rotated, sending_order}
-use Rattle.reconcile.proofs.Apart.{rotated-injective}
+use Rattle.model.specs.Candidates.{candidates}
+use Rattle.model.specs.Order.{rotated, sending_order}
+use Rattle.model.proofs.Apart.{rotated-injective}
 use Rattle.version_tables.specs.inner.Offers.{Offers, IsHistory}
 use Rattle.planes.specs.Planes.{Cells}
 use Rattle.version_tables.specs.inner.Levels.{level_cmp, turn_cmp, item_number}

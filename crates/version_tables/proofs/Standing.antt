@@ -6,10 +6,10 @@ use Rattle.std.proofs.lemmas.Bool.{cases_lt}
 use Rattle.std.proofs.lemmas.List.{get_or-map, length-map}
 use Rattle.bench_types.specs.declared.entries.Entry.{Entry}
 use Rattle.bench_types.specs.declared.limits.TheConstants.{MOST_NODES}
-use Rattle.node_table.specs.Table.{Table, entry_at, empty_table}
-use Rattle.cluster.specs.Tables.{table_of_node}
-use Rattle.owner_lists.specs.OwnerListView.{OwnerListView, entries_of, list_of_owner}
-use Rattle.owner_lists.specs.Numbers.{write_numbered}
+use Rattle.model.specs.Table.{Table, entry_at, empty_table}
+use Rattle.model.specs.Tables.{table_of_node}
+use Rattle.model.specs.OwnerListView.{OwnerListView, entries_of, list_of_owner}
+use Rattle.model.specs.Numbers.{write_numbered}
 use Rattle.planes.specs.Planes.{cell, HasEachPlace, IsGrid}
 use Rattle.version_tables.specs.Views.{VersionTableView, table_in, IsKept}
 use Rattle.version_tables.specs.inner.Missed.{IsNumberAt}

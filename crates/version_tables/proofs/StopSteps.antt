@@ -3,7 +3,7 @@
 use Rattle.std.proofs.Common.{◌≡◌, ◌≢◌, ℕ, zero, suc, ◌+◌, ◌-◌, ◌<◌, ◌≤◌, ◌⊎◌, Bool, true, false, not, min, max, inl, inr, refl, sym, ap, ◌∙◌, subst, arith}
 use Rattle.std.proofs.lemmas.Bool.{cases_lt}
 use Rattle.planes.specs.Planes.{Cells}
-use Rattle.planes.specs.Sums.{sum_below}
+use Rattle.bench_types.specs.Sums.{sum_below}
 use Rattle.version_tables.specs.inner.Shares.{NumbersDiffer}
 use Rattle.version_tables.specs.inner.Stops.{weight_from, HasBetween, HasNext, IsNext, IsNextUp, IsNextDown, IsOn, IsPast, IsStopFrom}
 use Rattle.version_tables.specs.inner.Weights.{weight_of}

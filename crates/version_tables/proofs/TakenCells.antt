@@ -4,11 +4,11 @@ use Rattle.std.proofs.Common.{◌≡◌, ◌≢◌, ℕ, ◌<◌, Bool, true, fa
 use Rattle.std.proofs.lemmas.Bool.{both_ways}
 use Rattle.bench_types.specs.declared.entries.Entry.{Entry}
 use Rattle.bench_types.specs.declared.exchanges.Rules.{Rules}
-use Rattle.node_table.specs.Table.{Table, entry_at, IsProper}
-use Rattle.node_table.proofs.Laws.{frame-applied}
-use Rattle.reconcile.specs.Deltas.{delta_between}
+use Rattle.model.specs.Table.{Table, entry_at, IsProper}
+use Rattle.model.proofs.TableLaws.{frame-applied}
+use Rattle.model.specs.Deltas.{delta_between}
 use Rattle.version_tables.specs.inner.Offers.{HasCells}
-use Rattle.owner_lists.specs.Numbers.{write_numbered}
+use Rattle.model.specs.Numbers.{write_numbered}
 use Rattle.planes.specs.Planes.{Cells}
 use Rattle.version_tables.specs.inner.Taken.{AreSent, AreTakenCells}
 use Rattle.version_tables.proofs.TakenSets.{after, Comes, after-sent, after-kept, after-dropped, came-held}

@@ -11,14 +11,14 @@ use Rattle.bench_types.specs.declared.exchanges.Rules.{Rules}
 use Rattle.bench_types.specs.Mark.{mark_of, mark_held, IsBefore, IsUpTo}
 use Rattle.bench_types.specs.Mode.{digest_kind}
 use Rattle.bench_types.proofs.Marks.{up_to-before, not_both}
-use Rattle.node_table.specs.Table.{Table, entry_at, mark_at, greatest_mark, generation_held, IsProper}
-use Rattle.node_table.proofs.Greatest.{greatest_mark-from, mark_at-up_to_greatest}
-use Rattle.node_table.proofs.Laws.{entry_at-applied_from, frame-applied}
-use Rattle.reconcile.specs.Deltas.{delta_between}
-use Rattle.reconcile.specs.Laws.{Lacks}
-use Rattle.reconcile.proofs.Lacking.{candidates-lacked}
-use Rattle.reconcile.proofs.DeltaLaws.{sent-candidate}
-use Rattle.exchange.proofs.Received.{received, sent-held, received-proper, kept, sent-up_to}
+use Rattle.model.specs.Table.{Table, entry_at, mark_at, greatest_mark, generation_held, IsProper}
+use Rattle.model.proofs.Greatest.{greatest_mark-from, mark_at-up_to_greatest}
+use Rattle.model.proofs.TableLaws.{entry_at-applied_from, frame-applied}
+use Rattle.model.specs.Deltas.{delta_between}
+use Rattle.model.specs.DeltaLaws.{Lacks}
+use Rattle.model.proofs.Lacking.{candidates-lacked}
+use Rattle.model.proofs.DeltaLaws.{sent-candidate}
+use Rattle.model.proofs.Received.{received, sent-held, received-proper, kept, sent-up_to}
 
 -- nothing that a receiver lacks is before what it holds at its place, and no older than its copy
 lacks-at : (kind : DigestKind) (to : Table) (i : Item) → IsProper to → i.entry.key < to.keys → Lacks kind to i → (generation_held to i.owner ≤ i.entry.generation) × IsBefore (mark_at to i.owner i.entry.key) (mark_of i.entry)

@@ -8,12 +8,12 @@ use Rattle.std.proofs.lemmas.Bool.{cases_lt, cases_eq, lt-ltb, le-ltb, le-leb, l
 use Rattle.bench_types.specs.declared.exchanges.Mode.{Mode}
 use Rattle.bench_types.specs.declared.exchanges.Mode.TheVariants.{ScuttleBreadth, ScuttleDepth, PreciseOldest, PreciseNewest}
 use Rattle.bench_types.specs.Budget.{amount_of}
-use Rattle.owner_lists.specs.OwnerListView.{all_writes}
+use Rattle.model.specs.OwnerListView.{all_writes}
 use Rattle.planes.specs.Planes.{Cells, HasNoneAbove}
-use Rattle.planes.specs.Sums.{sum_below}
-use Rattle.planes.proofs.Sums.{sum_below-same, sum_below-plus}
-use Rattle.reconcile.specs.Order.{rotated}
-use Rattle.reconcile.proofs.Apart.{rotated-injective, rotated-is}
+use Rattle.bench_types.specs.Sums.{sum_below}
+use Rattle.bench_types.proofs.Sums.{sum_below-same, sum_below-plus}
+use Rattle.model.specs.Order.{rotated}
+use Rattle.model.proofs.Apart.{rotated-injective, rotated-is}
 use Rattle.version_tables.specs.declared.weights.Offer.{Offer}
 use Rattle.version_tables.specs.inner.Offered.{cells_in, low_in, high_in, marks, weights_in, IsOffer}
 use Rattle.version_tables.specs.inner.Plans.{weight_on, count_on, AreFarther}
@@ -24,7 +24,7 @@ use Rattle.version_tables.specs.inner.Turns.{part_between, AreTurnsPassed, IsSto
 use Rattle.version_tables.specs.inner.Weights.{weight_of, weight_between, one_each}
 use Rattle.version_tables.proofs.WeightLaws.{part, part-in, part-low, part-high, weight_of-split, weight_of-same, weight_of-most, number_share-one, count_between-most}
 use Rattle.version_tables.proofs.OfferWeights.{offer-few, share-most}
-use Rattle.owner_lists.specs.Numbers.{write_numbered}
+use Rattle.model.specs.Numbers.{write_numbered}
 
 -- a sum that changes at one index
 sum_below-changed : (n r d : ℕ) (f g : ℕ → ℕ) → r < n → ((i : ℕ) → i < n → i ≢ r → g i ≡ f i) → g r ≡ f r + d → sum_below n g ≡ sum_below n f + d

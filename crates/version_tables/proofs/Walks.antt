@@ -5,11 +5,12 @@ use Rattle.std.proofs.Math.Nat.{mul-le-mul_right}
 use Rattle.std.proofs.lemmas.Bool.{cases_lt}
 use Rattle.std.proofs.lemmas.Option.{same_Some}
 use Rattle.bench_types.specs.declared.entries.Entry.{Entry}
-use Rattle.owner_lists.specs.OwnerListView.{OwnerListView, entries_of, list_of_owner, AreWrites}
-use Rattle.owner_lists.specs.Numbers.{write_numbered}
+use Rattle.model.specs.OwnerListView.{OwnerListView, entries_of, list_of_owner, AreWrites}
+use Rattle.model.specs.Numbers.{write_numbered}
 use Rattle.planes.specs.Planes.{cell}
 use Rattle.round_tables.specs.Histories.{BirthsRise}
-use Rattle.staleness.specs.Figures.{most_below, rounds_behind}
+use Rattle.bench_types.specs.Sums.{most_below}
+use Rattle.model.specs.Figures.{rounds_behind}
 use Rattle.version_tables.specs.inner.Missed.{base_of, number_staleness, IsMissed, IsLastNumber, NonePassUpto}
 use Rattle.version_tables.specs.inner.Pieces.{MayWalk, WalksFrom}
 use Rattle.version_tables.proofs.Offers.{write_from-at, numbers-born}

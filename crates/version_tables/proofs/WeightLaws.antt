@@ -5,10 +5,10 @@ use Rattle.std.proofs.lemmas.Bool.{cases_lt, lt-ltb, le-ltb, le-leb, lt-leb}
 use Rattle.bench_types.specs.declared.entries.Entry.{Entry}
 use Rattle.bench_types.specs.declared.exchanges.Budget.{Budget}
 use Rattle.bench_types.specs.declared.exchanges.Budget.TheVariants.{Entries}
-use Rattle.owner_lists.specs.Numbers.{write_from, write_numbered}
+use Rattle.model.specs.Numbers.{write_from, write_numbered}
 use Rattle.planes.specs.Planes.{Cells, count_between, HasNoneAbove}
-use Rattle.planes.specs.Sums.{sum_below}
-use Rattle.planes.proofs.Sums.{sum_below-same, sum_below-le, sum_below-plus}
+use Rattle.bench_types.specs.Sums.{sum_below}
+use Rattle.bench_types.proofs.Sums.{sum_below-same, sum_below-le, sum_below-plus}
 use Rattle.version_tables.specs.inner.Weights.{number_share, share_or_none, weight_of, weight_between, count_all_between}
 use Rattle.version_tables.proofs.Columns.{where_true, where_none, sum_below-none}
 

@@ -5,17 +5,17 @@ use Rattle.std.proofs.lemmas.List.{get_or_default}
 use Rattle.bench_types.specs.declared.entries.Entry.{Entry}
 use Rattle.bench_types.specs.declared.rows.Figures.{Figures}
 use Rattle.bench_types.specs.declared.limits.TheConstants.{MOST_NODES, MOST_KEYS, MOST_ROUNDS}
-use Rattle.node_table.specs.Table.{Table}
-use Rattle.cluster.specs.Tables.{IsCluster, HoldsOfEach}
-use Rattle.owner_lists.specs.OwnerListView.{OwnerListView, all_writes, list_of_owner, lists_in, AreWrites}
-use Rattle.planes.specs.Sums.{sum_below}
+use Rattle.model.specs.Table.{Table}
+use Rattle.model.specs.Tables.{IsCluster, HoldsOfEach}
+use Rattle.model.specs.OwnerListView.{OwnerListView, all_writes, list_of_owner, lists_in, AreWrites}
+use Rattle.bench_types.specs.Sums.{sum_below}
 use Rattle.planes.specs.Planes.{cell, HasEachPlace}
-use Rattle.planes.proofs.Sums.{sum_below-same}
+use Rattle.bench_types.proofs.Sums.{sum_below-same}
 use Rattle.round_tables.specs.Histories.{AreWrittenBy, StandsAmong}
-use Rattle.staleness.specs.Figures.{most_below, staleness_at, rounds_behind, node_figures, figures_of}
-use Rattle.staleness.specs.inner.Copies.{owner_staleness}
-use Rattle.staleness.proofs.Counting.{most_by_owner}
-use Rattle.staleness.proofs.Sums.{most_below-same}
+use Rattle.bench_types.specs.Sums.{most_below}
+use Rattle.model.specs.Figures.{staleness_at, rounds_behind, node_figures, figures_of}
+use Rattle.model.proofs.Figures.{most_by_owner}
+use Rattle.bench_types.proofs.Sums.{most_below-same}
 use Rattle.version_tables.specs.Views.{VersionTableView}
 use Rattle.version_tables.specs.inner.Histories.{IsWrittenSoFar}
 use Rattle.version_tables.specs.inner.Missed.{IsLastNumber}
@@ -123,8 +123,8 @@ module _ (written : ℕ → List Entry) (views : List VersionTableView) (lists :
           let greatest_all : greatest ≡ (figures_of round tables (lists_in lists)).greatest =
           is
           ∙ ap (λ ks. most_below (length lists) (λ r. most_lag round (length lists) ks r (list_of_owner lists r) least)) keys_are
-          ∙ most_below-same (λ r. most_lag round (length lists) (keys_in tables) r (list_of_owner lists r) least) (λ r. (owner_staleness round tables (lists_in lists) r).greatest) (length lists)
+          ∙ most_below-same (λ r. most_lag round (length lists) (keys_in tables) r (list_of_owner lists r) least) (λ r. most_below (keys_in tables) (λ k. most_below (length tables) (behind r k))) (length lists)
           (λ r lt. most_below-same _ (λ k. most_below (length tables) (behind r k)) (keys_in tables) (λ k in_k. sym (held.each r k lt in_k).most ∙ most-of (behind r k)))
-          ∙ ap (λ m. most_below m (λ r. (owner_staleness round tables (lists_in lists) r).greatest)) together.one_list_each
+          ∙ ap (λ m. most_below m (λ r. most_below (keys_in tables) (λ k. most_below (length tables) (behind r k)))) together.one_list_each
           ∙ most_by_owner round tables (lists_in lists) together.cluster in
           λ i. record { stale = stale_all i; greatest = greatest_all i; leftover = leftover_all i }

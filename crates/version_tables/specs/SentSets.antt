@@ -8,10 +8,10 @@ use Rattle.bench_types.specs.declared.entries.Item.{Item}
 use Rattle.bench_types.specs.declared.exchanges.Budget.{Budget}
 use Rattle.bench_types.specs.declared.exchanges.Mode.{Mode}
 use Rattle.bench_types.specs.Budget.{amount_of}
-use Rattle.node_table.specs.Table.{Table, IsProper}
-use Rattle.reconcile.specs.Candidates.{candidates}
-use Rattle.reconcile.specs.Deltas.{DeltaView, delta_between, item_share}
-use Rattle.reconcile.specs.Order.{sending_order}
+use Rattle.model.specs.Table.{Table, IsProper}
+use Rattle.model.specs.Candidates.{candidates}
+use Rattle.model.specs.Deltas.{DeltaView, delta_between, item_share}
+use Rattle.model.specs.Order.{sending_order}
 
 module _ {X : Type 0} (order : X → X → Ordering) (candidates : List X) (size : X → ℕ) (is_in : X → Bool) where
   -- the sizes of those in the set

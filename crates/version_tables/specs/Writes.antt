@@ -1,8 +1,8 @@
 -- What a node writes next into its table of versions, and what it holds then. Source: this project.
 use Rattle.std.specs.Prelude.{◌≡◌, ℕ, ◌<◌, List, slice_index, Some}
 use Rattle.bench_types.specs.declared.entries.Entry.{Entry}
-use Rattle.node_table.specs.Table.{own_write, with_own_write}
-use Rattle.owner_lists.specs.Numbers.{write_numbered}
+use Rattle.model.specs.Table.{own_write, with_own_write}
+use Rattle.model.specs.Numbers.{write_numbered}
 use Rattle.version_tables.specs.Views.{VersionTableView, table_in}
 use Rattle.version_tables.specs.Laid.{IsFirst}
 

@@ -3,8 +3,8 @@
 ghost use Rattle.std.specs.Prelude.{◌≡◌, ◌+◌, ◌-◌, ◌<◌, ◌≤◌, length, OnOk, IsOkUnless};
 ghost use Rattle.bench_types.specs.declared.faults.Fault.TheVariants.{OutOfMemory};
 ghost use Rattle.bench_types.specs.declared.limits.TheConstants.{MOST_ROUNDS};
-ghost use Rattle.node_table.specs.Table.{Table, with_own_write};
-ghost use Rattle.owner_lists.specs.OwnerListView.{list_of_owner};
+ghost use Rattle.model.specs.Table.{Table, with_own_write};
+ghost use Rattle.model.specs.OwnerListView.{list_of_owner};
 ghost use Rattle.round_tables.specs.Histories.{AddsWrite, AreWrittenBy, MayWrite, StandsAmong};
 ghost use Rattle.version_tables.specs.Views.{table_in};
 ghost use Rattle.version_tables.specs.inner.Histories.{FitsHistories, IsWriteUnder};
@@ -14,7 +14,7 @@ use crate::lags::figures;
 use crate::tables::{VersionTable, Written};
 use bench_types::{Fault, Figures};
 use planes::Number;
-use round_tables::RoundTable;
+use round_tables::RoundHistories;
 use std::alloc::Global;
 use std::marker::Brand;
 use std::thread::Threads;
@@ -58,147 +58,76 @@ fn write<N: Number, H: Written>(
     Ok(())
 }
 
-// What the exchanges of a round read: tables that stand in the round fit it.
-fn shared<N: Number, H: Written>(histories: &Histories<N, H>, round: u32) -> &Histories<N, H>
+// Tables that stand in a round fit what its exchanges read.
+fn stand_ready<N: Number, H: Written>(histories: &Histories<N, H>, round: u32)
     requires ended { histories.now.rounds ≡ round }
     requires written { AreWrittenBy round histories.now.lists }
-    ensures same { result.now ≡ histories.now }
     ensures fits { (t : Table) → StandsAmong histories.now.lists t → FitsHistories histories.now t }
 {
     let _lists = histories.lists();
-    histories
 }
 
-impl<H: Written + Send + Sync> RoundTable for VersionTable<u16, H> {
+impl<N: Number, H: Written + Send + Sync> RoundHistories<VersionTable<N, H>> for Histories<N, H> {
     ghost use Rattle.std.specs.Prelude.{◌≡◌};
     ghost use Rattle.version_tables.specs.inner.Histories.{IsWriteUnder};
-
-    type Histories = Histories<u16, H>;
 
     ghost lists = { λ h. h.lists };
 
     ghost has_ended = { λ h round. h.rounds ≡ round };
 
-    ghost may_write = { IsWriteUnder H.lists 65535 };
+    ghost may_write = { IsWriteUnder H.lists N.most };
 
-    fn histories(alloc: Global, nodes: u32) -> Result<Histories<u16, H>, Fault> {
+    fn new(alloc: Global, nodes: u32) -> Result<Histories<N, H>, Fault> {
         Histories::new(alloc, nodes)
     }
 
-    fn empty(
+    fn empty_table(
         alloc: Global,
         node: u32,
         nodes: u32,
         keys: u32,
-    ) -> Result<VersionTable<u16, H>, Fault> {
+    ) -> Result<VersionTable<N, H>, Fault> {
         VersionTable::new(alloc, node, nodes, keys)
     }
 
-    fn restart(&mut self) {
-        self.forget_others();
+    fn restart(table: &mut VersionTable<N, H>) {
+        table.forget_others();
     }
 
-    fn forget(&mut self, histories: &mut Histories<u16, H>) {
-        histories.begin_generation(self.node());
-        self.forget_all();
+    fn forget(&mut self, table: &mut VersionTable<N, H>) {
+        self.begin_generation(table.node());
+        table.forget_all();
     }
 
-    fn count(histories: &Histories<u16, H>, owner: u32) -> u32 {
-        count_of(histories, owner)
+    fn count(&self, owner: u32) -> u32 {
+        count_of(self, owner)
     }
 
     fn write(
         &mut self,
-        histories: &mut Histories<u16, H>,
+        table: &mut VersionTable<N, H>,
         key: u32,
         value: u32,
         born: u32,
     ) -> Result<(), Fault> {
-        write(self, histories, key, value, born)
+        write(table, self, key, value, born)
     }
 
-    fn end_writes(histories: &mut Histories<u16, H>, _round: u32) -> Result<(), Fault> {
-        histories.end_round()
+    fn end_writes(&mut self, _round: u32) -> Result<(), Fault> {
+        self.end_round()
     }
 
-    fn shared(histories: &Histories<u16, H>, round: u32) -> &Histories<u16, H> {
-        shared(histories, round)
-    }
-
-    fn figures<R: Threads + Sync>(
-        rt: &R,
-        alloc: Global,
-        tables: &[VersionTable<u16, H>],
-        histories: &Histories<u16, H>,
-        round: u32,
-    ) -> Result<Figures, Fault> {
-        figures(rt, alloc, tables, histories, round)
-    }
-}
-
-impl<H: Written + Send + Sync> RoundTable for VersionTable<u32, H> {
-    ghost use Rattle.std.specs.Prelude.{◌≡◌};
-    ghost use Rattle.version_tables.specs.inner.Histories.{IsWriteUnder};
-
-    type Histories = Histories<u32, H>;
-
-    ghost lists = { λ h. h.lists };
-
-    ghost has_ended = { λ h round. h.rounds ≡ round };
-
-    ghost may_write = { IsWriteUnder H.lists 4294967295 };
-
-    fn histories(alloc: Global, nodes: u32) -> Result<Histories<u32, H>, Fault> {
-        Histories::new(alloc, nodes)
-    }
-
-    fn empty(
-        alloc: Global,
-        node: u32,
-        nodes: u32,
-        keys: u32,
-    ) -> Result<VersionTable<u32, H>, Fault> {
-        VersionTable::new(alloc, node, nodes, keys)
-    }
-
-    fn restart(&mut self) {
-        self.forget_others();
-    }
-
-    fn forget(&mut self, histories: &mut Histories<u32, H>) {
-        histories.begin_generation(self.node());
-        self.forget_all();
-    }
-
-    fn count(histories: &Histories<u32, H>, owner: u32) -> u32 {
-        count_of(histories, owner)
-    }
-
-    fn write(
-        &mut self,
-        histories: &mut Histories<u32, H>,
-        key: u32,
-        value: u32,
-        born: u32,
-    ) -> Result<(), Fault> {
-        write(self, histories, key, value, born)
-    }
-
-    fn end_writes(histories: &mut Histories<u32, H>, _round: u32) -> Result<(), Fault> {
-        histories.end_round()
-    }
-
-    fn shared(histories: &Histories<u32, H>, round: u32) -> &Histories<u32, H> {
-        shared(histories, round)
+    fn stand_ready(&self, round: u32) {
+        stand_ready(self, round);
     }
 
     fn figures<R: Threads + Sync>(
+        &self,
         rt: &R,
         alloc: Global,
-        tables: &[VersionTable<u32, H>],
-        histories: &Histories<u32, H>,
+        tables: &[VersionTable<N, H>],
         round: u32,
     ) -> Result<Figures, Fault> {
-        figures(rt, alloc, tables, histories, round)
+        figures(rt, alloc, tables, self, round)
     }
 }

@@ -5,7 +5,7 @@ ghost use Rattle.bench_types.specs.declared.exchanges.DigestKind.TheVariants.{Pr
 ghost use Rattle.bench_types.specs.declared.faults.Fault.TheVariants.{OutOfMemory};
 ghost use Rattle.bench_types.specs.Budget.{IsLawfulBudget};
 ghost use Rattle.bench_types.specs.Mode.{digest_kind};
-ghost use Rattle.owner_lists.specs.OwnerListView.{all_writes};
+ghost use Rattle.model.specs.OwnerListView.{all_writes};
 ghost use Rattle.planes.specs.Planes.{cell, number_ahead, total_above, HasEach, HasEachPlace};
 ghost use Rattle.version_tables.specs.Views.{table_in, IsKept};
 ghost use Rattle.version_tables.specs.inner.Deltas.{AreMarksOf};

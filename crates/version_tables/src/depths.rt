@@ -5,9 +5,9 @@ ghost use Rattle.bench_types.specs.Budget.{amount_of};
 ghost use Rattle.bench_types.specs.declared.exchanges.Mode.TheVariants.{ScuttleDepth};
 ghost use Rattle.bench_types.specs.declared.faults.Fault.TheVariants.{OutOfMemory};
 ghost use Rattle.bench_types.specs.declared.limits.TheConstants.{MOST_NODES, MOST_KEYS};
-ghost use Rattle.planes.specs.inner.Elementwise.{AreChanged};
+ghost use Rattle.planes.specs.Elementwise.{AreChanged};
 ghost use Rattle.planes.specs.Planes.{HasEach};
-ghost use Rattle.planes.specs.Sums.{sum_below};
+ghost use Rattle.bench_types.specs.Sums.{sum_below};
 ghost use Rattle.version_tables.specs.inner.Offered.{marks, owner_count_in, weight_in, IsOffer, IsTooLarge};
 ghost use Rattle.version_tables.specs.inner.Plans.{AreNextRuns, IsLevelOfRuns};
 

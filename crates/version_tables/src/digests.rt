@@ -2,7 +2,7 @@
 
 ghost use Rattle.std.specs.Prelude.{◌≡◌};
 ghost use Rattle.bench_types.specs.Mode.{digest_kind};
-ghost use Rattle.reconcile.specs.Digests.{digest_size};
+ghost use Rattle.model.specs.Digests.{digest_size};
 ghost use Rattle.version_tables.specs.Views.{table_in, IsKept};
 
 use crate::tables::{VersionTable, Written};

@@ -4,7 +4,7 @@ use crate::exchanges::exchange;
 use crate::histories::Histories;
 use crate::tables::{VersionTable, Written};
 use bench_types::{Exchange, Fault, Record, Rules};
-use exchange::{Exchanging, MemoryTable};
+use model::{Exchanging, MemoryTable};
 use planes::Number;
 use std::alloc::Global;
 
@@ -14,46 +14,22 @@ impl<N: Number, H: Written> MemoryTable for VersionTable<N, H> {
     ghost table = { table_in H.lists };
 }
 
-impl<H: Written + Send + Sync> Exchanging for VersionTable<u16, H> {
+impl<N: Number, H: Written + Send + Sync> Exchanging<VersionTable<N, H>> for Histories<N, H> {
     ghost use Rattle.version_tables.specs.inner.Histories.{FitsHistories};
     ghost use Rattle.version_tables.specs.inner.FitsKept.{fits_stays};
-
-    type Shared = Histories<u16, H>;
 
     ghost fits = { FitsHistories };
 
     ghost stays_fit = { fits_stays };
 
     fn exchange(
+        &self,
         alloc: Global,
-        histories: &Histories<u16, H>,
-        initiator: &mut VersionTable<u16, H>,
-        responder: &mut VersionTable<u16, H>,
+        initiator: &mut VersionTable<N, H>,
+        responder: &mut VersionTable<N, H>,
         plan: &Exchange,
         rules: &Rules,
     ) -> Result<Record, Fault> {
-        exchange(alloc, histories, initiator, responder, plan, rules)
-    }
-}
-
-impl<H: Written + Send + Sync> Exchanging for VersionTable<u32, H> {
-    ghost use Rattle.version_tables.specs.inner.Histories.{FitsHistories};
-    ghost use Rattle.version_tables.specs.inner.FitsKept.{fits_stays};
-
-    type Shared = Histories<u32, H>;
-
-    ghost fits = { FitsHistories };
-
-    ghost stays_fit = { fits_stays };
-
-    fn exchange(
-        alloc: Global,
-        histories: &Histories<u32, H>,
-        initiator: &mut VersionTable<u32, H>,
-        responder: &mut VersionTable<u32, H>,
-        plan: &Exchange,
-        rules: &Rules,
-    ) -> Result<Record, Fault> {
-        exchange(alloc, histories, initiator, responder, plan, rules)
+        exchange(alloc, self, initiator, responder, plan, rules)
     }
 }

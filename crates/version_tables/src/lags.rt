@@ -4,14 +4,15 @@ ghost use Rattle.std.specs.Prelude.{◌≡◌, ℕ, ◌+◌, ◌-◌, ◌*◌, �
 ghost use Rattle.std.specs.List.{AllZip, range_with_len};
 ghost use Rattle.bench_types.specs.declared.faults.Fault.TheVariants.{OutOfMemory};
 ghost use Rattle.bench_types.specs.declared.limits.TheConstants.{MOST_NODES, MOST_KEYS, MOST_ROUNDS};
-ghost use Rattle.cluster.specs.Tables.{IsCluster, HoldsOfEach};
-ghost use Rattle.owner_lists.specs.OwnerListView.{list_of_owner, lists_in, entries_of, AreWrites};
-ghost use Rattle.owner_lists.specs.Numbers.{write_numbered};
-ghost use Rattle.planes.specs.inner.Elementwise.{AreChanged};
+ghost use Rattle.model.specs.Tables.{IsCluster, HoldsOfEach};
+ghost use Rattle.model.specs.OwnerListView.{list_of_owner, lists_in, entries_of, AreWrites};
+ghost use Rattle.model.specs.Numbers.{write_numbered};
+ghost use Rattle.planes.specs.Elementwise.{AreChanged};
 ghost use Rattle.planes.specs.Lags.{IsLeastBehind};
 ghost use Rattle.planes.specs.Planes.{cell, total_of, ArePlanesChanged, HasEach, HasEachPlace, IsGrid};
 ghost use Rattle.round_tables.specs.Histories.{BirthsRise, AreWrittenBy, StandsAmong};
-ghost use Rattle.staleness.specs.Figures.{most_below, rounds_behind, figures_of};
+ghost use Rattle.bench_types.specs.Sums.{most_below};
+ghost use Rattle.model.specs.Figures.{rounds_behind, figures_of};
 ghost use Rattle.version_tables.specs.inner.Missed.{IsLastNumber};
 ghost use Rattle.version_tables.specs.inner.Pieces.{keys_in, tables_of_views, AreAlike, MayBeCounted, AreLaidAsNumbers, AreLastNumbers, AreCellsOf, AreCountedGrids, CountsPieceOf, CountsPartOf, numbers_in, IsOwnNumber, IsPieceOf, MayWalk, WalksFrom, most_lag};
 

@@ -3,7 +3,7 @@
 ghost use Rattle.std.specs.Prelude.{◌≡◌, ℕ, ◌+◌, ◌*◌, ◌^◌, ◌<◌, ◌≤◌, ◌==◌, length, map, if◌then◌else◌, IfOk, IsOkUnless};
 ghost use Rattle.bench_types.specs.declared.faults.Fault.TheVariants.{OutOfMemory};
 ghost use Rattle.planes.specs.Planes.{ArePlanesChanged, HasEach, IsGrid};
-ghost use Rattle.planes.specs.inner.Elementwise.{AreChanged};
+ghost use Rattle.planes.specs.Elementwise.{AreChanged};
 
 use crate::tables::{VersionTable, Written};
 use bench_types::Fault;
@@ -47,7 +47,7 @@ fn keep_owner<N: Number>(cells: &mut [N], nodes: usize, keys: usize, owner: usiz
 
 impl<N: Number, H: Written> VersionTable<N, H> {
     ghost use Rattle.bench_types.specs.declared.limits.TheConstants.{LEAST_KEYS, MOST_NODES, MOST_KEYS};
-    ghost use Rattle.node_table.specs.Table.{empty_table, without_others, without_all};
+    ghost use Rattle.model.specs.Table.{empty_table, without_others, without_all};
     ghost use Rattle.version_tables.specs.Views.{table_in};
     ghost use Rattle.version_tables.specs.Writes.{IsNextWrite, HasOwnWrite};
 

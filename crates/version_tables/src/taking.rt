@@ -2,8 +2,8 @@
 
 ghost use Rattle.std.specs.Prelude.{◌≡◌, ◌==◌, ℕ, ◌<◌, ◌≤◌, ◌&&◌, List, length, map, nat_lt, nat_le, slice_index, if◌then◌else◌, None, Some};
 ghost use Rattle.bench_types.specs.declared.entries.Entry.{Entry};
-ghost use Rattle.owner_lists.specs.OwnerListView.{OwnerListView, all_writes, entries_of};
-ghost use Rattle.owner_lists.specs.Numbers.{write_numbered};
+ghost use Rattle.model.specs.OwnerListView.{OwnerListView, all_writes, entries_of};
+ghost use Rattle.model.specs.Numbers.{write_numbered};
 ghost use Rattle.planes.specs.Planes.{cell, ArePlanesChanged, HasEach, IsGrid};
 ghost use Rattle.version_tables.specs.inner.Offers.{start_of, IsNumberedHistory};
 ghost use Rattle.version_tables.specs.inner.Histories.{bases_in};

@@ -5,9 +5,9 @@ use Rattle.bench_types.specs.declared.exchanges.Exchange.{Exchange}
 use Rattle.bench_types.specs.declared.exchanges.Rules.{Rules}
 use Rattle.bench_types.specs.contracts.exchanges.Exchange as exchange_row
 use Rattle.bench_types.specs.contracts.exchanges.Rules as rules_row
-use Rattle.node_table.specs.Table.{Table}
-use Rattle.node_table.specs.inner.Codes.{table_code}
-use Rattle.round_plan.specs.Plan.{RoundListView}
+use Rattle.model.specs.Table.{Table}
+use Rattle.model.specs.inner.Codes.{table_code}
+use Rattle.model.specs.RoundLists.{RoundListView}
 use Rattle.board.specs.Plan.{BoardPlan}
 use Rattle.board.specs.SeatView.{SeatView}
 

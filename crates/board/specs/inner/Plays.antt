@@ -5,7 +5,7 @@ use Rattle.dependencies.specs.Neighbours.{as_list, successors, predecessors, pen
 use Rattle.board.specs.Plan.{BoardPlan, initiator_of, responder_of, table_at}
 use Rattle.board.specs.SeatView.{IsWhole, SeatView, first_seat, freed_by, having_seen, having_stopped, joined, split_left, split_right, with_held, with_made, with_told, without_held}
 use Rattle.std.specs.List.{range_with_len}
-use Rattle.node_table.specs.Table.{Table}
+use Rattle.model.specs.Table.{Table}
 use Rattle.atomic_table.specs.Table.{Step, Me}
 use Rattle.board.specs.Weights.{times, Has}
 use Rattle.board.specs.Rule.{Slot, TAKEN}

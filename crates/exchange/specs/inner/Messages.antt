@@ -2,9 +2,10 @@
 use Rattle.std.specs.Prelude.{◌≡◌, ◌<◌, ℕ, Bool, if◌then◌else◌}
 use Rattle.bench_types.specs.declared.exchanges.Exchange.{Exchange}
 use Rattle.bench_types.specs.declared.exchanges.Rules.{Rules}
-use Rattle.node_table.specs.Table.{Table, applied}
+use Rattle.model.specs.Table.{Table, applied}
 use Rattle.reconcile.specs.Digests.{DigestView}
-use Rattle.reconcile.specs.Deltas.{DeltaView, IsDeltaToReceiver}
+use Rattle.model.specs.Deltas.{DeltaView}
+use Rattle.reconcile.specs.Answers.{IsDeltaToReceiver}
 
 -- two tables that may answer each other's digests: they have as many owners and keys each, and the rotation is one of
 -- the owners

@@ -6,8 +6,8 @@ use Rattle.std.specs.Ordering.{is_lt}
 use Rattle.bench_types.specs.declared.entries.Entry.{Entry}
 use Rattle.node_table.specs.declared.layouts.Row.{Row}
 use Rattle.node_table.specs.declared.layouts.Layout.{Layout}
-use Rattle.node_table.specs.Table.{Held, Table, greatest_version, IsProper}
-use Rattle.node_table.specs.Held.{held_by_lists}
+use Rattle.model.specs.Table.{Held, Table, greatest_version, IsProper}
+use Rattle.model.specs.Held.{held_by_lists, entry_in, HaveTwoKeys}
 use Rattle.node_table.specs.Entries.{entry_cmp, StandsBefore, AreGenerations, AreGreatest}
 
 -- the entries of a row
@@ -21,11 +21,6 @@ rows_of slots rows = map (entries_in_row slots) rows
 abbrev pub row_at : List Entry → List Row → ℕ → List Entry
 row_at slots rows owner = slice_index_or (rows_of slots rows) owner []
 
--- the entry of a key in a row
-abbrev pub entry_in : List Entry → ℕ → Option Entry
-entry_in [] key = None
-entry_in (e ∷ es) key = if e.key == key then Some e else entry_in es key
-
 abbrev pub held_by : Layout → Held
 held_by l = held_by_lists (rows_of l.slots.items l.rows.items)
 
@@ -36,9 +31,6 @@ table_laid l = record { node = l.node; nodes = l.nodes; keys = l.keys; generatio
 -- the table with an entry put at its place
 abbrev pub with_entry : Table → ℕ → Entry → Table
 with_entry t owner e = record t { held = insert t.held (owner, e.key) e }
-
-abbrev pub HaveTwoKeys : Entry → Entry → Type 0
-HaveTwoKeys d e = d.key ≢ e.key
 
 -- what a row keeps: it rises by version and then by key, and has each key at most once
 pub record IsRow (keys : ℕ) (row : List Entry) : Type 0 where

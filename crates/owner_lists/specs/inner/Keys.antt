@@ -1,6 +1,6 @@
 -- The first write of each key, as a list that rises by key, and where a key stands in such a list. Source: this project.
 use Rattle.std.specs.Prelude.{◌≡◌, ℕ, ◌<◌, ◌≤◌, List, length, slice_index_or}
-use Rattle.owner_lists.specs.declared.lists.Write.{Write}
+use Rattle.model.specs.declared.writes.Write.{Write}
 use Rattle.owner_lists.specs.Missed.{first_missed}
 use Rattle.owner_lists.specs.Latest.{write_of, KeysRise}
 

@@ -4,8 +4,8 @@ use Rattle.std.specs.Prelude.{◌≡◌, ℕ, suc, ◌+◌, ◌^◌, ◌<◌, �
 use Rattle.bench_types.specs.declared.entries.Entry.{Entry}
 use Rattle.bench_types.specs.Entry.{next_version}
 use Rattle.owner_lists.specs.declared.lists.Link.{Link}
-use Rattle.owner_lists.specs.declared.lists.Write.{Write}
-use Rattle.owner_lists.specs.OwnerListView.{OwnerListView, AreWrites}
+use Rattle.model.specs.declared.writes.Write.{Write}
+use Rattle.model.specs.OwnerListView.{OwnerListView, AreWrites}
 use Rattle.owner_lists.specs.Missed.{first_missed, born_in_order}
 use Rattle.owner_lists.specs.Latest.{IsLatest}
 use Rattle.owner_lists.specs.inner.Keys.{AreFirst}

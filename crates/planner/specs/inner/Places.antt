@@ -4,10 +4,10 @@ use Rattle.std.specs.Prelude.{◌≡◌, ℕ, List, length, filter_map, slice_in
 use Rattle.bench_types.specs.declared.exchanges.Exchange.{Exchange}
 use Rattle.bench_types.specs.declared.exchanges.Record.{Record}
 use Rattle.bench_types.specs.declared.exchanges.Rules.{Rules}
-use Rattle.node_table.specs.Table.{Table}
+use Rattle.model.specs.Table.{Table}
 use Rattle.node_table.specs.NodeTableView.{NodeTableView}
-use Rattle.round_plan.specs.Plan.{RoundListView}
-use Rattle.cluster.specs.Tables.{IsTableOf}
+use Rattle.model.specs.RoundLists.{RoundListView}
+use Rattle.model.specs.Tables.{IsTableOf}
 use Rattle.dependencies.specs.declared.events.Event.{Event}
 use Rattle.planner.specs.declared.plays.Pair.{Pair}
 use Rattle.planner.specs.declared.plays.Places.{Places}

@@ -1,7 +1,7 @@
 -- What a digest keeps, seen as what it tells, and how its numbers are made. Source: this project.
 use Rattle.std.specs.Prelude.{◌≡◌, ℕ, ◌+◌, ◌*◌, ◌<◌, ◌⊎◌, List, [], ◌∷◌, length, slice_index, slice_set}
 use Rattle.bench_types.specs.declared.entries.Entry.{Entry}
-use Rattle.node_table.specs.Table.{Table, mark_at}
+use Rattle.model.specs.Table.{Table, mark_at}
 use Rattle.reconcile.specs.Digests.{DigestView, ToldVersions, Greatest, Each, each_in, version_index}
 use Rattle.reconcile.specs.declared.digests.Versions.{Versions}
 use Rattle.reconcile.specs.declared.digests.Versions.TheVariants as versions

@@ -9,9 +9,9 @@ use Rattle.bench_types.specs.declared.exchanges.Budget.{Budget}
 use Rattle.bench_types.specs.declared.exchanges.Mode.{Mode}
 use Rattle.bench_types.specs.declared.exchanges.Mode.TheVariants.{ScuttleBreadth, ScuttleDepth, PreciseOldest, PreciseNewest}
 use Rattle.reconcile.specs.declared.candidates.Candidate.{Candidate}
-use Rattle.reconcile.specs.Deltas.{DeltaView}
+use Rattle.model.specs.Deltas.{DeltaView}
 use Rattle.reconcile.specs.inner.Parcels.{first_within}
-use Rattle.reconcile.specs.Order.{rotated}
+use Rattle.model.specs.Order.{rotated}
 
 abbrev pub item_in : Candidate → Item
 item_in c = c.item

@@ -7,7 +7,7 @@ use Rattle.std.specs.declared.cmp.Ordering.TheVariants.{Less}
 use Rattle.bench_types.specs.declared.entries.Entry.{Entry}
 use Rattle.bench_types.specs.declared.entries.Item.{Item}
 use Rattle.bench_types.specs.Mark.{mark_of, is_before, IsBefore}
-use Rattle.node_table.specs.Table.{Table, entry_at}
+use Rattle.model.specs.Table.{Table, entry_at}
 use Rattle.node_table.specs.Entries.{StandsBefore}
 use Rattle.reconcile.specs.Digests.{DigestView, told_mark_at, told_mark}
 use Rattle.reconcile.specs.inner.Keys.{items_in}

@@ -2,20 +2,10 @@
 use Rattle.std.specs.Prelude.{◌≡◌, ℕ, ◌≤◌, List, ◌++◌, length, ◌-◌, nat_le, [], ◌∷◌, if◌then◌else◌}
 use Rattle.bench_types.specs.declared.entries.Item.{Item}
 use Rattle.bench_types.specs.declared.exchanges.Budget.{Budget}
-use Rattle.reconcile.specs.Deltas.{item_share}
+use Rattle.model.specs.Deltas.{item_share}
 use Rattle.reconcile.specs.declared.parcels.Parcel.{Parcel}
 use Rattle.bench_types.specs.Budget.{amount_of}
-
-module _ {X : Type 0} (size : X → ℕ) where
-  -- the longest beginning of a list that fits
-  abbrev pub fitting : ℕ → List X → List X
-  fitting budget [] = []
-  fitting budget (x ∷ xs) = if nat_le (size x) budget then x ∷ fitting (budget - size x) xs else []
-
-  -- what it leaves of the budget: nothing, once one doesn't fit
-  abbrev pub left_after : ℕ → List X → ℕ
-  left_after budget [] = budget
-  left_after budget (x ∷ xs) = if nat_le (size x) budget then left_after (budget - size x) xs else 0
+use Rattle.model.specs.inner.Fitting.{fitting, left_after}
 
 -- of these items those come behind that fit into what is left
 pub record AddsFitting (items : List Item) (old new : Parcel) : Type 0 where

@@ -10,7 +10,7 @@ use Rattle.node_table.specs.Entries.{StandsBefore}
 use Rattle.reconcile.specs.inner.Parcels.{first_within, AddsFitting}
 use Rattle.reconcile.specs.inner.Keys.{reversed}
 use Rattle.reconcile.specs.inner.Newer.{item_with}
-use Rattle.reconcile.specs.Order.{owner_count}
+use Rattle.model.specs.Order.{owner_count}
 use Rattle.reconcile.specs.declared.parcels.Parcel.{Parcel}
 use Rattle.reconcile.specs.declared.suffixes.Suffix.{Suffix}
 

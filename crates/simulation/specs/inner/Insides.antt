@@ -6,9 +6,9 @@ use Rattle.bench_types.specs.declared.exchanges.Rules.{Rules}
 use Rattle.scenario.specs.contracts.scenarios.Scenario as scenario
 use Rattle.owner_lists.specs.contracts.lists.OwnerList as owner_list
 use Rattle.simulation.specs.declared.sims.Cluster.{Cluster}
-use Rattle.node_table.specs.Table.{Table}
+use Rattle.model.specs.Table.{Table}
 use Rattle.scenario.specs.Settings.{Settings}
-use Rattle.owner_lists.specs.OwnerListView.{OwnerListView}
+use Rattle.model.specs.OwnerListView.{OwnerListView}
 use Rattle.round_plan.specs.Words.{run_words_of}
 use Rattle.simulation.specs.RoundView.{RoundView}
 use Rattle.simulation.specs.Rounds.{rules_of}

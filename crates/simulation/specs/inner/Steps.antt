@@ -3,17 +3,17 @@ use Rattle.std.specs.Prelude.{◌≡◌, ◌≢◌, ℕ, List, ◌+◌, ◌-◌,
 use Rattle.bench_types.specs.declared.entries.Entry.{Entry}
 use Rattle.round_plan.specs.Plan.{round_list_of}
 use Rattle.scenario.specs.Settings.{Settings}
-use Rattle.staleness.specs.Figures.{figures_of}
-use Rattle.owner_lists.specs.OwnerListView.{OwnerListView, written, list_of_owner, lists_in}
+use Rattle.model.specs.Figures.{figures_of}
+use Rattle.model.specs.OwnerListView.{OwnerListView, written, list_of_owner, lists_in}
 use Rattle.simulation.specs.RoundView.{RoundView}
 use Rattle.simulation.specs.Rounds.{round_of, after_restart}
 use Rattle.simulation.specs.Outcomes.{played_with}
-use Rattle.node_table.specs.Table.{Table, with_own_writes, greatest_version, IsProper}
+use Rattle.model.specs.Table.{Table, with_own_writes, greatest_version, IsProper}
 use Rattle.round_plan.specs.Writes.{count_before, own_writes, born_in, writes_before, written_upto}
 use Rattle.round_plan.specs.declared.owners.OwnWrite.{OwnWrite}
 use Rattle.round_plan.specs.Generations.{generation_upto}
-use Rattle.staleness.specs.OwnParts.{OwnPartIsLastWrites}
-use Rattle.owner_lists.specs.Writes.{AreBornBy}
+use Rattle.model.specs.OwnParts.{OwnPartIsLastWrites}
+use Rattle.model.specs.Writes.{AreBornBy}
 use Rattle.simulation.specs.Standing.{IsOwnerOf}
 
 -- and from the tables before it, and the tables and lists after it

@@ -7,16 +7,17 @@ use Rattle.std.specs.Prelude.{◌≡◌, ℕ, zero, suc, ◌+◌, ◌-◌, ◌*�
 use Rattle.std.specs.List.{list_any}
 use Rattle.bench_types.specs.declared.entries.Entry.{Entry}
 use Rattle.bench_types.specs.declared.rows.Figures.{Figures}
-use Rattle.node_table.specs.Table.{Table, entry_at}
-use Rattle.cluster.specs.Tables.{table_of_node}
+use Rattle.model.specs.Table.{Table, entry_at}
+use Rattle.model.specs.Tables.{table_of_node}
 use Rattle.staleness.specs.declared.copies.Copies.{Copies}
 use Rattle.staleness.specs.declared.staleness.Staleness.{Staleness}
-use Rattle.owner_lists.specs.declared.lists.Write.{Write}
-use Rattle.owner_lists.specs.Writes.{last_write}
+use Rattle.model.specs.declared.writes.Write.{Write}
+use Rattle.model.specs.Writes.{last_write}
 use Rattle.owner_lists.specs.Missed.{first_missed}
 use Rattle.owner_lists.specs.inner.Linked.{version_or_zero}
-use Rattle.staleness.specs.Figures.{most_below, writes_of_owner, generation_at, staleness_at, leftover_at, stale_count, rounds_behind}
-use Rattle.planes.specs.Sums.{sum_below}
+use Rattle.bench_types.specs.Sums.{most_below}
+use Rattle.model.specs.Figures.{writes_of_owner, generation_at, staleness_at, leftover_at, stale_count, rounds_behind}
+use Rattle.bench_types.specs.Sums.{sum_below}
 
 -- the generations of all nodes, in order
 abbrev pub generations_in : List Table → List ℕ

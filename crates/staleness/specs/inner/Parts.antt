@@ -5,10 +5,10 @@ use Rattle.std.specs.declared.alloc.Global.{Global}
 use Rattle.std.specs.List.{AllZip, range_with_len}
 use Rattle.bench_types.specs.declared.rows.Figures.{Figures}
 use Rattle.bench_types.specs.declared.limits.TheConstants.{MOST_NODES, MOST_KEYS, MOST_ROUNDS}
-use Rattle.node_table.specs.Table.{Table}
-use Rattle.cluster.specs.Tables.{table_of_node, IsCluster}
-use Rattle.owner_lists.specs.declared.lists.Write.{Write}
-use Rattle.owner_lists.specs.Writes.{AreBornBy}
+use Rattle.model.specs.Table.{Table}
+use Rattle.model.specs.Tables.{table_of_node, IsCluster}
+use Rattle.model.specs.declared.writes.Write.{Write}
+use Rattle.model.specs.Writes.{AreBornBy}
 use Rattle.staleness.specs.declared.copies.Copies.{Copies}
 use Rattle.staleness.specs.inner.Copies.{part_figures, no_copies, copies_of, part_copies, AreSeen, AreSeenOnce}
 

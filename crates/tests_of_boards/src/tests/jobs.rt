@@ -5,12 +5,14 @@ ghost use Rattle.bench_types.specs.declared.limits.TheConstants.{MOST_KEYS};
 ghost use Rattle.bench_types.specs.Budget.{IsLawfulBudget};
 ghost use Rattle.board.specs.Weights.{Has};
 ghost use Rattle.board.specs.SeatView.{first_seat};
-ghost use Rattle.exchange.specs.Exchanging.{MayBeExchanged, kept_table};
+ghost use Rattle.model.specs.Exchanging.{MayBeExchanged};
+ghost use Rattle.node_table.specs.NodeTableView.{kept_table};
 ghost use Rattle.board.specs.Boards.{plan_of, IsSeatOf, IsHoldOf, seat_view};
 
 use crate::tests::small_boards::board_of;
+use crate::tests::tables::{Board, Hold, Seat};
 use bench_types::{Exchange, Fault, Rules};
-use board::{Board, Freed, Hold, Seat};
+use board::Freed;
 use exchange::exchange;
 use node_table::NodeTable;
 use round_plan::RoundList;

@@ -1,15 +1,15 @@
 //! Two threads of a scope that share a board.
 
 ghost use Rattle.std.specs.Prelude.{◌≤◌, ◌<◌, length};
-ghost use Rattle.exchange.specs.Exchanging.{kept_table};
+ghost use Rattle.node_table.specs.NodeTableView.{kept_table};
 ghost use Rattle.board.specs.Boards.{exchanges_of, IsSeatOf};
 
 use crate::tests::jobs::Job;
 use crate::tests::small_boards::{ONE_ENTRY, TWICE, expect_owners, list_of};
 use crate::tests::threads::{Worked, together};
+use crate::tests::tables::{Board, Seat};
 use crate::tests::turns::{expect_next, held};
 use bench_types::Fault;
-use board::{Board, Seat};
 use node_table::NodeTable;
 use std::alloc::AllocGlobal;
 use std::process::Abort;

@@ -2,12 +2,13 @@
 
 ghost use Rattle.std.specs.Prelude.{ℕ, ◌≡◌, ◌<◌, length};
 ghost use Rattle.board.specs.Weights.{Has};
-ghost use Rattle.exchange.specs.Exchanging.{kept_table};
+ghost use Rattle.node_table.specs.NodeTableView.{kept_table};
 ghost use Rattle.board.specs.Boards.{exchanges_of, IsSeatOf, seat_view};
 
 use crate::tests::small_boards::{ONE_ENTRY, TWICE, board_of, expect_owners, list_of};
+use crate::tests::tables::{Board, Hold, Seat};
 use bench_types::Fault;
-use board::{Board, Claim, Hold, Progress, Seat};
+use board::{Claim, Progress};
 use std::alloc::AllocGlobal;
 use std::process::Abort;
 

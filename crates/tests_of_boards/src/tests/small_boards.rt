@@ -2,12 +2,12 @@
 
 ghost use Rattle.std.specs.Prelude.{◌≡◌, ◌≤◌, length, IfOk};
 ghost use Rattle.bench_types.specs.declared.limits.TheConstants.{MOST_KEYS};
-ghost use Rattle.exchange.specs.Exchanging.{kept_table};
+ghost use Rattle.node_table.specs.NodeTableView.{kept_table};
 ghost use Rattle.board.specs.Boards.{plan_of, IsSeatOf, seat_view};
 ghost use Rattle.board.specs.SeatView.{first_seat};
 
+use crate::tests::tables::{Board, Seat};
 use bench_types::{Budget, Fault, Mode, Rules};
-use board::{Board, Seat};
 use dependencies::Deps;
 use fixtures::{WRITTEN, Writers, tables_of};
 use node_table::NodeTable;

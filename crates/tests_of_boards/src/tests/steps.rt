@@ -1,11 +1,11 @@
 //! Rounds of a simulation by several workers.
 
 use crate::tests::gates::Meeting;
+use bench::Sim;
 use bench_types::Fault;
 use fixtures::changed;
 use pool::FreeGate;
 use scenario::read;
-use simulation::Sim;
 use std::alloc::Global;
 use std::process::Abort;
 use std::sync::Wait;

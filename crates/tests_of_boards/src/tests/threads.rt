@@ -1,13 +1,14 @@
 //! Threads that share a board.
 
 ghost use Rattle.std.specs.Prelude.{◌<◌, length};
-ghost use Rattle.exchange.specs.Exchanging.{kept_table};
+ghost use Rattle.node_table.specs.NodeTableView.{kept_table};
 ghost use Rattle.board.specs.Boards.{exchanges_of, IsSeatOf};
 
 use crate::tests::jobs::Job;
 use crate::tests::small_boards::{CROSSING, ONE_ENTRY, list_of};
+use crate::tests::tables::{Board, Seat};
 use bench_types::Fault;
-use board::{Board, Claim, Seat};
+use board::Claim;
 use std::alloc::AllocGlobal;
 use std::process::Abort;
 use std::thread;

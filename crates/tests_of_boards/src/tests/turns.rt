@@ -3,14 +3,15 @@
 ghost use Rattle.std.specs.Prelude.{◌≡◌, ◌<◌, length, IfOk};
 ghost use Rattle.board.specs.Weights.{Has};
 ghost use Rattle.board.specs.SeatView.{first_seat};
-ghost use Rattle.exchange.specs.Exchanging.{kept_table};
+ghost use Rattle.node_table.specs.NodeTableView.{kept_table};
 ghost use Rattle.board.specs.Boards.{plan_of, exchanges_of, IsSeatOf, IsHoldOf, seat_view};
 
 use crate::tests::jobs::Job;
 use crate::tests::seats::expect_claim;
 use crate::tests::small_boards::{ONE_ENTRY, list_of};
+use crate::tests::tables::{Board, Hold, Seat};
 use bench_types::Fault;
-use board::{Board, Claim, Freed, Hold, Seat};
+use board::{Claim, Freed};
 use std::alloc::AllocGlobal;
 use std::process::Abort;
 

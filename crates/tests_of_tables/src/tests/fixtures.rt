@@ -2,8 +2,8 @@
 
 ghost use Rattle.std.specs.Prelude.{◌≡◌, ◌≢◌, ◌<◌, ◌≤◌, All, IsTrue};
 ghost use Rattle.bench_types.specs.Budget.{IsLawfulBudget};
-ghost use Rattle.node_table.specs.Table.{empty_table};
-ghost use Rattle.node_table.specs.Table.{IsItemInPlace};
+ghost use Rattle.model.specs.Table.{empty_table};
+ghost use Rattle.model.specs.Table.{IsItemInPlace};
 
 use bench_types::{Budget, Entry, Fault, Item, Mark};
 use node_table::NodeTable;

@@ -3,7 +3,7 @@ use Rattle.std.specs.Prelude.{◌≡◌, ℕ, Bool, List, length, slice_index}
 use Rattle.bench_types.specs.declared.entries.Entry.{Entry}
 use Rattle.bench_types.specs.declared.exchanges.Rules.{Rules}
 use Rattle.planes.specs.Planes.{cell}
-use Rattle.reconcile.specs.Deltas.{DeltaView, delta_between}
+use Rattle.model.specs.Deltas.{DeltaView, delta_between}
 use Rattle.version_tables.specs.Views.{VersionTableView, table_in}
 use Rattle.version_tables.specs.inner.Taken.{AreSent, is_taken}
 

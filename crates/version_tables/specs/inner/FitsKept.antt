@@ -1,14 +1,14 @@
 -- What tables of versions owe to the histories stays through exchanges. Source: this project.
 use Rattle.std.specs.Prelude.{◌≡◌, length}
 use Rattle.std.proofs.Common.{inl, inr, ◌∙◌}
-use Rattle.node_table.specs.Table.{Table}
-use Rattle.node_table.proofs.Laws.{frame-applied}
-use Rattle.reconcile.specs.Deltas.{delta_between}
-use Rattle.exchange.specs.Exchanged.{fate_of}
-use Rattle.exchange.specs.Exchanging.{IsKeptByExchanges}
-use Rattle.exchange.specs.Laws.{MayMeet}
-use Rattle.exchange.proofs.Cases.{initiator_after-either, responder_after-either}
-use Rattle.exchange.proofs.ExchangeLaws.{initiator_proper, responder_proper, initiator_either, responder_either}
+use Rattle.model.specs.Table.{Table}
+use Rattle.model.proofs.TableLaws.{frame-applied}
+use Rattle.model.specs.Deltas.{delta_between}
+use Rattle.model.specs.Exchanged.{fate_of}
+use Rattle.model.specs.Exchanging.{IsKeptByExchanges}
+use Rattle.model.specs.ExchangeLaws.{MayMeet}
+use Rattle.model.proofs.Cases.{initiator_after-either, responder_after-either}
+use Rattle.model.proofs.ExchangeLaws.{initiator_proper, responder_proper, initiator_either, responder_either}
 use Rattle.version_tables.specs.Views.{HistoriesView}
 use Rattle.version_tables.specs.inner.Histories.{FitsHistories}
 

@@ -2,8 +2,8 @@
 use Rattle.std.specs.Prelude.{ℕ, zero, suc, List, [], ◌∷◌, ◌++◌, Option, Some, None}
 use Rattle.bench_types.specs.declared.entries.Entry.{Entry}
 use Rattle.bench_types.specs.declared.entries.Item.{Item}
-use Rattle.node_table.specs.Table.{Table, entry_at}
-use Rattle.planes.specs.Sums.{sum_below}
+use Rattle.model.specs.Table.{Table, entry_at}
+use Rattle.bench_types.specs.Sums.{sum_below}
 
 -- what a table holds at a place, as a list of one item or none
 abbrev pub item_here : ℕ → Option Entry → List Item

@@ -6,10 +6,10 @@ use Rattle.bench_types.specs.declared.exchanges.Rules.{Rules}
 use Rattle.bench_types.specs.declared.limits.TheConstants.{MOST_NODES}
 use Rattle.bench_types.specs.Budget.{IsLawfulBudget}
 use Rattle.bench_types.specs.Mark.{mark_of}
-use Rattle.exchange.specs.Exchanging.{MayBeExchanged}
-use Rattle.node_table.specs.Table.{Table, entry_at, IsProper}
-use Rattle.owner_lists.specs.OwnerListView.{OwnerListView, all_writes, AreWrites, list_of_owner}
-use Rattle.owner_lists.specs.Numbers.{write_numbered}
+use Rattle.model.specs.Exchanging.{MayBeExchanged}
+use Rattle.model.specs.Table.{Table, entry_at, IsProper}
+use Rattle.model.specs.OwnerListView.{OwnerListView, all_writes, AreWrites, list_of_owner}
+use Rattle.model.specs.Numbers.{write_numbered}
 use Rattle.planes.specs.Planes.{HasEach, cell}
 use Rattle.version_tables.specs.Views.{HistoriesView}
 use Rattle.version_tables.specs.inner.Offers.{IsHistory, IsNumberedHistory}

@@ -6,7 +6,7 @@ use Rattle.std.specs.Ordering.{nat_cmp, ordering_then}
 use Rattle.bench_types.specs.declared.entries.Item.{Item}
 use Rattle.bench_types.specs.declared.exchanges.Mode.{Mode}
 use Rattle.bench_types.specs.declared.exchanges.Mode.TheVariants.{ScuttleBreadth, ScuttleDepth, PreciseOldest, PreciseNewest}
-use Rattle.reconcile.specs.Order.{rotated, rank_among, owner_count}
+use Rattle.model.specs.Order.{rotated, rank_among, owner_count}
 use Rattle.planes.specs.Planes.{Cells}
 
 -- levels compare: by rank, by how many candidates the owner has, the most first, by round, by round from the newest on

@@ -5,7 +5,7 @@ use Rattle.bench_types.specs.declared.exchanges.Mode.{Mode}
 use Rattle.bench_types.specs.declared.exchanges.Mode.TheVariants.{ScuttleBreadth, ScuttleDepth, PreciseOldest, PreciseNewest}
 use Rattle.bench_types.specs.declared.exchanges.DigestKind.{DigestKind}
 use Rattle.bench_types.specs.Budget.{amount_of}
-use Rattle.owner_lists.specs.OwnerListView.{all_writes}
+use Rattle.model.specs.OwnerListView.{all_writes}
 use Rattle.planes.specs.Planes.{Cells, cell}
 use Rattle.version_tables.specs.Views.{VersionTableView}
 use Rattle.version_tables.specs.declared.weights.Offer.{Offer}

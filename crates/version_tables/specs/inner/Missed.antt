@@ -3,10 +3,10 @@
 use Rattle.std.specs.Prelude.{◌≡◌, ℕ, ◌<◌, ◌≤◌, List, length, Option, Some}
 use Rattle.bench_types.specs.declared.entries.Entry.{Entry}
 use Rattle.bench_types.specs.Mark.{mark_held}
-use Rattle.node_table.specs.Table.{Table, entry_at}
-use Rattle.owner_lists.specs.OwnerListView.{OwnerListView, entries_of, written, list_of_owner}
-use Rattle.owner_lists.specs.Numbers.{write_numbered}
-use Rattle.staleness.specs.Figures.{staleness_of}
+use Rattle.model.specs.Table.{Table, entry_at}
+use Rattle.model.specs.OwnerListView.{OwnerListView, entries_of, written, list_of_owner}
+use Rattle.model.specs.Numbers.{write_numbered}
+use Rattle.model.specs.Figures.{staleness_of}
 
 -- how many writes an owner made in its earlier generations
 abbrev pub base_of : OwnerListView → ℕ

@@ -8,11 +8,11 @@ use Rattle.bench_types.specs.Mark.{mark_of, is_before, IsBefore}
 use Rattle.bench_types.specs.Mode.{digest_kind}
 use Rattle.bench_types.specs.declared.exchanges.DigestKind.{DigestKind}
 use Rattle.bench_types.specs.declared.exchanges.DigestKind.TheVariants.{Scuttle, Precise}
-use Rattle.node_table.specs.Table.{Table, entry_at}
-use Rattle.reconcile.specs.Candidates.{known_mark}
-use Rattle.planes.specs.Sums.{sum_below}
+use Rattle.model.specs.Table.{Table, entry_at}
+use Rattle.model.specs.Candidates.{known_mark}
+use Rattle.bench_types.specs.Sums.{sum_below}
 use Rattle.planes.specs.Planes.{Cells, number_ahead}
-use Rattle.owner_lists.specs.Numbers.{write_numbered}
+use Rattle.model.specs.Numbers.{write_numbered}
 
 -- the marks of an owner's writes rise, and births never fall
 pub record IsHistory (writes : List Entry) : Type 0 where

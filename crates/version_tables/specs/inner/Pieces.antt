@@ -3,14 +3,15 @@ use Rattle.std.specs.Prelude.{◌≡◌, ℕ, ◌+◌, ◌-◌, ◌*◌, ◌<◌
 use Rattle.std.specs.Borrow.{Bor}
 use Rattle.bench_types.specs.declared.entries.Entry.{Entry}
 use Rattle.bench_types.specs.declared.limits.TheConstants.{MOST_NODES, MOST_KEYS, MOST_ROUNDS}
-use Rattle.node_table.specs.Table.{Table}
-use Rattle.cluster.specs.Tables.{table_of_node, IsCluster, HoldsOfEach}
-use Rattle.owner_lists.specs.OwnerListView.{OwnerListView, entries_of, list_of_owner, lists_in, AreWrites}
-use Rattle.owner_lists.specs.Numbers.{write_numbered}
-use Rattle.planes.specs.Sums.{sum_below}
+use Rattle.model.specs.Table.{Table}
+use Rattle.model.specs.Tables.{table_of_node, IsCluster, HoldsOfEach}
+use Rattle.model.specs.OwnerListView.{OwnerListView, entries_of, list_of_owner, lists_in, AreWrites}
+use Rattle.model.specs.Numbers.{write_numbered}
+use Rattle.bench_types.specs.Sums.{sum_below}
 use Rattle.planes.specs.Planes.{cell, HasEachPlace, IsGrid}
 use Rattle.round_tables.specs.Histories.{BirthsRise, AreWrittenBy, StandsAmong}
-use Rattle.staleness.specs.Figures.{most_below, staleness_at, rounds_behind, node_figures}
+use Rattle.bench_types.specs.Sums.{most_below}
+use Rattle.model.specs.Figures.{staleness_at, rounds_behind, node_figures}
 use Rattle.version_tables.specs.declared.lags.Numbers.{Numbers}
 use Rattle.version_tables.specs.declared.lags.Piece.{Piece}
 use Rattle.version_tables.specs.Views.{VersionTableView, table_in, IsKept}

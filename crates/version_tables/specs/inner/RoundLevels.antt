@@ -3,7 +3,7 @@ use Rattle.std.specs.Prelude.{◌≡◌, ℕ, ◌+◌, ◌-◌, ◌<◌, ◌≤�
 use Rattle.bench_types.specs.declared.exchanges.Mode.{Mode}
 use Rattle.bench_types.specs.declared.exchanges.Mode.TheVariants.{PreciseOldest, PreciseNewest}
 use Rattle.bench_types.specs.Budget.{amount_of}
-use Rattle.owner_lists.specs.OwnerListView.{all_writes}
+use Rattle.model.specs.OwnerListView.{all_writes}
 use Rattle.planes.specs.Planes.{cell}
 use Rattle.version_tables.specs.declared.rounds.Ends.{Ends}
 use Rattle.version_tables.specs.declared.weights.Offer.{Offer}

@@ -7,10 +7,10 @@ use Rattle.bench_types.specs.declared.entries.Entry.{Entry}
 use Rattle.bench_types.specs.declared.entries.Item.{Item}
 use Rattle.bench_types.specs.declared.exchanges.Mode.{Mode}
 use Rattle.bench_types.specs.declared.exchanges.Mode.TheVariants.{ScuttleBreadth, ScuttleDepth, PreciseOldest, PreciseNewest}
-use Rattle.reconcile.specs.Order.{rotated}
-use Rattle.node_table.specs.Table.{Table}
+use Rattle.model.specs.Order.{rotated}
+use Rattle.model.specs.Table.{Table}
 use Rattle.version_tables.specs.inner.Offers.{offered_sum}
-use Rattle.owner_lists.specs.Numbers.{write_numbered}
+use Rattle.model.specs.Numbers.{write_numbered}
 use Rattle.planes.specs.Planes.{Cells, count_above, count_between, HasNoneAbove}
 use Rattle.version_tables.specs.inner.Levels.{level_cmp, item_number, comes_first}
 

@@ -2,7 +2,7 @@
 use Rattle.std.specs.Prelude.{◌≡◌, ℕ, ◌+◌, ◌<◌, ◌≤◌, true, false}
 use Rattle.bench_types.specs.declared.exchanges.Mode.{Mode}
 use Rattle.bench_types.specs.Budget.{amount_of}
-use Rattle.reconcile.specs.Order.{rotated}
+use Rattle.model.specs.Order.{rotated}
 use Rattle.version_tables.specs.declared.weights.Offer.{Offer}
 use Rattle.version_tables.specs.inner.Levels.{comes_first}
 use Rattle.version_tables.specs.inner.Offered.{cells_in, low_in, weights_in}

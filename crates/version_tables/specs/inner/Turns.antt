@@ -4,7 +4,7 @@ use Rattle.bench_types.specs.declared.exchanges.Mode.{Mode}
 use Rattle.bench_types.specs.declared.exchanges.Mode.TheVariants.{ScuttleBreadth, ScuttleDepth, PreciseOldest, PreciseNewest}
 use Rattle.bench_types.specs.Budget.{amount_of}
 use Rattle.planes.specs.Planes.{Cells, HasEach}
-use Rattle.reconcile.specs.Order.{rotated}
+use Rattle.model.specs.Order.{rotated}
 use Rattle.version_tables.specs.declared.sharing.Turns.{Turns}
 use Rattle.version_tables.specs.declared.weights.Level.{Level}
 use Rattle.version_tables.specs.declared.weights.Offer.{Offer}

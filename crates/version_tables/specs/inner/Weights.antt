@@ -3,9 +3,9 @@ use Rattle.std.specs.Prelude.{ℕ, nat_lt, nat_le, List, Option, Some, None, if�
 use Rattle.bench_types.specs.declared.entries.Entry.{Entry}
 use Rattle.bench_types.specs.declared.exchanges.Budget.{Budget}
 use Rattle.bench_types.specs.Budget.{share_of}
-use Rattle.owner_lists.specs.Numbers.{write_numbered}
+use Rattle.model.specs.Numbers.{write_numbered}
 use Rattle.planes.specs.Planes.{Cells, count_between}
-use Rattle.planes.specs.Sums.{sum_below}
+use Rattle.bench_types.specs.Sums.{sum_below}
 
 -- what a write takes of a budget, 0 for none
 abbrev pub share_or_none : Budget → Option Entry → ℕ

@@ -1,6 +1,6 @@
 use Rattle.std.proofs.Common.{ap, ◌∙◌}
 use Rattle.bench_types.specs.declared.exchanges.Fate.TheVariants as fate
-use Rattle.exchange.specs.Exchanged.{sent_until}
+use Rattle.model.specs.Exchanged.{sent_until}
 use Rattle.exchange.proofs.Cases.{lost1_case}
 use Rattle.exchange.proofs.exchanges.exchange.Goals as goal
 

@@ -1,6 +1,6 @@
 use Rattle.std.proofs.Common.{◌≡◌, ◌-◌, ◌<◌, leb, length, get_or, sym, ap, ◌∙◌, arith}
 use Rattle.owner_lists.specs.declared.lists.Link.{Link}
-use Rattle.owner_lists.specs.declared.lists.Write.{Write}
+use Rattle.model.specs.declared.writes.Write.{Write}
 use Rattle.owner_lists.specs.inner.Linked.{writes_linked, as_write}
 use Rattle.owner_lists.proofs.Linking.{writes_linked-at, length-writes_linked}
 use Rattle.owner_lists.proofs.InOrder.{last_born-at}

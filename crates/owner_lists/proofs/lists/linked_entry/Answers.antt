@@ -1,7 +1,7 @@
 use Rattle.std.proofs.Common.{◌<◌, ◌≤◌, suc, length, sym, ap, ◌∙◌, Some, arith}
 use Rattle.std.proofs.lemmas.List.{get_or-map, length-map}
 use Rattle.owner_lists.specs.declared.lists.Link.{Link}
-use Rattle.owner_lists.specs.Numbers.{write_numbered}
+use Rattle.model.specs.Numbers.{write_numbered}
 use Rattle.owner_lists.specs.inner.Linked.{entries_linked}
 use Rattle.owner_lists.proofs.Numbered.{write_from-here, write_from-past}
 use Rattle.owner_lists.proofs.lists.linked_entry.Goals as goal

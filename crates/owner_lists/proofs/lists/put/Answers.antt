@@ -1,6 +1,6 @@
 use Rattle.std.proofs.Common.{◌≡◌, is_ok, if◌then◌else◌, sym, ap, ◌∙◌, subst}
 use Rattle.std.specs.List.{insert}
-use Rattle.owner_lists.specs.declared.lists.Write.{Write}
+use Rattle.model.specs.declared.writes.Write.{Write}
 use Rattle.owner_lists.specs.inner.Linked.{version_or_zero}
 use Rattle.owner_lists.specs.Latest.{keyed}
 use Rattle.owner_lists.specs.inner.Keys.{IsIndexOfKey, IsGapForKey}

@@ -1,6 +1,6 @@
 use Rattle.std.proofs.Common.{rules}
 use Rattle.std.proofs.lemmas.List.Sorted.{answers_always}
-use Rattle.owner_lists.specs.declared.lists.Write.{Write}
+use Rattle.model.specs.declared.writes.Write.{Write}
 use Rattle.owner_lists.proofs.Rising.{searched}
 use Rattle.owner_lists.proofs.lists.search.Goals as goal
 

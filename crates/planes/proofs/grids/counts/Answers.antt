@@ -1,6 +1,6 @@
 use Rattle.std.proofs.Common.{◌≡◌, ℕ, ap, sym, subst, ◌∙◌, arith, map, if◌then◌else◌}
 use Rattle.std.proofs.lemmas.List.{with_items_is, length-map}
-use Rattle.planes.specs.Sums.{sum_below}
+use Rattle.bench_types.specs.Sums.{sum_below}
 use Rattle.planes.specs.Planes.{cell, HasEach}
 use Rattle.planes.proofs.Counts.{number_next}
 use Rattle.planes.proofs.Places.{each-next, each-other, each-whole}

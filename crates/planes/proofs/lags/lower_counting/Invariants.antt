@@ -1,6 +1,6 @@
 use Rattle.std.proofs.Common.{◌≡◌, min, nat_lt, slice_index, map, if◌then◌else◌}
-use Rattle.planes.specs.Sums.{sum_below}
-use Rattle.planes.specs.inner.Elementwise.{AreChangedUpto}
+use Rattle.bench_types.specs.Sums.{sum_below}
+use Rattle.planes.specs.Elementwise.{AreChangedUpto}
 use Rattle.planes.proofs.lags.lower_counting.Given as goal
 
 abbrev pub invariant-loop-r : goal.invariant-loop-r

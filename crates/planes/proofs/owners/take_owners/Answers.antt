@@ -1,7 +1,7 @@
 use Rattle.std.proofs.Common.{ℕ, ◌+◌, ◌≤◌, slice_index, sym, subst, ◌∙◌, arith, map}
 use Rattle.std.proofs.lemmas.Bool.{ltb-false}
 use Rattle.std.proofs.lemmas.List.{length-map}
-use Rattle.planes.specs.inner.Elementwise.{AreChangedUpto}
+use Rattle.planes.specs.Elementwise.{AreChangedUpto}
 use Rattle.planes.specs.Planes.{cell, number_taken, numbers_taken, ArePlanesChanged, IsGrid, IsRaised}
 use Rattle.planes.proofs.Elementwise.{changed_none, number-at, left_next, written_next}
 use Rattle.planes.proofs.ByOwner.{owners_changed, owner-waits, owners-none, owners-next, owners-stay, owners-all, raised-same, raised-stays, taken-passed}

@@ -1,5 +1,5 @@
 use Rattle.std.proofs.Common.{◌≡◌, ℕ, ◌+◌, ◌≤◌, Bool, length, slice_index, map, if◌then◌else◌}
-use Rattle.planes.specs.inner.Elementwise.{AreChangedUpto}
+use Rattle.planes.specs.Elementwise.{AreChangedUpto}
 use Rattle.planes.specs.inner.Answering.{AnswersAs}
 use Rattle.planes.proofs.planes.count.Given as goal
 

@@ -1,6 +1,6 @@
 use Rattle.std.proofs.Common.{◌≡◌, nat_lt, max, slice_index, map, if◌then◌else◌}
-use Rattle.planes.specs.Sums.{sum_below}
-use Rattle.planes.specs.inner.Elementwise.{AreChangedUpto}
+use Rattle.bench_types.specs.Sums.{sum_below}
+use Rattle.planes.specs.Elementwise.{AreChangedUpto}
 use Rattle.planes.specs.Planes.{number_ahead}
 use Rattle.planes.proofs.planes.keep_ahead.Given as goal
 

@@ -1,5 +1,5 @@
 use Rattle.std.proofs.Common.{◌≡◌, ℕ, ◌<◌, length, map}
-use Rattle.planes.specs.inner.Elementwise.{AreChangedUpto}
+use Rattle.planes.specs.Elementwise.{AreChangedUpto}
 use Rattle.planes.specs.Planes.{IsLowered}
 use Rattle.planes.proofs.planes.lower_to.Given as goal
 

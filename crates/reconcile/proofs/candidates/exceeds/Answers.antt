@@ -4,7 +4,7 @@ use Rattle.std.proofs.lemmas.Bool.{lt-ltb}
 use Rattle.std.proofs.lemmas.List.{get_or-map, length-map}
 use Rattle.std.proofs.lemmas.List.Sums.{sum_by_more_le}
 use Rattle.bench_types.specs.Budget.{amount_of}
-use Rattle.reconcile.specs.Deltas.{item_share}
+use Rattle.model.specs.Deltas.{item_share}
 use Rattle.reconcile.specs.inner.Keys.{item_in, items_in}
 use Rattle.reconcile.proofs.Ordered.{no_candidate}
 use Rattle.reconcile.proofs.candidates.exceeds.Goals as goal

@@ -1,7 +1,7 @@
 use Rattle.std.proofs.Common.{◌≡◌, ◌+◌, take}
 use Rattle.std.specs.List.{sum_by}
 use Rattle.bench_types.specs.Budget.{amount_of}
-use Rattle.reconcile.specs.Deltas.{item_share}
+use Rattle.model.specs.Deltas.{item_share}
 use Rattle.reconcile.specs.inner.Keys.{items_in}
 use Rattle.reconcile.proofs.candidates.exceeds.Given as goal
 

@@ -1,7 +1,8 @@
 use Rattle.std.proofs.Common.{◌≡◌, ◌<◌, ◌^◌, length, List, IfSome, sym, ap, subst, arith}
 use Rattle.std.proofs.lemmas.Result.{IfOk-weaker}
 use Rattle.reconcile.specs.declared.candidates.Candidate.{Candidate}
-use Rattle.reconcile.specs.Deltas.{AreWithin, answer_of}
+use Rattle.model.specs.Deltas.{AreWithin}
+use Rattle.reconcile.specs.Answers.{answer_of}
 use Rattle.reconcile.specs.inner.Keys.{items_in, AllSet, IsSentOf}
 use Rattle.reconcile.specs.inner.Newer.{AreCandidates}
 use Rattle.reconcile.proofs.Answering.{few-found, within-first, answer-sent, few-sent}

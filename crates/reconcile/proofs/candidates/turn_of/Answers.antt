@@ -1,5 +1,5 @@
 use Rattle.std.proofs.Common.{inl, inr, sym, arith}
-use Rattle.reconcile.proofs.Apart.{rotated-is}
+use Rattle.model.proofs.Apart.{rotated-is}
 use Rattle.reconcile.proofs.candidates.turn_of.Goals as goal
 
 pub returns-then-owner-turns : goal.returns-then-owner-turns

@@ -2,7 +2,7 @@ use Rattle.std.proofs.Common.{◌≡◌, ℕ, suc, ◌+◌, ◌<◌, Bool, cond,
 use Rattle.std.specs.Prelude.{count_by}
 use Rattle.std.specs.List.{range_with_len}
 use Rattle.std.proofs.lemmas.List.Sums.{sum_by-cons}
-use Rattle.node_table.specs.Table.{greatest_version}
+use Rattle.model.specs.Table.{greatest_version}
 use Rattle.node_table.specs.Entries.{AreGenerations, AreGreatest}
 use Rattle.reconcile.proofs.digests.greatest_of_table.Goals as goal
 

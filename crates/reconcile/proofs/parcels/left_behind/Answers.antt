@@ -3,7 +3,7 @@ use Rattle.std.specs.List.{sum_by}
 use Rattle.std.specs.Option.{SomeIff}
 use Rattle.bench_types.specs.Budget.{share_of}
 use Rattle.bench_types.specs.declared.exchanges.Budget.TheVariants.{Entries}
-use Rattle.reconcile.proofs.Fitting.{sum_by-ones}
+use Rattle.model.proofs.Fitting.{sum_by-ones}
 use Rattle.reconcile.proofs.parcels.left_behind.Goals as goal
 
 pub returns-in-Entries : goal.returns-in-Entries

@@ -3,10 +3,10 @@ use Rattle.std.proofs.lemmas.Nat.{le-div}
 use Rattle.bench_types.specs.Budget.{amount_of}
 use Rattle.bench_types.specs.declared.exchanges.Budget.TheVariants.{Bytes}
 use Rattle.bench_types.specs.declared.limits.TheConstants.{LEAST_ENTRY_SIZE}
-use Rattle.reconcile.specs.Deltas.{item_share}
+use Rattle.model.specs.Deltas.{item_share}
 use Rattle.reconcile.specs.inner.Parcels.{first_within}
 use Rattle.reconcile.proofs.Adding.{some_share, length-bytes}
-use Rattle.reconcile.proofs.Fitting.{length-fitting-le, length-fitting-le-budget}
+use Rattle.model.proofs.Fitting.{length-fitting-le, length-fitting-le-budget}
 use Rattle.reconcile.proofs.parcels.most_sent.Goals as goal
 
 pub returns-in-Entries-clause-enough : goal.returns-in-Entries-clause-enough

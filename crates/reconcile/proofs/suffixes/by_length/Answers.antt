@@ -2,7 +2,7 @@ use Rattle.std.proofs.Common.{◌≡◌, ◌+◌, ◌-◌, ◌<◌, ◌≤◌, A
 use Rattle.std.specs.List.{flat_map}
 use Rattle.bench_types.specs.Budget.{amount_of}
 use Rattle.bench_types.specs.declared.entries.Item.{Item}
-use Rattle.reconcile.specs.Deltas.{item_share}
+use Rattle.model.specs.Deltas.{item_share}
 use Rattle.reconcile.specs.inner.Parcels.{first_within}
 use Rattle.reconcile.specs.inner.Keys.{reversed}
 use Rattle.reconcile.specs.inner.Suffixes.{items_of_suffixes, of_length, layer_of, layered, lengths_first}

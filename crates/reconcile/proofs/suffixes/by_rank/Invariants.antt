@@ -1,10 +1,10 @@
 use Rattle.std.proofs.Common.{◌≡◌, ℕ, ◌≤◌}
 use Rattle.std.specs.List.{flat_map}
 use Rattle.bench_types.specs.Budget.{amount_of}
-use Rattle.reconcile.specs.Deltas.{item_share}
+use Rattle.model.specs.Deltas.{item_share}
 use Rattle.reconcile.specs.inner.Parcels.{first_within}
-use Rattle.reconcile.specs.Order.{rank_among}
-use Rattle.reconcile.specs.inner.Parcels.{left_after}
+use Rattle.model.specs.Order.{rank_among}
+use Rattle.model.specs.inner.Fitting.{left_after}
 use Rattle.reconcile.specs.inner.Suffixes.{items_of_suffixes, AreSuffixes, ranked, layered}
 use Rattle.reconcile.proofs.suffixes.by_rank.Given as goal
 

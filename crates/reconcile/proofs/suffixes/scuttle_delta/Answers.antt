@@ -1,6 +1,6 @@
 use Rattle.std.proofs.Common.{◌≡◌, ◌<◌, ◌-◌, length, sym, ap, ◌∙◌, subst, arith}
-use Rattle.reconcile.specs.Deltas.{AreWithin}
-use Rattle.reconcile.specs.Order.{rank_among}
+use Rattle.model.specs.Deltas.{AreWithin}
+use Rattle.model.specs.Order.{rank_among}
 use Rattle.reconcile.specs.inner.Suffixes.{items_of_suffixes, AreSuffixes, AreLayered, lengths_first}
 use Rattle.reconcile.proofs.Answering.{few-turned, length-layered-le, within-layered, answer-turned}
 use Rattle.reconcile.proofs.Ordered.{first_key}

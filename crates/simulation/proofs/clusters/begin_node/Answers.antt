@@ -1,13 +1,13 @@
 use Rattle.std.proofs.Common.{◌≡◌, ◌+◌, ◌-◌, ◌<◌, ◌^◌, ℕ, List, length, map, ap, sym, ◌∙◌, subst, arith}
 use Rattle.std.proofs.lemmas.Result.{on_ok_weaker}
-use Rattle.node_table.specs.Table.{with_own_writes}
+use Rattle.model.specs.Table.{with_own_writes}
 use Rattle.round_plan.specs.declared.owners.OwnWrite.{OwnWrite}
 use Rattle.round_plan.specs.Generations.{generation_upto}
 use Rattle.round_plan.specs.Writes.{born_in, count_before, own_writes}
 use Rattle.scenario.specs.Settings.{Settings}
-use Rattle.owner_lists.specs.OwnerListView.{written, list_of_owner}
-use Rattle.owner_lists.specs.Writes.{AreBornBy}
-use Rattle.staleness.proofs.OwnParts.{born-later}
+use Rattle.model.specs.OwnerListView.{written, list_of_owner}
+use Rattle.model.specs.Writes.{AreBornBy}
+use Rattle.model.proofs.OwnParts.{born-later}
 use Rattle.simulation.specs.inner.Steps.{HasWritten}
 use Rattle.simulation.proofs.Standing.{beside_own, next_own, may_write_own, owner_written}
 use Rattle.simulation.proofs.clusters.begin_node.Goals as goal
@@ -19,27 +19,27 @@ made s n round count len lent writes same value counted =
 
 pub write_own-requires-clause-next : goal.write_own-requires-clause-next
 write_own-requires-clause-next g c _ _ =
-    next_own c.args.scenario.now c.args.round c.args.node (g.T.MemoryTable.table c.restart.new.table) (g.T.RoundTable.lists c.restart.new.histories) c.as_slice.result.now c.restart.ensures.owner (made c.args.scenario.now c.args.node c.args.round _ _ _ _ c.as_slice.ensures.value c.writes_by-writes.ensures.value c.count.ensures)
+    next_own c.args.scenario.now c.args.round c.args.node (g.T.MemoryTable.table c.restart.new.table) (g.H.RoundHistories.lists c.restart.new.histories) c.as_slice.result.now c.restart.ensures.owner (made c.args.scenario.now c.args.node c.args.round _ _ _ _ c.as_slice.ensures.value c.writes_by-writes.ensures.value c.count.ensures)
 
 pub write_own-requires-clause-may : goal.write_own-requires-clause-may
 write_own-requires-clause-may g c _ _ =
-    may_write_own c.args.scenario.now c.args.round c.args.node (g.T.MemoryTable.table c.restart.new.table) (g.T.RoundTable.lists c.restart.new.histories) c.as_slice.result.now c.restart.ensures.owner (made c.args.scenario.now c.args.node c.args.round _ _ _ _ c.as_slice.ensures.value c.writes_by-writes.ensures.value c.count.ensures)
-    g.T.RoundTable.may_write c.requires.may_write c.requires.node c.requires.first c.requires.within
+    may_write_own c.args.scenario.now c.args.round c.args.node (g.T.MemoryTable.table c.restart.new.table) (g.H.RoundHistories.lists c.restart.new.histories) c.as_slice.result.now c.restart.ensures.owner (made c.args.scenario.now c.args.node c.args.round _ _ _ _ c.as_slice.ensures.value c.writes_by-writes.ensures.value c.count.ensures)
+    g.H.RoundHistories.may_write c.requires.may_write c.requires.node c.requires.first c.requires.within
 
 pub write_own-requires-clause-fits : goal.write_own-requires-clause-fits
 write_own-requires-clause-fits g c _ _ =
     let owner = c.restart.ensures.owner in
-    let lists = g.T.RoundTable.lists c.restart.new.histories in
+    let lists = g.H.RoundHistories.lists c.restart.new.histories in
     subst (λ m. length (list_of_owner lists m).current + length c.as_slice.result.now + 1 < 2 ^ 32) (sym owner.table.node)
     (omega (arith, owner.few, c.as_slice.ensures.limit, c.requires.last))
 
 pub write_own-requires-clause-beside : goal.write_own-requires-clause-beside
-write_own-requires-clause-beside g c _ _ = beside_own c.args.scenario.now c.args.node _ _ _ _ (g.T.MemoryTable.table c.restart.new.table) (g.T.RoundTable.lists c.restart.new.histories) c.restart.ensures.owner
+write_own-requires-clause-beside g c _ _ = beside_own c.args.scenario.now c.args.node _ _ _ _ (g.T.MemoryTable.table c.restart.new.table) (g.H.RoundHistories.lists c.restart.new.histories) c.restart.ensures.owner
 
 pub write_own-requires-clause-born : goal.write_own-requires-clause-born
 write_own-requires-clause-born g c _ _ =
     let owner = c.restart.ensures.owner in
-    let lists = g.T.RoundTable.lists c.restart.new.histories in
+    let lists = g.H.RoundHistories.lists c.restart.new.histories in
     subst (λ m. AreBornBy c.args.round (written (list_of_owner lists m))) (sym owner.table.node)
     (born-later (c.args.round - 1) c.args.round (written (list_of_owner lists c.args.node)) (omega arith) owner.born)
 
@@ -47,13 +47,13 @@ write_own-requires-clause-born g c _ _ =
 pub returns-clause-owner : goal.returns-clause-owner
 returns-clause-owner g c =
     on_ok_weaker c.write_own.result
-    (λ is. (owner_written c.args.scenario.now c.args.round c.args.node _ _ _ _ c.as_slice.result.now c.requires.first c.as_slice.ensures.limit c.restart.ensures.owner (subst (λ m. HasWritten c.args.round c.as_slice.result.now (g.T.MemoryTable.table c.restart.new.table) (g.T.MemoryTable.table c.write_own.new.table) (list_of_owner (g.T.RoundTable.lists c.restart.new.histories) m) (list_of_owner (g.T.RoundTable.lists c.write_own.new.histories) m)) c.restart.ensures.owner.table.node is) (made c.args.scenario.now c.args.node c.args.round _ _ _ _ c.as_slice.ensures.value c.writes_by-writes.ensures.value c.count.ensures)).0)
+    (λ is. (owner_written c.args.scenario.now c.args.round c.args.node _ _ _ _ c.as_slice.result.now c.requires.first c.as_slice.ensures.limit c.restart.ensures.owner (subst (λ m. HasWritten c.args.round c.as_slice.result.now (g.T.MemoryTable.table c.restart.new.table) (g.T.MemoryTable.table c.write_own.new.table) (list_of_owner (g.H.RoundHistories.lists c.restart.new.histories) m) (list_of_owner (g.H.RoundHistories.lists c.write_own.new.histories) m)) c.restart.ensures.owner.table.node is) (made c.args.scenario.now c.args.node c.args.round _ _ _ _ c.as_slice.ensures.value c.writes_by-writes.ensures.value c.count.ensures)).0)
     c.write_own.ensures.written
 
 pub returns-clause-table : goal.returns-clause-table
 returns-clause-table g c =
     on_ok_weaker c.write_own.result
     (λ is.
-    (owner_written c.args.scenario.now c.args.round c.args.node _ _ _ _ c.as_slice.result.now c.requires.first c.as_slice.ensures.limit c.restart.ensures.owner (subst (λ m. HasWritten c.args.round c.as_slice.result.now (g.T.MemoryTable.table c.restart.new.table) (g.T.MemoryTable.table c.write_own.new.table) (list_of_owner (g.T.RoundTable.lists c.restart.new.histories) m) (list_of_owner (g.T.RoundTable.lists c.write_own.new.histories) m)) c.restart.ensures.owner.table.node is) (made c.args.scenario.now c.args.node c.args.round _ _ _ _ c.as_slice.ensures.value c.writes_by-writes.ensures.value c.count.ensures)).1
+    (owner_written c.args.scenario.now c.args.round c.args.node _ _ _ _ c.as_slice.result.now c.requires.first c.as_slice.ensures.limit c.restart.ensures.owner (subst (λ m. HasWritten c.args.round c.as_slice.result.now (g.T.MemoryTable.table c.restart.new.table) (g.T.MemoryTable.table c.write_own.new.table) (list_of_owner (g.H.RoundHistories.lists c.restart.new.histories) m) (list_of_owner (g.H.RoundHistories.lists c.write_own.new.histories) m)) c.restart.ensures.owner.table.node is) (made c.args.scenario.now c.args.node c.args.round _ _ _ _ c.as_slice.ensures.value c.writes_by-writes.ensures.value c.count.ensures)).1
     ∙ ap (λ t. with_own_writes t (own_writes c.args.scenario.now c.args.node c.args.round (count_before c.args.scenario.now c.args.node c.args.round))) c.restart.ensures.table)
     c.write_own.ensures.written

@@ -2,8 +2,8 @@ use Rattle.std.proofs.Common.{◌≡◌, [], ◌∷◌, ◌++◌, map, ap, sym, 
 use Rattle.std.specs.List.{range_with_len}
 use Rattle.std.proofs.lemmas.List.{map-append}
 use Rattle.std.proofs.lemmas.List.FromFn.{map-range_with_len_more}
-use Rattle.node_table.specs.Table.{empty_table}
-use Rattle.cluster.specs.Tables.{AreProper}
+use Rattle.model.specs.Table.{empty_table}
+use Rattle.model.specs.Tables.{AreProper}
 use Rattle.simulation.specs.Rounds.{opening_tables}
 use Rattle.simulation.proofs.Standing.{opening_proper}
 use Rattle.simulation.proofs.clusters.empty_tables.Goals as goal
@@ -11,8 +11,8 @@ use Rattle.simulation.proofs.clusters.empty_tables.Goals as goal
 pub loop-node-preserved : goal.loop-node-preserved
 loop-node-preserved g c =
     ap (map g.T.MemoryTable.table) c.in_ok-push.ensures.items
-    ∙ map-append g.T.MemoryTable.table c.loop-node.tables.items (c.in_ok-empty.field-0 ∷ [])
-    ∙ (λ i. c.loop-node.invariant i ++ c.in_ok-empty.ensures.empty i ∷ [])
+    ∙ map-append g.T.MemoryTable.table c.loop-node.tables.items (c.in_ok-empty_table.field-0 ∷ [])
+    ∙ (λ i. c.loop-node.invariant i ++ c.in_ok-empty_table.ensures.empty i ∷ [])
     ∙ sym (map-range_with_len_more (λ n. empty_table n c.nodes-nodes.result c.keys-keys.result) 0 c.loop-node.node c.loop-node.node (omega arith))
 
 pub returns-clause-proper : goal.returns-clause-proper

@@ -1,6 +1,6 @@
 use Rattle.std.proofs.Common.{◌≡◌, map}
 use Rattle.std.specs.List.{range_with_len}
-use Rattle.node_table.specs.Table.{empty_table}
+use Rattle.model.specs.Table.{empty_table}
 use Rattle.simulation.proofs.clusters.empty_tables.Given as goal
 
 abbrev pub invariant-loop-node : goal.invariant-loop-node

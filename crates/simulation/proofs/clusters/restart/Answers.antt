@@ -1,6 +1,6 @@
 use Rattle.std.proofs.Common.{◌≡◌, ◌-◌, ap, sym, ◌∙◌, subst, arith}
-use Rattle.node_table.specs.Table.{without_all}
-use Rattle.owner_lists.specs.OwnerListView.{begun_generation, list_of_owner}
+use Rattle.model.specs.Table.{without_all}
+use Rattle.model.specs.OwnerListView.{begun_generation, list_of_owner}
 use Rattle.round_plan.proofs.Generations.{generation_upto_le}
 use Rattle.simulation.specs.inner.Steps.{HasRestarted}
 use Rattle.simulation.proofs.Standing.{restarted_forgot, restarted_kept}
@@ -9,7 +9,7 @@ use Rattle.simulation.proofs.clusters.restart.Goals as goal
 pub forget-requires : goal.forget-requires
 forget-requires g c =
     let is = c.requires.owner in
-    let lists = g.T.RoundTable.lists c.args.histories.now in
+    let lists = g.H.RoundHistories.lists c.args.histories.now in
     record {
       may = record {
         owner = omega (arith, is.table.node, c.requires.node, c.requires.lists);
@@ -21,8 +21,8 @@ forget-requires g c =
 pub returns-then-forgets_now-clause-owner : goal.returns-then-forgets_now-clause-owner
 returns-then-forgets_now-clause-owner g c =
     let s = c.args.scenario.now in
-    let old = g.T.RoundTable.lists c.args.histories.now in
-    let new = g.T.RoundTable.lists c.forget.new.histories in
+    let old = g.H.RoundHistories.lists c.args.histories.now in
+    let new = g.H.RoundHistories.lists c.forget.new.self in
     let list : list_of_owner new c.args.node ≡ begun_generation (list_of_owner old c.args.node) =
     subst (λ m. list_of_owner new m ≡ begun_generation (list_of_owner old m)) c.requires.owner.table.node c.forget.ensures.lists.changed in
     subst (λ t. HasRestarted s c.args.round c.args.node t (list_of_owner new c.args.node)) (sym c.forget.ensures.table)
@@ -32,6 +32,6 @@ returns-then-forgets_now-clause-owner g c =
 pub returns-then-restarts_now-clause-owner : goal.returns-then-restarts_now-clause-owner
 returns-then-restarts_now-clause-owner g c =
     let s = c.args.scenario.now in
-    let list = list_of_owner (g.T.RoundTable.lists c.args.histories.now) c.args.node in
+    let list = list_of_owner (g.H.RoundHistories.lists c.args.histories.now) c.args.node in
     subst (λ t. HasRestarted s c.args.round c.args.node t list) (sym c.restart.ensures)
     (restarted_kept s c.args.round c.args.node c.requires.first (g.T.MemoryTable.table c.args.table.now) list c.requires.owner (sym c.forgets_now.ensures ∙ c.if-forgets_now.false))

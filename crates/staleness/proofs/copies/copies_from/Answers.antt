@@ -1,10 +1,11 @@
 use Rattle.std.proofs.Common.{◌≡◌, ℕ, List, ◌+◌, ◌*◌, ◌<◌, length, get_or, take, drop, ◌++◌, sym, ap, ◌∙◌, subst, arith, add-one}
 use Rattle.std.proofs.lemmas.List.{append-nil, drop_all, take_all}
-use Rattle.node_table.specs.Table.{Table}
-use Rattle.cluster.specs.Tables.{tables_in, table_of_node}
-use Rattle.cluster.proofs.Tables.{table_indexed, length-tables_in}
+use Rattle.model.specs.Table.{Table}
+use Rattle.node_table.specs.NodeTableView.{tables_in}
+use Rattle.model.specs.Tables.{table_of_node}
+use Rattle.node_table.proofs.InOrder.{table_indexed, length-tables_in}
 use Rattle.staleness.specs.inner.Copies.{seen_in, copies_from, MayCountOne, AreSeenOnce}
-use Rattle.staleness.specs.Figures.{generation_at}
+use Rattle.model.specs.Figures.{generation_at}
 use Rattle.staleness.proofs.Known.{as_many_generations, generation_found}
 use Rattle.staleness.proofs.Merging.{few_from}
 use Rattle.staleness.proofs.Places.{within}

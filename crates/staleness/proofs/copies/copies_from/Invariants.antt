@@ -1,4 +1,5 @@
-use Rattle.cluster.specs.Tables.{tables_in, table_of_node}
+use Rattle.node_table.specs.NodeTableView.{tables_in}
+use Rattle.model.specs.Tables.{table_of_node}
 use Rattle.std.proofs.Common.{length}
 use Rattle.staleness.specs.inner.Copies.{copies_from, AreSeenOnce}
 use Rattle.staleness.proofs.copies.copies_from.Given as goal

@@ -1,5 +1,5 @@
 use Rattle.std.proofs.Common.{◌≡◌, take}
-use Rattle.cluster.specs.Tables.{tables_in}
+use Rattle.node_table.specs.NodeTableView.{tables_in}
 use Rattle.staleness.specs.inner.Copies.{generations_in}
 use Rattle.staleness.proofs.copies.generations_of.Given as goal
 

@@ -1,12 +1,13 @@
 use Rattle.std.proofs.Common.{◌≡◌, ◌+◌, ◌*◌, get_or, [], inl, inr, sym, ap, ◌∙◌, arith}
 use Rattle.std.proofs.lemmas.Bool.{cases_lt}
-use Rattle.owner_lists.specs.Writes.{last_write}
+use Rattle.model.specs.Writes.{last_write}
 use Rattle.owner_lists.specs.inner.Linked.{version_or_zero}
-use Rattle.owner_lists.specs.OwnerListView.{written, lists_in}
-use Rattle.owner_lists.proofs.Owners.{list_read}
-use Rattle.staleness.specs.Figures.{writes_of_owner}
+use Rattle.model.specs.OwnerListView.{written, lists_in}
+use Rattle.model.proofs.Owners.{list_read}
+use Rattle.model.specs.Figures.{writes_of_owner}
 use Rattle.staleness.specs.inner.Copies.{no_copies}
-use Rattle.staleness.proofs.Places.{within, one_more}
+use Rattle.staleness.proofs.Places.{within}
+use Rattle.bench_types.proofs.Sums.{one_more}
 use Rattle.staleness.proofs.copies.no_copies.Goals as goal
 
 pub loop-list-preserved : goal.loop-list-preserved

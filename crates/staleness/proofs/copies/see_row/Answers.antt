@@ -7,7 +7,7 @@ use Rattle.std.proofs.lemmas.List.Folds.{list_any_none, list_any_more}
 use Rattle.bench_types.specs.declared.entries.Entry.{Entry}
 use Rattle.staleness.specs.inner.Copies.{has_key, at_least, with_version, with_copy, MayCountOne}
 use Rattle.std.specs.Prelude.{is_some}
-use Rattle.node_table.specs.Table.{entry_at}
+use Rattle.model.specs.Table.{entry_at}
 use Rattle.staleness.specs.declared.copies.Copies.{Copies}
 use Rattle.staleness.proofs.Rows.{row_at, row_apart, row_held, row_below}
 use Rattle.staleness.proofs.copies.see_row.Goals as goal

@@ -1,5 +1,5 @@
 use Rattle.std.proofs.Common.{◌≡◌, ℕ, ◌+◌, ◌<◌, length, get_or, take, if◌then◌else◌}
-use Rattle.node_table.specs.Table.{entry_at}
+use Rattle.model.specs.Table.{entry_at}
 use Rattle.staleness.specs.declared.copies.Copies.{Copies}
 use Rattle.staleness.specs.inner.Copies.{at_least, has_key, with_copy, StayOutside}
 use Rattle.staleness.proofs.copies.see_row.Given as goal

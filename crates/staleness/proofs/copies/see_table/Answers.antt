@@ -1,7 +1,7 @@
 use Rattle.std.proofs.Common.{◌≡◌, ◌≢◌, ℕ, ◌+◌, ◌*◌, ◌<◌, ◌≤◌, true, false, ltb, length, get_or, ◌⊎◌, if◌then◌else◌, inl, inr, sym, ap, ◌∙◌, subst, arith, lt-ltb, le-ltb, eq-eqb, ne_eqb}
 use Rattle.std.specs.Prelude.{slice_index}
 use Rattle.std.proofs.lemmas.Bool.{cases_eq, cases_lt}
-use Rattle.node_table.specs.Table.{entry_at}
+use Rattle.model.specs.Table.{entry_at}
 use Rattle.staleness.specs.inner.Copies.{version_known, with_copy, seen_in}
 use Rattle.staleness.proofs.Places.{apart}
 use Rattle.staleness.proofs.copies.see_table.Goals as goal

@@ -1,7 +1,7 @@
 use Rattle.std.proofs.Common.{◌≡◌, ◌≢◌, ℕ, ◌+◌, ◌<◌, ◌≤◌, List, length, get_or, Some, None, inl, inr, ap, ◌∙◌, arith, sym}
 use Rattle.std.proofs.lemmas.Bool.{cases_lt}
 use Rattle.std.proofs.lemmas.List.{get_or_default}
-use Rattle.owner_lists.specs.declared.lists.Write.{Write}
+use Rattle.model.specs.declared.writes.Write.{Write}
 use Rattle.owner_lists.specs.Latest.{write_of, KeysRise}
 use Rattle.owner_lists.specs.inner.Keys.{IsFrontForKey}
 use Rattle.owner_lists.proofs.Rising.{rising_at, find-at, find-gap}

@@ -4,17 +4,19 @@ use Rattle.std.specs.declared.alloc.AllocError.{AllocError}
 use Rattle.std.specs.declared.alloc.Global.{Global}
 use Rattle.std.proofs.lemmas.List.{append-nil, drop_all, take_all}
 use Rattle.bench_types.specs.declared.limits.TheConstants.{MOST_NODES}
-use Rattle.node_table.specs.Table.{Table}
+use Rattle.model.specs.Table.{Table}
 use Rattle.node_table.specs.NodeTableView.{NodeTableView}
-use Rattle.cluster.specs.Tables.{tables_in, table_of_node, IsCluster}
-use Rattle.cluster.proofs.Tables.{table_indexed, length-tables_in}
-use Rattle.owner_lists.specs.OwnerListView.{lists_in}
+use Rattle.node_table.specs.NodeTableView.{tables_in}
+use Rattle.model.specs.Tables.{table_of_node, IsCluster}
+use Rattle.node_table.proofs.InOrder.{table_indexed, length-tables_in}
+use Rattle.model.specs.OwnerListView.{lists_in}
 use Rattle.staleness.specs.declared.copies.Copies.{Copies}
-use Rattle.owner_lists.specs.declared.lists.Write.{Write}
+use Rattle.model.specs.declared.writes.Write.{Write}
 use Rattle.staleness.specs.inner.Copies.{no_copies, current_of, copies_of, merged, MayCountBoth, AreSeen}
 use Rattle.staleness.specs.inner.Parts.{IsSeenInPart, AreSeenInParts}
-use Rattle.staleness.proofs.Counting.{enough}
-use Rattle.staleness.proofs.Merging.{AreSeenUpTo, part_within, seen_in_part, as_many_parts, same_size, room_for, seen_further, seen_none}
+use Rattle.bench_types.proofs.EqualParts.{enough}
+use Rattle.staleness.proofs.Merging.{AreSeenUpTo, seen_in_part, as_many_parts, same_size, room_for, seen_further, seen_none}
+use Rattle.bench_types.proofs.EqualParts.{part_within}
 use Rattle.staleness.proofs.staleness.all_copies.Given as given
 use Rattle.staleness.proofs.staleness.all_copies.Goals as goal
 use Rattle.staleness.proofs.staleness.all_copies.Goals.{After-deref-in-Ok}

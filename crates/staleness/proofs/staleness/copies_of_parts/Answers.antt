@@ -1,7 +1,7 @@
 use Rattle.std.proofs.Common.{◌/◌, length}
 use Rattle.std.specs.Prelude.{IfOk}
 use Rattle.rayon.proofs.ListFacts.{IfOk-then}
-use Rattle.cluster.specs.Tables.{tables_in}
+use Rattle.node_table.specs.NodeTableView.{tables_in}
 use Rattle.staleness.specs.inner.Parts.{IsSeenInPart}
 use Rattle.staleness.proofs.EachPart.{up_to_last, in_order}
 use Rattle.staleness.proofs.staleness.copies_of_parts.Goals as goal

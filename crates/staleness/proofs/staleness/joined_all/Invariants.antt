@@ -1,6 +1,6 @@
 use Rattle.std.proofs.Common.{◌≡◌, ◌*◌, ◌≤◌}
-use Rattle.staleness.specs.Figures.{most_below}
-use Rattle.planes.specs.Sums.{sum_below}
+use Rattle.bench_types.specs.Sums.{most_below}
+use Rattle.bench_types.specs.Sums.{sum_below}
 use Rattle.staleness.specs.inner.Parts.{found_at}
 use Rattle.staleness.proofs.staleness.joined_all.Given as goal
 

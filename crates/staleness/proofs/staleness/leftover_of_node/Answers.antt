@@ -1,10 +1,11 @@
 use Rattle.std.proofs.Common.{◌≡◌, ◌+◌, ◌<◌, length, sym, ap, ◌∙◌, subst, arith, add-one}
 use Rattle.bench_types.specs.Mark.{absent}
-use Rattle.node_table.specs.Table.{Table, generation_held, IsProper}
+use Rattle.model.specs.Table.{Table, generation_held, IsProper}
 use Rattle.node_table.specs.Entries.{AreAbove}
-use Rattle.cluster.specs.Tables.{tables_in, table_of_node}
-use Rattle.cluster.proofs.Tables.{table_indexed, length-tables_in}
-use Rattle.planes.specs.Sums.{sum_below}
+use Rattle.node_table.specs.NodeTableView.{tables_in}
+use Rattle.model.specs.Tables.{table_of_node}
+use Rattle.node_table.proofs.InOrder.{table_indexed, length-tables_in}
+use Rattle.bench_types.specs.Sums.{sum_below}
 use Rattle.staleness.specs.inner.Copies.{copy_leftover}
 use Rattle.staleness.proofs.Known.{generation_found}
 use Rattle.staleness.proofs.Leftover.{copy_leftover-own, copy_leftover-current, copy_leftover-older, copy_leftover-le}

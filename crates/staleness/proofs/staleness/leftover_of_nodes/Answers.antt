@@ -1,5 +1,5 @@
 use Rattle.std.proofs.Common.{sym, ◌∙◌, arith}
-use Rattle.cluster.specs.Tables.{tables_in}
+use Rattle.node_table.specs.NodeTableView.{tables_in}
 use Rattle.staleness.proofs.Known.{as_many_generations, generation_found}
 use Rattle.staleness.proofs.Leftover.{nodes_leftover-none}
 use Rattle.staleness.proofs.staleness.leftover_of_nodes.Goals as goal

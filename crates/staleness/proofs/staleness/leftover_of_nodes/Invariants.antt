@@ -1,6 +1,6 @@
 use Rattle.std.proofs.Common.{◌≡◌, ◌+◌, ◌*◌, ◌≤◌}
-use Rattle.cluster.specs.Tables.{tables_in}
-use Rattle.planes.specs.Sums.{sum_below}
+use Rattle.node_table.specs.NodeTableView.{tables_in}
+use Rattle.bench_types.specs.Sums.{sum_below}
 use Rattle.staleness.specs.inner.Copies.{node_leftover}
 use Rattle.staleness.proofs.staleness.leftover_of_nodes.Given as goal
 

@@ -1,10 +1,11 @@
 use Rattle.std.proofs.Common.{rules, ◌≡◌, max, [], None, if◌then◌else◌, unwrap_or, sym, ap, ◌∙◌, arith, add-one, eq-eqb, ne_eqb}
-use Rattle.node_table.specs.Table.{Table, entry_at, mark_at}
-use Rattle.cluster.specs.Tables.{tables_in, table_of_node}
-use Rattle.cluster.proofs.Tables.{table_indexed, length-tables_in}
-use Rattle.owner_lists.specs.OwnerListView.{written, lists_in}
-use Rattle.owner_lists.proofs.Owners.{length-lists_in, list_read}
-use Rattle.staleness.specs.Figures.{writes_of_owner, generation_at, staleness_of, staleness_at, rounds_behind}
+use Rattle.model.specs.Table.{Table, entry_at, mark_at}
+use Rattle.node_table.specs.NodeTableView.{tables_in}
+use Rattle.model.specs.Tables.{table_of_node}
+use Rattle.node_table.proofs.InOrder.{table_indexed, length-tables_in}
+use Rattle.model.specs.OwnerListView.{written, lists_in}
+use Rattle.model.proofs.Owners.{length-lists_in, list_read}
+use Rattle.model.specs.Figures.{writes_of_owner, generation_at, staleness_of, staleness_at, rounds_behind}
 use Rattle.staleness.specs.inner.Copies.{version_known, version_staleness}
 use Rattle.staleness.proofs.Known.{staleness_known}
 use Rattle.staleness.proofs.staleness.most_rounds_behind.Goals as goal

@@ -1,7 +1,8 @@
 use Rattle.std.proofs.Common.{◌≡◌}
-use Rattle.cluster.specs.Tables.{tables_in}
-use Rattle.owner_lists.specs.OwnerListView.{lists_in}
-use Rattle.staleness.specs.Figures.{most_below, staleness_at, rounds_behind}
+use Rattle.node_table.specs.NodeTableView.{tables_in}
+use Rattle.model.specs.OwnerListView.{lists_in}
+use Rattle.bench_types.specs.Sums.{most_below}
+use Rattle.model.specs.Figures.{staleness_at, rounds_behind}
 use Rattle.staleness.proofs.staleness.most_rounds_behind.Given as goal
 
 abbrev pub invariant-loop-table : goal.invariant-loop-table

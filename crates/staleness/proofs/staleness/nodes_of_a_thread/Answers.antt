@@ -1,6 +1,6 @@
 use Rattle.std.proofs.Common.{ap, arith}
-use Rattle.node_table.specs.Table.{Table}
-use Rattle.cluster.proofs.Tables.{table_indexed}
+use Rattle.model.specs.Table.{Table}
+use Rattle.node_table.proofs.InOrder.{table_indexed}
 use Rattle.staleness.proofs.staleness.nodes_of_a_thread.Goals as goal
 use Rattle.staleness.proofs.staleness.nodes_of_a_thread.Goals.{in-Some, in-None}
 

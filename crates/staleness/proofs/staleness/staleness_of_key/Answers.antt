@@ -1,13 +1,14 @@
 use Rattle.std.proofs.Common.{◌≡◌, ℕ, ◌-◌, ◌<◌, ◌≤◌, true, [], length, if◌then◌else◌, sym, ap, ◌∙◌, subst, arith, lt-ltb, le-ltb, eq-eqb, ne_eqb}
-use Rattle.cluster.specs.Tables.{tables_in}
-use Rattle.cluster.proofs.Tables.{length-tables_in}
-use Rattle.owner_lists.specs.OwnerListView.{written, lists_in}
-use Rattle.owner_lists.proofs.Owners.{length-lists_in, list_read}
+use Rattle.node_table.specs.NodeTableView.{tables_in}
+use Rattle.node_table.proofs.InOrder.{length-tables_in}
+use Rattle.model.specs.OwnerListView.{written, lists_in}
+use Rattle.model.proofs.Owners.{length-lists_in, list_read}
 use Rattle.staleness.specs.declared.copies.Copies.{Copies}
-use Rattle.owner_lists.specs.Writes.{IsNumbered, AreBornBy}
+use Rattle.model.specs.Writes.{IsNumbered, AreBornBy}
 use Rattle.owner_lists.specs.Missed.{born_in_order}
-use Rattle.staleness.specs.Figures.{most_below, writes_of_owner, staleness_at, stale_count, rounds_behind}
-use Rattle.planes.specs.Sums.{sum_below}
+use Rattle.bench_types.specs.Sums.{most_below}
+use Rattle.model.specs.Figures.{writes_of_owner, staleness_at, stale_count, rounds_behind}
+use Rattle.bench_types.specs.Sums.{sum_below}
 use Rattle.staleness.specs.inner.Copies.{version_staleness, copies_of, least_of, stale_of}
 use Rattle.staleness.proofs.Seen.{others, others_is, seen, stale_seen, most_seen}
 use Rattle.staleness.proofs.staleness.staleness_of_key.Goals as goal

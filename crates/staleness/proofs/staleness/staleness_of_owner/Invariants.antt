@@ -1,8 +1,8 @@
 use Rattle.std.proofs.Common.{◌≡◌, ◌*◌, ◌≤◌}
-use Rattle.cluster.specs.Tables.{tables_in}
-use Rattle.owner_lists.specs.OwnerListView.{lists_in}
-use Rattle.staleness.specs.Figures.{most_below}
-use Rattle.planes.specs.Sums.{sum_below}
+use Rattle.node_table.specs.NodeTableView.{tables_in}
+use Rattle.model.specs.OwnerListView.{lists_in}
+use Rattle.bench_types.specs.Sums.{most_below}
+use Rattle.bench_types.specs.Sums.{sum_below}
 use Rattle.staleness.specs.inner.Copies.{key_staleness}
 use Rattle.staleness.proofs.staleness.staleness_of_owner.Given as goal
 

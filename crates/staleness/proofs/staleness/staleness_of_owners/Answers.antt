@@ -1,9 +1,10 @@
 use Rattle.std.proofs.Common.{◌≡◌, ◌+◌, ◌*◌, ◌<◌, ◌≤◌, length, get_or, ap, ◌∙◌, arith}
 use Rattle.std.proofs.Math.Nat.{mul-le-mul_right}
-use Rattle.node_table.specs.Table.{Table}
-use Rattle.cluster.specs.Tables.{tables_in, table_of_node}
-use Rattle.cluster.proofs.Tables.{table_indexed, length-tables_in}
-use Rattle.owner_lists.specs.OwnerListView.{lists_in}
+use Rattle.model.specs.Table.{Table}
+use Rattle.node_table.specs.NodeTableView.{tables_in}
+use Rattle.model.specs.Tables.{table_of_node}
+use Rattle.node_table.proofs.InOrder.{table_indexed, length-tables_in}
+use Rattle.model.specs.OwnerListView.{lists_in}
 use Rattle.staleness.specs.inner.Copies.{copies_of}
 use Rattle.staleness.proofs.Places.{all_within}
 use Rattle.staleness.proofs.staleness.staleness_of_owners.Goals as goal

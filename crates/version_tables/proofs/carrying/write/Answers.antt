@@ -1,6 +1,6 @@
 use Rattle.std.proofs.Common.{◌+◌, length, sym, ap, ◌∙◌, subst}
-use Rattle.owner_lists.specs.Numbers.{write_numbered}
-use Rattle.owner_lists.specs.OwnerListView.{all_writes, next_entry, list_of_owner}
+use Rattle.model.specs.Numbers.{write_numbered}
+use Rattle.model.specs.OwnerListView.{all_writes, next_entry, list_of_owner}
 use Rattle.version_tables.specs.Writes.{IsNextWrite}
 use Rattle.version_tables.proofs.NextWrites.{next-write}
 use Rattle.version_tables.proofs.carrying.write.Goals as goal

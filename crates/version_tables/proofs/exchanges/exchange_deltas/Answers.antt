@@ -1,6 +1,6 @@
 use Rattle.std.proofs.Common.{◌≡◌, ◌*◌, ◌<◌, length, map, ap, sym, subst, ◌∙◌}
 use Rattle.std.specs.Prelude.{◌||◌}
-use Rattle.owner_lists.specs.OwnerListView.{all_writes}
+use Rattle.model.specs.OwnerListView.{all_writes}
 use Rattle.planes.specs.Planes.{HasEach}
 use Rattle.version_tables.specs.inner.Histories.{bases_in}
 use Rattle.version_tables.specs.inner.Offers.{IsNumberedHistory}

@@ -3,7 +3,7 @@ use Rattle.std.proofs.lemmas.List.{length-map}
 use Rattle.bench_types.specs.declared.entries.Entry.{Entry}
 use Rattle.planes.specs.Planes.{HasEach}
 use Rattle.version_tables.specs.Views.{VersionTableView}
-use Rattle.owner_lists.specs.OwnerListView.{all_writes}
+use Rattle.model.specs.OwnerListView.{all_writes}
 use Rattle.version_tables.specs.inner.Histories.{bases_in}
 use Rattle.version_tables.specs.inner.Taken.{HasTakenUnless, StaysOne}
 use Rattle.version_tables.proofs.exchanges.take_both.Goals as goal

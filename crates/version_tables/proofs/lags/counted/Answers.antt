@@ -1,8 +1,8 @@
 use Rattle.std.proofs.Common.{◌≡◌, ◌+◌, ◌*◌, ◌/◌, min, map, length, sym, ap, ◌∙◌, subst, arith}
 use Rattle.std.proofs.lemmas.List.{length-map, with_items_is}
 use Rattle.planes.specs.Planes.{cell, ArePlanesChanged}
-use Rattle.staleness.proofs.Counting.{enough}
-use Rattle.staleness.proofs.Merging.{part_within}
+use Rattle.bench_types.proofs.EqualParts.{enough}
+use Rattle.bench_types.proofs.EqualParts.{part_within}
 use Rattle.version_tables.specs.inner.Pieces.{tables_of_views, numbers_in, AreLastNumbers, IsPieceOf}
 use Rattle.version_tables.proofs.Standing.{one-list-each}
 use Rattle.version_tables.proofs.Parts.{grids-of, numbers-of, part-none, part-next, part-counted, many-parts, piece-size}

@@ -1,7 +1,7 @@
 use Rattle.std.proofs.Common.{◌≡◌, ℕ, ◌<◌, length, map, sym, subst}
-use Rattle.owner_lists.specs.OwnerListView.{list_of_owner}
+use Rattle.model.specs.OwnerListView.{list_of_owner}
 use Rattle.planes.specs.Planes.{HasEachPlace}
-use Rattle.staleness.specs.Figures.{most_below}
+use Rattle.bench_types.specs.Sums.{most_below}
 use Rattle.version_tables.specs.inner.Missed.{IsLastNumber}
 use Rattle.version_tables.specs.inner.Pieces.{tables_of_views, AreAlike, AreLastNumbers, MayWalk, most_lag}
 use Rattle.version_tables.proofs.Whole.{alike-is, laid-is, lasts-are, lasts-by_list, may-walk, figures-are}

@@ -1,6 +1,6 @@
 use Rattle.std.proofs.Common.{rules, ◌≡◌, max, length, map, ap, ◌∙◌, arith}
 use Rattle.std.proofs.lemmas.List.{length-map, get_or_default}
-use Rattle.owner_lists.specs.OwnerListView.{list_of_owner, no_writes}
+use Rattle.model.specs.OwnerListView.{list_of_owner, no_writes}
 use Rattle.planes.proofs.Elementwise.{number-at}
 use Rattle.version_tables.specs.inner.Pieces.{most_lag}
 use Rattle.version_tables.proofs.Walks.{walks-from, most-next}

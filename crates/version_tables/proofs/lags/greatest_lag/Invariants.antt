@@ -1,6 +1,6 @@
 use Rattle.std.proofs.Common.{◌≡◌, length, map}
-use Rattle.owner_lists.specs.OwnerListView.{list_of_owner}
-use Rattle.staleness.specs.Figures.{most_below}
+use Rattle.model.specs.OwnerListView.{list_of_owner}
+use Rattle.bench_types.specs.Sums.{most_below}
 use Rattle.version_tables.specs.inner.Pieces.{most_lag}
 use Rattle.version_tables.proofs.lags.greatest_lag.Given as goal
 

@@ -1,5 +1,5 @@
 use Rattle.std.proofs.Common.{map}
-use Rattle.planes.specs.inner.Elementwise.{AreChangedUpto}
+use Rattle.planes.specs.Elementwise.{AreChangedUpto}
 use Rattle.version_tables.specs.inner.Pieces.{IsOwnNumber}
 use Rattle.version_tables.proofs.lags.put_own_numbers.Given as goal
 

@@ -1,5 +1,5 @@
 use Rattle.std.proofs.Common.{◌≡◌, map}
-use Rattle.planes.specs.inner.Elementwise.{AreChangedUpto}
+use Rattle.planes.specs.Elementwise.{AreChangedUpto}
 use Rattle.version_tables.proofs.owners.clear.Given as goal
 
 abbrev pub invariant-loop-r : goal.invariant-loop-r

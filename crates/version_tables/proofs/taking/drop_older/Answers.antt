@@ -1,6 +1,6 @@
 use Rattle.std.proofs.Common.{ℕ, ◌≡◌, false, subst, ◌+◌, ◌*◌, ◌<◌, arith, map, slice_index, sym, ap, ◌∙◌, nat_lt, nat_le}
 use Rattle.std.specs.Prelude.{◌&&◌}
-use Rattle.owner_lists.specs.OwnerListView.{all_writes}
+use Rattle.model.specs.OwnerListView.{all_writes}
 use Rattle.planes.specs.Planes.{cell}
 use Rattle.planes.proofs.Elementwise.{number-at}
 use Rattle.planes.proofs.ByOwner.{owners-none, owners-next, owners-all}

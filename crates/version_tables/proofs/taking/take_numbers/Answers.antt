@@ -1,7 +1,7 @@
 use Rattle.std.proofs.Common.{length, slice_index, ap, sym, subst, ◌∙◌, map}
 use Rattle.std.proofs.lemmas.List.{length-map}
 use Rattle.planes.specs.Planes.{IsGrid}
-use Rattle.owner_lists.specs.OwnerListView.{all_writes}
+use Rattle.model.specs.OwnerListView.{all_writes}
 use Rattle.version_tables.specs.inner.Histories.{bases_in}
 use Rattle.version_tables.specs.inner.Taken.{drop_start, number_kept, IsTaken}
 use Rattle.version_tables.proofs.taking.take_numbers.Goals as goal

@@ -1,7 +1,7 @@
 use Rattle.std.proofs.Common.{◌≡◌, set, sym, ◌∙◌, ap, subst, arith, map}
 use Rattle.std.proofs.lemmas.List.{map-set}
-use Rattle.owner_lists.specs.OwnerListView.{all_writes}
-use Rattle.planes.specs.inner.Elementwise.{AreChanged}
+use Rattle.model.specs.OwnerListView.{all_writes}
+use Rattle.planes.specs.Elementwise.{AreChanged}
 use Rattle.version_tables.specs.inner.Offers.{told_number}
 use Rattle.version_tables.proofs.Starts.{told-set}
 use Rattle.version_tables.proofs.told_marks.put_told.Goals as goal

@@ -2,7 +2,7 @@ use Rattle.std.proofs.Common.{arith, ap, sym, ◌∙◌, length, ◌∷◌, map,
 use Rattle.std.specs.List.{range_with_len}
 use Rattle.std.proofs.lemmas.List.{length-map}
 use Rattle.std.proofs.lemmas.List.FromFn.{length-map-range_with_len}
-use Rattle.round_plan.specs.Plan.{RoundListView}
+use Rattle.model.specs.RoundLists.{RoundListView}
 use Rattle.dependencies.specs.Neighbours.{pending_of}
 use Rattle.dependencies.specs.inner.Slots.{in_place}
 use Rattle.board.specs.Rule.{Orderly}

@@ -1,5 +1,5 @@
 use Rattle.std.proofs.Common.{ap, arith}
-use Rattle.round_plan.specs.Plan.{RoundListView}
+use Rattle.model.specs.RoundLists.{RoundListView}
 use Rattle.dependencies.specs.Neighbours.{successors}
 use Rattle.dependencies.proofs.Passes.{indexed}
 use Rattle.dependencies.proofs.deps.Deps.after.Goals as goal

@@ -4,13 +4,13 @@ use Rattle.std.specs.Result.{IsOk}
 use Rattle.std.proofs.lemmas.Bool.{cases_eq}
 use Rattle.std.proofs.lemmas.List.{drop_more}
 use Rattle.bench_types.specs.declared.entries.Item.{Item}
-use Rattle.node_table.specs.Table.{Table, greatest_version, taken, applied}
-use Rattle.node_table.specs.inner.Items.{no_item}
-use Rattle.node_table.specs.Table.{IsItemInPlace}
+use Rattle.model.specs.Table.{Table, greatest_version, taken, applied}
+use Rattle.model.specs.inner.Items.{no_item}
+use Rattle.model.specs.Table.{IsItemInPlace}
 use Rattle.node_table.specs.NodeTableView.{blocks_for}
 use Rattle.node_table.specs.inner.Layouts.{table_laid}
-use Rattle.node_table.proofs.Laws.{frame-taken}
-use Rattle.node_table.proofs.ProperLaws.{proper-taken}
+use Rattle.model.proofs.TableLaws.{frame-taken}
+use Rattle.model.proofs.ProperLaws.{proper-taken}
 use Rattle.node_table.proofs.Room.{room-rest, room-first}
 use Rattle.node_table.proofs.tables.NodeTable.apply.Goals as goal
 

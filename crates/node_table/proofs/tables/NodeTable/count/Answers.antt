@@ -1,5 +1,5 @@
 use Rattle.std.proofs.Common.{sym, ap, ◌∙◌}
-use Rattle.node_table.specs.Table.{count_of}
+use Rattle.model.specs.Table.{count_of}
 use Rattle.node_table.proofs.InLayout.{count_is}
 use Rattle.node_table.proofs.tables.NodeTable.count.Goals as goal
 

@@ -1,5 +1,5 @@
 use Rattle.std.proofs.Common.{sym, ap, ◌∙◌}
-use Rattle.node_table.specs.Table.{greatest_mark}
+use Rattle.model.specs.Table.{greatest_mark}
 use Rattle.node_table.proofs.InLayout.{greatest_past}
 use Rattle.node_table.proofs.tables.NodeTable.greatest.Goals as goal
 

@@ -4,7 +4,7 @@ use Rattle.std.specs.Result.{IsOk}
 use Rattle.std.proofs.Math.Nat.{mul-le-mul_right}
 use Rattle.std.proofs.lemmas.List.{get_or_read}
 use Rattle.std.proofs.lemmas.Nat.{div-add-mod'}
-use Rattle.node_table.specs.Table.{greatest_version, taken, with_own_write}
+use Rattle.model.specs.Table.{greatest_version, taken, with_own_write}
 use Rattle.node_table.specs.inner.Layouts.{table_laid}
 use Rattle.node_table.proofs.Taking.{taken-own_write}
 use Rattle.node_table.proofs.Room.{div-le-div}

@@ -1,5 +1,5 @@
 use Rattle.std.proofs.Common.{◌≡◌, length, ap, ◌∙◌, arith}
-use Rattle.owner_lists.specs.OwnerListView.{begun_generation}
+use Rattle.model.specs.OwnerListView.{begun_generation}
 use Rattle.owner_lists.proofs.Keeping.{begun_view, kept_begun}
 use Rattle.owner_lists.proofs.lists.OwnerList.begin_generation.Goals as goal
 

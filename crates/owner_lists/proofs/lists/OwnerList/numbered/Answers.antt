@@ -1,7 +1,7 @@
 use Rattle.std.proofs.Common.{List, sym, ap, ◌∙◌}
 use Rattle.bench_types.specs.declared.entries.Entry.{Entry}
-use Rattle.owner_lists.specs.Numbers.{write_numbered}
-use Rattle.owner_lists.specs.OwnerListView.{entries_of}
+use Rattle.model.specs.Numbers.{write_numbered}
+use Rattle.model.specs.OwnerListView.{entries_of}
 use Rattle.owner_lists.specs.inner.Linked.{entries_linked}
 use Rattle.owner_lists.proofs.Keeping.{entries_whole}
 use Rattle.owner_lists.proofs.lists.OwnerList.numbered.Goals as goal

@@ -1,10 +1,10 @@
 use Rattle.std.proofs.Common.{map, subst, sym, ap, ◌∙◌, arith}
 use Rattle.bench_types.specs.Budget.{IsLawfulBudget}
 use Rattle.bench_types.specs.declared.exchanges.Rules.{Rules}
-use Rattle.cluster.specs.Tables.{IsCluster}
-use Rattle.owner_lists.specs.OwnerListView.{lists_in}
-use Rattle.staleness.specs.Figures.{figures_of}
-use Rattle.round_plan.specs.Plan.{RoundListView, IsRoundPlan}
+use Rattle.model.specs.Tables.{IsCluster}
+use Rattle.model.specs.OwnerListView.{lists_in}
+use Rattle.model.specs.Figures.{figures_of}
+use Rattle.model.specs.RoundLists.{RoundListView, IsRoundPlan}
 use Rattle.round_plan.specs.Words.{RunWordsView}
 use Rattle.simulation.proofs.Playing.{IsLeft, next_words_of, lawful_budget, is_left, each_begun, nodes_cluster, standing_cluster, one_list_each, one_record_each, round_is, played_is}
 use Rattle.simulation.proofs.Standing.{written_by}
@@ -22,16 +22,16 @@ pub run_list_with-requires-clause-tables : goal.run_list_with-requires-clause-ta
 run_list_with-requires-clause-tables g c _ _ = record {
   cluster =
       subst (λ n. IsCluster n (map g.T.MemoryTable.table c.begin.new.self.tables.items)) (sym (ap (λ (l : RoundListView). l.nodes) c.in_ok-list.ensures.plan))
-      (nodes_cluster g.T.MemoryTable.table c.args.scenario.now c.args.round c.begin.new.self.tables.items (g.T.RoundTable.lists c.begin.new.self.histories) c.in_ok-begin.ensures.standing);
+      (nodes_cluster g.T.MemoryTable.table c.args.scenario.now c.args.round c.begin.new.self.tables.items (g.H.RoundHistories.lists c.begin.new.self.histories) c.in_ok-begin.ensures.standing);
   each_fits = λ n lt.
-      c.shared-shared.ensures _ (each_begun c.args.scenario.now c.args.round _ _ _ c.requires.lawful c.requires.first c.requires.after c.in_ok-begin.ensures.tables c.in_ok-begin.ensures.standing n lt);
+      c.stand_ready.ensures _ (each_begun c.args.scenario.now c.args.round _ _ _ c.requires.lawful c.requires.first c.requires.after c.in_ok-begin.ensures.tables c.in_ok-begin.ensures.standing n lt);
   budget = subst (λ (r : Rules). IsLawfulBudget r.budget) (sym c.requires.rules) (lawful_budget c.args.scenario.now.format c.args.scenario.now.budget c.requires.lawful.budget);
 }
 
 -- the tables as the figures read them, and the lists
-read : (g : given.Over) (c : goal.After-histories-2-1 g) → IsLeft g.T.MemoryTable.table c.args.scenario.now c.args.round c.deref.result.now (g.T.RoundTable.lists c.begin.new.self.histories)
+read : (g : given.Over) (c : goal.After-histories-2-1 g) → IsLeft g.T.MemoryTable.table c.args.scenario.now c.args.round c.deref.result.now (g.H.RoundHistories.lists c.begin.new.self.histories)
 read g c =
-    subst (λ ts. IsLeft g.T.MemoryTable.table c.args.scenario.now c.args.round ts (g.T.RoundTable.lists c.begin.new.self.histories)) (sym c.deref.ensures.value)
+    subst (λ ts. IsLeft g.T.MemoryTable.table c.args.scenario.now c.args.round ts (g.H.RoundHistories.lists c.begin.new.self.histories)) (sym c.deref.ensures.value)
     (is_left g.T.MemoryTable.table c.args.scenario.now c.args.round c.in_ok-list.list _ _ _ c.in_ok-tables.tables.items c.in_ok-tables.records.items _ c.requires.lawful c.requires.first (subst IsRoundPlan c.list.view_is c.list.invariant) c.in_ok-list.ensures.plan c.requires.rules c.requires.after c.in_ok-begin.ensures.tables c.in_ok-begin.ensures.standing c.in_ok-tables.ensures.exchanged)
 
 pub figures-requires-clause-cluster : goal.figures-requires-clause-cluster
@@ -51,7 +51,7 @@ of-played-requires g c =
     one_record_each c.args.scenario.now c.args.round c.in_ok-list.list (subst IsRoundPlan c.list.view_is c.list.invariant) c.in_ok-list.ensures.plan _ _ _ c.in_ok-tables.records.items c.in_ok-tables.ensures.exchanged
 
 -- what the round leaves
-left : (g : given.Over) (c : goal.After-of-played g) → IsLeft g.T.MemoryTable.table c.args.scenario.now c.args.round c.in_ok-tables.tables.items (g.T.RoundTable.lists c.begin.new.self.histories)
+left : (g : given.Over) (c : goal.After-of-played g) → IsLeft g.T.MemoryTable.table c.args.scenario.now c.args.round c.in_ok-tables.tables.items (g.H.RoundHistories.lists c.begin.new.self.histories)
 left g c =
     is_left g.T.MemoryTable.table c.args.scenario.now c.args.round c.in_ok-list.list _ _ _ c.in_ok-tables.tables.items c.in_ok-tables.records.items _ c.requires.lawful c.requires.first (subst IsRoundPlan c.list.view_is c.list.invariant) c.in_ok-list.ensures.plan c.requires.rules c.requires.after c.in_ok-begin.ensures.tables c.in_ok-begin.ensures.standing c.in_ok-tables.ensures.exchanged
 
@@ -63,7 +63,7 @@ returns-clause-standing g c = (left g c).standing
 
 pub returns-clause-played : goal.returns-clause-played
 returns-clause-played g c =
-    let lists = g.T.RoundTable.lists c.begin.new.self.histories in
+    let lists = g.H.RoundHistories.lists c.begin.new.self.histories in
     played_is c.args.scenario.now c.args.round (map g.T.MemoryTable.table c.args.self.tables.items) (map g.T.MemoryTable.table c.in_ok-tables.tables.items) lists c.in_ok-list.list c.in_ok-tables.records.items c.in_ok-lag.lag c.of-played.result c.in_ok-list.ensures.plan
     (round_is c.args.scenario.now c.args.round c.in_ok-list.list (subst IsRoundPlan c.list.view_is c.list.invariant) c.in_ok-list.ensures.plan _ _ _ c.in_ok-tables.records.items c.in_ok-tables.ensures.exchanged (map g.T.MemoryTable.table c.args.self.tables.items) c.in_ok-begin.ensures.tables c.requires.rules)
     (c.in_ok-lag.ensures.figures ∙ ap (λ ts. figures_of c.args.round (map g.T.MemoryTable.table ts) (lists_in lists)) c.deref.ensures.value)

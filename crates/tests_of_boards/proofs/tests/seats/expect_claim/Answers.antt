@@ -1,4 +1,4 @@
-use Rattle.exchange.specs.Exchanging.{kept_table}
+use Rattle.node_table.specs.NodeTableView.{kept_table}
 use Rattle.board.specs.Boards.{plan_of, seat_view}
 use Rattle.board.proofs.Claimed.{parts_stay, held_stay}
 use Rattle.tests_of_boards.proofs.tests.seats.expect_claim.Goals as goal

@@ -1,4 +1,4 @@
-use Rattle.exchange.specs.Exchanging.{kept_table}
+use Rattle.node_table.specs.NodeTableView.{kept_table}
 use Rattle.board.specs.Boards.{IsSeatOf}
 use Rattle.tests_of_boards.proofs.tests.threads.try_each.Given as goal
 

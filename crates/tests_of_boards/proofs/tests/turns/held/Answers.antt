@@ -1,4 +1,4 @@
-use Rattle.exchange.specs.Exchanging.{kept_table}
+use Rattle.node_table.specs.NodeTableView.{kept_table}
 use Rattle.board.specs.Boards.{plan_of, seat_view}
 use Rattle.board.proofs.Claimed.{now_held}
 use Rattle.tests_of_boards.proofs.tests.turns.held.Goals as goal

@@ -1,5 +1,5 @@
 use Rattle.std.proofs.Common.{arith}
-use Rattle.bench.proofs.Numbers.{may_write_all}
+use Rattle.runs.proofs.Numbers.{may_write_all}
 use Rattle.tests_of_runs.proofs.tests.both_tables.expect_same_numbers.Goals as goal
 
 pub expect_same_rounds-requires-clause-may_write : goal.expect_same_rounds-requires-clause-may_write

@@ -1,7 +1,7 @@
 use Rattle.std.proofs.Common.{◌≡◌, List, sym, subst, ◌∙◌}
 use Rattle.bench_types.specs.declared.entries.Item.{Item}
-use Rattle.node_table.specs.Table.{Table, applied}
-use Rattle.node_table.proofs.Laws.{KeepsFrame, frame-applied}
+use Rattle.model.specs.Table.{Table, applied}
+use Rattle.model.proofs.TableLaws.{KeepsFrame, frame-applied}
 use Rattle.tests_of_tables.proofs.tests.stale_copies.reader.Goals as goal
 
 -- a table makes room for items, and takes them

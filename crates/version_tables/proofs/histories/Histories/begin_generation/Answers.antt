@@ -1,5 +1,5 @@
 use Rattle.std.proofs.Common.{◌≡◌, ◌<◌, length, set, map, subst, sym}
-use Rattle.owner_lists.specs.OwnerListView.{all_writes, begun_generation}
+use Rattle.model.specs.OwnerListView.{all_writes, begun_generation}
 use Rattle.version_tables.specs.Views.{HistoriesView}
 use Rattle.version_tables.proofs.HistoryCalls.{histories-begun, list-becomes, number-here, numbers-set}
 use Rattle.version_tables.proofs.histories.Histories.begin_generation.Goals as goal

@@ -1,9 +1,9 @@
 use Rattle.std.proofs.Common.{◌≡◌, ◌==◌, if◌then◌else◌, map, sym, ap, ◌∙◌, subst}
 use Rattle.std.specs.Vec.{with_items}
 use Rattle.std.proofs.lemmas.List.{with_items_is}
-use Rattle.node_table.specs.Table.{without_others}
+use Rattle.model.specs.Table.{without_others}
 use Rattle.planes.specs.Planes.{ArePlanesChanged}
-use Rattle.planes.specs.inner.Elementwise.{AreChanged}
+use Rattle.planes.specs.Elementwise.{AreChanged}
 use Rattle.version_tables.specs.Views.{VersionTableView, table_in}
 use Rattle.version_tables.proofs.Laid.{seen}
 use Rattle.version_tables.proofs.OwnCalls.{restarts-table, restarts-kept}

@@ -2,10 +2,10 @@ use Rattle.std.proofs.Common.{rules, ◌≡◌, ◌∙◌, sym, ap, subst, refl,
 use Rattle.std.proofs.lemmas.Option.{get_or_from_slice_get}
 use Rattle.bench_types.specs.declared.exchanges.Exchange.{Exchange}
 use Rattle.bench_types.specs.declared.exchanges.Rules.{Rules}
-use Rattle.round_plan.specs.Plan.{RoundListView}
-use Rattle.exchange.specs.Exchanged.{IsExchanged}
+use Rattle.model.specs.RoundLists.{RoundListView}
+use Rattle.exchange.specs.InMemory.{IsExchanged}
 use Rattle.dependencies.specs.Sharing.{exchange_at, no_exchange}
-use Rattle.exchange.specs.Exchanging.{kept_table}
+use Rattle.node_table.specs.NodeTableView.{kept_table}
 use Rattle.board.specs.Boards.{plan_of, seat_view}
 use Rattle.board.proofs.Returning.{may_be_put_back}
 use Rattle.tests_of_boards.proofs.tests.jobs.Job.carry_out.Goals as goal

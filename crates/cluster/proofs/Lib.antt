@@ -1,3 +1,0 @@
-pub mod Tables
-pub mod FoldLaws
-pub mod BeginLaws

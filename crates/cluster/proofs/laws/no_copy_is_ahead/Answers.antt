@@ -1,5 +1,0 @@
-use Rattle.cluster.proofs.BeginLaws.{copy-up_to}
-use Rattle.cluster.proofs.laws.no_copy_is_ahead.Goals as goal
-
-pub returns : goal.returns
-returns c writes nodes keys ts copies = copy-up_to writes nodes keys ts copies

@@ -1,9 +1,0 @@
-pub mod Tables
-pub mod Folds
-pub mod Clusters
-pub use Rattle.exchange.specs.Exchanged
-pub use Rattle.exchange.specs.Copies
-pub use Rattle.exchange.specs.Owns
-pub use Rattle.exchange.specs.Laws
-pub use Rattle.node_table.specs.Table
-pub use Rattle.node_table.specs.NodeTableView

@@ -1,0 +1,26 @@
+-- What lists of entries hold, one for each owner. Source: this project.
+use Rattle.std.specs.Prelude.{◌≢◌, ℕ, suc, ◌==◌, List, [], ◌∷◌, ◌++◌, map, Option, None, Some, if◌then◌else◌}
+use Rattle.std.specs.FinMap.{from_entries}
+use Rattle.bench_types.specs.declared.entries.Entry.{Entry}
+use Rattle.model.specs.Table.{Place, Held}
+
+-- an owner's entry, at its place
+abbrev pub placed : ℕ → Entry → Place × Entry
+placed owner e = ((owner, e.key), e)
+
+-- the entries of an owner and of those after it
+abbrev pub placed_from : ℕ → List (List Entry) → List (Place × Entry)
+placed_from owner [] = []
+placed_from owner (list ∷ lists) = map (placed owner) list ++ placed_from (suc owner) lists
+
+-- what they hold, the first list being that of owner 0
+unfoldable pub held_by_lists : List (List Entry) → Held
+held_by_lists lists = from_entries (placed_from 0 lists)
+
+-- the entry of a key in a row
+abbrev pub entry_in : List Entry → ℕ → Option Entry
+entry_in [] key = None
+entry_in (e ∷ es) key = if e.key == key then Some e else entry_in es key
+
+abbrev pub HaveTwoKeys : Entry → Entry → Type 0
+HaveTwoKeys d e = d.key ≢ e.key

@@ -1,0 +1,27 @@
+-- The tables of all nodes, in order. Source: this project.
+use Rattle.std.specs.Prelude.{◌≡◌, ℕ, ◌<◌, List, length, slice_index_or}
+use Rattle.model.specs.Table.{Table, empty_table, IsProper}
+
+abbrev pub table_of_node : List Table → ℕ → Table
+table_of_node ts n = slice_index_or ts n (empty_table 0 0 0)
+
+-- the table of one of so many nodes with so many keys each
+pub record IsTableOf (node_count key_count n : ℕ) (t : Table) : Type 0 where
+  pub node : t.node ≡ n
+  pub nodes : t.nodes ≡ node_count
+  pub keys : t.keys ≡ key_count
+
+pub record AreTablesInOrder (nodes keys : ℕ) (ts : List Table) : Type 0 where
+  pub size : length ts ≡ nodes
+  pub tables : (n : ℕ) → n < nodes → IsTableOf nodes keys n (table_of_node ts n)
+
+-- the tables of so many nodes, in order, with as many keys each
+abbrev pub IsCluster : ℕ → List Table → Type 0
+IsCluster nodes ts = AreTablesInOrder nodes (table_of_node ts 0).keys ts
+
+-- a fact of each of the tables
+abbrev pub HoldsOfEach : (Table → Type 0) → List Table → Type 0
+HoldsOfEach P ts = (n : ℕ) → n < length ts → P (table_of_node ts n)
+
+abbrev pub AreProper : List Table → Type 0
+AreProper = HoldsOfEach IsProper

@@ -1,0 +1,5 @@
+pub mod Applied
+pub mod Codes
+pub mod Fitting
+pub mod GreatestMarks
+pub mod Items

@@ -1,0 +1,34 @@
+-- The tables in memory of all nodes, in order: how they are read and written.
+-- Serves nothing yet.
+use Rattle.std.proofs.Common.{◌≡◌, ◌≢◌, ℕ, zero, suc, ◌<◌, List, length, map, get_or, set, ap, sym, ◌∙◌, subst, arith}
+use Rattle.std.specs.List.{range_with_len}
+use Rattle.std.proofs.Math.ListN.{get_or-map}
+use Rattle.std.proofs.lemmas.List.{ext_get_or, get_or_default, get_or-set_same, get_or-set_other, length-map, map-set}
+use Rattle.std.proofs.lemmas.List.FromFn.{get_or-map-range_with_len}
+use Rattle.model.specs.Table.{Table, empty_table}
+use Rattle.node_table.specs.NodeTableView.{NodeTableView}
+use Rattle.node_table.specs.NodeTableView.{tables_in}
+use Rattle.model.specs.Tables.{table_of_node, IsTableOf, AreTablesInOrder, IsCluster}
+
+abbrev pub no_table : NodeTableView
+no_table = record { table = empty_table 0 0 0; room = 0 }
+
+pub length-tables_in : (ks : List NodeTableView) → length (tables_in ks) ≡ length ks
+length-tables_in ks = length-map ks (λ (k : NodeTableView). k.table)
+
+pub same_length : (ks js : List NodeTableView) → length ks ≡ length js → length (tables_in ks) ≡ length (tables_in js)
+same_length ks js same = length-tables_in ks ∙ same ∙ sym (length-tables_in js)
+
+pub table_of_node-tables_in : (ks : List NodeTableView) (n : ℕ) → table_of_node (tables_in ks) n ≡ (get_or ks n no_table).table
+table_of_node-tables_in ks n = get_or-map (λ (k : NodeTableView). k.table) ks n no_table
+
+-- a table as code reads it
+pub table_read : (ks : List NodeTableView) (n : ℕ) (d : NodeTableView) → n < length ks → (get_or ks n d).table ≡ table_of_node (tables_in ks) n
+table_read ks n d lt = ap (λ (k : NodeTableView). k.table) (get_or_default ks n d no_table lt) ∙ sym (table_of_node-tables_in ks n)
+
+pub table_indexed : (ks : List NodeTableView) (n : ℕ) (k : NodeTableView) → n < length ks → k ≡ get_or ks n k → k.table ≡ table_of_node (tables_in ks) n
+table_indexed ks n k lt is = ap (λ (x : NodeTableView). x.table) is ∙ table_read ks n k lt
+
+-- and as code writes it
+pub tables_in-set : (ks : List NodeTableView) (n : ℕ) (k : NodeTableView) → tables_in (set ks n k) ≡ set (tables_in ks) n k.table
+tables_in-set ks n k = map-set (λ (x : NodeTableView). x.table) ks n k

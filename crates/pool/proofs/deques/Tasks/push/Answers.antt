@@ -1,5 +1,0 @@
-use Rattle.pool.proofs.Moves.{pushes_below}
-use Rattle.pool.proofs.deques.Tasks.push.Goals as goal
-
-pub push_as-requires-clause-pushes : goal.push_as-requires-clause-pushes
-push_as-requires-clause-pushes g c = pushes_below g.L.Limit.limit _ tt c.args.i c.requires.within

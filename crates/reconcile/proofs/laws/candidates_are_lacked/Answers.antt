@@ -1,5 +1,0 @@
-use Rattle.reconcile.proofs.Lacking.{candidates-lacked}
-use Rattle.reconcile.proofs.laws.candidates_are_lacked.Goals as goal
-
-pub returns : goal.returns
-returns c mode from to i = candidates-lacked mode from to i

@@ -1,5 +1,0 @@
-use Rattle.reconcile.proofs.DeltaLaws.{sent-uncut}
-use Rattle.reconcile.proofs.laws.uncut_deltas_send_all.Goals as goal
-
-pub returns : goal.returns
-returns c mode rotation budget from to = sent-uncut mode from to rotation budget

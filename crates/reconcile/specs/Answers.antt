@@ -1,0 +1,24 @@
+-- The delta that answers a digest. Source: this project.
+use Rattle.std.specs.Prelude.{◌≡◌, ℕ, ◌≤◌, List}
+use Rattle.std.specs.List.{sum_by}
+use Rattle.bench_types.specs.declared.entries.Item.{Item}
+use Rattle.bench_types.specs.declared.exchanges.Mode.{Mode}
+use Rattle.bench_types.specs.declared.exchanges.Budget.{Budget}
+use Rattle.bench_types.specs.Budget.{amount_of, share_of}
+use Rattle.bench_types.specs.Mode.{digest_kind}
+use Rattle.model.specs.Table.{Table, items_of}
+use Rattle.model.specs.Candidates.{items_above, candidates}
+use Rattle.reconcile.specs.Digests.{DigestView, IsDigestOf, told_mark}
+use Rattle.model.specs.Order.{sending_order}
+use Rattle.model.specs.Picks.{sent, cut_count}
+
+-- what a table sends to a receiver whose digest this is
+abbrev pub answer_of : Mode → ℕ → Budget → Table → ℕ → DigestView → DeltaView
+answer_of mode rotation budget from receiver told =
+    delta_of mode from.nodes rotation budget (items_above (told_mark told) receiver (items_of from))
+
+-- it is the delta to every table of the receiver that this is the digest of
+abbrev pub IsDeltaToReceiver : Mode → ℕ → Budget → Table → ℕ → DigestView → DeltaView → Type 0
+IsDeltaToReceiver mode rotation budget from receiver told delta =
+    (to : Table) → to.node ≡ receiver → IsDigestOf (digest_kind mode) to told
+    → delta ≡ delta_between mode rotation budget from to

@@ -1,6 +1,0 @@
-use Rattle.std.proofs.Common.{◌≡◌, ℕ, length}
-use Rattle.owner_lists.specs.OwnerListView.{no_writes, list_of_owner}
-use Rattle.round_tables.proofs.entry_tables.NodeTableRoundTable.histories.Given as goal
-
-abbrev pub invariant-loop : goal.invariant-loop
-invariant-loop l = (length l.lists.items ≡ l.counter) × ((n : ℕ) → list_of_owner l.lists.items n ≡ no_writes)

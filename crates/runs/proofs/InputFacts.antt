@@ -1,0 +1,69 @@
+-- What a source gave up to a pull, and then by that pull; and what reading a scenario comes to.
+-- Serves the functions of `comparing`, `inputs` and `runs` and `Reporting`.
+use Rattle.std.proofs.Common.{◌≡◌, ◌≢◌, ◌<◌, ◌≤◌, ◌+◌, ◌++◌, ◌∙◌, ℕ, Bool, true, false, List, Option, None, Some, Result, Ok, Err, IfSome, IfOk, IfErr, inl, inr, length, take, arith, ap, refl, sym, subst, length-append}
+use Rattle.std.specs.Prelude.{IsErrAnd, IsSomeAnd, OnOk}
+use Rattle.std.proofs.lemmas.List.{length-take-le}
+use Rattle.std.proofs.KnownBytes.{Consumes-trans}
+use Rattle.std.specs.Io.KnownBytes.{Consumes}
+use Rattle.bench_types.specs.declared.faults.Fault.{Fault}
+use Rattle.bench_types.specs.declared.faults.Fault.TheVariants.{OutOfMemory}
+use Rattle.bench_types.specs.declared.sources.Source.{Ghosts as Source}
+use Rattle.scenario.specs.Checked.{document_of, text_checked}
+use Rattle.scenario.specs.Order.{first_fault, Says}
+use Rattle.scenario.specs.CheckFault.{IsFaultOfCheck}
+use Rattle.scenario.specs.Settings.{Settings}
+use Rattle.runs.specs.Inputs.{Gave, GaveUpTo, IsReadWhole, IsRead, IsInputFault}
+
+-- a pull of `count` bytes adds that many
+pub gave_more : {R : Type 0} (source : Source R) (old now new : R) (text chunk : List ℕ) (count : ℕ)
+    → Consumes (source.left old) (source.left now) text → Consumes (source.left now) (source.left new) (take count chunk) → count ≤ length chunk
+    → Gave source old new (length text + count)
+gave_more source old now new text chunk count so_far more bound =
+    (text ++ take count chunk, Consumes-trans (source.left old) (source.left now) (source.left new) text (take count chunk) so_far more, length-append text (take count chunk) ∙ ap (λ n. length text + n) (length-take-le count chunk bound))
+
+-- what was given is at most anything above its number
+pub gave_up_to : {R : Type 0} (source : Source R) (old new : R) (n most : ℕ) → Gave source old new n → n ≤ most → GaveUpTo source old new most
+gave_up_to source old new n most gave bound = let number = gave.2 in (gave.0, gave.1, omega arith)
+
+-- who gave more than a text may have had more than that
+pub had_more : (old new : Option (List ℕ)) (bytes : List ℕ) (most : ℕ) → Consumes old new bytes → length bytes ≡ most + 1 → IfSome old (λ all. most < length all)
+had_more None new bytes most given size = tt
+had_more (Some all) None bytes most given size = absurd given
+had_more (Some all) (Some rest) bytes most given size = omega (arith, length-append bytes rest, ap length given)
+
+only_false : (b : Bool) → (b ≡ true → ⊥) → b ≡ false
+only_false true never = absurd (never refl)
+only_false false never = refl
+
+-- who hasn't failed at the last pull hadn't at the first
+pub was_sound : {R : Type 0} (source : Source R) (old now : R) → (source.failed old ≡ true → now ≡ old) → (source.failed now ≡ true → ⊥) → source.failed old ≡ false
+was_sound source old now stays sound =
+    only_false (source.failed old) (λ failed. sound (subst (λ r. source.failed r ≡ true) (sym (stays failed)) failed))
+
+-- what holds of a fault that is handed on
+pub at_fault : {A : Type 0} (r : Result A Fault) (fault : Fault) (P : Fault → Type 0) → IsErrAnd r (λ handed. handed ≡ fault) → P fault → IfErr r P
+at_fault (Ok x) fault P is holds = tt
+at_fault (Err handed) fault P is holds = subst P (sym is) holds
+
+-- the check of a text that was read whole accepts it, or comes to its fault
+module _ {R : Type 0} (source : Source R) (old new : R) (text : List ℕ) (whole : IsReadWhole source old new text) where
+  pub accepted : (answer : Result Settings Fault) → IfOk answer (λ s. text_checked text ≡ Ok s)
+      → IfOk answer (λ s. IsSomeAnd (document_of text) (λ table. Says table s)) → OnOk answer (first_fault (document_of text) ≡ None)
+      → IfOk answer (λ s. IsRead source old new (Ok s))
+  accepted (Ok s) checked says no_fault = record { text = text; whole = whole; checked = checked; says = says; no_fault = no_fault; first = tt }
+  accepted (Err fault) checked says no_fault = tt
+
+  refused : (fault : Fault) → IsFaultOfCheck fault → fault ≢ OutOfMemory → (fault ≢ OutOfMemory → text_checked text ≡ Err fault)
+      → (fault ≢ OutOfMemory → first_fault (document_of text) ≡ Some fault) → IsInputFault source old new fault
+  refused fault of_check other checked first = inr (record {
+    of_check = of_check;
+    not_memory = other;
+    read = record { text = text; whole = whole; checked = checked other; says = tt; no_fault = tt; first = first other };
+  })
+
+  pub fault_of_check : (answer : Result Settings Fault) → IfErr answer IsFaultOfCheck → IfErr answer (λ fault. fault ≢ OutOfMemory → text_checked text ≡ Err fault)
+      → IfErr answer (λ fault. fault ≢ OutOfMemory → first_fault (document_of text) ≡ Some fault) → IfErr answer (IsInputFault source old new)
+  fault_of_check (Ok s) of_check checked first = tt
+  fault_of_check (Err OutOfMemory) of_check checked first =
+      inl (record { given = (text, whole.given, whole.within); sound = whole.sound; was_sound = whole.was_sound })
+  fault_of_check (Err fault) of_check checked first = refused fault of_check (λ e. cc e) checked first

@@ -1,0 +1,5 @@
+pub mod InputFacts
+pub mod Reporting
+pub mod Comparison
+pub mod Endings
+pub mod Numbers

@@ -1,0 +1,64 @@
+-- What the owners of a scenario write may stand under numbers below a bound.
+-- Serves `begin` and `tests_of_runs`.
+use Rattle.std.proofs.Common.{◌≡◌, ℕ, zero, suc, ◌*◌, ◌<◌, ◌≤◌, Bool, true, false, cond, List, [], ◌∷◌, length, sym, ap, ◌∙◌, arith, length-append}
+use Rattle.std.specs.Prelude.{Some, Contains}
+use Rattle.std.proofs.lemmas.Option.{same_Some}
+use Rattle.bench_types.specs.declared.entries.Entry.{Entry}
+use Rattle.bench_types.specs.declared.limits.TheConstants.{MOST_WRITES}
+use Rattle.model.specs.Numbers.{write_from, write_numbered}
+use Rattle.round_plan.specs.Outages.{is_up}
+use Rattle.round_plan.specs.Writes.{writes_in, count_before, own_writes, written_upto}
+use Rattle.round_plan.proofs.Growth.{length-own_writes, writes_in_le}
+use Rattle.round_plan.proofs.Written.{apart-written_upto}
+use Rattle.scenario.specs.Settings.{Settings, IsLawfulScenario}
+use Rattle.simulation.specs.Simulation.{MayWriteAll}
+use Rattle.version_tables.specs.inner.Histories.{IsWriteUnder}
+use Rattle.runs.specs.inner.Writes.{AreWrittenIn, HasWritesBelow}
+
+up_to : (b : Bool) (n most : ℕ) → n ≤ most → cond b n 0 ≤ most
+up_to true n most le = le
+up_to false n most le = omega arith
+
+-- a round adds at most so many
+length-written_upto_le : (s : Settings) (owner round : ℕ) → IsLawfulScenario s → length (written_upto s owner round) ≤ MOST_WRITES * round
+length-written_upto_le s owner zero lawful = omega arith
+length-written_upto_le s owner (suc round) lawful =
+    let before = count_before s owner (suc round) in
+    omega (
+      arith,
+      length-append (written_upto s owner round) (own_writes s owner (suc round) before),
+      length-written_upto_le s owner round lawful,
+      length-own_writes s owner (suc round) before,
+      up_to (is_up s owner (suc round)) (writes_in s (suc round)) MOST_WRITES (writes_in_le s lawful (suc round)),
+    )
+
+-- what stands under a number is one of so many
+placed : (es : List Entry) (place : ℕ) (e : Entry) → write_from es place ≡ Some e → (place < length es) × Contains es e
+placed [] place e is = cc
+placed (x ∷ xs) zero e is = (omega arith, (0, omega arith, same_Some x e is))
+placed (x ∷ xs) (suc place) e is =
+    let rest = placed xs place e is in
+    (omega (arith, rest.0), (suc rest.1.0, omega (arith, rest.1.1), rest.1.2))
+
+numbered : (es : List Entry) (number : ℕ) (e : Entry) → write_numbered es number ≡ Some e → (number ≤ length es) × Contains es e
+numbered es zero e is = cc
+numbered es (suc place) e is =
+    let there = placed es place e is in
+    (omega (arith, there.0), there.1)
+
+-- so each is what a table asks of it
+pub may_write_all : (s : Settings) (most : ℕ) (lists : ℕ → List Entry) → AreWrittenIn lists s → HasWritesBelow most s
+    → MayWriteAll (IsWriteUnder lists most) s
+may_write_all s most lists are below owner number e in_nodes is = record {
+  is = under number e is;
+  below = omega (arith, (numbered (written_upto s owner s.rounds) number e is).0, length-written_upto_le s owner s.rounds below.lawful, below.few);
+  apart = λ m n d c one other same.
+      apart-written_upto s owner s.rounds d c (numbered (written_upto s owner s.rounds) m d (among m d one)).1
+      (numbered (written_upto s owner s.rounds) n c (among n c other)).1 same;
+}
+  where
+    under : (n : ℕ) (d : Entry) → write_numbered (written_upto s owner s.rounds) n ≡ Some d → write_numbered (lists owner) n ≡ Some d
+    under n d there = ap (λ (es : List Entry). write_numbered es n) (are owner) ∙ there
+
+    among : (n : ℕ) (d : Entry) → write_numbered (lists owner) n ≡ Some d → write_numbered (written_upto s owner s.rounds) n ≡ Some d
+    among n d there = ap (λ (es : List Entry). write_numbered es n) (sym (are owner)) ∙ there

@@ -1,0 +1,146 @@
+-- How far the report and the trace have been written.
+-- Serves `write_texts` and `Comparison`.
+use Rattle.std.proofs.Common.{◌≡◌, ℕ, ◌+◌, ◌<◌, ◌++◌, ◌∷◌, [], List, inl, inr, refl, sym, ap, ◌∙◌, subst, append_assoc, arith}
+use Rattle.std.specs.Prelude.{false, Result, IfErr, IsErrAnd}
+use Rattle.std.proofs.KnownBytes.{Appends-trans}
+use Rattle.std.proofs.lemmas.Grind.{flat_map-append}
+use Rattle.std.specs.List.{range_with_len}
+use Rattle.std.proofs.lemmas.List.{append-nil, map-id}
+use Rattle.std.proofs.lemmas.List.FromFn.{map-range_with_len_more}
+use Rattle.bench_types.specs.declared.exchanges.Record.{Record}
+use Rattle.bench_types.specs.declared.faults.Fault.{Fault}
+use Rattle.bench_types.specs.declared.rows.Row.{Row}
+use Rattle.bench_types.specs.declared.sinks.Sink.{Ghosts as Sink}
+use Rattle.model.specs.Table.{Table}
+use Rattle.model.specs.RoundLists.{RoundListView}
+use Rattle.model.specs.Runs.{IsPoolFault}
+use Rattle.bench_types.specs.Output.{IsWritten, IsWriteFault}
+use Rattle.report.specs.Trace.{trace_header_line, trace_lines}
+use Rattle.report.specs.Report.{report_header_line, report_line, report_lines}
+use Rattle.scenario.specs.Settings.{Settings}
+use Rattle.simulation.specs.RoundView.{RoundView}
+use Rattle.simulation.specs.Outcomes.{row_in}
+use Rattle.simulation.specs.Simulation.{SimView, PlaysNext, IsStepFault}
+use Rattle.runs.specs.Reports.{rows_upto, trace_in, traces_upto, report_upto, trace_upto, report_text, trace_text}
+use Rattle.runs.specs.Runs.{IsFaultAfter, AreWritten, IsWritingFault, StoppingPlace, StopsAt, round_after, lines_after, row_after}
+use Rattle.runs.proofs.InputFacts.{at_fault}
+
+-- one text behind another
+pub written_then : {W : Type 0} (sink : Sink W) (old now new : W) (text next : List ℕ) → IsWritten sink old now text → IsWritten sink now new next → IsWritten sink old new (text ++ next)
+written_then sink old now new text next first second = record {
+  taken = Appends-trans (sink.taken old) (sink.taken now) (sink.taken new) text next first.taken second.taken;
+  flushed = second.flushed;
+  sound = second.sound;
+  was_sound = first.was_sound;
+}
+
+-- a fault behind a text
+pub fault_behind : {W : Type 0} (sink : Sink W) (old now new : W) (text whole next : List ℕ) (fault : Fault) → IsWritten sink old now text → IsFaultAfter sink now new whole next fault → IsFaultAfter sink old new (text ++ whole) next fault
+fault_behind sink old now new text whole next fault first stop = (stop.0, written_then sink old now stop.0 text whole first stop.1, stop.2)
+
+-- both texts after so many rounds
+pub record AreWrittenUpto {T W X : Type 0} (sink : Sink W) (old now : W) (sink' : Sink X) (old' now' : X) (s : Settings) (sim : SimView T) (rounds : ℕ) : Type 0 where
+  pub settings : sim.settings ≡ s
+  pub unbroken : sim.broken ≡ false
+  pub done : sim.rounds_done ≡ rounds
+  pub report : IsWritten sink old now (report_upto s rounds)
+  pub trace : IsWritten sink' old' now' (trace_upto s rounds)
+
+-- the headers alone
+pub headers_written : {T W X : Type 0} (sink : Sink W) (old now : W) (sink' : Sink X) (old' now' : X) (sim : SimView T) (format : ℕ) → format ≡ sim.settings.format → sim.broken ≡ false → sim.rounds_done ≡ 0
+    → IsWritten sink old now (report_header_line format) → IsWritten sink' old' now' trace_header_line → AreWrittenUpto sink old now sink' old' now' sim.settings sim 0
+headers_written sink old now sink' old' now' sim format format_is unbroken first header header' = record {
+  settings = refl;
+  unbroken = unbroken;
+  done = first;
+  report = subst (IsWritten sink old now) (ap report_header_line format_is ∙ sym (append-nil (report_header_line sim.settings.format))) header;
+  trace = subst (IsWritten sink' old' now') (sym (append-nil trace_header_line)) header';
+}
+
+range_more : (n : ℕ) → range_with_len 1 (n + 1) ≡ range_with_len 1 n ++ ((n + 1) ∷ [])
+range_more n =
+    sym (map-id (range_with_len 1 (n + 1)))
+    ∙ map-range_with_len_more (λ (x : ℕ). x) 1 n (n + 1) (omega arith)
+    ∙ ap (λ xs. xs ++ ((n + 1) ∷ [])) (map-id (range_with_len 1 n))
+
+report_more : (s : Settings) (rounds : ℕ) → report_upto s (rounds + 1) ≡ report_upto s rounds ++ report_line s.format (row_in s (rounds + 1))
+report_more s rounds =
+    ap (λ rows. (report_header_line s.format) ++ report_lines s.format rows) (map-range_with_len_more (row_in s) 1 rounds (rounds + 1) (omega arith))
+    ∙ ap (λ lines. (report_header_line s.format) ++ lines) (flat_map-append (report_line s.format) (rows_upto s rounds) (row_in s (rounds + 1) ∷ []))
+    ∙ sym (append_assoc (report_header_line s.format) (report_lines s.format (rows_upto s rounds)) (report_line s.format (row_in s (rounds + 1)) ++ []))
+    ∙ ap (λ line. report_upto s rounds ++ line) (append-nil (report_line s.format (row_in s (rounds + 1))))
+
+trace_more : (s : Settings) (rounds : ℕ) → trace_upto s (rounds + 1) ≡ trace_upto s rounds ++ trace_in s (rounds + 1)
+trace_more s rounds =
+    ap (λ rs. trace_header_line ++ Rattle.std.specs.Prelude.flat_map (trace_in s) rs) (range_more rounds)
+    ∙ ap (λ lines. trace_header_line ++ lines) (flat_map-append (trace_in s) (range_with_len 1 rounds) ((rounds + 1) ∷ []))
+    ∙ sym (append_assoc trace_header_line (traces_upto s rounds) (trace_in s (rounds + 1) ++ []))
+    ∙ ap (λ lines. trace_upto s rounds ++ lines) (append-nil (trace_in s (rounds + 1)))
+
+-- the lines of a round in the trace, from what it came to
+abbrev pub lines_of : RoundView → List ℕ
+lines_of p = trace_lines p.row.round p.list.exchanges p.records
+
+pub lines_given : (round : RoundView) (row : Row) (list : RoundListView) (records : List Record) → row ≡ round.row → list ≡ round.list → records ≡ round.records → trace_lines row.round list.exchanges records ≡ lines_of round
+lines_given round row list records row_is list_is records_are = λ i. trace_lines (row_is i).round (list_is i).exchanges (records_are i)
+
+-- a fault that is handed on
+pub stopped_at : {W X : Type 0} (sink : Sink W) (old new : W) (sink' : Sink X) (old' new' : X) (s : Settings) (workers : ℕ) (r : Result (Unit {0}) Fault) (fault : Fault) (place : StoppingPlace)
+    → IsErrAnd r (λ handed. handed ≡ fault) → StopsAt sink old new sink' old' new' s workers fault place → IfErr r (IsWritingFault sink old new sink' old' new' s workers)
+stopped_at sink old new sink' old' new' s workers r fault place handed stops =
+    at_fault r fault (IsWritingFault sink old new sink' old' new' s workers) handed (record { place = place; stops = stops })
+
+-- where a round is left and none has failed, the fault of a step is that of its workers
+pub step_fault : {T : Type 0} (workers : ℕ) (sim sim' : SimView T) (fault : Fault) → sim.broken ≡ false → sim.rounds_done < sim.settings.rounds → IsStepFault workers sim sim' fault → IsPoolFault workers fault
+step_fault workers sim sim' fault unbroken more stop = elim stop [
+  | inl failed ↦ failed.0
+  | inr refused ↦ elim refused.0 [
+    | inl broken ↦ absurd (cc (broken.1, unbroken))
+    | inr finished ↦ absurd (omega (arith, more, finished.2))
+  ]
+]
+
+module _ {T W X : Type 0} (sink : Sink W) (old now : W) (sink' : Sink X) (old' now' : X) (s : Settings) (sim : SimView T) (rounds : ℕ) (so_far : AreWrittenUpto sink old now sink' old' now' s sim rounds) where
+  -- the next round wasn't played
+  pub stops_before : (workers : ℕ) (sim' : SimView T) (fault : Fault) → rounds < s.rounds → IsStepFault workers sim sim' fault → StopsAt sink old now sink' old' now' s workers fault (round_after rounds)
+  stops_before workers sim' fault more stop =
+      let left : sim.rounds_done < sim.settings.rounds = subst (λ (t : Settings). sim.rounds_done < t.rounds) (sym so_far.settings) (omega (arith, more, so_far.done)) in
+      (more, step_fault workers sim sim' fault so_far.unbroken left stop, so_far.report, so_far.trace)
+
+  -- all rounds were
+  pub all_written : rounds ≡ s.rounds → AreWritten sink old now sink' old' now' s
+  unfolding report_text trace_text
+  all_written all = record {
+    report = subst (λ n. IsWritten sink old now (report_upto s n)) all so_far.report;
+    trace = subst (λ n. IsWritten sink' old' now' (trace_upto s n)) all so_far.trace;
+  }
+
+  -- the next round was played
+  module _ (table : T → Table) (sim' : SimView T) (round : RoundView) (played : PlaysNext table sim sim' round) (lines : List ℕ) (lines_are : lines ≡ lines_of round) where
+    lines_here : lines ≡ trace_in s (rounds + 1)
+    lines_here = lines_are ∙ ap lines_of played.played ∙ (λ i. trace_in ((played.settings ∙ so_far.settings) i) ((played.done ∙ ap (λ n. n + 1) so_far.done) i))
+
+    row_here : (row : Row) → row ≡ round.row → row ≡ row_in s (rounds + 1)
+    row_here row row_is = row_is ∙ ap (λ (r : RoundView). r.row) played.played ∙ (λ i. row_in ((played.settings ∙ so_far.settings) i) ((played.done ∙ ap (λ n. n + 1) so_far.done) i))
+
+    traced : (after' : X) → IsWritten sink' now' after' lines → IsWritten sink' old' after' (trace_upto s (rounds + 1))
+    traced after' written =
+        subst (IsWritten sink' old' after') (sym (trace_more s rounds)) (written_then sink' old' now' after' (trace_upto s rounds) (trace_in s (rounds + 1)) so_far.trace (subst (IsWritten sink' now' after') lines_here written))
+
+    pub stops_in_lines : (after' : X) (workers : ℕ) (fault : Fault) → rounds < s.rounds → IsWriteFault sink' now' after' lines fault → StopsAt sink old now sink' old' after' s workers fault (lines_after rounds)
+    stops_in_lines after' workers fault more stop = (more, so_far.report, (now', so_far.trace, subst (λ l. IsWriteFault sink' now' after' l fault) lines_here stop))
+
+    pub stops_in_row : (format : ℕ) → format ≡ s.format → (row : Row) → row ≡ round.row → (after : W) (after' : X) (workers : ℕ) (fault : Fault) → rounds < s.rounds → IsWritten sink' now' after' lines
+        → IsWriteFault sink now after (report_line format row) fault → StopsAt sink old after sink' old' after' s workers fault (row_after rounds)
+    stops_in_row format format_is row row_is after after' workers fault more written stop =
+        (more, (now, so_far.report, subst (λ l. IsWriteFault sink now after l fault) (λ i. report_line (format_is i) (row_here row row_is i)) stop), traced after' written)
+
+    pub one_more : (format : ℕ) → format ≡ s.format → (row : Row) → row ≡ round.row → (after : W) (after' : X) → IsWritten sink' now' after' lines → IsWritten sink now after (report_line format row)
+        → AreWrittenUpto sink old after sink' old' after' s sim' (rounds + 1)
+    one_more format format_is row row_is after after' written row_written = record {
+      settings = played.settings ∙ so_far.settings;
+      unbroken = played.still;
+      done = played.done ∙ ap (λ n. n + 1) so_far.done;
+      report = subst (IsWritten sink old after) (sym (report_more s rounds)) (written_then sink old now after (report_upto s rounds) (report_line s.format (row_in s (rounds + 1))) so_far.report (subst (IsWritten sink now after) (λ i. report_line (format_is i) (row_here row row_is i)) row_written));
+      trace = traced after' written;
+    }

@@ -1,0 +1,85 @@
+-- The comparison of the modes: the header, and for each mode, in order, a line for each round of the scenario under
+-- that mode. `source` and `sink` have the words of the two ends; `old` and `new` are states before and after the call.
+-- Source: this project.
+use Rattle.std.specs.Prelude.{◌≡◌, ℕ, ◌+◌, ◌<◌, ◌⊎◌, ◌++◌, ◌∷◌, List, Ok, flat_map}
+use Rattle.bench_types.specs.declared.exchanges.Mode.{Mode}
+use Rattle.bench_types.specs.Mode.{modes}
+use Rattle.bench_types.specs.declared.faults.Fault.{Fault}
+use Rattle.bench_types.specs.declared.sinks.Sink.{Ghosts as Sink}
+use Rattle.bench_types.specs.declared.sources.Source.{Ghosts as Source}
+use Rattle.model.specs.Runs.{IsPoolFault}
+use Rattle.report.specs.Compare.{compare_header_line, compare_line, compare_lines}
+use Rattle.bench_types.specs.Output.{IsWritten, IsWriteFault}
+use Rattle.scenario.specs.Settings.{Settings, with_mode}
+use Rattle.simulation.specs.Outcomes.{row_in}
+use Rattle.runs.specs.Inputs.{IsRead, IsInputFault}
+use Rattle.runs.specs.Reports.{rows_upto}
+use Rattle.runs.specs.Runs.{IsFaultAfter}
+
+-- the lines of the first so many rounds of a scenario
+abbrev pub lines_upto : Settings → ℕ → List ℕ
+lines_upto s rounds = compare_lines s.format s.mode (rows_upto s rounds)
+
+-- the lines of all its rounds under a mode, and under these modes in turn
+abbrev pub lines_under : Settings → Mode → List ℕ
+lines_under s mode = lines_upto (with_mode s mode) s.rounds
+
+abbrev pub lines_of_modes : Settings → List Mode → List ℕ
+lines_of_modes s ms = flat_map (lines_under s) ms
+
+unfoldable pub comparison_text : Settings → List ℕ
+comparison_text s = (compare_header_line s.format) ++ lines_of_modes s modes
+
+-- a text was written, and then the next round wasn't carried out, or writing its line came to this fault
+abbrev pub IsFaultInRound : {W : Type 0} → Sink W → W → W → List ℕ → List ℕ → ℕ → Fault → Type 0
+IsFaultInRound sink old new whole line workers fault =
+    (IsPoolFault workers fault × IsWritten sink old new whole)
+    ⊎ IsFaultAfter sink old new whole line fault
+
+-- the text `whole` and the lines of the first so many rounds of a scenario were written, and then the next round or its
+-- line came to this fault
+pub record IsFaultInRounds {W : Type 0} (sink : Sink W) (old new : W) (whole : List ℕ) (s : Settings) (workers : ℕ)
+    (fault : Fault) : Type 0 where
+  pub rounds : ℕ
+  pub within : rounds < s.rounds
+  pub stops : IsFaultInRound sink old new (whole ++ lines_upto s rounds)
+      (compare_line s.format s.mode (row_in s (rounds + 1))) workers fault
+
+-- the text `whole` and all lines of the first of these modes were written, and then writing those of the next mode
+-- came to this fault
+pub record IsFaultInModes {W : Type 0} (sink : Sink W) (old new : W) (whole : List ℕ) (s : Settings) (ms : List Mode)
+    (workers : ℕ) (fault : Fault) : Type 0 where
+  pub done : List Mode
+  pub next : Mode
+  pub rest : List Mode
+  pub order : ms ≡ done ++ (next ∷ rest)
+  pub stops : IsFaultInRounds sink old new (whole ++ lines_of_modes s done) (with_mode s next) workers fault
+
+-- the fault of a comparison behind its reading: at the header, or behind it
+abbrev pub IsComparingFault : {W : Type 0} → Sink W → W → W → Settings → ℕ → Fault → Type 0
+IsComparingFault sink old new s workers fault =
+    IsWriteFault sink old new (compare_header_line s.format) fault
+    ⊎ IsFaultInModes sink old new (compare_header_line s.format) s modes workers fault
+
+module _ {R W : Type 0} (source : Source R) (reader reader' : R) (sink : Sink W) (old new : W) where
+  -- a scenario was read, and its comparison was written; its own mode has no effect on it
+  pub record IsCompared : Type 0 where
+    pub settings : Settings
+    pub read : IsRead source reader reader' (Ok settings)
+    pub written : IsWritten sink old new (comparison_text settings)
+    pub own_mode : (mode : Mode) → comparison_text (with_mode settings mode) ≡ comparison_text settings
+
+  -- reading a scenario came to this fault, and nothing was written
+  pub record IsNothingCompared (fault : Fault) : Type 0 where
+    pub input : IsInputFault source reader reader' fault
+    pub same : new ≡ old
+
+  -- a scenario was read, and then its comparison with so many workers came to this fault
+  pub record IsComparisonStopped (workers : ℕ) (fault : Fault) : Type 0 where
+    pub settings : Settings
+    pub read : IsRead source reader reader' (Ok settings)
+    pub written : IsComparingFault sink old new settings workers fault
+
+  -- the fault of a comparison
+  abbrev pub IsCompareFault : ℕ → Fault → Type 0
+  IsCompareFault workers fault = IsNothingCompared fault ⊎ IsComparisonStopped workers fault

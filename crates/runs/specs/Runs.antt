@@ -1,0 +1,99 @@
+-- What a run writes, and what stands where it fails. It writes a report and a trace: both headers, the report's
+-- first, and then for each round the lines of the trace and the row of the report. None of this depends on the number
+-- of workers; where there are several, one may not start. `sink` has the words of the sink of
+-- the report, and `old` and `new` are its states before and after the call; with a prime they are those of the trace.
+-- Source: this project.
+use Rattle.std.specs.Prelude.{◌≡◌, ℕ, ◌+◌, ◌<◌, ◌⊎◌, true, false, List, Ok}
+use Rattle.bench_types.specs.declared.faults.Fault.{Fault}
+use Rattle.bench_types.specs.declared.faults.Fault.TheVariants.{NoThread, WriteFailed}
+use Rattle.bench_types.specs.declared.sinks.Sink.{Ghosts as Sink}
+use Rattle.bench_types.specs.declared.sources.Source.{Ghosts as Source}
+use Rattle.model.specs.Runs.{IsPoolFault}
+use Rattle.bench_types.specs.Output.{IsWritten, IsWriteFault}
+use Rattle.report.specs.Report.{report_header_line, report_line}
+use Rattle.report.specs.Trace.{trace_header_line}
+use Rattle.scenario.specs.Settings.{Settings}
+use Rattle.simulation.specs.Outcomes.{row_in}
+use Rattle.runs.specs.Inputs.{IsRead, IsInputFault}
+use Rattle.runs.specs.Reports.{trace_in, report_upto, trace_upto, report_text, trace_text}
+
+-- the text `whole` was written, and then writing `next` came to this fault
+abbrev pub IsFaultAfter : {W : Type 0} → Sink W → W → W → List ℕ → List ℕ → Fault → Type 0
+IsFaultAfter {W} sink old new whole next fault =
+    (between : W) × IsWritten sink old between whole × IsWriteFault sink between new next fault
+
+-- the report and the trace of these settings were written
+pub record AreWritten {W X : Type 0} (sink : Sink W) (old new : W) (sink' : Sink X) (old' new' : X)
+    (s : Settings) : Type 0 where
+  pub report : IsWritten sink old new (report_text s)
+  pub trace : IsWritten sink' old' new' (trace_text s)
+
+-- where a run stops: at a header, or in a round, which wasn't carried out, or at its lines of the trace or at its row
+-- of the report behind them; the number is that of the rounds before
+pub data StoppingPlace : Type 0 where
+  report_header : StoppingPlace
+  trace_header : StoppingPlace
+  round_after : ℕ → StoppingPlace
+  lines_after : ℕ → StoppingPlace
+  row_after : ℕ → StoppingPlace
+
+module _ {W X : Type 0} (sink : Sink W) (old new : W) (sink' : Sink X) (old' new' : X) (s : Settings) (workers : ℕ)
+    (fault : Fault) where
+  -- all that stands before this place was written, and then the round, or writing what stands there, came to the fault
+  abbrev pub StopsAt : StoppingPlace → Type 0
+  StopsAt report_header = IsWriteFault sink old new (report_header_line s.format) fault × (new' ≡ old')
+  StopsAt trace_header =
+      IsWritten sink old new (report_header_line s.format)
+      × IsWriteFault sink' old' new' trace_header_line fault
+  StopsAt (round_after rounds) =
+      (rounds < s.rounds)
+      × IsPoolFault workers fault
+      × IsWritten sink old new (report_upto s rounds)
+      × IsWritten sink' old' new' (trace_upto s rounds)
+  StopsAt (lines_after rounds) =
+      (rounds < s.rounds)
+      × IsWritten sink old new (report_upto s rounds)
+      × IsFaultAfter sink' old' new' (trace_upto s rounds) (trace_in s (rounds + 1)) fault
+  StopsAt (row_after rounds) =
+      (rounds < s.rounds)
+      × IsFaultAfter sink old new (report_upto s rounds) (report_line s.format (row_in s (rounds + 1))) fault
+      × IsWritten sink' old' new' (trace_upto s (rounds + 1))
+
+  -- the fault of the rounds and of writing the report and the trace
+  pub record IsWritingFault : Type 0 where
+    pub place : StoppingPlace
+    pub stops : StopsAt place
+
+module _ {R W X : Type 0} (source : Source R) (reader reader' : R)
+    (sink : Sink W) (old new : W) (sink' : Sink X) (old' new' : X) where
+  -- a scenario was read, and its report and its trace were written
+  pub record IsReported : Type 0 where
+    pub settings : Settings
+    pub read : IsRead source reader reader' (Ok settings)
+    pub written : AreWritten sink old new sink' old' new' settings
+
+  -- reading a scenario came to this fault, and nothing was written
+  pub record IsUnwritten (fault : Fault) : Type 0 where
+    pub input : IsInputFault source reader reader' fault
+    pub report : new ≡ old
+    pub trace : new' ≡ old'
+
+  -- a scenario was read, and then its run with so many workers came to this fault
+  pub record IsStopped (workers : ℕ) (fault : Fault) : Type 0 where
+    pub settings : Settings
+    pub read : IsRead source reader reader' (Ok settings)
+    pub written : IsWritingFault sink old new sink' old' new' settings workers fault
+
+  -- the fault of a run
+  abbrev pub IsRunFault : ℕ → Fault → Type 0
+  IsRunFault workers fault = IsUnwritten fault ⊎ IsStopped workers fault
+
+-- an end that fails within a call is what the call answers, whatever else went wrong
+abbrev pub TellsOfFailing : {W : Type 0} → Sink W → W → W → Fault → Type 0
+TellsOfFailing sink old new fault = sink.failed old ≡ false → sink.failed new ≡ true → fault ≡ WriteFailed
+
+-- that an end failed, or a thread couldn't be started, is answered only where a scenario was accepted before
+abbrev pub ComesOnceAccepted : {R : Type 0} → Source R → R → R → Fault → Type 0
+ComesOnceAccepted source reader reader' fault =
+    (fault ≡ WriteFailed) ⊎ (fault ≡ NoThread)
+    → (settings : Settings) × IsRead source reader reader' (Ok settings)

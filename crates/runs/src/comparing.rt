@@ -1,0 +1,125 @@
+//! The modes beside each other, from bytes to bytes.
+
+ghost use Rattle.std.specs.Prelude.{◌≡◌, ◌≤◌, [], true, false, IfOk, OnOk, IfErr};
+ghost use Rattle.bench_types.specs.declared.limits.TheConstants.{MOST_WORKERS};
+ghost use Rattle.bench_types.specs.Output.{IsWritten};
+ghost use Rattle.bench_types.specs.Mode.{modes};
+ghost use Rattle.scenario.specs.Settings.{IsWithin};
+ghost use Rattle.runs.specs.inner.Writes.{AreWrittenIn};
+ghost use Rattle.runs.specs.inner.Starts.{IsAtStart};
+ghost use Rattle.runs.specs.Runs.{TellsOfFailing, ComesOnceAccepted};
+ghost use Rattle.runs.specs.Comparisons.{lines_upto, lines_of_modes, IsFaultInRounds, IsFaultInModes, IsCompared, IsCompareFault};
+
+use crate::runs::{Opened, begin, check_input};
+use bench_types::limits::MOST_WORKERS;
+use bench_types::{Fault, Mode, Sink, Source};
+use pool::FreeGate;
+use report::{compare_header, write_compare_row};
+use round_tables::RoundTable;
+use scenario::Scenario;
+use simulation::Sim;
+use std::alloc::Global;
+use std::marker::Brand;
+use std::sync::Wait;
+use std::thread::Threads;
+use version_tables::Written;
+
+/// Reads a scenario, and writes the comparison of the modes: the header, and for each mode, in the
+/// order of `Mode::ALL`, the row of each round of the scenario under that mode. The scenario's own
+/// mode has no effect. Nothing is written where the scenario is at fault or reading failed. Workers and errors
+/// are as for `run`.
+pub fn compare<H: Threads + Wait + Sync, R: Source, W: Sink>(
+    rt: &H,
+    alloc: Global,
+    reader: &mut R,
+    writer: &mut W,
+    workers: u32,
+) -> Result<(), Fault>
+    requires workers { IsWithin 1 MOST_WORKERS workers }
+    ensures compared { OnOk result (IsCompared R.Source reader.old reader.new W.Sink writer.old writer.new) }
+    ensures fault { IfErr result (IsCompareFault R.Source reader.old reader.new W.Sink writer.old writer.new workers) }
+    ensures checked_first { IfErr result (ComesOnceAccepted R.Source reader.old reader.new) }
+    ensures failing_end { IfErr result (TellsOfFailing W.Sink writer.old writer.new) }
+{
+    let scenario = check_input(alloc, reader)?;
+    compare_header(alloc, writer, scenario.format())?;
+    write_modes::<Brand, H, W>(rt, alloc, scenario, &Mode::ALL, writer, workers)
+}
+
+// All rounds of a scenario under each of these modes in turn, by tables that keep versions alone.
+fn write_modes<L: Written + Send + Sync, H: Threads + Wait + Sync, W: Sink>(
+    rt: &H,
+    alloc: Global,
+    mut scenario: Scenario,
+    modes: &[Mode],
+    writer: &mut W,
+    workers: u32,
+) -> Result<(), Fault>
+    requires workers { IsWithin 1 MOST_WORKERS workers }
+    requires written { AreWrittenIn L.lists scenario }
+    requires sound { W.failed writer.old ≡ false }
+    requires flushed { W.flushed writer.old ≡ true }
+    ensures written { OnOk result (IsWritten W.Sink writer.old writer.new (lines_of_modes scenario modes.now)) }
+    ensures fault { IfErr result (IsFaultInModes W.Sink writer.old writer.new [] scenario modes.now workers) }
+{
+    for mode in modes {
+        scenario = write_all_rounds::<L, H, W>(
+            rt,
+            alloc,
+            scenario.with_mode(*mode),
+            writer,
+            workers,
+        )?;
+    }
+    Ok(())
+}
+
+// All rounds of a scenario, which is handed back.
+fn write_all_rounds<L: Written + Send + Sync, H: Threads + Wait + Sync, W: Sink>(
+    rt: &H,
+    alloc: Global,
+    scenario: Scenario,
+    writer: &mut W,
+    workers: u32,
+) -> Result<Scenario, Fault>
+    requires workers { IsWithin 1 MOST_WORKERS workers }
+    requires written { AreWrittenIn L.lists scenario }
+    requires sound { W.failed writer.old ≡ false }
+    requires flushed { W.flushed writer.old ≡ true }
+    ensures same { IfOk result (λ s. s ≡ scenario) }
+    ensures written { OnOk result (IsWritten W.Sink writer.old writer.new (lines_upto scenario scenario.rounds)) }
+    ensures fault { IfErr result (IsFaultInRounds W.Sink writer.old writer.new [] scenario workers) }
+{
+    let mode = scenario.mode();
+    match begin::<L>(alloc, scenario)? {
+        Opened::Narrow(sim) => write_rows(rt, alloc, sim, mode, writer, workers),
+        Opened::Wide(sim) => write_rows(rt, alloc, sim, mode, writer, workers),
+    }
+}
+
+// The rows of all rounds of a simulation of this mode, which stands before the first. Its scenario is handed back.
+fn write_rows<T: RoundTable, H: Threads + Wait + Sync, W: Sink>(
+    rt: &H,
+    alloc: Global,
+    mut sim: Sim<T>,
+    mode: Mode,
+    writer: &mut W,
+    workers: u32,
+) -> Result<Scenario, Fault>
+    requires workers { IsWithin 1 MOST_WORKERS workers }
+    requires start { IsAtStart sim }
+    requires mode { mode ≡ sim.settings.mode }
+    requires sound { W.failed writer.old ≡ false }
+    requires flushed { W.flushed writer.old ≡ true }
+    ensures same { IfOk result (λ s. s ≡ sim.settings) }
+    ensures written { OnOk result
+        (IsWritten W.Sink writer.old writer.new (lines_upto sim.settings sim.settings.rounds)) }
+    ensures fault { IfErr result (IsFaultInRounds W.Sink writer.old writer.new [] sim.settings workers) }
+{
+    let format = sim.format();
+    for _ in 0..sim.rounds() {
+        let round = sim.step(rt, workers, &FreeGate)?;
+        write_compare_row(alloc, writer, format, mode, &round.row())?;
+    }
+    Ok(sim.into_scenario())
+}

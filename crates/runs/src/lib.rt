@@ -1,0 +1,13 @@
+//! From a scenario's bytes to those of its report and its trace, or of the comparison of the modes:
+//! reading, rounds in order, lines.
+#![tactic(auto)]
+
+mod comparing;
+mod inputs;
+mod runs;
+
+pub use comparing::compare;
+pub use inputs::read_all;
+pub use pool::{FreeGate, Gate};
+pub use runs::{check_input, run};
+pub use simulation::{Round, Sim, every_run_is_sound};

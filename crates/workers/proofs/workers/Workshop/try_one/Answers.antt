@@ -1,0 +1,35 @@
+use Rattle.std.proofs.Common.{◌≡◌, ℕ, List, [], ◌∷◌, ◌++◌, map, All, sym, ap, ◌∙◌, subst, arith}
+use Rattle.std.proofs.lemmas.List.{map-append}
+use Rattle.std.proofs.lemmas.List.Elements.{All-append, All-cons}
+use Rattle.board.specs.SeatView.{SeatView}
+use Rattle.board.specs.Plan.{BoardPlan, exchanged_at}
+use Rattle.board.specs.declared.boards.Freed.{Freed}
+use Rattle.collector.specs.declared.collectors.Stamped.{Stamped}
+use Rattle.workers.specs.inner.Returns.{HasDone, AreRecordsOf}
+use Rattle.board.specs.Boards.{plan_of, seat_view}
+use Rattle.board.proofs.Claimed.{now_held}
+use Rattle.workers.proofs.workers.Workshop.try_one.Goals as goal
+
+-- with one more, after a claim that leaves what was made
+-- The records that a worker keeps.
+one_more_record : (plan : BoardPlan) (old claimed new : SeatView) (stamps more : List Stamped) (i : ℕ) (stamped : Stamped) (freed : Freed) → claimed.made ≡ old.made → more ≡ stamps ++ stamped ∷ []
+    → AreRecordsOf plan old stamps → HasDone plan claimed i stamped freed new → AreRecordsOf plan new more
+one_more_record plan old claimed new stamps more i stamped freed same pushed so_far done = record {
+  made =
+      ap (map (λ (s : Stamped). s.index)) pushed
+      ∙ map-append (λ (s : Stamped). s.index) stamps (stamped ∷ [])
+      ∙ ap (λ l. l ++ stamped.index ∷ []) (so_far.made ∙ sym same)
+      ∙ ap (λ j. claimed.made ++ j ∷ []) done.index
+      ∙ sym (ap (λ (v : SeatView). v.made) done.put_back.seat);
+  sent = subst (All (λ (s : Stamped). s.outcome ≡ (exchanged_at plan s.index).sent)) (sym pushed)
+      (All-append (λ (s : Stamped). s.outcome ≡ (exchanged_at plan s.index).sent) stamps (stamped ∷ []) so_far.sent
+      (All-cons (λ (s : Stamped). s.outcome ≡ (exchanged_at plan s.index).sent) stamped [] (done.sent ∙ ap (λ j. (exchanged_at plan j).sent) (sym done.index)) (λ k d lt. absurd (omega arith))));
+}
+
+pub carry_out-requires-clause-held : goal.carry_out-requires-clause-held
+carry_out-requires-clause-held g c = λ _ _. now_held g.T.MemoryTable.table (plan_of g.T.MemoryTable.table c.args.self.now.board.now) (seat_view c.args.seat.now) c.args.i c.in-Held.hold (seat_view c.claim.new.seat) c.in-Held.ensures.claim
+
+pub returns-clause-records : goal.returns-clause-records
+returns-clause-records g c =
+    one_more_record (plan_of g.T.MemoryTable.table c.args.self.now.board.now) (seat_view c.args.seat.now) (seat_view c.claim.new.seat) (seat_view c.carry_out.new.seat) c.args.stamps.now.items c.push-2.new.self.items c.in-Held.hold.index c.in_ok-stamped.stamped c.in_ok-stamped.freed
+    (ap (λ (v : SeatView). v.made) c.in-Held.ensures.claim.1) c.in_ok-push-3.ensures.items c.requires.records c.in_ok-stamped.ensures.done

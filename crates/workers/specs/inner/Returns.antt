@@ -1,0 +1,56 @@
+-- What one exchange comes to, and what a worker comes back with. Source: this project.
+use Rattle.std.specs.Prelude.{◌≡◌, ℕ, ◌<◌, ◌⊎◌, true, false, List, [], length, map, All, IfOk, IfErr, IfSome}
+use Rattle.bench_types.specs.declared.faults.Fault.TheVariants.{OutOfMemory}
+use Rattle.model.specs.Table.{Table}
+use Rattle.board.specs.SeatView.{SeatView}
+use Rattle.board.specs.Plan.{BoardPlan, exchanged_at}
+use Rattle.board.specs.Boards.{plan_of, seat_view, IsSeatOf, IsPutBack}
+use Rattle.board.specs.declared.boards.Board.{Board}
+use Rattle.board.specs.declared.boards.Freed.{Freed}
+use Rattle.board.specs.declared.boards.Seat.{Seat}
+use Rattle.collector.specs.declared.collectors.Stamped.{Stamped}
+use Rattle.workers.specs.declared.workers.Returned.{Returned}
+
+-- what was made ready stands in the list
+abbrev pub AreOfList : BoardPlan → Freed → Type 0
+AreOfList plan freed = IfSome freed.first (λ j. j < length plan.list.exchanges) × IfSome freed.second (λ j. j < length plan.list.exchanges)
+
+-- an exchange was put back, and its record is the one of list order
+pub record HasDone (plan : BoardPlan) (old : SeatView) (i : ℕ) (stamped : Stamped) (freed : Freed) (new : SeatView) : Type 0 where
+  pub index : stamped.index ≡ i
+  pub sent : stamped.outcome ≡ (exchanged_at plan i).sent
+  pub put_back : IsPutBack plan old i freed new
+  pub of_list : AreOfList plan freed
+
+-- a worker's seat keeps its parts, and whether it has called for a stop
+pub record StaysAtWork (old new : SeatView) : Type 0 where
+  pub parts : new.parts ≡ old.parts
+  pub is_halted : new.is_halted ≡ old.is_halted
+
+-- a seat of the board that has put nothing back and hasn't called for a stop
+pub record IsFreshSeat {T : Type 0} (table : T → Table) (board : Board T) (seat : Seat T) : Type 0 where
+  pub of_board : IsSeatOf table seat board
+  pub made : (seat_view seat).made ≡ []
+  pub unhalted : (seat_view seat).is_halted ≡ false
+
+-- the record that each of its exchanges has in list order, in the order in which the seat put them back
+pub record AreRecordsOf (plan : BoardPlan) (v : SeatView) (stamps : List Stamped) : Type 0 where
+  pub made : map (λ s. s.index) stamps ≡ v.made
+  pub sent : All (λ s. s.outcome ≡ (exchanged_at plan s.index).sent) stamps
+
+-- the seat has seen that all is finished, or that a stop was called
+abbrev pub SeesTheEnd : BoardPlan → SeatView → Type 0
+SeesTheEnd plan v = (v.seen ≡ length plan.list.exchanges) ⊎ (v.is_stopped ≡ true)
+
+-- and hasn't called for a stop
+pub record HasNoMoreToDo (plan : BoardPlan) (v : SeatView) : Type 0 where
+  pub unhalted : v.is_halted ≡ false
+  pub ends : SeesTheEnd plan v
+
+-- a worker that was given a seat with so many parts
+pub record IsReturned {T : Type 0} (table : T → Table) (board : Board T) (parts : ℕ) (returned : Returned T) : Type 0 where
+  pub of_board : IsSeatOf table returned.seat board
+  pub same_parts : (seat_view returned.seat).parts ≡ parts
+  pub records : IfOk returned.outcome (λ stamps. AreRecordsOf (plan_of table board) (seat_view returned.seat) stamps.items × HasNoMoreToDo (plan_of table board) (seat_view returned.seat))
+  pub fault : IfErr returned.outcome (λ f. f ≡ OutOfMemory)
+  pub halted : IfErr returned.outcome (λ _. (seat_view returned.seat).is_halted ≡ true)

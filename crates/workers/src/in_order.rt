@@ -1,0 +1,60 @@
+//! One worker: the exchanges of a list in their order, with no thread.
+
+ghost use Rattle.std.specs.Prelude.{length, map, IfOk, IsOkUnless};
+ghost use Rattle.bench_types.specs.declared.faults.Fault.TheVariants.{OutOfMemory};
+ghost use Rattle.bench_types.specs.Exchange.{IsPlanned};
+ghost use Rattle.workers.specs.inner.Turns.{IsPairExchanged};
+ghost use Rattle.model.specs.Runs.{MayCarryOut, AreExchanged};
+
+use crate::gates::Gate;
+use bench_types::{Exchange, Fault, Record, Rules};
+use model::{Exchanging, MemoryTable, RoundList};
+use std::alloc::Global;
+
+/// Carries out the exchanges of a list in its order, and gives their records in that order.
+pub(crate) fn exchange_all<T: MemoryTable, X: Exchanging<T>, G: Gate>(
+    alloc: Global,
+    shared: &X,
+    tables: &mut [T],
+    list: &RoundList,
+    gate: &G,
+    rules: &Rules,
+) -> Result<Vec<Record>, Fault>
+    requires tables { MayCarryOut (X.fits shared.now) rules.now list.now.nodes (map T.table tables.old) }
+    ensures exchanged { IfOk result
+        (λ v. AreExchanged T.table rules.now list.now.exchanges tables.old tables.new v.items) }
+    ensures only { IsOkUnless result OutOfMemory }
+{
+    let mut records = Vec::with_capacity(alloc, list.len() as usize)?;
+    for (i, plan) in list.exchanges().iter().enumerate() {
+        gate.enter(i as u32);
+        let sent = exchange_pair(alloc, shared, tables, plan, rules)?;
+        gate.leave(i as u32);
+        records.push(sent)?;
+    }
+    Ok(records)
+}
+
+// One exchange of two of the tables.
+fn exchange_pair<T: MemoryTable, X: Exchanging<T>>(
+    alloc: Global,
+    shared: &X,
+    tables: &mut [T],
+    plan: &Exchange,
+    rules: &Rules,
+) -> Result<Record, Fault>
+    requires tables { MayCarryOut (X.fits shared.now) rules.now (length tables.old) (map T.table tables.old) }
+    requires planned { IsPlanned (length tables.old) plan.now }
+    ensures exchanged { IfOk result (IsPairExchanged T.table rules.now plan.now tables.old tables.new) }
+    ensures only { IsOkUnless result OutOfMemory }
+{
+    let initiator = plan.initiator as usize;
+    let responder = plan.responder as usize;
+    if initiator < responder {
+        let (below, from) = tables.split_at_mut(responder);
+        shared.exchange(alloc, &mut below[initiator], &mut from[0], plan, rules)
+    } else {
+        let (below, from) = tables.split_at_mut(initiator);
+        shared.exchange(alloc, &mut from[0], &mut below[responder], plan, rules)
+    }
+}

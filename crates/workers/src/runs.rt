@@ -1,0 +1,60 @@
+//! Carrying out the exchanges of a list.
+
+ghost use Rattle.std.specs.Prelude.{◌≤◌, map, IfOk, IfErr};
+ghost use Rattle.model.specs.Runs.{MayCarryOut, AreExchanged, IsPoolFault};
+ghost use Rattle.bench_types.specs.declared.limits.TheConstants.{MOST_WORKERS};
+
+use crate::gates::Gate;
+use crate::in_order::exchange_all;
+use crate::threads::exchange_in_threads;
+use bench_types::limits::MOST_WORKERS;
+use bench_types::{Fault, Record, Rules};
+use model::{Exchanging, MemoryTable, RoundList};
+use std::alloc::Global;
+use std::marker::Brand;
+use std::sync::Wait;
+use std::thread::Threads;
+
+/// Carries out the exchanges of a list on tables of any representation, each between two calls of the gate.
+/// What the tables share is read while it runs. The answer is the tables, by
+/// node, and the records, in list order: those of one thread that goes through the list in order, whatever
+/// order the workers take.
+///
+/// With one worker no thread is started, and the list is done in order. With more, each is a thread of its
+/// own, also where the list has fewer exchanges, and all have ended when this returns. It waits for them, so
+/// no contract says that it returns.
+///
+/// An error is lack of memory (`OutOfMemory`), or with more than one worker that a thread couldn't be
+/// started (`NoThread`), which goes before a worker's lack of memory. The tables are then given up.
+///
+/// Beside the exchanges, several workers cost a step for each node and a few for each exchange, a thread for
+/// each worker, and a way from each to each other.
+pub fn run_list_with<
+    R: Threads + Wait + Sync,
+    T: MemoryTable + Send + Sync,
+    X: Exchanging<T>,
+    G: Gate + Sync,
+>(
+    rt: &R,
+    alloc: Global,
+    shared: &X,
+    list: &RoundList,
+    mut tables: Vec<T>,
+    workers: u32,
+    gate: &G,
+    rules: &Rules,
+) -> Result<(Vec<T>, Vec<Record>), Fault>
+    requires few { 1 ≤ workers }
+    requires many { workers ≤ MOST_WORKERS }
+    requires tables { MayCarryOut (X.fits shared.now) rules.now list.now.nodes (map T.table tables.items) }
+    ensures exchanged { IfOk result
+        (λ p. AreExchanged T.table rules.now list.now.exchanges tables.items p.0.items p.1.items) }
+    ensures fault { IfErr result (IsPoolFault workers) }
+{
+    if workers == 1 {
+        let records = exchange_all(alloc, shared, &mut tables, list, gate, rules)?;
+        Ok((tables, records))
+    } else {
+        exchange_in_threads::<Brand, R, T, X, G>(rt, alloc, shared, list, tables, workers, gate, rules)
+    }
+}

@@ -1,0 +1,287 @@
+//! Several workers, each a thread of its own.
+
+ghost use Rattle.std.specs.Prelude.{◌≡◌, ◌+◌, ◌<◌, ◌≤◌, [], All, length, map, IfOk, IfErr, IsOk, IsOkUnless, OnOk, vec_len, vec_capacity};
+ghost use Rattle.bench_types.specs.declared.faults.Fault.TheVariants.{OutOfMemory, NoThread};
+ghost use Rattle.model.specs.Tables.{IsCluster};
+ghost use Rattle.board.specs.Boards.{plan_of, seat_view, IsMadeOf, IsSeatOf};
+ghost use Rattle.model.specs.Runs.{MayCarryOut, AreExchanged, IsPoolFault};
+ghost use Rattle.workers.specs.inner.Returns.{IsFreshSeat, IsReturned};
+ghost use Rattle.workers.specs.inner.Starts.{AreSeveral, MaySplit};
+ghost use Rattle.workers.specs.inner.Workshops.{IsWorkshop};
+ghost use Rattle.workers.specs.inner.Joined.{HasTakenIn, HasSeenAll, IsEndOf, IsOfBoard, AreTogether};
+
+use crate::deques::{Limit, Tasks, deal};
+use crate::gates::Gate;
+use crate::gathering::in_list_order;
+use crate::workers::{Returned, Workshop};
+use bench_types::{Fault, Record, Rules};
+use board::{Board, Seat};
+use collector::Stamped;
+use dependencies::Deps;
+use model::{Exchanging, MemoryTable, RoundList};
+use std::alloc::Global;
+use std::snapshot::Snapshot;
+use std::sync::Wait;
+use std::thread;
+use std::thread::{Promise, PromisedHandle, Scope, Threads};
+
+// What the thread of a worker promises: the returned of a seat of one part.
+#[derive(Drop)]
+pub(crate) struct Back<T: MemoryTable>(Snapshot<Board<T>>);
+
+impl<T: MemoryTable> Promise<Returned<T>> for Back<T> {
+    ghost kept_by = { λ back returned. IsReturned T.table back.0.value 1 returned };
+}
+
+type Handle<T> = PromisedHandle<Returned<T>, Back<T>>;
+
+/// Carries out the exchanges of a list by so many workers, each in a thread. A type knows how long the list is.
+pub(crate) fn exchange_in_threads<
+    L: Limit + Send + Sync,
+    R: Threads + Wait + Sync,
+    T: MemoryTable + Send + Sync,
+    X: Exchanging<T>,
+    G: Gate + Sync,
+>(
+    rt: &R,
+    alloc: Global,
+    shared: &X,
+    list: &RoundList,
+    tables: Vec<T>,
+    workers: u32,
+    gate: &G,
+    rules: &Rules,
+) -> Result<(Vec<T>, Vec<Record>), Fault>
+    requires limit { L.limit ≡ length list.now.exchanges }
+    requires several { AreSeveral workers }
+    requires tables { MayCarryOut (X.fits shared.now) rules.now list.now.nodes (map T.table tables.items) }
+    ensures exchanged { IfOk result
+        (λ p. AreExchanged T.table rules.now list.now.exchanges tables.items p.0.items p.1.items) }
+    ensures fault { IfErr result (IsPoolFault workers) }
+{
+    let (board, seat, tasks) = begin::<L, T>(alloc, list, tables, workers, rules)?;
+    let shop = Workshop {
+        alloc,
+        board: &board,
+        shared,
+        list,
+        rules,
+        gate,
+    };
+    let (seat, stamps) = run_workers(rt, &shop, seat, tasks)?;
+    end(alloc, list, board, seat, &stamps)
+}
+
+// A board of the list and the tables with its first seat, and the tasks of so many workers.
+fn begin<L: Limit, T: MemoryTable>(
+    alloc: Global,
+    list: &RoundList,
+    tables: Vec<T>,
+    workers: u32,
+    rules: &Rules,
+) -> Result<(Board<T>, Seat<T>, Vec<Tasks<L>>), Fault>
+    requires limit { L.limit ≡ length list.now.exchanges }
+    requires several { AreSeveral workers }
+    requires cluster { IsCluster list.now.nodes (map T.table tables.items) }
+    ensures board { IfOk result (λ begun. IsMadeOf T.table rules.now list.now tables.items begun.0) }
+    ensures first { IfOk result (λ begun. MaySplit T.table begun.0 begun.1 (vec_len begun.2)) }
+    ensures one_each { IfOk result (λ begun. vec_len begun.2 ≡ workers) }
+    ensures fault { IfErr result (λ f. f ≡ OutOfMemory) }
+{
+    let deps = Deps::new(alloc, list)?;
+    let tasks = deal::<L>(alloc, workers, deps.first_ready())?;
+    let (board, seat) = Board::new(alloc, deps, *rules, tables)?;
+    Ok((board, seat, tasks))
+}
+
+// The tables and the records, once all exchanges are put back.
+fn end<T: MemoryTable>(
+    alloc: Global,
+    list: &RoundList,
+    board: Board<T>,
+    seat: Seat<T>,
+    stamps: &[Stamped],
+) -> Result<(Vec<T>, Vec<Record>), Fault>
+    requires list { (plan_of T.table board).list ≡ list.now }
+    requires seen { HasSeenAll T.table board seat stamps.now }
+    ensures ended { IfOk result (λ p. IsEndOf T.table (plan_of T.table board) p.0.items p.1.items) }
+    ensures fault { IfErr result (λ f. f ≡ OutOfMemory) }
+{
+    let Ok(tables) = board.close(seat) else {
+        unreachable!()
+    };
+    let records = in_list_order(alloc, list.len(), stamps)?;
+    Ok((tables, records))
+}
+
+// Starts a thread for each worker and joins them all. Answers the whole seat, and the records of the workers.
+fn run_workers<
+    L: Limit + Send + Sync,
+    R: Threads + Wait + Sync,
+    T: MemoryTable + Send + Sync,
+    X: Exchanging<T>,
+    G: Gate + Sync,
+>(
+    rt: &R,
+    shop: &Workshop<T, X, G>,
+    seat: Seat<T>,
+    tasks: Vec<Tasks<L>>,
+) -> Result<(Seat<T>, Vec<Stamped>), Fault>
+    requires shop { IsWorkshop T.table X.fits shop.now }
+    requires limit { L.limit ≡ length shop.now.list.now.exchanges }
+    requires begin { MaySplit T.table shop.now.board.now seat (vec_len tasks) }
+    ensures made { IfOk result (λ p. HasSeenAll T.table shop.now.board.now p.0 p.1.items) }
+    ensures fault { IfErr result (IsPoolFault (vec_len tasks)) }
+{
+    thread::scope(
+        thread::scope_env(),
+        rt,
+        |scope| -> Result<(Seat<T>, Vec<Stamped>), Fault>
+            requires shop { IsWorkshop T.table X.fits shop.now }
+            requires limit { L.limit ≡ length shop.now.list.now.exchanges }
+            requires begin { MaySplit T.table shop.now.board.now seat (vec_len tasks) }
+            ensures made { IfOk result (λ p. HasSeenAll T.table shop.entry.now.board.now p.0 p.1.items) }
+            ensures fault { IfErr result (IsPoolFault (vec_len tasks)) }
+        { run_in_scope(scope, rt, shop, seat, tasks) },
+    )
+}
+
+// The same, in an open scope.
+fn run_in_scope<
+    's,
+    'e: 's,
+    L: Limit + Send + Sync + 'e,
+    R: Threads + Wait + Sync,
+    T: MemoryTable + Send + Sync,
+    X: Exchanging<T>,
+    G: Gate + Sync,
+>(
+    scope: &Scope<'s, &'e ()>,
+    rt: &'e R,
+    shop: &'e Workshop<'e, T, X, G>,
+    mut seat: Seat<T>,
+    tasks: Vec<Tasks<L>>,
+) -> Result<(Seat<T>, Vec<Stamped>), Fault>
+    requires shop { IsWorkshop T.table X.fits shop.now }
+    requires limit { L.limit ≡ length shop.now.list.now.exchanges }
+    requires begin { MaySplit T.table shop.now.board.now seat (vec_len tasks) }
+    ensures made { IfOk result (λ p. HasSeenAll T.table shop.now.board.now p.0 p.1.items) }
+    ensures fault { IfErr result (IsPoolFault (vec_len tasks)) }
+{
+    let mut handles = Vec::with_capacity(shop.alloc, tasks.len())?;
+    let started = start_all(scope, rt, shop, &mut seat, tasks, &mut handles);
+    if started.is_err() {
+        shop.board.stop(&mut seat);
+    }
+    let joined = join_all(rt, shop.alloc, shop.board, &mut seat, handles);
+    let stamps = outcome_of(started, joined)?;
+    // A whole seat, so it learns that all exchanges are put back.
+    shop.board.look(&mut seat);
+    Ok((seat, stamps))
+}
+
+// What both came to. That a thread couldn't be started goes before what the others met.
+fn outcome_of(
+    started: Result<(), Fault>,
+    joined: Result<Vec<Stamped>, Fault>,
+) -> Result<Vec<Stamped>, Fault>
+    ensures unstarted { IfErr started (λ fault. result ≡ Err fault) }
+    ensures started { IfOk started (λ _. result ≡ joined) }
+    ensures both { IfOk result (λ stamps. IsOk started × (joined ≡ Ok stamps)) }
+{
+    started?;
+    joined
+}
+
+// Starts a thread for each worker, with a seat of its own.
+fn start_all<
+    's,
+    'e: 's,
+    L: Limit + Send + Sync + 'e,
+    R: Threads + Wait + Sync,
+    T: MemoryTable + Send + Sync,
+    X: Exchanging<T>,
+    G: Gate + Sync,
+>(
+    scope: &Scope<'s, &'e ()>,
+    rt: &'e R,
+    shop: &'e Workshop<'e, T, X, G>,
+    seat: &mut Seat<T>,
+    tasks: Vec<Tasks<L>>,
+    handles: &mut Vec<Handle<T>>,
+) -> Result<(), Fault>
+    requires shop { IsWorkshop T.table X.fits shop.now }
+    requires limit { L.limit ≡ length shop.now.list.now.exchanges }
+    requires seat { IsFreshSeat T.table shop.now.board.now seat.old }
+    requires parts { vec_len tasks < (seat_view seat.old).parts }
+    requires none { handles.old.items ≡ [] }
+    requires room { vec_len tasks ≤ vec_capacity handles.old }
+    ensures seat { IsFreshSeat T.table shop.now.board.now seat.new }
+    ensures parts { OnOk result ((seat_view seat.new).parts + vec_len handles.new ≡ (seat_view seat.old).parts) }
+    ensures count { OnOk result (vec_len handles.new ≡ vec_len tasks) }
+    ensures promised { All (IsOfBoard shop.now.board.now) handles.new.items }
+    ensures only { IsOkUnless result NoThread }
+{
+    for own in tasks {
+        let part = shop.board.split(seat);
+        let back = Back(Snapshot::of(shop.board));
+        let started = scope.spawn_with(
+            back,
+            move || -> Returned<T>
+                requires shop { IsWorkshop T.table X.fits shop.now }
+                requires limit { L.limit ≡ length shop.now.list.now.exchanges }
+                requires seat { IsFreshSeat T.table shop.now.board.now part }
+                ensures { IsReturned T.table shop.entry.now.board.now (seat_view part).parts result }
+            { shop.work(rt, part, own) },
+        );
+        match started {
+            Ok(handle) => handles.push_reserved(handle),
+            Err(_) => return Err(Fault::NoThread),
+        }
+    }
+    Ok(())
+}
+
+// Joins the threads, and their seats to another. Answers the records of all, in the order of joining.
+fn join_all<R: Threads, T: MemoryTable>(
+    rt: &R,
+    alloc: Global,
+    board: &Board<T>,
+    seat: &mut Seat<T>,
+    handles: Vec<Handle<T>>,
+) -> Result<Vec<Stamped>, Fault>
+    requires seat { IsSeatOf T.table seat.old board.now }
+    requires made { (seat_view seat.old).made ≡ [] }
+    requires promised { All (IsOfBoard board.now) handles.items }
+    ensures seat { IsSeatOf T.table seat.new board.now }
+    ensures parts { (seat_view seat.new).parts ≡ (seat_view seat.old).parts + vec_len handles }
+    ensures joined { IfOk result
+        (λ stamps. HasTakenIn T.table board.now (vec_len handles) seat.old seat.new stamps.items) }
+    ensures fault { IfErr result (λ f. f ≡ OutOfMemory) }
+{
+    let mut all = Ok(Vec::new(alloc));
+    for handle in handles {
+        let Returned {
+            seat: part,
+            outcome,
+        } = handle.join(rt);
+        board.join(seat, part);
+        all = with_more(all, outcome);
+    }
+    all
+}
+
+// The records of both, or the first fault.
+fn with_more(
+    all: Result<Vec<Stamped>, Fault>,
+    more: Result<Vec<Stamped>, Fault>,
+) -> Result<Vec<Stamped>, Fault>
+    requires first { IfErr all (λ f. f ≡ OutOfMemory) }
+    requires second { IfErr more (λ f. f ≡ OutOfMemory) }
+    ensures together { IfOk result (AreTogether all more) }
+    ensures fault { IfErr result (λ f. f ≡ OutOfMemory) }
+{
+    let mut all = all?;
+    all.extend_from_slice(&more?)?;
+    Ok(all)
+}

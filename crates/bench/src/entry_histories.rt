@@ -5,7 +5,7 @@ use exchange::exchange;
 use model::Exchanging;
 use node_table::NodeTable;
 use owner_lists::OwnerList;
-use round_tables::RoundHistories;
+use round_tables::{RoundHistories, TakesAll};
 use staleness::figures;
 use std::alloc::Global;
 use std::marker::Model;
@@ -103,4 +103,8 @@ impl RoundHistories<NodeTable> for EntryHistories {
     ) -> Result<Figures, Fault> {
         figures(rt, alloc, tables, &self.lists, round)
     }
+}
+
+impl TakesAll<NodeTable> for EntryHistories {
+    ghost takes_all = { λ owner number e. tt };
 }

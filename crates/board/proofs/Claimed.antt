@@ -1,5 +1,5 @@
 -- What a claim leaves of a seat.
--- Serves `pool` and `tests_of_boards`.
+-- Serves `tests_of_boards` and `workers`.
 use Rattle.std.proofs.Common.{◌≡◌, ℕ, [], ◌∷◌, sym, ap, subst, arith}
 use Rattle.model.specs.Table.{Table}
 use Rattle.board.specs.Weights.{Has, only}

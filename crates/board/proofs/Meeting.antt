@@ -1,5 +1,5 @@
 -- The exchange of a hold may be carried out on its tables.
--- Serves `every_hold_may_be_exchanged` and `pool`.
+-- Serves `every_hold_may_be_exchanged` and `workers`.
 use Rattle.std.proofs.Common.{◌<◌, ◌∙◌, sym, subst}
 use Rattle.bench_types.specs.Exchange.{IsPlanned}
 use Rattle.model.specs.Table.{Table}

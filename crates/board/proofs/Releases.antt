@@ -1,5 +1,5 @@
 -- The successors of an exchange are those whose predecessor it is, each once.
--- Serves `Calls`, `Finishing`, `Parts` and `pool`.
+-- Serves `Calls`, `Finishing`, `Parts` and `workers`.
 use Rattle.std.proofs.Common.{◌≡◌, ℕ, zero, suc, ◌+◌, ◌-◌, ◌<◌, ◌≤◌, ◌⊎◌, Bool, true, false, cond, if◌then◌else◌, List, ◌++◌, length, Option, None, Some, inl, inr, sym, ap, ◌∙◌, subst, arith, find}
 use Rattle.std.specs.List.{range_with_len}
 use Rattle.std.proofs.lemmas.Bool.{cases_Bool, cases_eq, cases_lt, eq-eqb, ne_eqb, or_left, or_right, false≢true}

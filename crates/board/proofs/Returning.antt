@@ -1,5 +1,5 @@
 -- What an exchange leaves of a hold's tables may be put back.
--- Serves `every_exchange_may_be_put_back`, `pool` and `tests_of_boards`.
+-- Serves `every_exchange_may_be_put_back`, `tests_of_boards` and `workers`.
 use Rattle.std.proofs.Common.{◌≡◌, ◌∙◌, sym, ap, subst}
 use Rattle.model.specs.Table.{Table}
 use Rattle.model.specs.Exchanged.{Exchanged, exchanged}

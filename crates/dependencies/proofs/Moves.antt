@@ -1,5 +1,5 @@
 -- One node's table along list order: it changes by the exchanges of the node alone.
--- Serves `Lawful`, `board` and `pool`.
+-- Serves `Lawful`, `board` and `workers`.
 use Rattle.std.proofs.Common.{◌≡◌, ◌∙◌, ℕ, suc, zero, ◌+◌, ◌<◌, ◌≤◌, Bool, true, false, ◌&&◌, if◌then◌else◌, List, [], ◌∷◌, ◌++◌, length, take, drop, get_or, set, fold, inl, inr, Some, refl, sym, ap, arith, add-one}
 use Rattle.std.specs.Prelude.{slice_get}
 use Rattle.std.proofs.lemmas.Bool.{cases_Bool, cases_lt, and_from}

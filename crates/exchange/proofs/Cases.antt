@@ -1,5 +1,5 @@
 -- An exchange, case by case of its fate.
--- Serves `exchange`, `exchange_deltas`, `ExchangeLaws` and `OwnParts`.
+-- Serves `exchange` and `exchange_deltas`.
 use Rattle.std.proofs.Common.{◌≡◌, ℕ, Bool, true, false, refl, sym, ap, ◌∙◌, if◌then◌else◌}
 use Rattle.bench_types.specs.declared.exchanges.Exchange.{Exchange}
 use Rattle.bench_types.specs.declared.exchanges.Fate.{Fate}

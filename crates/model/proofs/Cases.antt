@@ -1,5 +1,5 @@
 -- What an exchange makes of a table, whatever its fate is.
--- Serves nothing yet.
+-- Serves `ExchangeLaws` and `Owns`.
 use Rattle.bench_types.specs.declared.exchanges.Fate.{Fate}
 use Rattle.bench_types.specs.declared.exchanges.Fate.TheVariants as fate
 use Rattle.model.specs.Table.{Table, applied}

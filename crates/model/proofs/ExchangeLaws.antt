@@ -1,7 +1,7 @@
 -- Laws of an exchange, for the crates above: in every mode, with every rotation, budget and loss, but where a law
 -- names a mode or what was sent. That neither side's own part changes is in OwnParts.
 -- Serves `enough_budget_cuts_nothing`, `entries_come_from_either`, `whole_precise_exchanges_give_the_newer`,
--- `cluster` and `simulation`.
+-- `BeginLaws`, `FoldLaws` and `simulation`.
 use Rattle.std.proofs.Common.{◌≡◌, ℕ, ◌<◌, max, inl, inr, refl, sym, ◌∙◌, subst, arith, if◌then◌else◌}
 use Rattle.bench_types.specs.declared.exchanges.Exchange.{Exchange}
 use Rattle.bench_types.specs.declared.exchanges.Fate.{Fate}

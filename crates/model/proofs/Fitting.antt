@@ -1,5 +1,5 @@
 -- The longest beginning of a list that fits into a budget, and what it leaves of it.
--- Serves most of the crate and `version_tables`.
+-- Serves `Picked`, `reconcile` and `version_tables`.
 use Rattle.std.proofs.Common.{◌≡◌, ℕ, zero, suc, ◌-◌, ◌<◌, ◌≤◌, true, false, cond, leb, List, [], ◌∷◌, ◌++◌, length, take, refl, sym, ap, ◌∙◌, arith}
 use Rattle.std.specs.List.{sum_by}
 use Rattle.std.proofs.lemmas.Bool.{leb-true, leb-false, le-leb, lt-leb}

@@ -1,5 +1,5 @@
 -- The greatest mark of an owner, by look-ups.
--- Serves most of the crate, `cluster`, `exchange`, `reconcile` and `version_tables`.
+-- Serves `BeginLaws`, `MarkLaws`, `Proper`, `Received`, `node_table`, `reconcile` and `version_tables`.
 use Rattle.std.proofs.Common.{◌≡◌, ℕ, zero, suc, ◌<◌, None, ◌⊎◌, inl, inr, refl, sym, ap, ◌∙◌, subst, arith}
 use Rattle.std.specs.declared.cmp.Ordering.TheVariants.{Less, Equal, Greater}
 use Rattle.std.specs.Ordering.{nat_cmp, ordering_then}

@@ -1,6 +1,6 @@
 -- The rows of all owners as one map: its look-ups, how many entries it has, and what an entry that comes into one
 -- row does to it.
--- Serves `Empty`, `Forgotten`, `InLayout` and `version_tables`.
+-- Serves `node_table` and `version_tables`.
 use Rattle.std.proofs.Common.{◌≡◌, ◌≢◌, ℕ, zero, suc, ◌+◌, ◌<◌, cond, ◌==◌, ◌&&◌, List, [], ◌∷◌, ◌++◌, length, map, get_or, Some, None, is_some, All, inl, inr, refl, sym, ap, ◌∙◌, subst, arith}
 use Rattle.std.specs.Prelude.{sum_by}
 use Rattle.std.specs.Ordering.{eq_by_cmp}

@@ -1,5 +1,5 @@
 -- The last write of a key.
--- Serves nothing yet.
+-- Serves `OwnParts` and `owner_lists`.
 use Rattle.std.proofs.Common.{◌≡◌, ◌≢◌, ℕ, eqb, List, [], ◌∷◌, ◌++◌, Some, inl, inr, if◌then◌else◌, sym, ap, ◌∙◌, arith}
 use Rattle.std.specs.List.{find}
 use Rattle.std.specs.Ordering.{nat_cmp, is_eq}

@@ -1,6 +1,6 @@
 -- Laws of marks: when one goes down, and the greatest of an owner after a write, after a list of items and after a
 -- restart.
--- Serves `Forgotten`, `Opened`, `ProperLaws`, `Room`, `Taking`, `cluster`, `exchange`, `fixtures` and `simulation`.
+-- Serves `BeginLaws`, `Owns`, `ProperLaws`, `Received`, `fixtures`, `node_table` and `simulation`.
 use Rattle.std.proofs.Common.{◌≡◌, ◌≢◌, ℕ, zero, suc, ◌<◌, ◌≤◌, List, [], ◌∷◌, Some, None, All, ◌⊎◌, inl, inr, if◌then◌else◌, refl, sym, ap, ◌∙◌, subst, arith}
 use Rattle.std.specs.Prelude.{Contains}
 use Rattle.std.proofs.lemmas.Bool.{cases_eq, eq-eqb, ne_eqb}

@@ -1,5 +1,5 @@
 -- Places are in a total order, in which only equal places tie.
--- Serves `InRow`, `InRows`, `Items`, `Laws`, `Taking`, `reconcile` and `staleness`.
+-- Serves most of the crate and `node_table`.
 use Rattle.std.proofs.Common.{◌≡◌, ap, ◌∙◌}
 use Rattle.std.specs.declared.cmp.Ordering.{Ordering}
 use Rattle.std.specs.Ordering.{nat_cmp, ordering_reverse}

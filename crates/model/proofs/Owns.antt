@@ -1,5 +1,5 @@
 -- An exchange leaves each side's own part alone.
--- Serves `cluster` and `planner`.
+-- Serves `FoldLaws` and `planner`.
 use Rattle.std.proofs.Common.{◌≢◌, ℕ, List, All, refl, sym, ap, ◌∙◌}
 use Rattle.bench_types.specs.declared.entries.Item.{Item}
 use Rattle.bench_types.specs.declared.exchanges.Exchange.{Exchange}

@@ -1,5 +1,5 @@
 -- The items of a proper table are sound, and there are at most as many as places.
--- Serves `reconcile`.
+-- Serves `DeltaLaws`, `Sending`, `Sent` and `reconcile`.
 use Rattle.std.proofs.Common.{◌≡◌, ℕ, zero, suc, ◌+◌, ◌*◌, ◌<◌, ◌≤◌, List, length, get_or, All, inl, inr, refl, ap, arith}
 use Rattle.std.specs.declared.cmp.Ordering.TheVariants.{Less}
 use Rattle.std.proofs.Math.Nat.{mul-le-mul_right, mul-le-mul_left}

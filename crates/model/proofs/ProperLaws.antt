@@ -1,5 +1,5 @@
 -- The tables that start are proper, and what changes a table keeps it so.
--- Serves the functions of `layouts` and `tables` and the crates above.
+-- Serves `BeginLaws`, `Received`, `fixtures`, `node_table`, `simulation` and `version_tables`.
 use Rattle.std.proofs.Common.{◌≡◌, ◌≢◌, ◌==◌, ℕ, ◌+◌, ◌<◌, ◌≤◌, List, [], ◌∷◌, Some, None, All, ◌⊎◌, inl, inr, refl, sym, ap, ◌∙◌, subst, arith}
 use Rattle.std.specs.FinMap.{insert, retain_keys, empty}
 use Rattle.std.proofs.lemmas.Bool.{cases_eq}

@@ -1,5 +1,5 @@
 -- Lists of items that rise by place.
--- Serves `Items`, `Proper` and `reconcile`.
+-- Serves `Apart`, `Items` and `Proper`.
 use Rattle.std.proofs.Common.{◌≡◌, ℕ, zero, suc, ◌<◌, List, [], ◌∷◌, length, get_or, arith}
 use lib.Dec.{T}
 use Rattle.std.specs.declared.cmp.Ordering.TheVariants.{Less}

@@ -1,5 +1,5 @@
 -- What fits of the sorted candidates is the delta.
--- Serves `Answering` and `DeltaLaws`.
+-- Serves `DeltaLaws` and `reconcile`.
 use Rattle.std.proofs.Common.{◌≡◌, ℕ, ◌+◌, ◌-◌, ◌^◌, ◌<◌, ◌≤◌, Bool, List, length, get_or, All, refl, sym, ap, ◌∙◌, arith}
 use Rattle.std.specs.Prelude.{filter, IsPermutation}
 use Rattle.std.specs.List.Sorted.{IsSorted}

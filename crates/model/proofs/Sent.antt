@@ -1,5 +1,5 @@
 -- What is sent stood among the candidates.
--- Serves nothing yet.
+-- Serves `Owns`, `Received` and `reconcile`.
 use Rattle.std.proofs.Common.{◌≡◌, ◌≢◌, ℕ, zero, suc, ◌+◌, true, false, cond, not, ◌&&◌, eqb, List, [], ◌∷◌, All, Some, None, refl, sym, ◌∙◌, subst}
 use Rattle.std.specs.Prelude.{count_by}
 use Rattle.std.specs.List.{filter_map, range_with_len, cons_option}

@@ -1,5 +1,5 @@
 -- The tables in memory of all nodes, in order: how they are read and written.
--- Serves nothing yet.
+-- Serves `planner` and `staleness`.
 use Rattle.std.proofs.Common.{◌≡◌, ◌≢◌, ℕ, zero, suc, ◌<◌, List, length, map, get_or, set, ap, sym, ◌∙◌, subst, arith}
 use Rattle.std.specs.List.{range_with_len}
 use Rattle.std.proofs.Math.ListN.{get_or-map}

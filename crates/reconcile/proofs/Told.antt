@@ -1,5 +1,5 @@
 -- What a digest tells is what the table holds, and what is sent stood among the candidates.
--- Serves `delta`, `push_newer` and `exchange`.
+-- Serves `delta` and `push_newer`.
 use Rattle.std.proofs.Common.{◌≡◌, ◌≢◌, ℕ, zero, suc, ◌+◌, ◌<◌, Bool, true, false, cond, not, ◌&&◌, eqb, List, [], ◌∷◌, get_or, All, Some, None, Result, IfOk, refl, sym, ap, ◌∙◌, subst}
 use Rattle.std.specs.Prelude.{count_by, filter}
 use Rattle.std.specs.List.{filter_map, range_with_len, cons_option}

@@ -1,5 +1,5 @@
 -- How the writes of an owner grow from round to round, in its generation and over all of them.
--- Serves `writes_by`, `Written`, `bench` and `simulation`.
+-- Serves `writes_by`, `Written`, `runs` and `simulation`.
 use Rattle.std.proofs.Common.{◌≡◌, ℕ, zero, suc, ◌+◌, ◌-◌, ◌*◌, ◌<◌, ◌≤◌, Bool, true, false, if◌then◌else◌, List, [], ◌∷◌, ◌++◌, map, reverse, find, option_map, unwrap_or, Some, length, get_or, All, refl, sym, ap, ◌∙◌, subst, inl, inr, arith, length-append}
 use Rattle.std.specs.List.{range_with_len}
 use Rattle.std.proofs.Math.ListN.{get_or-append}

@@ -3,4 +3,4 @@
 
 mod round_tables;
 
-pub use round_tables::RoundHistories;
+pub use round_tables::{RoundHistories, TakesAll};

@@ -109,3 +109,11 @@ pub trait RoundHistories<T: MemoryTable>: Exchanging<T> + Drop {
             (λ f. f ≡ figures_of round (map T.table tables.now) (lists_in (lists self.now))) }
         ensures only { IsOkUnless result OutOfMemory };
 }
+
+/// Histories that ask nothing of what owners write.
+pub trait TakesAll<T: MemoryTable>: RoundHistories<T> {
+    ghost use Rattle.std.specs.Prelude.{ℕ};
+    ghost use Rattle.bench_types.specs.declared.entries.Entry.{Entry};
+
+    ghost takes_all: { (owner number : ℕ) (e : Entry) → Self.may_write owner number e };
+}

@@ -8,7 +8,6 @@ use Rattle.std.proofs.lemmas.List.{append-nil, take_more}
 use Rattle.std.proofs.lemmas.List.FromFn.{map-range_with_len_more}
 use Rattle.bench_types.specs.declared.exchanges.Mode.{Mode}
 use Rattle.bench_types.specs.declared.faults.Fault.{Fault}
-use Rattle.bench_types.specs.declared.rows.Row.{Row}
 use Rattle.bench_types.specs.declared.sinks.Sink.{Ghosts as Sink}
 use Rattle.bench_types.specs.Mode.{modes}
 use Rattle.model.specs.Table.{Table}
@@ -21,6 +20,7 @@ use Rattle.simulation.specs.RoundView.{RoundView}
 use Rattle.simulation.specs.Outcomes.{row_in}
 use Rattle.runs.specs.Reports.{rows_upto}
 use Rattle.simulation.specs.Simulation.{SimView, PlaysNext, IsStepFault}
+use Rattle.runs.specs.inner.Rows.{IsNextRowFault}
 use Rattle.runs.proofs.Reporting.{written_then, fault_behind, step_fault}
 
 -- nothing was written to a sink that is sound and flushed
@@ -38,7 +38,7 @@ pub record AreRoundsWritten {T W : Type 0} (sink : Sink W) (old now : W) (s : Se
 pub stops_before : {W : Type 0} (sink : Sink W) (old now : W) (s : Settings) (rounds workers : ℕ) (fault : Fault) → rounds < s.rounds → IsWritten sink old now (lines_upto s rounds) → IsPoolFault workers fault → IsFaultInRounds sink old now [] s workers fault
 stops_before sink old now s rounds workers fault more written pool = record { rounds = rounds; within = more; stops = inl (pool, written) }
 
-pub stops_at_step : {T W : Type 0} (sink : Sink W) (old now : W) (s : Settings) (sim sim' : SimView T) (rounds workers : ℕ) (fault : Fault) → AreRoundsWritten sink old now s sim rounds → rounds < s.rounds → IsStepFault workers sim sim' fault → IsFaultInRounds sink old now [] s workers fault
+stops_at_step : {T W : Type 0} (sink : Sink W) (old now : W) (s : Settings) (sim sim' : SimView T) (rounds workers : ℕ) (fault : Fault) → AreRoundsWritten sink old now s sim rounds → rounds < s.rounds → IsStepFault workers sim sim' fault → IsFaultInRounds sink old now [] s workers fault
 stops_at_step sink old now s sim sim' rounds workers fault so_far more stop =
     let left : sim.rounds_done < sim.settings.rounds = subst (λ (t : Settings). sim.rounds_done < t.rounds) (sym so_far.settings) (omega (arith, more, so_far.done)) in
     stops_before sink old now s rounds workers fault more so_far.written (step_fault workers sim sim' fault so_far.unbroken left stop)
@@ -62,12 +62,15 @@ in_rounds_behind sink old now new text whole s workers fault first stop =
     }
 
 -- the next round was played
-module _ {T W : Type 0} (table : T → Table) (sink : Sink W) (old now : W) (s : Settings) (sim sim' : SimView T) (rounds : ℕ) (round : RoundView) (so_far : AreRoundsWritten sink old now s sim rounds) (played : PlaysNext table sim sim' round) (format : ℕ) (format_is : format ≡ s.format) (mode : Mode) (mode_is : mode ≡ s.mode) (row : Row) (row_is : row ≡ round.row) where
-  row_here : row ≡ row_in s (rounds + 1)
-  row_here = row_is ∙ ap (λ (r : RoundView). r.row) played.played ∙ (λ i. row_in ((played.settings ∙ so_far.settings) i) ((played.done ∙ ap (λ n. n + 1) so_far.done) i))
+module _ {T W : Type 0} (table : T → Table) (sink : Sink W) (old now after : W) (s : Settings) (sim sim' : SimView T) (rounds : ℕ) (so_far : AreRoundsWritten sink old now s sim rounds) (mode : Mode) (mode_is : mode ≡ s.mode) (round : RoundView) (played : PlaysNext table sim sim' round) where
+  settings_are : sim'.settings ≡ s
+  settings_are = played.settings ∙ so_far.settings
 
-  line_is : compare_line format mode row ≡ compare_line s.format s.mode (row_in s (rounds + 1))
-  line_is = λ i. compare_line (format_is i) (mode_is i) (row_here i)
+  row_here : round.row ≡ row_in s (rounds + 1)
+  row_here = ap (λ (r : RoundView). r.row) played.played ∙ (λ i. row_in (settings_are i) ((played.done ∙ ap (λ n. n + 1) so_far.done) i))
+
+  line_is : compare_line sim'.settings.format mode round.row ≡ compare_line s.format s.mode (row_in s (rounds + 1))
+  line_is = λ i. compare_line (settings_are i).format (mode_is i) (row_here i)
 
   lines : lines_upto s (rounds + 1) ≡ lines_upto s rounds ++ compare_line s.format s.mode (row_in s (rounds + 1))
   lines =
@@ -75,20 +78,28 @@ module _ {T W : Type 0} (table : T → Table) (sink : Sink W) (old now : W) (s :
       ∙ flat_map-append (compare_line s.format s.mode) (rows_upto s rounds) (row_in s (rounds + 1) ∷ [])
       ∙ ap (λ l. lines_upto s rounds ++ l) (append-nil (compare_line s.format s.mode (row_in s (rounds + 1))))
 
-  pub stops_in_line : (after : W) (workers : ℕ) (fault : Fault) → rounds < s.rounds → IsWriteFault sink now after (compare_line format mode row) fault → IsFaultInRounds sink old after [] s workers fault
-  stops_in_line after workers fault more stop = record {
+  stops_in_line : (workers : ℕ) (fault : Fault) → rounds < s.rounds → IsWriteFault sink now after (compare_line sim'.settings.format mode round.row) fault → IsFaultInRounds sink old after [] s workers fault
+  stops_in_line workers fault more stop = record {
     rounds = rounds;
     within = more;
     stops = inr (now, so_far.written, subst (λ l. IsWriteFault sink now after l fault) line_is stop);
   }
 
-  pub rounds_more : (after : W) → IsWritten sink now after (compare_line format mode row) → AreRoundsWritten sink old after s sim' (rounds + 1)
-  rounds_more after line = record {
-    settings = played.settings ∙ so_far.settings;
+  pub rounds_more : IsWritten sink now after (compare_line sim'.settings.format mode round.row) → AreRoundsWritten sink old after s sim' (rounds + 1)
+  rounds_more line = record {
+    settings = settings_are;
     unbroken = played.still;
     done = played.done ∙ ap (λ n. n + 1) so_far.done;
     written = subst (IsWritten sink old after) (sym lines) (written_then sink old now after (lines_upto s rounds) (compare_line s.format s.mode (row_in s (rounds + 1))) so_far.written (subst (IsWritten sink now after) line_is line));
   }
+
+-- the next round wasn't played, or its line wasn't written
+pub stops_at_row : {T W : Type 0} (table : T → Table) (sink : Sink W) (old now after : W) (s : Settings) (sim sim' : SimView T) (rounds : ℕ) (mode : Mode) (workers : ℕ) (fault : Fault)
+    → AreRoundsWritten sink old now s sim rounds → mode ≡ s.mode → rounds < s.rounds → IsNextRowFault table sim sim' sink now after mode workers fault → IsFaultInRounds sink old after [] s workers fault
+stops_at_row table sink old now after s sim sim' rounds mode workers fault so_far mode_is more stop = elim stop [
+  | inl lost ↦ subst (λ w. IsFaultInRounds sink old w [] s workers fault) (sym lost.1) (stops_at_step sink old now s sim sim' rounds workers fault so_far more lost.0)
+  | inr cut ↦ stops_in_line table sink old now after s sim sim' rounds so_far mode mode_is cut.0 cut.1 workers fault more cut.2
+]
 
 -- the lines of so many modes are written, and the scenario at hand differs in its mode alone
 pub record AreModesWritten {W : Type 0} (sink : Sink W) (old now : W) (s : Settings) (ms : List Mode) (current : Settings) (i : ℕ) : Type 0 where

@@ -1,18 +1,15 @@
 -- How far the report and the trace have been written.
 -- Serves `write_texts` and `Comparison`.
 use Rattle.std.proofs.Common.{◌≡◌, ℕ, ◌+◌, ◌<◌, ◌++◌, ◌∷◌, [], List, inl, inr, refl, sym, ap, ◌∙◌, subst, append_assoc, arith}
-use Rattle.std.specs.Prelude.{false, Result, IfErr, IsErrAnd}
+use Rattle.std.specs.Prelude.{false}
 use Rattle.std.proofs.KnownBytes.{Appends-trans}
 use Rattle.std.proofs.lemmas.Grind.{flat_map-append}
 use Rattle.std.specs.List.{range_with_len}
 use Rattle.std.proofs.lemmas.List.{append-nil, map-id}
 use Rattle.std.proofs.lemmas.List.FromFn.{map-range_with_len_more}
-use Rattle.bench_types.specs.declared.exchanges.Record.{Record}
 use Rattle.bench_types.specs.declared.faults.Fault.{Fault}
-use Rattle.bench_types.specs.declared.rows.Row.{Row}
 use Rattle.bench_types.specs.declared.sinks.Sink.{Ghosts as Sink}
 use Rattle.model.specs.Table.{Table}
-use Rattle.model.specs.RoundLists.{RoundListView}
 use Rattle.model.specs.Runs.{IsPoolFault}
 use Rattle.bench_types.specs.Output.{IsWritten, IsWriteFault}
 use Rattle.report.specs.Trace.{trace_header_line, trace_lines}
@@ -22,8 +19,8 @@ use Rattle.simulation.specs.RoundView.{RoundView}
 use Rattle.simulation.specs.Outcomes.{row_in}
 use Rattle.simulation.specs.Simulation.{SimView, PlaysNext, IsStepFault}
 use Rattle.runs.specs.Reports.{rows_upto, trace_in, traces_upto, report_upto, trace_upto, report_text, trace_text}
-use Rattle.runs.specs.Runs.{IsFaultAfter, AreWritten, IsWritingFault, StoppingPlace, StopsAt, round_after, lines_after, row_after}
-use Rattle.runs.proofs.InputFacts.{at_fault}
+use Rattle.runs.specs.Runs.{IsFaultAfter, AreWritten, IsWritingFault, StopsAt, round_after, lines_after, row_after}
+use Rattle.runs.specs.inner.Rows.{lines_of, IsNextTextsFault}
 
 -- one text behind another
 pub written_then : {W : Type 0} (sink : Sink W) (old now new : W) (text next : List ℕ) → IsWritten sink old now text → IsWritten sink now new next → IsWritten sink old new (text ++ next)
@@ -77,19 +74,6 @@ trace_more s rounds =
     ∙ sym (append_assoc trace_header_line (traces_upto s rounds) (trace_in s (rounds + 1) ++ []))
     ∙ ap (λ lines. trace_upto s rounds ++ lines) (append-nil (trace_in s (rounds + 1)))
 
--- the lines of a round in the trace, from what it came to
-abbrev pub lines_of : RoundView → List ℕ
-lines_of p = trace_lines p.row.round p.list.exchanges p.records
-
-pub lines_given : (round : RoundView) (row : Row) (list : RoundListView) (records : List Record) → row ≡ round.row → list ≡ round.list → records ≡ round.records → trace_lines row.round list.exchanges records ≡ lines_of round
-lines_given round row list records row_is list_is records_are = λ i. trace_lines (row_is i).round (list_is i).exchanges (records_are i)
-
--- a fault that is handed on
-pub stopped_at : {W X : Type 0} (sink : Sink W) (old new : W) (sink' : Sink X) (old' new' : X) (s : Settings) (workers : ℕ) (r : Result (Unit {0}) Fault) (fault : Fault) (place : StoppingPlace)
-    → IsErrAnd r (λ handed. handed ≡ fault) → StopsAt sink old new sink' old' new' s workers fault place → IfErr r (IsWritingFault sink old new sink' old' new' s workers)
-stopped_at sink old new sink' old' new' s workers r fault place handed stops =
-    at_fault r fault (IsWritingFault sink old new sink' old' new' s workers) handed (record { place = place; stops = stops })
-
 -- where a round is left and none has failed, the fault of a step is that of its workers
 pub step_fault : {T : Type 0} (workers : ℕ) (sim sim' : SimView T) (fault : Fault) → sim.broken ≡ false → sim.rounds_done < sim.settings.rounds → IsStepFault workers sim sim' fault → IsPoolFault workers fault
 step_fault workers sim sim' fault unbroken more stop = elim stop [
@@ -102,7 +86,7 @@ step_fault workers sim sim' fault unbroken more stop = elim stop [
 
 module _ {T W X : Type 0} (sink : Sink W) (old now : W) (sink' : Sink X) (old' now' : X) (s : Settings) (sim : SimView T) (rounds : ℕ) (so_far : AreWrittenUpto sink old now sink' old' now' s sim rounds) where
   -- the next round wasn't played
-  pub stops_before : (workers : ℕ) (sim' : SimView T) (fault : Fault) → rounds < s.rounds → IsStepFault workers sim sim' fault → StopsAt sink old now sink' old' now' s workers fault (round_after rounds)
+  stops_before : (workers : ℕ) (sim' : SimView T) (fault : Fault) → rounds < s.rounds → IsStepFault workers sim sim' fault → StopsAt sink old now sink' old' now' s workers fault (round_after rounds)
   stops_before workers sim' fault more stop =
       let left : sim.rounds_done < sim.settings.rounds = subst (λ (t : Settings). sim.rounds_done < t.rounds) (sym so_far.settings) (omega (arith, more, so_far.done)) in
       (more, step_fault workers sim sim' fault so_far.unbroken left stop, so_far.report, so_far.trace)
@@ -116,31 +100,53 @@ module _ {T W X : Type 0} (sink : Sink W) (old now : W) (sink' : Sink X) (old' n
   }
 
   -- the next round was played
-  module _ (table : T → Table) (sim' : SimView T) (round : RoundView) (played : PlaysNext table sim sim' round) (lines : List ℕ) (lines_are : lines ≡ lines_of round) where
-    lines_here : lines ≡ trace_in s (rounds + 1)
-    lines_here = lines_are ∙ ap lines_of played.played ∙ (λ i. trace_in ((played.settings ∙ so_far.settings) i) ((played.done ∙ ap (λ n. n + 1) so_far.done) i))
+  module _ (table : T → Table) (sim' : SimView T) (round : RoundView) (played : PlaysNext table sim sim' round) where
+    settings_are : sim'.settings ≡ s
+    settings_are = played.settings ∙ so_far.settings
 
-    row_here : (row : Row) → row ≡ round.row → row ≡ row_in s (rounds + 1)
-    row_here row row_is = row_is ∙ ap (λ (r : RoundView). r.row) played.played ∙ (λ i. row_in ((played.settings ∙ so_far.settings) i) ((played.done ∙ ap (λ n. n + 1) so_far.done) i))
+    done_now : sim'.rounds_done ≡ rounds + 1
+    done_now = played.done ∙ ap (λ n. n + 1) so_far.done
 
-    traced : (after' : X) → IsWritten sink' now' after' lines → IsWritten sink' old' after' (trace_upto s (rounds + 1))
-    traced after' written =
-        subst (IsWritten sink' old' after') (sym (trace_more s rounds)) (written_then sink' old' now' after' (trace_upto s rounds) (trace_in s (rounds + 1)) so_far.trace (subst (IsWritten sink' now' after') lines_here written))
+    lines_here : lines_of round ≡ trace_in s (rounds + 1)
+    lines_here = ap lines_of played.played ∙ (λ i. trace_in (settings_are i) (done_now i))
 
-    pub stops_in_lines : (after' : X) (workers : ℕ) (fault : Fault) → rounds < s.rounds → IsWriteFault sink' now' after' lines fault → StopsAt sink old now sink' old' after' s workers fault (lines_after rounds)
+    row_here : report_line sim'.settings.format round.row ≡ report_line s.format (row_in s (rounds + 1))
+    row_here = λ i. report_line (settings_are i).format ((ap (λ (r : RoundView). r.row) played.played ∙ (λ j. row_in (settings_are j) (done_now j))) i)
+
+    traced : (after' : X) → IsWritten sink' now' after' (lines_of round) → IsWritten sink' old' after' (trace_upto s (rounds + 1))
+    traced after' lines =
+        subst (IsWritten sink' old' after') (sym (trace_more s rounds)) (written_then sink' old' now' after' (trace_upto s rounds) (trace_in s (rounds + 1)) so_far.trace (subst (IsWritten sink' now' after') lines_here lines))
+
+    stops_in_lines : (after' : X) (workers : ℕ) (fault : Fault) → rounds < s.rounds → IsWriteFault sink' now' after' (lines_of round) fault → StopsAt sink old now sink' old' after' s workers fault (lines_after rounds)
     stops_in_lines after' workers fault more stop = (more, so_far.report, (now', so_far.trace, subst (λ l. IsWriteFault sink' now' after' l fault) lines_here stop))
 
-    pub stops_in_row : (format : ℕ) → format ≡ s.format → (row : Row) → row ≡ round.row → (after : W) (after' : X) (workers : ℕ) (fault : Fault) → rounds < s.rounds → IsWritten sink' now' after' lines
-        → IsWriteFault sink now after (report_line format row) fault → StopsAt sink old after sink' old' after' s workers fault (row_after rounds)
-    stops_in_row format format_is row row_is after after' workers fault more written stop =
-        (more, (now, so_far.report, subst (λ l. IsWriteFault sink now after l fault) (λ i. report_line (format_is i) (row_here row row_is i)) stop), traced after' written)
+    stops_in_row : (after : W) (after' : X) (workers : ℕ) (fault : Fault) → rounds < s.rounds → IsWritten sink' now' after' (lines_of round) → IsWriteFault sink now after (report_line sim'.settings.format round.row) fault
+        → StopsAt sink old after sink' old' after' s workers fault (row_after rounds)
+    stops_in_row after after' workers fault more lines stop =
+        (more, (now, so_far.report, subst (λ l. IsWriteFault sink now after l fault) row_here stop), traced after' lines)
 
-    pub one_more : (format : ℕ) → format ≡ s.format → (row : Row) → row ≡ round.row → (after : W) (after' : X) → IsWritten sink' now' after' lines → IsWritten sink now after (report_line format row)
-        → AreWrittenUpto sink old after sink' old' after' s sim' (rounds + 1)
-    one_more format format_is row row_is after after' written row_written = record {
-      settings = played.settings ∙ so_far.settings;
+    pub one_more : (after : W) (after' : X) → IsWritten sink' now' after' (lines_of round) → IsWritten sink now after (report_line sim'.settings.format round.row) → AreWrittenUpto sink old after sink' old' after' s sim' (rounds + 1)
+    one_more after after' lines row = record {
+      settings = settings_are;
       unbroken = played.still;
-      done = played.done ∙ ap (λ n. n + 1) so_far.done;
-      report = subst (IsWritten sink old after) (sym (report_more s rounds)) (written_then sink old now after (report_upto s rounds) (report_line s.format (row_in s (rounds + 1))) so_far.report (subst (IsWritten sink now after) (λ i. report_line (format_is i) (row_here row row_is i)) row_written));
-      trace = traced after' written;
+      done = done_now;
+      report = subst (IsWritten sink old after) (sym (report_more s rounds)) (written_then sink old now after (report_upto s rounds) (report_line s.format (row_in s (rounds + 1))) so_far.report (subst (IsWritten sink now after) row_here row));
+      trace = traced after' lines;
     }
+
+  -- the next round wasn't played, or its texts weren't written
+  pub stops_at_round : (table : T → Table) (sim' : SimView T) (after : W) (after' : X) (workers : ℕ) (fault : Fault) → rounds < s.rounds → IsNextTextsFault table sim sim' sink now after sink' now' after' workers fault → IsWritingFault sink old after sink' old' after' s workers fault
+  stops_at_round table sim' after after' workers fault more stop = elim stop [
+    | inl lost ↦ record {
+      place = round_after rounds;
+      stops = subst (λ w. StopsAt sink old w sink' old' after' s workers fault (round_after rounds)) (sym lost.1)
+          (subst (λ w. StopsAt sink old now sink' old' w s workers fault (round_after rounds)) (sym lost.2) (stops_before workers sim' fault more lost.0));
+    }
+    | inr (round, played, cut) ↦ elim cut [
+      | inl line ↦ record {
+        place = lines_after rounds;
+        stops = subst (λ w. StopsAt sink old w sink' old' after' s workers fault (lines_after rounds)) (sym line.1) (stops_in_lines table sim' round played after' workers fault more line.0);
+      }
+      | inr row ↦ record { place = row_after rounds; stops = stops_in_row table sim' round played after after' workers fault more row.0 row.1 }
+    ]
+  ]

@@ -7,15 +7,16 @@ ghost use Rattle.bench_types.specs.Mode.{modes};
 ghost use Rattle.scenario.specs.Settings.{IsWithin};
 ghost use Rattle.runs.specs.inner.Writes.{AreWrittenIn};
 ghost use Rattle.runs.specs.inner.Starts.{IsAtStart};
+ghost use Rattle.runs.specs.inner.Rows.{WritesNextRow, IsNextRowFault};
 ghost use Rattle.runs.specs.Runs.{TellsOfFailing, ComesOnceAccepted};
 ghost use Rattle.runs.specs.Comparisons.{lines_upto, lines_of_modes, IsFaultInRounds, IsFaultInModes, IsCompared, IsCompareFault};
 
 use crate::runs::{Opened, begin, check_input};
 use bench_types::limits::MOST_WORKERS;
 use bench_types::{Fault, Mode, Sink, Source};
-use pool::FreeGate;
+use model::MemoryTable;
 use report::{compare_header, write_compare_row};
-use round_tables::RoundTable;
+use round_tables::RoundHistories;
 use scenario::Scenario;
 use simulation::Sim;
 use std::alloc::Global;
@@ -23,6 +24,7 @@ use std::marker::Brand;
 use std::sync::Wait;
 use std::thread::Threads;
 use version_tables::Written;
+use workers::FreeGate;
 
 /// Reads a scenario, and writes the comparison of the modes: the header, and for each mode, in the
 /// order of `Mode::ALL`, the row of each round of the scenario under that mode. The scenario's own
@@ -98,10 +100,15 @@ fn write_all_rounds<L: Written + Send + Sync, H: Threads + Wait + Sync, W: Sink>
 }
 
 // The rows of all rounds of a simulation of this mode, which stands before the first. Its scenario is handed back.
-fn write_rows<T: RoundTable, H: Threads + Wait + Sync, W: Sink>(
+fn write_rows<
+    T: MemoryTable + Send + Sync,
+    K: RoundHistories<T>,
+    H: Threads + Wait + Sync,
+    W: Sink,
+>(
     rt: &H,
     alloc: Global,
-    mut sim: Sim<T>,
+    mut sim: Sim<T, K>,
     mode: Mode,
     writer: &mut W,
     workers: u32,
@@ -116,10 +123,30 @@ fn write_rows<T: RoundTable, H: Threads + Wait + Sync, W: Sink>(
         (IsWritten W.Sink writer.old writer.new (lines_upto sim.settings sim.settings.rounds)) }
     ensures fault { IfErr result (IsFaultInRounds W.Sink writer.old writer.new [] sim.settings workers) }
 {
-    let format = sim.format();
     for _ in 0..sim.rounds() {
-        let round = sim.step(rt, workers, &FreeGate)?;
-        write_compare_row(alloc, writer, format, mode, &round.row())?;
+        write_row(rt, alloc, &mut sim, mode, writer, workers)?;
     }
     Ok(sim.into_scenario())
+}
+
+// The next round of a simulation, and its row under this mode.
+fn write_row<
+    T: MemoryTable + Send + Sync,
+    K: RoundHistories<T>,
+    H: Threads + Wait + Sync,
+    W: Sink,
+>(
+    rt: &H,
+    alloc: Global,
+    sim: &mut Sim<T, K>,
+    mode: Mode,
+    writer: &mut W,
+    workers: u32,
+) -> Result<(), Fault>
+    requires workers { IsWithin 1 MOST_WORKERS workers }
+    ensures written { OnOk result (WritesNextRow T.table sim.old sim.new W.Sink writer.old writer.new mode) }
+    ensures fault { IfErr result (IsNextRowFault T.table sim.old sim.new W.Sink writer.old writer.new mode workers) }
+{
+    let round = sim.step(rt, workers, &FreeGate)?;
+    write_compare_row(alloc, writer, sim.format(), mode, &round.row())
 }

@@ -8,6 +8,4 @@ mod runs;
 
 pub use comparing::compare;
 pub use inputs::read_all;
-pub use pool::{FreeGate, Gate};
 pub use runs::{check_input, run};
-pub use simulation::{Round, Sim, every_run_is_sound};

@@ -7,21 +7,23 @@ ghost use Rattle.runs.specs.Inputs.{IsRead, IsInputFault};
 ghost use Rattle.scenario.specs.Settings.{IsLawfulScenario, IsWithin};
 ghost use Rattle.runs.specs.inner.Writes.{AreWrittenIn, HasWritesBelow};
 ghost use Rattle.runs.specs.inner.Starts.{IsAtStart, IsOpened};
+ghost use Rattle.runs.specs.inner.Rows.{WritesNextTexts, IsNextTextsFault};
 ghost use Rattle.runs.specs.Runs.{AreWritten, IsWritingFault, IsReported, IsRunFault, TellsOfFailing, ComesOnceAccepted};
 
 use crate::inputs::read_all;
 use bench_types::limits::{MOST_WORKERS, MOST_WRITES};
 use bench_types::{Fault, Sink, Source};
-use pool::FreeGate;
+use model::MemoryTable;
 use report::{report_header, trace_header, write_report_row, write_trace_rows};
-use round_tables::RoundTable;
+use round_tables::RoundHistories;
 use scenario::{Scenario, read};
 use simulation::Sim;
 use std::alloc::Global;
 use std::marker::Brand;
 use std::sync::Wait;
 use std::thread::Threads;
-use version_tables::{VersionTable, Written};
+use version_tables::{Histories, VersionTable, Written};
+use workers::FreeGate;
 
 /// Reads a scenario, and writes the report of its run to `writer` and its trace to `trace`: the two
 /// headers, and after each round its exchanges and its row. `Discard` serves where no trace is
@@ -73,8 +75,8 @@ fn has_few_writes(scenario: &Scenario) -> bool
 /// A simulation by tables that keep versions alone, in numbers of 16 bits or of 32.
 #[derive(Drop)]
 pub(crate) enum Opened<L: Written + Send + Sync> {
-    Narrow(Sim<VersionTable<u16, L>>),
-    Wide(Sim<VersionTable<u32, L>>),
+    Narrow(Sim<VersionTable<u16, L>, Histories<u16, L>>),
+    Wide(Sim<VersionTable<u32, L>, Histories<u32, L>>),
 }
 
 /// A simulation of the scenario, before its first round, in numbers of 16 bits where these are enough.
@@ -95,8 +97,11 @@ pub(crate) fn begin<L: Written + Send + Sync>(
 }
 
 // A simulation of the scenario by tables of any representation, before its first round.
-fn open<T: RoundTable>(alloc: Global, scenario: Scenario) -> Result<Sim<T>, Fault>
-    requires may_write { MayWriteAll T.may_write scenario }
+fn open<T: MemoryTable + Send + Sync, K: RoundHistories<T>>(
+    alloc: Global,
+    scenario: Scenario,
+) -> Result<Sim<T, K>, Fault>
+    requires may_write { MayWriteAll K.may_write scenario }
     ensures begun { IfOk result (λ sim. IsAtStart sim × (sim.settings ≡ scenario)) }
     ensures only { IsOkUnless result Fault.OutOfMemory }
 {
@@ -122,17 +127,47 @@ fn write_run<L: Written + Send + Sync, H: Threads + Wait + Sync, W: Sink, X: Sin
         (IsWritingFault W.Sink writer.old writer.new X.Sink trace.old trace.new scenario workers) }
 {
     match begin::<L>(alloc, scenario)? {
-        Opened::Narrow(mut sim) => write_texts(rt, alloc, &mut sim, writer, trace, workers),
-        Opened::Wide(mut sim) => write_texts(rt, alloc, &mut sim, writer, trace, workers),
+        Opened::Narrow(sim) => write_all(rt, alloc, sim, writer, trace, workers),
+        Opened::Wide(sim) => write_all(rt, alloc, sim, writer, trace, workers),
     }
 }
 
-// Both headers, and all rounds of a simulation that stands before its first: after each its exchanges,
-// then its row.
-fn write_texts<T: RoundTable, H: Threads + Wait + Sync, W: Sink, X: Sink>(
+// The texts of a simulation that stands before its first round.
+fn write_all<
+    T: MemoryTable + Send + Sync,
+    K: RoundHistories<T>,
+    H: Threads + Wait + Sync,
+    W: Sink,
+    X: Sink,
+>(
     rt: &H,
     alloc: Global,
-    sim: &mut Sim<T>,
+    mut sim: Sim<T, K>,
+    writer: &mut W,
+    trace: &mut X,
+    workers: u32,
+) -> Result<(), Fault>
+    requires workers { IsWithin 1 MOST_WORKERS workers }
+    requires start { IsAtStart sim }
+    ensures written { OnOk result
+        (AreWritten W.Sink writer.old writer.new X.Sink trace.old trace.new sim.settings) }
+    ensures fault { IfErr result
+        (IsWritingFault W.Sink writer.old writer.new X.Sink trace.old trace.new sim.settings workers) }
+{
+    write_texts(rt, alloc, &mut sim, writer, trace, workers)
+}
+
+// Both headers, and all rounds of a simulation that stands before its first.
+fn write_texts<
+    T: MemoryTable + Send + Sync,
+    K: RoundHistories<T>,
+    H: Threads + Wait + Sync,
+    W: Sink,
+    X: Sink,
+>(
+    rt: &H,
+    alloc: Global,
+    sim: &mut Sim<T, K>,
     writer: &mut W,
     trace: &mut X,
     workers: u32,
@@ -144,14 +179,37 @@ fn write_texts<T: RoundTable, H: Threads + Wait + Sync, W: Sink, X: Sink>(
     ensures fault { IfErr result
         (IsWritingFault W.Sink writer.old writer.new X.Sink trace.old trace.new sim.old.settings workers) }
 {
-    let format = sim.format();
-    report_header(alloc, writer, format)?;
+    report_header(alloc, writer, sim.format())?;
     trace_header(alloc, trace)?;
     for _ in 0..sim.rounds() {
-        let round = sim.step(rt, workers, &FreeGate)?;
-        let row = round.row();
-        write_trace_rows(alloc, trace, row.round, round.list(), round.records())?;
-        write_report_row(alloc, writer, format, &row)?;
+        write_round(rt, alloc, sim, writer, trace, workers)?;
     }
     Ok(())
+}
+
+// The next round of a simulation: its exchanges, then its row.
+fn write_round<
+    T: MemoryTable + Send + Sync,
+    K: RoundHistories<T>,
+    H: Threads + Wait + Sync,
+    W: Sink,
+    X: Sink,
+>(
+    rt: &H,
+    alloc: Global,
+    sim: &mut Sim<T, K>,
+    writer: &mut W,
+    trace: &mut X,
+    workers: u32,
+) -> Result<(), Fault>
+    requires workers { IsWithin 1 MOST_WORKERS workers }
+    ensures written { OnOk result
+        (WritesNextTexts T.table sim.old sim.new W.Sink writer.old writer.new X.Sink trace.old trace.new) }
+    ensures fault { IfErr result (IsNextTextsFault T.table sim.old sim.new
+        W.Sink writer.old writer.new X.Sink trace.old trace.new workers) }
+{
+    let round = sim.step(rt, workers, &FreeGate)?;
+    let row = round.row();
+    write_trace_rows(alloc, trace, row.round, round.list(), round.records())?;
+    write_report_row(alloc, writer, sim.format(), &row)
 }

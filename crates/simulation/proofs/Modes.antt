@@ -1,5 +1,5 @@
 -- What owners write is the same under each mode.
--- Serves `bench`.
+-- Serves `runs`.
 use Rattle.std.proofs.Common.{◌≡◌, ℕ, zero, suc, ◌+◌, ◌++◌, [], map, if◌then◌else◌, refl}
 use Rattle.std.specs.List.{range_with_len}
 use Rattle.bench_types.specs.declared.exchanges.Mode.{Mode}

@@ -17,7 +17,7 @@ use bench_types::limits::{MOST_ROUNDS, MOST_WORKERS};
 use bench_types::{Fault, Rules};
 use model::MemoryTable;
 use round_plan::{RunWords, round_list_by};
-use round_tables::RoundHistories;
+use round_tables::{RoundHistories, TakesAll};
 use scenario::Scenario;
 use std::alloc::Global;
 use std::marker::Model;
@@ -59,11 +59,23 @@ struct Cluster<T: MemoryTable, H: RoundHistories<T>> {
     words: RunWords,
 }
 
-impl<T: MemoryTable + Send + Sync, H: RoundHistories<T>> Sim<T, H> {
-    /// The simulation before its first round, where all tables are empty. It takes memory for the nodes, and
-    /// hands the scenario back where that is refused (`OutOfMemory`). Tables of some representations ask
-    /// something of what is written in the run.
+impl<T: MemoryTable + Send + Sync, H: TakesAll<T>> Sim<T, H> {
+    /// The simulation before its first round, where all tables are empty. It takes memory for the
+    /// nodes, and hands the scenario back where that is refused (`OutOfMemory`).
     pub fn new(alloc: Global, scenario: Scenario) -> Result<Sim<T, H>, (Fault, Scenario)>
+        ensures opens { IfOk result
+            (λ sim. (sim.settings ≡ scenario) × (sim.rounds_done ≡ 0) × (sim.broken ≡ false)) }
+        ensures empty { IfOk result (λ sim. map T.table sim.tables ≡ opening_tables scenario) }
+        ensures hands_back { IfErr result (λ e. (e.0 ≡ OutOfMemory) × (e.1 ≡ scenario)) }
+    {
+        Sim::of(alloc, scenario)
+    }
+}
+
+impl<T: MemoryTable + Send + Sync, H: RoundHistories<T>> Sim<T, H> {
+    /// The simulation before its first round, as `new` makes it, with histories that may ask something of what
+    /// is written in the run.
+    pub fn of(alloc: Global, scenario: Scenario) -> Result<Sim<T, H>, (Fault, Scenario)>
         requires { MayWriteAll H.may_write scenario }
         ensures opens { IfOk result
             (λ sim. (sim.settings ≡ scenario) × (sim.rounds_done ≡ 0) × (sim.broken ≡ false)) }

@@ -1,5 +1,5 @@
 -- What was counted by owner, in whatever parts, comes to the figures of all.
--- Serves `all_copies`, `figures`, `Merging` and `version_tables`.
+-- Serves `figures`.
 use Rattle.std.proofs.Common.{◌≡◌, ℕ, zero, suc, ◌+◌, ◌-◌, ◌*◌, ◌/◌, ◌<◌, ◌≤◌, min, List, [], ◌∷◌, length, get_or, All, refl, sym, ap, ◌∙◌, subst, arith}
 use Rattle.std.specs.List.{AllZip, range_with_len}
 use Rattle.std.proofs.Math.Nat.{lt-div-mul-add}

@@ -1,5 +1,5 @@
 -- What several parts of the tables hold comes together to what all of them hold.
--- Serves `all_copies`, `copies_from` and `version_tables`.
+-- Serves `all_copies` and `copies_from`.
 use Rattle.std.proofs.Common.{◌≡◌, ℕ, zero, suc, ◌+◌, ◌-◌, ◌*◌, ◌/◌, ◌<◌, ◌≤◌, min, true, false, eqb, leb, List, length, get_or, All, Result, Ok, IfOk, Option, Some, None, if◌then◌else◌, refl, sym, ap, ◌∙◌, subst, arith}
 use Rattle.std.specs.Prelude.{Vec}
 use Rattle.std.specs.List.{range_with_len}

@@ -1,5 +1,5 @@
 -- Where an owner's keys lie among those of all owners.
--- Serves the functions of `copies` and `staleness`, `Counting`, `Merging`, `Sums` and `version_tables`.
+-- Serves `copies_from`, `no_copies`, `see_table`, `staleness_of_owners` and `Merging`.
 use Rattle.std.proofs.Common.{◌≡◌, ◌≢◌, ℕ, zero, suc, ◌+◌, ◌-◌, ◌*◌, ◌/◌, ◌%◌, ◌<◌, ◌≤◌, ◌⊎◌, inl, inr, arith}
 use Rattle.std.proofs.lemmas.Bool.{cases_lt}
 use Rattle.std.proofs.Math.Nat.{mul_comm, add-mul, mod-lt, div-add-mod', div-lt_iff_lt-mul}

@@ -1,5 +1,5 @@
 -- What holds of all writes holds of the one that stands under a number.
--- Serves `shared`.
+-- Serves `stand_ready`.
 use Rattle.std.proofs.Common.{◌≡◌, ℕ, zero, suc, All, List, [], ◌∷◌, Some, subst, arith}
 use Rattle.std.proofs.lemmas.Option.{same_Some}
 use Rattle.bench_types.specs.declared.entries.Entry.{Entry}

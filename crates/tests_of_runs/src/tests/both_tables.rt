@@ -120,7 +120,7 @@ fn begin_with<N: Number, L: Written + Send + Sync>(
 ) -> Result<Versions<N, L>, Fault>
     requires { MayWriteAll (IsWriteUnder L.lists N.most) scenario }
 {
-    match SimOf::new(alloc, scenario) {
+    match SimOf::of(alloc, scenario) {
         Ok(sim) => Ok(sim),
         Err((fault, _)) => Err(fault),
     }

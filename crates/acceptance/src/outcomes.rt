@@ -1,7 +1,7 @@
 //! What comes of a text.
 
 ghost use Rattle.std.specs.Prelude.{◌≤◌};
-ghost use Rattle.bench_types.specs.declared.limits.TheConstants.{MOST_WORKERS};
+ghost use Rattle.model.specs.Runs.{AreWorkers};
 
 use crate::stored::compare_part;
 use bench::{check_input, compare, run};
@@ -25,8 +25,7 @@ pub struct Outcome {
 
 impl Outcome {
     fn of<R: Threads + Wait + AllocGlobal + Sync>(rt: &R, text: &[u8], workers: u32) -> Outcome
-        requires few { 1 ≤ workers }
-        requires many { workers ≤ MOST_WORKERS }
+        requires workers { AreWorkers workers }
     {
         let alloc = rt.alloc();
         let mut report = Push::new(Vec::new(alloc));
@@ -84,8 +83,7 @@ fn line_with<R: Files + Threads + Wait + AllocGlobal + Sync>(
     text: &[u8],
     workers: u32,
 ) -> io::Result<String>
-    requires few { 1 ≤ workers }
-    requires many { workers ≤ MOST_WORKERS }
+    requires workers { AreWorkers workers }
 {
     let outcome = Outcome::of(rt, text, workers);
     if let Err(fault) = outcome.answer.and(outcome.compared) {

@@ -10,6 +10,7 @@ use Rattle.model.specs.Table.{Table, applied}
 use Rattle.node_table.specs.NodeTableView.{NodeTableView}
 use Rattle.model.specs.Digests.{digest_size}
 use Rattle.model.specs.Deltas.{DeltaView, delta_between}
+use Rattle.model.specs.Exchanged.{exchanged}
 
 -- the tables p and q in memory became p' and q' by the exchange, which has this record
 abbrev pub IsExchanged :

@@ -1,14 +1,19 @@
 -- What carrying out a list comes to. Source: this project.
-use Rattle.std.specs.Prelude.{◌≡◌, ℕ, ◌<◌, ◌⊎◌, List, map}
+use Rattle.std.specs.Prelude.{◌≡◌, ℕ, ◌<◌, ◌≤◌, ◌⊎◌, List, map}
 use Rattle.bench_types.specs.declared.exchanges.Exchange.{Exchange}
 use Rattle.bench_types.specs.declared.exchanges.Record.{Record}
 use Rattle.bench_types.specs.declared.exchanges.Rules.{Rules}
 use Rattle.bench_types.specs.declared.faults.Fault.{Fault}
 use Rattle.bench_types.specs.declared.faults.Fault.TheVariants.{OutOfMemory, NoThread}
+use Rattle.bench_types.specs.declared.limits.TheConstants.{MOST_WORKERS}
 use Rattle.bench_types.specs.Budget.{IsLawfulBudget}
 use Rattle.model.specs.Table.{Table}
 use Rattle.model.specs.Folds.{fold_of}
 use Rattle.model.specs.Tables.{IsCluster, HoldsOfEach}
+
+-- so many workers may be asked for
+abbrev pub AreWorkers : ℕ → Type 0
+AreWorkers workers = (1 ≤ workers) × (workers ≤ MOST_WORKERS)
 
 -- the tables of so many nodes, each of which fits what all read, and rules: exchanges of the nodes may be carried out
 pub record MayCarryOut (fits : Table → Type 0) (rules : Rules) (nodes : ℕ) (tables : List Table) : Type 0 where

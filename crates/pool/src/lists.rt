@@ -2,12 +2,10 @@
 
 ghost use Rattle.std.specs.Prelude.{◌≤◌, IfOk, IfErr};
 ghost use Rattle.bench_types.specs.Budget.{IsLawfulBudget};
-ghost use Rattle.bench_types.specs.declared.limits.TheConstants.{MOST_WORKERS};
 ghost use Rattle.model.specs.Tables.{IsCluster};
 ghost use Rattle.node_table.specs.NodeTableView.{kept_table, tables_in};
-ghost use Rattle.model.specs.Runs.{AreExchanged, IsPoolFault};
+ghost use Rattle.model.specs.Runs.{AreWorkers, AreExchanged, IsPoolFault};
 
-use bench_types::limits::MOST_WORKERS;
 use bench_types::{Fault, Record, Rules};
 use exchange::Entries;
 use model::RoundList;
@@ -39,8 +37,7 @@ pub fn run_list<R: Threads + Wait + Sync, G: Gate + Sync>(
     gate: &G,
     rules: &Rules,
 ) -> Result<(Vec<NodeTable>, Vec<Record>), Fault>
-    requires few { 1 ≤ workers }
-    requires many { workers ≤ MOST_WORKERS }
+    requires workers { AreWorkers workers }
     requires cluster { IsCluster list.now.nodes (tables_in tables.items) }
     requires budget { IsLawfulBudget rules.now.budget }
     ensures exchanged { IfOk result

@@ -11,6 +11,7 @@ use Rattle.model.specs.Candidates.{items_above, candidates}
 use Rattle.reconcile.specs.Digests.{DigestView, IsDigestOf, told_mark}
 use Rattle.model.specs.Order.{sending_order}
 use Rattle.model.specs.Picks.{sent, cut_count}
+use Rattle.model.specs.Deltas.{DeltaView, delta_of, delta_between}
 
 -- what a table sends to a receiver whose digest this is
 abbrev pub answer_of : Mode → ℕ → Budget → Table → ℕ → DigestView → DeltaView

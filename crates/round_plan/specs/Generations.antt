@@ -1,6 +1,5 @@
 -- The generation of a node: 0 at first, and one more in each round in which it forgets. What it writes from then on, in
--- that round too, is of the new generation. Source: Cassandra's generations, which a node's restart begins; that a
--- restart may keep the node's own state, and so its generation, is this project's.
+-- that round too, is of the new generation. Source: this project; the word is Cassandra's.
 use Rattle.std.specs.Prelude.{ℕ, zero, suc, ◌+◌, if◌then◌else◌}
 use Rattle.scenario.specs.Settings.{Settings}
 use Rattle.round_plan.specs.Outages.{forgets_now}

@@ -1,18 +1,16 @@
 //! The modes beside each other, from bytes to bytes.
 
 ghost use Rattle.std.specs.Prelude.{◌≡◌, ◌≤◌, [], true, false, IfOk, OnOk, IfErr};
-ghost use Rattle.bench_types.specs.declared.limits.TheConstants.{MOST_WORKERS};
 ghost use Rattle.bench_types.specs.Output.{IsWritten};
 ghost use Rattle.bench_types.specs.Mode.{modes};
-ghost use Rattle.scenario.specs.Settings.{IsWithin};
 ghost use Rattle.runs.specs.inner.Writes.{AreWrittenIn};
 ghost use Rattle.runs.specs.inner.Starts.{IsAtStart};
 ghost use Rattle.runs.specs.inner.Rows.{WritesNextRow, IsNextRowFault};
 ghost use Rattle.runs.specs.Runs.{TellsOfFailing, ComesOnceAccepted};
 ghost use Rattle.runs.specs.Comparisons.{lines_upto, lines_of_modes, IsFaultInRounds, IsFaultInModes, IsCompared, IsCompareFault};
+ghost use Rattle.model.specs.Runs.{AreWorkers};
 
 use crate::runs::{Opened, begin, check_input};
-use bench_types::limits::MOST_WORKERS;
 use bench_types::{Fault, Mode, Sink, Source};
 use model::MemoryTable;
 use report::{compare_header, write_compare_row};
@@ -37,7 +35,7 @@ pub fn compare<H: Threads + Wait + Sync, R: Source, W: Sink>(
     writer: &mut W,
     workers: u32,
 ) -> Result<(), Fault>
-    requires workers { IsWithin 1 MOST_WORKERS workers }
+    requires workers { AreWorkers workers }
     ensures compared { OnOk result (IsCompared R.Source reader.old reader.new W.Sink writer.old writer.new) }
     ensures fault { IfErr result (IsCompareFault R.Source reader.old reader.new W.Sink writer.old writer.new workers) }
     ensures checked_first { IfErr result (ComesOnceAccepted R.Source reader.old reader.new) }
@@ -57,7 +55,7 @@ fn write_modes<L: Written + Send + Sync, H: Threads + Wait + Sync, W: Sink>(
     writer: &mut W,
     workers: u32,
 ) -> Result<(), Fault>
-    requires workers { IsWithin 1 MOST_WORKERS workers }
+    requires workers { AreWorkers workers }
     requires written { AreWrittenIn L.lists scenario }
     requires sound { W.failed writer.old ≡ false }
     requires flushed { W.flushed writer.old ≡ true }
@@ -84,7 +82,7 @@ fn write_all_rounds<L: Written + Send + Sync, H: Threads + Wait + Sync, W: Sink>
     writer: &mut W,
     workers: u32,
 ) -> Result<Scenario, Fault>
-    requires workers { IsWithin 1 MOST_WORKERS workers }
+    requires workers { AreWorkers workers }
     requires written { AreWrittenIn L.lists scenario }
     requires sound { W.failed writer.old ≡ false }
     requires flushed { W.flushed writer.old ≡ true }
@@ -113,7 +111,7 @@ fn write_rows<
     writer: &mut W,
     workers: u32,
 ) -> Result<Scenario, Fault>
-    requires workers { IsWithin 1 MOST_WORKERS workers }
+    requires workers { AreWorkers workers }
     requires start { IsAtStart sim }
     requires mode { mode ≡ sim.settings.mode }
     requires sound { W.failed writer.old ≡ false }
@@ -143,7 +141,7 @@ fn write_row<
     writer: &mut W,
     workers: u32,
 ) -> Result<(), Fault>
-    requires workers { IsWithin 1 MOST_WORKERS workers }
+    requires workers { AreWorkers workers }
     ensures written { OnOk result (WritesNextRow T.table sim.old sim.new W.Sink writer.old writer.new mode) }
     ensures fault { IfErr result (IsNextRowFault T.table sim.old sim.new W.Sink writer.old writer.new mode workers) }
 {

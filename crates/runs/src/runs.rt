@@ -1,17 +1,17 @@
 //! A whole run, from bytes to bytes.
 
 ghost use Rattle.std.specs.Prelude.{◌≡◌, ◌≤◌, true, false, Ok, IfOk, OnOk, IfErr, IsOkUnless};
-ghost use Rattle.bench_types.specs.declared.limits.TheConstants.{MOST_WORKERS};
 ghost use Rattle.simulation.specs.Simulation.{MayWriteAll};
 ghost use Rattle.runs.specs.Inputs.{IsRead, IsInputFault};
-ghost use Rattle.scenario.specs.Settings.{IsLawfulScenario, IsWithin};
+ghost use Rattle.scenario.specs.Settings.{IsLawfulScenario};
 ghost use Rattle.runs.specs.inner.Writes.{AreWrittenIn, HasWritesBelow};
 ghost use Rattle.runs.specs.inner.Starts.{IsAtStart, IsOpened};
 ghost use Rattle.runs.specs.inner.Rows.{WritesNextTexts, IsNextTextsFault};
 ghost use Rattle.runs.specs.Runs.{AreWritten, IsWritingFault, IsReported, IsRunFault, TellsOfFailing, ComesOnceAccepted};
+ghost use Rattle.model.specs.Runs.{AreWorkers};
 
 use crate::inputs::read_all;
-use bench_types::limits::{MOST_WORKERS, MOST_WRITES};
+use bench_types::limits::MOST_WRITES;
 use bench_types::{Fault, Sink, Source};
 use model::MemoryTable;
 use report::{report_header, trace_header, write_report_row, write_trace_rows};
@@ -41,7 +41,7 @@ pub fn run<H: Threads + Wait + Sync, R: Source, W: Sink, X: Sink>(
     trace: &mut X,
     workers: u32,
 ) -> Result<(), Fault>
-    requires workers { IsWithin 1 MOST_WORKERS workers }
+    requires workers { AreWorkers workers }
     ensures reported { OnOk result
         (IsReported R.Source reader.old reader.new W.Sink writer.old writer.new X.Sink trace.old trace.new) }
     ensures fault { IfErr result
@@ -120,7 +120,7 @@ fn write_run<L: Written + Send + Sync, H: Threads + Wait + Sync, W: Sink, X: Sin
     trace: &mut X,
     workers: u32,
 ) -> Result<(), Fault>
-    requires workers { IsWithin 1 MOST_WORKERS workers }
+    requires workers { AreWorkers workers }
     requires written { AreWrittenIn L.lists scenario }
     ensures written { OnOk result (AreWritten W.Sink writer.old writer.new X.Sink trace.old trace.new scenario) }
     ensures fault { IfErr result
@@ -132,7 +132,7 @@ fn write_run<L: Written + Send + Sync, H: Threads + Wait + Sync, W: Sink, X: Sin
     }
 }
 
-// The texts of a simulation that stands before its first round.
+// The texts of a simulation that stands before its first round, and is let go behind its last.
 fn write_all<
     T: MemoryTable + Send + Sync,
     K: RoundHistories<T>,
@@ -147,7 +147,7 @@ fn write_all<
     trace: &mut X,
     workers: u32,
 ) -> Result<(), Fault>
-    requires workers { IsWithin 1 MOST_WORKERS workers }
+    requires workers { AreWorkers workers }
     requires start { IsAtStart sim }
     ensures written { OnOk result
         (AreWritten W.Sink writer.old writer.new X.Sink trace.old trace.new sim.settings) }
@@ -172,7 +172,7 @@ fn write_texts<
     trace: &mut X,
     workers: u32,
 ) -> Result<(), Fault>
-    requires workers { IsWithin 1 MOST_WORKERS workers }
+    requires workers { AreWorkers workers }
     requires start { IsAtStart sim.old }
     ensures written { OnOk result
         (AreWritten W.Sink writer.old writer.new X.Sink trace.old trace.new sim.old.settings) }
@@ -202,7 +202,7 @@ fn write_round<
     trace: &mut X,
     workers: u32,
 ) -> Result<(), Fault>
-    requires workers { IsWithin 1 MOST_WORKERS workers }
+    requires workers { AreWorkers workers }
     ensures written { OnOk result
         (WritesNextTexts T.table sim.old sim.new W.Sink writer.old writer.new X.Sink trace.old trace.new) }
     ensures fault { IfErr result (IsNextTextsFault T.table sim.old sim.new

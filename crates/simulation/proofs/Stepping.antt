@@ -14,7 +14,7 @@ use Rattle.simulation.specs.Lists.{list_after, lists_after}
 use Rattle.simulation.specs.Outcomes.{figures_in, played_with}
 use Rattle.simulation.specs.Standing.{StandAfterRound}
 use Rattle.std.specs.Prelude.{is_none, IfSome}
-use Rattle.simulation.specs.declared.sims.Cluster.{Cluster}
+use Rattle.simulation.specs.declared.clusters.Cluster.{Cluster}
 use Rattle.simulation.specs.RoundView.{RoundView}
 use Rattle.model.specs.Folds.{Folded}
 use Rattle.bench_types.specs.declared.entries.Entry.{Entry}
@@ -62,7 +62,7 @@ left_after s round before new records first before_is round_was =
     ∙ sym (tables_after-more s (round - 1))
     ∙ ap (tables_after s) next
 
-module _ {T H S : Type 0} (table : T → Table) (lists : H → List OwnerListView) (Ended : H → ℕ → Type 0) (May : ℕ → ℕ → Entry → Type 0) (s : Settings) (rules : Rules) (cluster : Option (Cluster T H S)) (old new : Cluster T H S) (done : ℕ) (so_far : IsInside table lists Ended May s rules cluster done) (is : cluster ≡ Some old) (not_done : done < s.rounds) where
+module _ {T H : Type 0} (table : T → Table) (lists : H → List OwnerListView) (Ended : H → ℕ → Type 0) (May : ℕ → ℕ → Entry → Type 0) (s : Settings) (rules : Rules) (cluster : Option (Cluster T H)) (old new : Cluster T H) (done : ℕ) (so_far : IsInside table lists Ended May s rules cluster done) (is : cluster ≡ Some old) (not_done : done < s.rounds) where
   previous : done ≡ done + 1 - 1
   previous = omega arith
 

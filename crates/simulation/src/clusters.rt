@@ -1,30 +1,144 @@
 //! All nodes' tables and the histories of their owners, and how a round changes them.
 
-ghost use Rattle.std.specs.Prelude.{◌≡◌, ℕ, ◌+◌, ◌-◌, ◌^◌, ◌<◌, ◌≤◌, All, length, map, IfOk, OnOk, IsOkUnless};
+ghost use Rattle.std.specs.Prelude.{◌≡◌, ℕ, ◌+◌, ◌-◌, ◌^◌, ◌<◌, ◌≤◌, All, length, map, IfOk, IfErr, OnOk, IsOkUnless};
 ghost use Rattle.bench_types.specs.declared.faults.Fault.TheVariants.{OutOfMemory};
 ghost use Rattle.bench_types.specs.Entry.{AreNextAfter};
+ghost use Rattle.scenario.specs.Settings.{IsLawfulScenario};
 ghost use Rattle.model.specs.Table.{IsProper};
 ghost use Rattle.model.specs.OwnerListView.{all_writes, written, list_of_owner};
 ghost use Rattle.model.specs.Writes.{AreBornBy};
+ghost use Rattle.model.specs.Tables.{AreProper};
+ghost use Rattle.model.specs.Runs.{AreWorkers, IsPoolFault};
 ghost use Rattle.round_plan.specs.Words.{run_words_of, AreWordsOf};
 ghost use Rattle.round_plan.specs.Writes.{born_in};
-ghost use Rattle.model.specs.Tables.{AreProper};
 ghost use Rattle.round_tables.specs.Histories.{own_list, StandsBeside};
-ghost use Rattle.simulation.specs.Rounds.{opening_tables, after_restart, begun};
+ghost use Rattle.simulation.specs.Rounds.{opening_tables, after_restart, begun, rules_of, tables_after};
 ghost use Rattle.simulation.specs.Simulation.{MayWriteAll};
 ghost use Rattle.simulation.specs.Standing.{IsOwner, StandAfterRound};
+ghost use Rattle.simulation.specs.inner.Insides.{tables_of, HasPlayed};
 ghost use Rattle.simulation.specs.inner.Steps.{begun_table, MayWriteEach, OthersStay, HasWritten, HasRestarted};
 
-use bench_types::Fault;
+use crate::rounds::Round;
 use bench_types::limits::MOST_ROUNDS;
+use bench_types::{Fault, Rules};
 use model::MemoryTable;
-use round_plan::{OwnWrite, ROUND_WORDS, RunWords, forgets_now, restarts_now, writes_by};
+use round_plan::{
+    OwnWrite, ROUND_WORDS, RunWords, forgets_now, restarts_now, round_list_by, writes_by,
+};
 use round_tables::RoundHistories;
 use scenario::Scenario;
 use std::alloc::Global;
+use std::sync::Wait;
+use std::thread::Threads;
+use workers::{Gate, run_list_with};
 
-/// The empty tables of all nodes, in order.
-pub(crate) fn empty_tables<T: MemoryTable, H: RoundHistories<T>>(
+/// What all nodes hold, what each has written, and their words of the last round.
+#[derive(Drop)]
+pub(crate) struct Cluster<T: MemoryTable, H: RoundHistories<T>> {
+    pub(crate) tables: Vec<T>,
+    histories: H,
+    words: RunWords,
+}
+
+impl<T: MemoryTable + Send + Sync, H: RoundHistories<T>> Cluster<T, H> {
+    pub(crate) fn new(alloc: Global, scenario: &Scenario) -> Result<Cluster<T, H>, Fault>
+        ensures tables { IfOk result (λ c. tables_of T.table c ≡ opening_tables scenario.now) }
+        ensures standing { IfOk result
+            (λ c. StandAfterRound scenario.now 0 (tables_of T.table c) (H.lists c.histories)) }
+        ensures ended { IfOk result (λ c. H.has_ended c.histories 0) }
+        ensures words { IfOk result (λ c. c.words ≡ run_words_of scenario.now 0) }
+        ensures only { IsOkUnless result OutOfMemory }
+    {
+        Ok(Cluster {
+            tables: empty_tables::<T, H>(alloc, scenario)?,
+            histories: H::new(alloc, scenario.nodes())?,
+            words: RunWords::new(alloc, scenario)?,
+        })
+    }
+
+    // What a round begins with: its restarts and its writes, by the words of the round.
+    fn begin(&mut self, scenario: &Scenario, round: u32) -> Result<(), Fault>
+        requires first { 1 ≤ round }
+        requires last { round ≤ MOST_ROUNDS }
+        requires within { round ≤ scenario.now.rounds }
+        requires may_write { MayWriteAll H.may_write scenario.now }
+        requires ended { H.has_ended self.old.histories (round - 1) }
+        requires words { self.old.words ≡ run_words_of scenario.now round }
+        requires standing { StandAfterRound scenario.now (round - 1) (tables_of T.table self.old)
+            (H.lists self.old.histories) }
+        ensures standing { OnOk result
+            (StandAfterRound scenario.now round (tables_of T.table self.new) (H.lists self.new.histories)) }
+        ensures tables { OnOk result
+            (tables_of T.table self.new ≡ begun scenario.now round (tables_of T.table self.old)) }
+        ensures ended { OnOk result (H.has_ended self.new.histories round) }
+        ensures words { self.new.words ≡ run_words_of scenario.now round }
+        ensures only { IsOkUnless result OutOfMemory }
+    {
+        begin_round(
+            scenario,
+            &mut self.tables,
+            &mut self.histories,
+            &self.words,
+            round,
+        )
+    }
+
+    /// A round. Where it fails, the tables are given up.
+    pub(crate) fn play<R: Threads + Wait + Sync, G: Gate + Sync>(
+        mut self,
+        rt: &R,
+        alloc: Global,
+        scenario: &Scenario,
+        rules: &Rules,
+        round: u32,
+        workers: u32,
+        gate: &G,
+    ) -> Result<(Cluster<T, H>, Round), Fault>
+        requires workers { AreWorkers workers }
+        requires lawful { IsLawfulScenario scenario.now }
+        requires first { 1 ≤ round }
+        requires within { round ≤ scenario.now.rounds }
+        requires rules { rules.now ≡ rules_of scenario.now }
+        requires may_write { MayWriteAll H.may_write scenario.now }
+        requires ended { H.has_ended self.histories (round - 1) }
+        requires words { self.words ≡ run_words_of scenario.now (round - 1) }
+        requires standing { StandAfterRound scenario.now (round - 1) (tables_of T.table self) (H.lists self.histories) }
+        requires after { tables_of T.table self ≡ tables_after scenario.now (round - 1) }
+        ensures tables { IfOk result (λ p. tables_of T.table p.0 ≡ tables_after scenario.now round) }
+        ensures standing { IfOk result
+            (λ p. StandAfterRound scenario.now round (tables_of T.table p.0) (H.lists p.0.histories)) }
+        ensures ended { IfOk result (λ p. H.has_ended p.0.histories round) }
+        ensures words { IfOk result (λ p. p.0.words ≡ run_words_of scenario.now round) }
+        ensures played { IfOk result (λ p. HasPlayed T.table H.lists scenario.now round self p.0 p.1) }
+        ensures fault { IfErr result (IsPoolFault workers) }
+    {
+        self.words.next_round();
+        self.begin(scenario, round)?;
+        let list = round_list_by(alloc, scenario, round, &self.words)?;
+        let Cluster {
+            tables,
+            histories,
+            words,
+        } = self;
+        histories.stand_ready(round);
+        let (tables, records) = run_list_with(
+            rt, alloc, &histories, &list, tables, workers, gate, rules,
+        )?;
+        let lag = histories.figures(rt, alloc, &tables, round)?;
+        let played = Round::of(round, list, records, lag);
+        Ok((
+            Cluster {
+                tables,
+                histories,
+                words,
+            },
+            played,
+        ))
+    }
+}
+
+// The empty tables of all nodes, in order.
+fn empty_tables<T: MemoryTable, H: RoundHistories<T>>(
     alloc: Global,
     scenario: &Scenario,
 ) -> Result<Vec<T>, Fault>
@@ -41,8 +155,8 @@ pub(crate) fn empty_tables<T: MemoryTable, H: RoundHistories<T>>(
     Ok(tables)
 }
 
-/// What a round begins with: its restarts and its writes, by node.
-pub(crate) fn begin_round<T: MemoryTable, H: RoundHistories<T>>(
+// What a round begins with: its restarts and its writes, by node.
+fn begin_round<T: MemoryTable, H: RoundHistories<T>>(
     scenario: &Scenario,
     tables: &mut [T],
     histories: &mut H,

@@ -1,29 +1,23 @@
 //! A simulation, round by round.
 
-ghost use Rattle.std.specs.Prelude.{◌≡◌, ℕ, ◌+◌, ◌-◌, ◌<◌, ◌≤◌, true, false, [], map, IfOk, IfErr, OnOk, IsOkUnless};
+ghost use Rattle.std.specs.Prelude.{◌≡◌, ◌≤◌, true, false, [], map, IfOk, IfErr, OnOk};
 ghost use Rattle.bench_types.specs.declared.faults.Fault.TheVariants.{OutOfMemory};
-ghost use Rattle.bench_types.specs.declared.limits.TheConstants.{MOST_WORKERS};
 ghost use Rattle.scenario.specs.Settings.{IsLawfulScenario};
-ghost use Rattle.model.specs.Runs.{IsPoolFault};
-ghost use Rattle.round_plan.specs.Words.{run_words_of};
-ghost use Rattle.simulation.specs.Rounds.{opening_tables, begun, round_of, rules_of, tables_after};
-ghost use Rattle.simulation.specs.Standing.{StandAfterRound};
-ghost use Rattle.simulation.specs.inner.Insides.{tables_of, HasPlayed};
+ghost use Rattle.model.specs.Runs.{AreWorkers};
+ghost use Rattle.simulation.specs.Rounds.{opening_tables, rules_of};
 ghost use Rattle.simulation.specs.Simulation.{AreTablesAfter, MayWriteAll, PlaysNext, MayStep, IsRefusedBy, IsStepFault};
 
-use crate::clusters::{begin_round, empty_tables};
+use crate::clusters::Cluster;
 use crate::rounds::Round;
-use bench_types::limits::{MOST_ROUNDS, MOST_WORKERS};
 use bench_types::{Fault, Rules};
 use model::MemoryTable;
-use round_plan::{RunWords, round_list_by};
 use round_tables::{RoundHistories, TakesAll};
 use scenario::Scenario;
 use std::alloc::Global;
 use std::marker::Model;
 use std::sync::Wait;
 use std::thread::Threads;
-use workers::{Gate, run_list_with};
+use workers::Gate;
 
 /// A simulation of a scenario, with tables of one representation or another. A fault within a round breaks
 /// it: its tables are then given up.
@@ -37,7 +31,7 @@ pub struct Sim<T: MemoryTable, H: RoundHistories<T>> {
     rounds_done: u32,
 }
 
-impl<T: MemoryTable + Send + Sync, H: RoundHistories<T>> Model for Sim<T, H> {
+impl<T: MemoryTable, H: RoundHistories<T>> Model for Sim<T, H> {
     ghost use Rattle.simulation.specs.Simulation.{SimView};
     ghost use Rattle.simulation.specs.inner.Insides.{IsInside, simulation_of, simulation_code};
 
@@ -49,14 +43,6 @@ impl<T: MemoryTable + Send + Sync, H: RoundHistories<T>> Model for Sim<T, H> {
 
     ghost invariant = { λ s. IsInside T.table H.lists H.has_ended H.may_write
         s.scenario s.rules s.cluster s.rounds_done };
-}
-
-// What all nodes hold, what each has written, and their words of the last round.
-#[derive(Drop)]
-struct Cluster<T: MemoryTable, H: RoundHistories<T>> {
-    tables: Vec<T>,
-    histories: H,
-    words: RunWords,
 }
 
 impl<T: MemoryTable + Send + Sync, H: TakesAll<T>> Sim<T, H> {
@@ -109,8 +95,7 @@ impl<T: MemoryTable + Send + Sync, H: RoundHistories<T>> Sim<T, H> {
         workers: u32,
         gate: &G,
     ) -> Result<Round, Fault>
-        requires few { 1 ≤ workers }
-        requires many { workers ≤ MOST_WORKERS }
+        requires workers { AreWorkers workers }
         ensures played { IfOk result (PlaysNext T.table self.old self.new) }
         ensures fails { IfErr result (IsStepFault workers self.old self.new) }
     {
@@ -195,104 +180,6 @@ impl<T: MemoryTable + Send + Sync, H: RoundHistories<T>> Sim<T, H> {
         ensures { result ≡ self.now.settings.rounds }
     {
         self.scenario.rounds()
-    }
-}
-
-impl<T: MemoryTable + Send + Sync, H: RoundHistories<T>> Cluster<T, H> {
-    fn new(alloc: Global, scenario: &Scenario) -> Result<Cluster<T, H>, Fault>
-        ensures tables { IfOk result (λ c. tables_of T.table c ≡ opening_tables scenario.now) }
-        ensures standing { IfOk result
-            (λ c. StandAfterRound scenario.now 0 (tables_of T.table c) (H.lists c.histories)) }
-        ensures ended { IfOk result (λ c. H.has_ended c.histories 0) }
-        ensures words { IfOk result (λ c. c.words ≡ run_words_of scenario.now 0) }
-        ensures only { IsOkUnless result OutOfMemory }
-    {
-        Ok(Cluster {
-            tables: empty_tables::<T, H>(alloc, scenario)?,
-            histories: H::new(alloc, scenario.nodes())?,
-            words: RunWords::new(alloc, scenario)?,
-        })
-    }
-
-    // What a round begins with: its restarts and its writes, by the words of the round.
-    fn begin(&mut self, scenario: &Scenario, round: u32) -> Result<(), Fault>
-        requires first { 1 ≤ round }
-        requires last { round ≤ MOST_ROUNDS }
-        requires within { round ≤ scenario.now.rounds }
-        requires may_write { MayWriteAll H.may_write scenario.now }
-        requires ended { H.has_ended self.old.histories (round - 1) }
-        requires words { self.old.words ≡ run_words_of scenario.now round }
-        requires standing { StandAfterRound scenario.now (round - 1) (tables_of T.table self.old)
-            (H.lists self.old.histories) }
-        ensures standing { OnOk result
-            (StandAfterRound scenario.now round (tables_of T.table self.new) (H.lists self.new.histories)) }
-        ensures tables { OnOk result
-            (tables_of T.table self.new ≡ begun scenario.now round (tables_of T.table self.old)) }
-        ensures ended { OnOk result (H.has_ended self.new.histories round) }
-        ensures words { self.new.words ≡ run_words_of scenario.now round }
-        ensures only { IsOkUnless result OutOfMemory }
-    {
-        begin_round(
-            scenario,
-            &mut self.tables,
-            &mut self.histories,
-            &self.words,
-            round,
-        )
-    }
-
-    // A round. Where it fails, the tables are given up.
-    fn play<R: Threads + Wait + Sync, G: Gate + Sync>(
-        mut self,
-        rt: &R,
-        alloc: Global,
-        scenario: &Scenario,
-        rules: &Rules,
-        round: u32,
-        workers: u32,
-        gate: &G,
-    ) -> Result<(Cluster<T, H>, Round), Fault>
-        requires few { 1 ≤ workers }
-        requires many { workers ≤ MOST_WORKERS }
-        requires lawful { IsLawfulScenario scenario.now }
-        requires first { 1 ≤ round }
-        requires within { round ≤ scenario.now.rounds }
-        requires rules { rules.now ≡ rules_of scenario.now }
-        requires may_write { MayWriteAll H.may_write scenario.now }
-        requires ended { H.has_ended self.histories (round - 1) }
-        requires words { self.words ≡ run_words_of scenario.now (round - 1) }
-        requires standing { StandAfterRound scenario.now (round - 1) (tables_of T.table self) (H.lists self.histories) }
-        requires after { tables_of T.table self ≡ tables_after scenario.now (round - 1) }
-        ensures tables { IfOk result (λ p. tables_of T.table p.0 ≡ tables_after scenario.now round) }
-        ensures standing { IfOk result
-            (λ p. StandAfterRound scenario.now round (tables_of T.table p.0) (H.lists p.0.histories)) }
-        ensures ended { IfOk result (λ p. H.has_ended p.0.histories round) }
-        ensures words { IfOk result (λ p. p.0.words ≡ run_words_of scenario.now round) }
-        ensures played { IfOk result (λ p. HasPlayed T.table H.lists scenario.now round self p.0 p.1) }
-        ensures fault { IfErr result (IsPoolFault workers) }
-    {
-        self.words.next_round();
-        self.begin(scenario, round)?;
-        let list = round_list_by(alloc, scenario, round, &self.words)?;
-        let Cluster {
-            tables,
-            histories,
-            words,
-        } = self;
-        histories.stand_ready(round);
-        let (tables, records) = run_list_with(
-            rt, alloc, &histories, &list, tables, workers, gate, rules,
-        )?;
-        let lag = histories.figures(rt, alloc, &tables, round)?;
-        let played = Round::of(round, list, records, lag);
-        Ok((
-            Cluster {
-                tables,
-                histories,
-                words,
-            },
-            played,
-        ))
     }
 }
 

@@ -62,12 +62,12 @@ fn write<N: Number, H: Written>(
 fn stand_ready<N: Number, H: Written>(histories: &Histories<N, H>, round: u32)
     requires ended { histories.now.rounds ≡ round }
     requires written { AreWrittenBy round histories.now.lists }
-    ensures fits { (t : Table) → StandsAmong histories.now.lists t → FitsHistories histories.now t }
+    ensures { (t : Table) → StandsAmong histories.now.lists t → FitsHistories histories.now t }
 {
     let _lists = histories.lists();
 }
 
-impl<N: Number, H: Written + Send + Sync> RoundHistories<VersionTable<N, H>> for Histories<N, H> {
+impl<H: Written + Send + Sync> RoundHistories<VersionTable<u16, H>> for Histories<u16, H> {
     ghost use Rattle.std.specs.Prelude.{◌≡◌};
     ghost use Rattle.version_tables.specs.inner.Histories.{IsWriteUnder};
 
@@ -75,9 +75,9 @@ impl<N: Number, H: Written + Send + Sync> RoundHistories<VersionTable<N, H>> for
 
     ghost has_ended = { λ h round. h.rounds ≡ round };
 
-    ghost may_write = { IsWriteUnder H.lists N.most };
+    ghost may_write = { IsWriteUnder H.lists 65535 };
 
-    fn new(alloc: Global, nodes: u32) -> Result<Histories<N, H>, Fault> {
+    fn new(alloc: Global, nodes: u32) -> Result<Histories<u16, H>, Fault> {
         Histories::new(alloc, nodes)
     }
 
@@ -86,15 +86,15 @@ impl<N: Number, H: Written + Send + Sync> RoundHistories<VersionTable<N, H>> for
         node: u32,
         nodes: u32,
         keys: u32,
-    ) -> Result<VersionTable<N, H>, Fault> {
+    ) -> Result<VersionTable<u16, H>, Fault> {
         VersionTable::new(alloc, node, nodes, keys)
     }
 
-    fn restart(table: &mut VersionTable<N, H>) {
+    fn restart(table: &mut VersionTable<u16, H>) {
         table.forget_others();
     }
 
-    fn forget(&mut self, table: &mut VersionTable<N, H>) {
+    fn forget(&mut self, table: &mut VersionTable<u16, H>) {
         self.begin_generation(table.node());
         table.forget_all();
     }
@@ -105,7 +105,7 @@ impl<N: Number, H: Written + Send + Sync> RoundHistories<VersionTable<N, H>> for
 
     fn write(
         &mut self,
-        table: &mut VersionTable<N, H>,
+        table: &mut VersionTable<u16, H>,
         key: u32,
         value: u32,
         born: u32,
@@ -125,7 +125,72 @@ impl<N: Number, H: Written + Send + Sync> RoundHistories<VersionTable<N, H>> for
         &self,
         rt: &R,
         alloc: Global,
-        tables: &[VersionTable<N, H>],
+        tables: &[VersionTable<u16, H>],
+        round: u32,
+    ) -> Result<Figures, Fault> {
+        figures(rt, alloc, tables, self, round)
+    }
+}
+
+impl<H: Written + Send + Sync> RoundHistories<VersionTable<u32, H>> for Histories<u32, H> {
+    ghost use Rattle.std.specs.Prelude.{◌≡◌};
+    ghost use Rattle.version_tables.specs.inner.Histories.{IsWriteUnder};
+
+    ghost lists = { λ h. h.lists };
+
+    ghost has_ended = { λ h round. h.rounds ≡ round };
+
+    ghost may_write = { IsWriteUnder H.lists 4294967295 };
+
+    fn new(alloc: Global, nodes: u32) -> Result<Histories<u32, H>, Fault> {
+        Histories::new(alloc, nodes)
+    }
+
+    fn empty_table(
+        alloc: Global,
+        node: u32,
+        nodes: u32,
+        keys: u32,
+    ) -> Result<VersionTable<u32, H>, Fault> {
+        VersionTable::new(alloc, node, nodes, keys)
+    }
+
+    fn restart(table: &mut VersionTable<u32, H>) {
+        table.forget_others();
+    }
+
+    fn forget(&mut self, table: &mut VersionTable<u32, H>) {
+        self.begin_generation(table.node());
+        table.forget_all();
+    }
+
+    fn count(&self, owner: u32) -> u32 {
+        count_of(self, owner)
+    }
+
+    fn write(
+        &mut self,
+        table: &mut VersionTable<u32, H>,
+        key: u32,
+        value: u32,
+        born: u32,
+    ) -> Result<(), Fault> {
+        write(table, self, key, value, born)
+    }
+
+    fn end_writes(&mut self, _round: u32) -> Result<(), Fault> {
+        self.end_round()
+    }
+
+    fn stand_ready(&self, round: u32) {
+        stand_ready(self, round);
+    }
+
+    fn figures<R: Threads + Sync>(
+        &self,
+        rt: &R,
+        alloc: Global,
+        tables: &[VersionTable<u32, H>],
         round: u32,
     ) -> Result<Figures, Fault> {
         figures(rt, alloc, tables, self, round)

@@ -14,7 +14,7 @@ impl<N: Number, H: Written> MemoryTable for VersionTable<N, H> {
     ghost table = { table_in H.lists };
 }
 
-impl<N: Number, H: Written + Send + Sync> Exchanging<VersionTable<N, H>> for Histories<N, H> {
+impl<H: Written + Send + Sync> Exchanging<VersionTable<u16, H>> for Histories<u16, H> {
     ghost use Rattle.version_tables.specs.inner.Histories.{FitsHistories};
     ghost use Rattle.version_tables.specs.inner.FitsKept.{fits_stays};
 
@@ -25,8 +25,28 @@ impl<N: Number, H: Written + Send + Sync> Exchanging<VersionTable<N, H>> for His
     fn exchange(
         &self,
         alloc: Global,
-        initiator: &mut VersionTable<N, H>,
-        responder: &mut VersionTable<N, H>,
+        initiator: &mut VersionTable<u16, H>,
+        responder: &mut VersionTable<u16, H>,
+        plan: &Exchange,
+        rules: &Rules,
+    ) -> Result<Record, Fault> {
+        exchange(alloc, self, initiator, responder, plan, rules)
+    }
+}
+
+impl<H: Written + Send + Sync> Exchanging<VersionTable<u32, H>> for Histories<u32, H> {
+    ghost use Rattle.version_tables.specs.inner.Histories.{FitsHistories};
+    ghost use Rattle.version_tables.specs.inner.FitsKept.{fits_stays};
+
+    ghost fits = { FitsHistories };
+
+    ghost stays_fit = { fits_stays };
+
+    fn exchange(
+        &self,
+        alloc: Global,
+        initiator: &mut VersionTable<u32, H>,
+        responder: &mut VersionTable<u32, H>,
         plan: &Exchange,
         rules: &Rules,
     ) -> Result<Record, Fault> {

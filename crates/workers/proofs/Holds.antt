@@ -28,7 +28,7 @@ use Rattle.workers.specs.inner.Workshops.{IsWorkshop}
 use Rattle.workers.specs.inner.Returns.{AreOfList}
 use Rattle.workers.specs.declared.workers.Workshop.{Workshop}
 
-module _ {T G S : Type 0} (table : T → Table) (fits : S → Table → Type 0) (shop : Workshop T G S) (is : IsWorkshop table fits shop) (es : List Exchange) (read : es ≡ shop.list.now.exchanges) (hold : Hold T) (found : IsHoldOf table (plan_of table shop.board.now) hold.index hold) where
+module _ {T G S : Type 0} (table : T → Table) (fits : S → Table → Type 0) (shop : Workshop T S G) (is : IsWorkshop table fits shop) (es : List Exchange) (read : es ≡ shop.list.now.exchanges) (hold : Hold T) (found : IsHoldOf table (plan_of table shop.board.now) hold.index hold) where
   abbrev plan : BoardPlan
   plan = plan_of table shop.board.now
 

@@ -85,7 +85,7 @@ all_ended table plan new v stamps records n size of_seat all ordered left =
     λ i. record { tables = sym left i; records = same i }
 
 -- the board of a workshop was made of its list and these tables
-pub is_workshop : {T G S : Type 0} (table : T → Table) (fits : S → Table → Type 0) (shop : Workshop T G S) (tables : List T) → IsMadeOf table shop.rules.now shop.list.now tables shop.board.now
+pub is_workshop : {T G S : Type 0} (table : T → Table) (fits : S → Table → Type 0) (shop : Workshop T S G) (tables : List T) → IsMadeOf table shop.rules.now shop.list.now tables shop.board.now
     → MayCarryOut (fits shop.shared.now) shop.rules.now shop.list.now.nodes (map table tables) → IsWorkshop table fits shop
 is_workshop table fits shop tables made may = record {
   same_list = ap (λ (p : BoardPlan). p.list) made;

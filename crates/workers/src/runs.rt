@@ -1,13 +1,11 @@
 //! Carrying out the exchanges of a list.
 
 ghost use Rattle.std.specs.Prelude.{◌≤◌, map, IfOk, IfErr};
-ghost use Rattle.model.specs.Runs.{MayCarryOut, AreExchanged, IsPoolFault};
-ghost use Rattle.bench_types.specs.declared.limits.TheConstants.{MOST_WORKERS};
+ghost use Rattle.model.specs.Runs.{AreWorkers, MayCarryOut, AreExchanged, IsPoolFault};
 
 use crate::gates::Gate;
 use crate::in_order::exchange_all;
 use crate::threads::exchange_in_threads;
-use bench_types::limits::MOST_WORKERS;
 use bench_types::{Fault, Record, Rules};
 use model::{Exchanging, MemoryTable, RoundList};
 use std::alloc::Global;
@@ -44,8 +42,7 @@ pub fn run_list_with<
     gate: &G,
     rules: &Rules,
 ) -> Result<(Vec<T>, Vec<Record>), Fault>
-    requires few { 1 ≤ workers }
-    requires many { workers ≤ MOST_WORKERS }
+    requires workers { AreWorkers workers }
     requires tables { MayCarryOut (X.fits shared.now) rules.now list.now.nodes (map T.table tables.items) }
     ensures exchanged { IfOk result
         (λ p. AreExchanged T.table rules.now list.now.exchanges tables.items p.0.items p.1.items) }

@@ -24,7 +24,7 @@ module _ {T W : Type 0} (table : T → Table) (sim sim' : SimView T) (sink : Sin
   IsNextRowFault workers fault =
       (IsStepFault workers sim sim' fault × (new ≡ old))
       ⊎ ((round : RoundView) × PlaysNext table sim sim' round
-        × IsWriteFault sink old new (compare_line sim'.settings.format mode round.row) fault)
+      × IsWriteFault sink old new (compare_line sim'.settings.format mode round.row) fault)
 
 -- the lines of a round in the trace, from what it came to
 abbrev pub lines_of : RoundView → List ℕ
@@ -44,7 +44,7 @@ module _ {T W X : Type 0} (table : T → Table) (sim sim' : SimView T) (sink : S
   IsFaultAfterRound round fault =
       (IsWriteFault sink' old' new' (lines_of round) fault × (new ≡ old))
       ⊎ (IsWritten sink' old' new' (lines_of round)
-        × IsWriteFault sink old new (report_line sim'.settings.format round.row) fault)
+      × IsWriteFault sink old new (report_line sim'.settings.format round.row) fault)
 
   -- it wasn't played, or writing what it came to met this fault
   abbrev pub IsNextTextsFault : ℕ → Fault → Type 0

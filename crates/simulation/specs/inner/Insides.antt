@@ -5,7 +5,7 @@ use Rattle.bench_types.specs.declared.entries.Entry.{Entry}
 use Rattle.bench_types.specs.declared.exchanges.Rules.{Rules}
 use Rattle.scenario.specs.contracts.scenarios.Scenario as scenario
 use Rattle.owner_lists.specs.contracts.lists.OwnerList as owner_list
-use Rattle.simulation.specs.declared.sims.Cluster.{Cluster}
+use Rattle.simulation.specs.declared.clusters.Cluster.{Cluster}
 use Rattle.model.specs.Table.{Table}
 use Rattle.scenario.specs.Settings.{Settings}
 use Rattle.model.specs.OwnerListView.{OwnerListView}
@@ -21,18 +21,18 @@ simulation_code {T} table_code =
     code_by (Settings × (ℕ × (Bool × (List T × List OwnerListView)))) (coded× (scenario.the_row).coded (coded× coded_ℕ (coded× coded_bool (coded× (coded_list table_code) (coded_list (owner_list.the_row).coded))))) (λ s. (s.settings, (s.rounds_done, (s.broken, (s.tables, s.lists))))) (λ p. record { settings = p.0; rounds_done = p.1.0; broken = p.1.1.0; tables = p.1.1.1.0; lists = p.1.1.1.1 }) (λ _. refl)
 
 -- what the nodes hold, and the lists of their writes
-abbrev pub tables_of : {T H S : Type 0} → (T → Table) → Cluster T H S → List Table
+abbrev pub tables_of : {T H : Type 0} → (T → Table) → Cluster T H → List Table
 tables_of table c = map table c.tables.items
 
-abbrev pub tables_held : {T H S : Type 0} → Option (Cluster T H S) → List T
+abbrev pub tables_held : {T H : Type 0} → Option (Cluster T H) → List T
 tables_held (Some c) = c.tables.items
 tables_held None = []
 
-abbrev pub lists_held : {T H S : Type 0} → (H → List OwnerListView) → Option (Cluster T H S) → List OwnerListView
+abbrev pub lists_held : {T H : Type 0} → (H → List OwnerListView) → Option (Cluster T H) → List OwnerListView
 lists_held lists (Some c) = lists c.histories
 lists_held lists None = []
 
-abbrev pub simulation_of : {T H S : Type 0} → (H → List OwnerListView) → Settings → Option (Cluster T H S) → ℕ
+abbrev pub simulation_of : {T H : Type 0} → (H → List OwnerListView) → Settings → Option (Cluster T H) → ℕ
     → SimView T
 simulation_of lists s cluster done = record {
   settings = s;
@@ -50,8 +50,8 @@ pub record IsSimulation {T : Type 0} (table : T → Table) (v : SimView T) : Typ
 
 -- and what lies in it: the scenario's rules, histories of which so many rounds have ended, and the words of the last of
 -- them; the tables may hold what the run writes
-pub record IsInside {T H S : Type 0} (table : T → Table) (lists : H → List OwnerListView) (Ended : H → ℕ → Type 0)
-    (May : ℕ → ℕ → Entry → Type 0) (s : Settings) (rules : Rules) (cluster : Option (Cluster T H S))
+pub record IsInside {T H : Type 0} (table : T → Table) (lists : H → List OwnerListView) (Ended : H → ℕ → Type 0)
+    (May : ℕ → ℕ → Entry → Type 0) (s : Settings) (rules : Rules) (cluster : Option (Cluster T H))
     (done : ℕ) : Type 0 where
   pub simulation : IsSimulation table (simulation_of lists s cluster done)
   pub ended : IfSome cluster (λ c. Ended c.histories done)
@@ -60,7 +60,7 @@ pub record IsInside {T H S : Type 0} (table : T → Table) (lists : H → List O
   pub of_scenario : rules ≡ rules_of s
 
 -- what a round of a cluster answers
-abbrev pub HasPlayed : {T H S : Type 0} → (T → Table) → (H → List OwnerListView) → Settings → ℕ
-    → Cluster T H S → Cluster T H S → RoundView → Type 0
+abbrev pub HasPlayed : {T H : Type 0} → (T → Table) → (H → List OwnerListView) → Settings → ℕ
+    → Cluster T H → Cluster T H → RoundView → Type 0
 HasPlayed table lists s round old new =
     IsPlayedFrom s round (tables_of table old) (tables_of table new) (lists new.histories)

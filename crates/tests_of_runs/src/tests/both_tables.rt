@@ -3,7 +3,6 @@
 
 ghost use Rattle.simulation.specs.Simulation.{MayWriteAll};
 ghost use Rattle.runs.specs.inner.Writes.{AreWrittenIn, HasWritesBelow};
-ghost use Rattle.version_tables.specs.inner.Histories.{IsWriteUnder};
 
 use crate::tests::steps::{begin, step};
 use crate::tests::workers::expect_same_round;
@@ -11,8 +10,9 @@ use bench::{FreeGate, Sim};
 use bench_types::limits::MOST_WRITES;
 use bench_types::{Entry, Fault, Mode};
 use fixtures::changed;
+use model::MemoryTable;
 use node_table::NodeTable;
-use planes::Number;
+use round_tables::RoundHistories;
 use scenario::{Scenario, read};
 use simulation::Sim as SimOf;
 use std::alloc::{AllocError, AllocGlobal, Global};
@@ -21,6 +21,38 @@ use std::process::Abort;
 use std::sync::Wait;
 use std::thread::Threads;
 use version_tables::{Histories, VersionTable, Written};
+
+// What can be read of a table that keeps versions alone.
+trait Versions: MemoryTable + Send + Sync {
+    // Its node, how many nodes and keys there are, and its generation.
+    fn head(&self) -> [u32; 4];
+
+    // The number of the write that is held, 0 for none: of all owners for key 0, then for key 1, and so on.
+    fn numbers(&self, alloc: Global) -> Result<Vec<u32>, AllocError>;
+}
+
+impl<L: Written + Send + Sync> Versions for VersionTable<u16, L> {
+    fn head(&self) -> [u32; 4] {
+        [self.node(), self.nodes(), self.keys(), self.generation()]
+    }
+
+    fn numbers(&self, alloc: Global) -> Result<Vec<u32>, AllocError> {
+        self.cells()
+            .iter()
+            .map(|number: &u16| u32::from(*number))
+            .collect(alloc)
+    }
+}
+
+impl<L: Written + Send + Sync> Versions for VersionTable<u32, L> {
+    fn head(&self) -> [u32; 4] {
+        [self.node(), self.nodes(), self.keys(), self.generation()]
+    }
+
+    fn numbers(&self, alloc: Global) -> Result<Vec<u32>, AllocError> {
+        Vec::from_slice(alloc, self.cells())
+    }
+}
 
 // How many writes each node has made in each of its generations.
 type Counts = Vec<Vec<u32>>;
@@ -71,10 +103,10 @@ fn numbers_of(alloc: Global, counts: &Counts, table: &NodeTable) -> Result<Vec<u
 }
 
 // A table with versions and one with entries hold the same.
-fn expect_same_table<N: Number, L: Written>(
+fn expect_same_table<T: Versions>(
     rt: &(impl Abort + AllocGlobal),
     counts: &Counts,
-    table: &VersionTable<N, L>,
+    table: &T,
     wanted: &NodeTable,
 ) -> Result<(), AllocError> {
     let head = [
@@ -83,20 +115,16 @@ fn expect_same_table<N: Number, L: Written>(
         wanted.keys(),
         wanted.generation(),
     ];
-    assert_eq!(rt; [table.node(), table.nodes(), table.keys(), table.generation()], head);
-    let numbers: Vec<u32> = table
-        .cells()
-        .iter()
-        .map(|number: &N| number.widen())
-        .collect(rt.alloc())?;
+    assert_eq!(rt; table.head(), head);
+    let numbers = table.numbers(rt.alloc())?;
     assert_eq!(rt; numbers, numbers_of(rt.alloc(), counts, wanted)?);
     Ok(())
 }
 
-fn expect_same_tables<N: Number, L: Written>(
+fn expect_same_tables<T: Versions>(
     rt: &(impl Abort + AllocGlobal),
     counts: &Counts,
-    tables: &[VersionTable<N, L>],
+    tables: &[T],
     wanted: &[NodeTable],
 ) -> Result<(), AllocError> {
     assert_eq!(rt; tables.len(), wanted.len());
@@ -111,14 +139,12 @@ fn scenario_of(alloc: Global, text: &str, mode: Mode) -> Result<Scenario, Fault>
     Ok(read(alloc, text.as_bytes())?.with_mode(mode))
 }
 
-// A simulation by tables that keep versions alone.
-type Versions<N, L> = SimOf<VersionTable<N, L>, Histories<N, L>>;
-
-fn begin_with<N: Number, L: Written + Send + Sync>(
+// Its simulation by tables of any representation.
+fn begin_with<T: Versions, H: RoundHistories<T>>(
     alloc: Global,
     scenario: Scenario,
-) -> Result<Versions<N, L>, Fault>
-    requires { MayWriteAll (IsWriteUnder L.lists N.most) scenario }
+) -> Result<SimOf<T, H>, Fault>
+    requires { MayWriteAll H.may_write scenario }
 {
     match SimOf::of(alloc, scenario) {
         Ok(sim) => Ok(sim),
@@ -127,9 +153,9 @@ fn begin_with<N: Number, L: Written + Send + Sync>(
 }
 
 // A round of two simulations, by two workers and by one.
-fn expect_same_step<N: Number, L: Written + Send + Sync>(
+fn expect_same_step<T: Versions, H: RoundHistories<T>>(
     rt: &(impl Threads + Wait + Abort + AllocGlobal + Sync),
-    sim: &mut Versions<N, L>,
+    sim: &mut SimOf<T, H>,
     wanted: &mut Sim,
     counts: &mut Counts,
 ) -> Result<(), Fault> {
@@ -141,9 +167,9 @@ fn expect_same_step<N: Number, L: Written + Send + Sync>(
 }
 
 // All of their rounds.
-fn expect_same_steps<N: Number, L: Written + Send + Sync>(
+fn expect_same_steps<T: Versions, H: RoundHistories<T>>(
     rt: &(impl Threads + Wait + Abort + AllocGlobal + Sync),
-    sim: &mut Versions<N, L>,
+    sim: &mut SimOf<T, H>,
     wanted: &mut Sim,
 ) -> Result<(), Fault> {
     let mut counts = Vec::new(rt.alloc());
@@ -154,14 +180,14 @@ fn expect_same_steps<N: Number, L: Written + Send + Sync>(
 }
 
 // All rounds of a scenario.
-fn expect_same_rounds<N: Number, L: Written + Send + Sync>(
+fn expect_same_rounds<T: Versions, H: RoundHistories<T>>(
     rt: &(impl Threads + Wait + Abort + AllocGlobal + Sync),
     scenario: Scenario,
     twin: Scenario,
 ) -> Result<(), Fault>
-    requires may_write { MayWriteAll (IsWriteUnder L.lists N.most) scenario }
+    requires may_write { MayWriteAll H.may_write scenario }
 {
-    let mut sim = begin_with::<N, L>(rt.alloc(), scenario)?;
+    let mut sim = begin_with::<T, H>(rt.alloc(), scenario)?;
     let mut wanted = begin(rt.alloc(), twin)?;
     expect_same_steps(rt, &mut sim, &mut wanted)
 }
@@ -184,8 +210,8 @@ fn expect_same_numbers<L: Written + Send + Sync>(
     requires below { HasWritesBelow 65535 scenario }
 {
     match bits {
-        Bits::Sixteen => expect_same_rounds::<u16, L>(rt, scenario, twin),
-        Bits::ThirtyTwo => expect_same_rounds::<u32, L>(rt, scenario, twin),
+        Bits::Sixteen => expect_same_rounds::<VersionTable<u16, L>, Histories<u16, L>>(rt, scenario, twin),
+        Bits::ThirtyTwo => expect_same_rounds::<VersionTable<u32, L>, Histories<u32, L>>(rt, scenario, twin),
     }
 }
 

@@ -1,7 +1,7 @@
 //! Steps with several workers come to what they come to with one.
 
 ghost use Rattle.std.specs.Prelude.{◌≤◌};
-ghost use Rattle.bench_types.specs.declared.limits.TheConstants.{MOST_WORKERS};
+ghost use Rattle.model.specs.Runs.{AreWorkers};
 
 use crate::tests::steps::{sim_of, step};
 use bench::{FreeGate, Round, Sim};
@@ -49,8 +49,7 @@ fn expect_same_steps(
     alone: &mut Sim,
     workers: u32,
 ) -> Result<(), Fault>
-    requires few { 1 ≤ workers }
-    requires many { workers ≤ MOST_WORKERS }
+    requires workers { AreWorkers workers }
 {
     for _ in 0..sim.rounds() {
         let round = sim.step(rt, workers, &FreeGate)?;
@@ -66,8 +65,7 @@ fn expect_same(
     text: &str,
     workers: u32,
 ) -> Result<(), Fault>
-    requires few { 1 ≤ workers }
-    requires many { workers ≤ MOST_WORKERS }
+    requires workers { AreWorkers workers }
 {
     let mut sim = sim_of(rt.alloc(), text)?;
     let mut alone = sim_of(rt.alloc(), text)?;

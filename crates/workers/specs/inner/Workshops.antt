@@ -6,7 +6,7 @@ use Rattle.model.specs.Runs.{MayCarryOut}
 use Rattle.workers.specs.declared.workers.Workshop.{Workshop}
 
 -- the board is of these rules, this list and the tables of its nodes, which fit what they share
-pub record IsWorkshop {T G S : Type 0} (table : T → Table) (fits : S → Table → Type 0) (shop : Workshop T G S) : Type 0 where
+pub record IsWorkshop {T G S : Type 0} (table : T → Table) (fits : S → Table → Type 0) (shop : Workshop T S G) : Type 0 where
   pub same_list : (plan_of table shop.board.now).list ≡ shop.list.now
   pub same_rules : (plan_of table shop.board.now).rules ≡ shop.rules.now
   pub tables : MayCarryOut (fits shop.shared.now) shop.rules.now shop.list.now.nodes

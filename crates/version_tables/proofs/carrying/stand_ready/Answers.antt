@@ -4,8 +4,8 @@ use Rattle.model.specs.OwnerListView.{all_writes}
 use Rattle.version_tables.proofs.Carried.{numbered-all}
 use Rattle.version_tables.proofs.carrying.stand_ready.Goals as goal
 
-pub returns-clause-fits : goal.returns-clause-fits
-returns-clause-fits g c t standing =
+pub returns : goal.returns
+returns g c t standing =
     let lists = c.args.histories.now.lists in
     record {
       proper = standing.proper;

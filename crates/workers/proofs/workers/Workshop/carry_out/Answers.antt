@@ -11,7 +11,7 @@ exchange-requires-clause-tables g c =
 pub exchange-requires-clause-fits : goal.exchange-requires-clause-fits
 exchange-requires-clause-fits g c =
     let shop = c.args.self.now in
-    hold_fits g.T.MemoryTable.table g.X.Exchanging.fits shop c.requires.shop c.exchanges.result.now c.exchanges.ensures.value c.args.hold c.requires.hold c.exchanges.ensures.kept (c.requires.seat.within c.args.hold.index c.requires.held) (g.met.X.Exchanging.stays_fit shop.shared.now)
+    hold_fits g.T.MemoryTable.table g.X.Exchanging.fits shop c.requires.shop c.exchanges.result.now c.exchanges.ensures.value c.args.hold c.requires.hold c.exchanges.ensures.kept (c.requires.seat.within c.args.hold.index c.requires.held) ((g.met.X.Exchanging g.world.𝓛 g.world.𝓜 g.world.𝓡 ((λ s x. x), (λ x. x), (λ x. x), λ x. x)).stays_fit shop.shared.now)
 
 pub put_back-freed-requires-clause-hold : goal.put_back-freed-requires-clause-hold
 put_back-freed-requires-clause-hold g c =

@@ -8,14 +8,14 @@ use Rattle.model.specs.RoundLists.{RoundListView, IsRoundPlan}
 use Rattle.round_plan.specs.Words.{RunWordsView}
 use Rattle.simulation.proofs.Playing.{IsLeft, next_words_of, lawful_budget, is_left, each_begun, nodes_cluster, standing_cluster, one_list_each, one_record_each, round_is, played_is}
 use Rattle.simulation.proofs.Standing.{written_by}
-use Rattle.simulation.proofs.sims.Cluster.play.Given as given
-use Rattle.simulation.proofs.sims.Cluster.play.Goals as goal
+use Rattle.simulation.proofs.clusters.Cluster.play.Given as given
+use Rattle.simulation.proofs.clusters.Cluster.play.Goals as goal
 
 pub begin-requires-clause-last : goal.begin-requires-clause-last
 begin-requires-clause-last g c = omega (arith, c.requires.within, c.requires.lawful.rounds.1)
 
-pub shared-shared-requires-clause-written : goal.shared-shared-requires-clause-written
-shared-shared-requires-clause-written g c = written_by c.args.scenario.now c.args.round _ _ c.in_ok-begin.ensures.standing
+pub stand_ready-requires-clause-written : goal.stand_ready-requires-clause-written
+stand_ready-requires-clause-written g c = written_by c.args.scenario.now c.args.round _ _ c.in_ok-begin.ensures.standing
 
 -- each table stands among the lists as the exchanges begin
 pub run_list_with-requires-clause-tables : goal.run_list_with-requires-clause-tables
@@ -29,7 +29,7 @@ run_list_with-requires-clause-tables g c _ _ = record {
 }
 
 -- the tables as the figures read them, and the lists
-read : (g : given.Over) (c : goal.After-histories-2-1 g) → IsLeft g.T.MemoryTable.table c.args.scenario.now c.args.round c.deref.result.now (g.H.RoundHistories.lists c.begin.new.self.histories)
+read : (g : given.Over) (c : goal.After-deref g) → IsLeft g.T.MemoryTable.table c.args.scenario.now c.args.round c.deref.result.now (g.H.RoundHistories.lists c.begin.new.self.histories)
 read g c =
     subst (λ ts. IsLeft g.T.MemoryTable.table c.args.scenario.now c.args.round ts (g.H.RoundHistories.lists c.begin.new.self.histories)) (sym c.deref.ensures.value)
     (is_left g.T.MemoryTable.table c.args.scenario.now c.args.round c.in_ok-list.list _ _ _ c.in_ok-tables.tables.items c.in_ok-tables.records.items _ c.requires.lawful c.requires.first (subst IsRoundPlan c.list.view_is c.list.invariant) c.in_ok-list.ensures.plan c.requires.rules c.requires.after c.in_ok-begin.ensures.tables c.in_ok-begin.ensures.standing c.in_ok-tables.ensures.exchanged)

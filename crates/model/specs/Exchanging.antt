@@ -1,5 +1,5 @@
 -- An exchange of two tables in memory, whatever their representation is: it makes of the model's tables that they are
--- what an exchange makes of these, or leaves both. Source: this project.
+-- what an exchange makes of these, or both stay. Source: this project.
 use Rattle.std.specs.Prelude.{◌≡◌, ◌<◌}
 use Rattle.bench_types.specs.declared.exchanges.Exchange.{Exchange}
 use Rattle.bench_types.specs.declared.exchanges.Record.{Record}

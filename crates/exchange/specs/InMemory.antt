@@ -1,4 +1,5 @@
--- An exchange of two tables with entries in memory. Source: this project.
+-- An exchange of two tables that have their entries in memory: both become those of the definition, or both stay, with
+-- no less room. Source: this project.
 use Rattle.std.specs.Prelude.{◌≡◌, ◌≤◌, ℕ, Bool, length, if◌then◌else◌}
 use Rattle.bench_types.specs.declared.exchanges.Exchange.{Exchange}
 use Rattle.bench_types.specs.declared.exchanges.Fate.{Fate}

@@ -1,5 +1,6 @@
--- What holds of the tables of all nodes between the exchanges of a list. Source: this project; that copies hold their
--- owners' writes, and in the scuttle modes without a gap, is what the LADIS 2008 paper rests on.
+-- What holds of the tables of all nodes between the exchanges of a list: copies hold nothing but their owners' writes,
+-- in the scuttle modes without a gap, no own part changes, and no mark goes down or is ahead of its owner. Source: the
+-- LADIS 2008 paper, which rests on the first two; the others are this project's.
 use Rattle.std.specs.Prelude.{ℕ, ◌<◌, List, length, All}
 use Rattle.bench_types.specs.declared.exchanges.Exchange.{Exchange}
 use Rattle.bench_types.specs.declared.exchanges.Rules.{Rules}

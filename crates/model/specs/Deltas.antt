@@ -1,4 +1,4 @@
--- A delta: what is sent of the candidates under a budget, in the order sent, and how many are cut.
+-- A delta: what is sent of the candidates under a budget, in the sending order of the mode, and how many are cut.
 -- Source: this project; the word is the LADIS 2008 paper's.
 use Rattle.std.specs.Prelude.{ℕ, ◌≤◌, List}
 use Rattle.std.specs.List.{sum_by}
@@ -11,6 +11,7 @@ use Rattle.model.specs.Candidates.{candidates}
 use Rattle.model.specs.Order.{sending_order}
 use Rattle.model.specs.Picks.{sent, cut_count}
 
+-- what is sent, in the order sent, and how many candidates are cut
 pub record DeltaView : Type 0 where
   pub items : List Item
   pub cut : ℕ
@@ -23,6 +24,7 @@ item_share budget i = share_of budget i.entry
 abbrev pub AreWithin : Budget → List Item → Type 0
 AreWithin budget items = sum_by (item_share budget) items ≤ amount_of budget
 
+-- the delta of these candidates among so many nodes
 abbrev pub delta_of : Mode → ℕ → ℕ → Budget → List Item → DeltaView
 delta_of mode ns s budget cs =
     let order = sending_order mode ns s cs in

@@ -1,7 +1,7 @@
--- What an exchange never does to a table, whatever the mode, rotation, budget and losses are, and what it makes of
--- both tables in a precise mode where nothing is lost or cut.
--- Source: the LADIS 2008 paper, whose reconciliation keeps the entry with the greater version; generations are this
--- project's.
+-- What holds of every exchange, whatever the mode, rotation, budget and losses are: no mark in a table goes down, and
+-- each entry stood in one of the two tables. In a precise mode, where nothing is lost or cut, both sides come to have
+-- what is newer. Source: the LADIS 2008 paper, whose reconciliation keeps the entry with the greater version;
+-- generations are this project's.
 use Rattle.std.specs.Prelude.{◌≡◌, ◌≢◌, ℕ, ◌<◌, ◌⊎◌, ◌==◌, false, max, Some, if◌then◌else◌}
 use Rattle.bench_types.specs.declared.entries.Entry.{Entry}
 use Rattle.bench_types.specs.declared.exchanges.Exchange.{Exchange}
@@ -84,6 +84,7 @@ LosesNothing e = (e.lost1 ≡ false) × (e.lost2 ≡ false) × (e.lost3 ≡ fals
 abbrev pub AllFit : Rules → Table → Table → Type 0
 AllFit rules from to = AreWithin rules.budget (candidates rules.mode from to)
 
+-- where no message is lost, a budget for all candidates of both sides cuts nothing
 abbrev pub EnoughBudgetCutsNothing : Type 0
 EnoughBudgetCutsNothing =
     (rules : Rules) (e : Exchange) (p q : Table) → LosesNothing e → AllFit rules q p → AllFit rules p q

@@ -24,6 +24,7 @@ pub record Exchanged : Type 0 where
 abbrev pub last_fate : Bool → Fate
 last_fate lost = if lost then fate.Lost3 else fate.Ok
 
+-- the fate is that of the first message that is lost
 abbrev pub fate_of : Exchange → Fate
 fate_of e = if e.lost1 then fate.Lost1 else (if e.lost2 then fate.Lost2 else last_fate e.lost3)
 
@@ -76,6 +77,7 @@ responder_after fate.Lost2 q forth = q
 responder_after fate.Lost3 q forth = q
 responder_after fate.Ok q forth = applied q forth.items
 
+-- an exchange of the tables p and q by the rules of a run
 abbrev pub exchanged : Rules → Exchange → Table → Table → Exchanged
 exchanged rules e p q =
     let back = delta_between rules.mode e.rotation rules.budget q p in

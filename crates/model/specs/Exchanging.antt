@@ -1,4 +1,5 @@
--- An exchange of two tables in memory, whatever their representation is. Source: this project.
+-- An exchange of two tables in memory, whatever their representation is: it makes of the model's tables that they are
+-- what an exchange makes of these, or both stay. Source: this project.
 use Rattle.std.specs.Prelude.{◌≡◌, ◌<◌}
 use Rattle.bench_types.specs.declared.exchanges.Exchange.{Exchange}
 use Rattle.bench_types.specs.declared.exchanges.Record.{Record}
@@ -15,6 +16,7 @@ pub record MayBeExchanged (e : Exchange) (initiator responder : Table) : Type 0 
   pub keys : initiator.keys ≡ responder.keys
   pub rotation : e.rotation < initiator.nodes
 
+-- `table` says which of the model's tables one in memory is
 module _ {T : Type 0} (table : T → Table) where
   -- p and q in memory became p' and q' by the exchange, which has this record
   abbrev pub MakesOf : Rules → Exchange → T → T → T → T → Record → Type 0

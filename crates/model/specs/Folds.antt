@@ -23,8 +23,10 @@ exchange_in rules s e =
       records = s.records ++ done.sent ∷ [];
     }
 
+-- the exchanges of a list, in order
 abbrev pub fold_of : Rules → List Table → List Exchange → Folded
 fold_of rules ts es = fold (exchange_in rules) (record { tables = ts; records = [] }) es
 
+-- the tables before the exchange at a place, from 0; past the end those after the last
 abbrev pub tables_before : Rules → List Table → List Exchange → ℕ → List Table
 tables_before rules ts es i = (fold_of rules ts (take i es)).tables

@@ -1,8 +1,9 @@
--- What stays of a table where its node writes nothing: only the owner writes its own state.
--- Source: the LADIS 2008 paper.
+-- Only the owner writes its own state, so where a node writes nothing its own part of its table stays, and with it the
+-- node, the bounds and the generation. Source: the LADIS 2008 paper; generations are this project's.
 use Rattle.std.specs.Prelude.{◌≡◌, ℕ}
 use Rattle.model.specs.Table.{Table, entry_at, greatest_mark}
 
+-- the table was the first and is the second
 pub record KeepsOwn (old new : Table) : Type 0 where
   pub node : new.node ≡ old.node
   pub nodes : new.nodes ≡ old.nodes

@@ -1,4 +1,4 @@
--- A round's list: its exchanges in order, among so many nodes, and how many nodes are up and reach no peer.
+-- The list of a round: its exchanges in order, each of two nodes, and how many nodes are up and reach no peer.
 -- Source: this project.
 use Rattle.std.specs.Prelude.{ℕ, ◌≤◌, List, length, All}
 use Rattle.bench_types.specs.declared.exchanges.Exchange.{Exchange}
@@ -6,6 +6,7 @@ use Rattle.bench_types.specs.Exchange.{IsPlanned}
 use Rattle.bench_types.specs.declared.limits.TheConstants.{LEAST_NODES, MOST_NODES}
 use Rattle.model.specs.declared.lists.TheConstants.{MOST_EXCHANGES}
 
+-- what contracts see of it, among so many nodes
 pub record RoundListView : Type 0 where
   pub nodes : ℕ
   pub unreached : ℕ
@@ -14,7 +15,7 @@ pub record RoundListView : Type 0 where
 abbrev pub round_list_view : ℕ → ℕ → List Exchange → RoundListView
 round_list_view n u es = record { nodes = n; unreached = u; exchanges = es }
 
--- what each plan of a round keeps
+-- what each list of a round keeps
 pub record IsRoundPlan (p : RoundListView) : Type 0 where
   pub least : LEAST_NODES ≤ p.nodes
   pub most : p.nodes ≤ MOST_NODES

@@ -1,4 +1,5 @@
--- What carrying out a list comes to. Source: this project.
+-- Carrying out a list of exchanges on tables in memory, whatever their representation is: it comes to the tables and
+-- the records of list order, with any number of workers. Source: this project.
 use Rattle.std.specs.Prelude.{◌≡◌, ℕ, ◌<◌, ◌≤◌, ◌⊎◌, List, map}
 use Rattle.bench_types.specs.declared.exchanges.Exchange.{Exchange}
 use Rattle.bench_types.specs.declared.exchanges.Record.{Record}

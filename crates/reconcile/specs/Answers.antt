@@ -1,4 +1,5 @@
--- The delta that answers a digest. Source: this project.
+-- The delta that answers a digest: its candidates are the sender's items above the marks that the digest tells.
+-- Source: this project.
 use Rattle.std.specs.Prelude.{◌≡◌, ℕ, ◌≤◌, List}
 use Rattle.std.specs.List.{sum_by}
 use Rattle.bench_types.specs.declared.entries.Item.{Item}

@@ -1,8 +1,6 @@
--- A digest of a table. In a scuttle mode it gives, for each owner, the greatest mark held, and its size is
--- the number of owners with a positive greatest version; in a precise mode it gives the mark of each owner
--- and key, with the generation held of each owner, and its size is the number of entries held. A copy has one
--- generation, so that is told once for each owner. Source: the LADIS 2008 paper; generations and the sizes are this
--- project's.
+-- What contracts see of a digest, and when it is a table's: in a scuttle mode it tells the greatest mark of each owner,
+-- in a precise one the mark of each key of each owner. A copy has one generation, so a digest tells that once for each
+-- owner. Source: the LADIS 2008 paper; generations are this project's.
 use Rattle.std.specs.Prelude.{◌≡◌, ℕ, ◌+◌, ◌*◌, ◌<◌, ◌==◌, nat_lt, List, count_by, slice_index, if◌then◌else◌}
 use Rattle.std.specs.List.{range_with_len}
 use Rattle.bench_types.specs.declared.entries.Item.{Item}

@@ -1,6 +1,5 @@
--- The plan of a round: its exchanges in order, and how many nodes are up and reach no peer. By ascending initiator,
--- each node that is up begins one exchange with its peer, where that is up too and no partition lies between them.
--- Source: this project.
+-- The list of a round of a scenario: by ascending initiator, each node that is up begins one exchange with its peer,
+-- where that is up too and no partition lies between them. Source: this project.
 use Rattle.std.specs.Prelude.{ℕ, ◌%◌, ◌≤◌, Bool, not, ◌&&◌, nat_lt, List, length, map, All, count_by}
 use Rattle.std.specs.List.{range_with_len, filter}
 use Rattle.bench_types.specs.declared.exchanges.Exchange.{Exchange}
@@ -43,7 +42,7 @@ begins s round node = is_up s node round && reaches s round node
 abbrev pub is_unreached : Settings → ℕ → ℕ → Bool
 is_unreached s round node = is_up s node round && not (reaches s round node)
 
--- the plan of a round of a scenario
+-- the exchanges of a round in order, and how many nodes are up and reach no peer
 abbrev pub round_list_of : Settings → ℕ → RoundListView
 round_list_of s round =
     round_list_view s.nodes (count_by (is_unreached s round) (range_with_len 0 s.nodes))

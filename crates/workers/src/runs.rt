@@ -14,9 +14,8 @@ use std::sync::Wait;
 use std::thread::Threads;
 
 /// Carries out the exchanges of a list on tables of any representation, each between two calls of the gate.
-/// What the tables share is read while it runs. The answer is the tables, by
-/// node, and the records, in list order: those of one thread that goes through the list in order, whatever
-/// order the workers take.
+/// `shared` carries out each of them, and is only read. The answer is the tables, by node, and the records, in
+/// list order: those of one thread that goes through the list in order, whatever order the workers take.
 ///
 /// With one worker no thread is started, and the list is done in order. With more, each is a thread of its
 /// own, also where the list has fewer exchanges, and all have ended when this returns. It waits for them, so

@@ -28,5 +28,5 @@ AreExchanged table rules es old new records =
     fold_of rules (map table old) es ≡ record { tables = map table new; records = records }
 
 -- memory was refused, or one of several threads couldn't be started
-abbrev pub IsPoolFault : ℕ → Fault → Type 0
-IsPoolFault workers fault = (fault ≡ OutOfMemory) ⊎ ((fault ≡ NoThread) × (1 < workers))
+abbrev pub IsFaultOfWorkers : ℕ → Fault → Type 0
+IsFaultOfWorkers workers fault = (fault ≡ OutOfMemory) ⊎ ((fault ≡ NoThread) × (1 < workers))

@@ -4,7 +4,7 @@ ghost use Rattle.std.specs.Prelude.{◌≤◌, IfOk, IfErr};
 ghost use Rattle.bench_types.specs.Budget.{IsLawfulBudget};
 ghost use Rattle.model.specs.Tables.{IsCluster};
 ghost use Rattle.node_table.specs.NodeTableView.{kept_table, tables_in};
-ghost use Rattle.model.specs.Runs.{AreWorkers, AreExchanged, IsPoolFault};
+ghost use Rattle.model.specs.Runs.{AreWorkers, AreExchanged, IsFaultOfWorkers};
 
 use bench_types::{Fault, Record, Rules};
 use exchange::Entries;
@@ -42,7 +42,7 @@ pub fn run_list<R: Threads + Wait + Sync, G: Gate + Sync>(
     requires budget { IsLawfulBudget rules.now.budget }
     ensures exchanged { IfOk result
         (λ p. AreExchanged kept_table rules.now list.now.exchanges tables.items p.0.items p.1.items) }
-    ensures fault { IfErr result (IsPoolFault workers) }
+    ensures fault { IfErr result (IsFaultOfWorkers workers) }
 {
     run_list_with(rt, alloc, &Entries, list, tables, workers, gate, rules)
 }

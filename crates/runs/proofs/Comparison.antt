@@ -11,7 +11,7 @@ use Rattle.bench_types.specs.declared.faults.Fault.{Fault}
 use Rattle.bench_types.specs.declared.sinks.Sink.{Ghosts as Sink}
 use Rattle.bench_types.specs.Mode.{modes}
 use Rattle.model.specs.Table.{Table}
-use Rattle.model.specs.Runs.{IsPoolFault}
+use Rattle.model.specs.Runs.{IsFaultOfWorkers}
 use Rattle.report.specs.Compare.{compare_header_line, compare_line, compare_lines}
 use Rattle.bench_types.specs.Output.{IsWritten, IsWriteFault}
 use Rattle.scenario.specs.Settings.{Settings, with_mode}
@@ -35,7 +35,7 @@ pub record AreRoundsWritten {T W : Type 0} (sink : Sink W) (old now : W) (s : Se
   pub written : IsWritten sink old now (lines_upto s rounds)
 
 -- the next round wasn't played
-pub stops_before : {W : Type 0} (sink : Sink W) (old now : W) (s : Settings) (rounds workers : ℕ) (fault : Fault) → rounds < s.rounds → IsWritten sink old now (lines_upto s rounds) → IsPoolFault workers fault → IsFaultInRounds sink old now [] s workers fault
+pub stops_before : {W : Type 0} (sink : Sink W) (old now : W) (s : Settings) (rounds workers : ℕ) (fault : Fault) → rounds < s.rounds → IsWritten sink old now (lines_upto s rounds) → IsFaultOfWorkers workers fault → IsFaultInRounds sink old now [] s workers fault
 stops_before sink old now s rounds workers fault more written pool = record { rounds = rounds; within = more; stops = inl (pool, written) }
 
 stops_at_step : {T W : Type 0} (sink : Sink W) (old now : W) (s : Settings) (sim sim' : SimView T) (rounds workers : ℕ) (fault : Fault) → AreRoundsWritten sink old now s sim rounds → rounds < s.rounds → IsStepFault workers sim sim' fault → IsFaultInRounds sink old now [] s workers fault

@@ -10,7 +10,7 @@ use Rattle.std.proofs.lemmas.List.FromFn.{map-range_with_len_more}
 use Rattle.bench_types.specs.declared.faults.Fault.{Fault}
 use Rattle.bench_types.specs.declared.sinks.Sink.{Ghosts as Sink}
 use Rattle.model.specs.Table.{Table}
-use Rattle.model.specs.Runs.{IsPoolFault}
+use Rattle.model.specs.Runs.{IsFaultOfWorkers}
 use Rattle.bench_types.specs.Output.{IsWritten, IsWriteFault}
 use Rattle.report.specs.Trace.{trace_header_line, trace_lines}
 use Rattle.report.specs.Report.{report_header_line, report_line, report_lines}
@@ -75,7 +75,7 @@ trace_more s rounds =
     ∙ ap (λ lines. trace_upto s rounds ++ lines) (append-nil (trace_in s (rounds + 1)))
 
 -- where a round is left and none has failed, the fault of a step is that of its workers
-pub step_fault : {T : Type 0} (workers : ℕ) (sim sim' : SimView T) (fault : Fault) → sim.broken ≡ false → sim.rounds_done < sim.settings.rounds → IsStepFault workers sim sim' fault → IsPoolFault workers fault
+pub step_fault : {T : Type 0} (workers : ℕ) (sim sim' : SimView T) (fault : Fault) → sim.broken ≡ false → sim.rounds_done < sim.settings.rounds → IsStepFault workers sim sim' fault → IsFaultOfWorkers workers fault
 step_fault workers sim sim' fault unbroken more stop = elim stop [
   | inl failed ↦ failed.0
   | inr refused ↦ elim refused.0 [

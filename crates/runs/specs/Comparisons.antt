@@ -7,7 +7,7 @@ use Rattle.bench_types.specs.Mode.{modes}
 use Rattle.bench_types.specs.declared.faults.Fault.{Fault}
 use Rattle.bench_types.specs.declared.sinks.Sink.{Ghosts as Sink}
 use Rattle.bench_types.specs.declared.sources.Source.{Ghosts as Source}
-use Rattle.model.specs.Runs.{IsPoolFault}
+use Rattle.model.specs.Runs.{IsFaultOfWorkers}
 use Rattle.report.specs.Compare.{compare_header_line, compare_line, compare_lines}
 use Rattle.bench_types.specs.Output.{IsWritten, IsWriteFault}
 use Rattle.scenario.specs.Settings.{Settings, with_mode}
@@ -33,7 +33,7 @@ comparison_text s = (compare_header_line s.format) ++ lines_of_modes s modes
 -- a text was written, and then the next round wasn't carried out, or writing its line came to this fault
 abbrev pub IsFaultInRound : {W : Type 0} → Sink W → W → W → List ℕ → List ℕ → ℕ → Fault → Type 0
 IsFaultInRound sink old new whole line workers fault =
-    (IsPoolFault workers fault × IsWritten sink old new whole)
+    (IsFaultOfWorkers workers fault × IsWritten sink old new whole)
     ⊎ IsFaultAfter sink old new whole line fault
 
 -- the text `whole` and the lines of the first so many rounds of a scenario were written, and then the next round or its

@@ -8,7 +8,7 @@ use Rattle.bench_types.specs.declared.faults.Fault.{Fault}
 use Rattle.bench_types.specs.declared.faults.Fault.TheVariants.{NoThread, WriteFailed}
 use Rattle.bench_types.specs.declared.sinks.Sink.{Ghosts as Sink}
 use Rattle.bench_types.specs.declared.sources.Source.{Ghosts as Source}
-use Rattle.model.specs.Runs.{IsPoolFault}
+use Rattle.model.specs.Runs.{IsFaultOfWorkers}
 use Rattle.bench_types.specs.Output.{IsWritten, IsWriteFault}
 use Rattle.report.specs.Report.{report_header_line, report_line}
 use Rattle.report.specs.Trace.{trace_header_line}
@@ -47,7 +47,7 @@ module _ {W X : Type 0} (sink : Sink W) (old new : W) (sink' : Sink X) (old' new
       × IsWriteFault sink' old' new' trace_header_line fault
   StopsAt (round_after rounds) =
       (rounds < s.rounds)
-      × IsPoolFault workers fault
+      × IsFaultOfWorkers workers fault
       × IsWritten sink old new (report_upto s rounds)
       × IsWritten sink' old' new' (trace_upto s rounds)
   StopsAt (lines_after rounds) =

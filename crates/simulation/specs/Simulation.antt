@@ -10,7 +10,7 @@ use Rattle.model.specs.OwnerListView.{OwnerListView}
 use Rattle.simulation.specs.RoundView.{RoundView}
 use Rattle.model.specs.Numbers.{write_numbered}
 use Rattle.round_plan.specs.Writes.{written_upto}
-use Rattle.model.specs.Runs.{IsPoolFault}
+use Rattle.model.specs.Runs.{IsFaultOfWorkers}
 use Rattle.simulation.specs.Rounds.{tables_after}
 use Rattle.simulation.specs.Outcomes.{played_of}
 use Rattle.simulation.specs.Soundness.{AreSound, OnlyRestartsLowerMarks}
@@ -54,7 +54,7 @@ MayStep v = (v.broken ≡ false) × (v.rounds_done < v.settings.rounds)
 -- a step that failed with so many workers
 abbrev pub IsFailedBy : {T : Type 0} → ℕ → SimView T → SimView T → Fault → Type 0
 IsFailedBy workers old new fault =
-    IsPoolFault workers fault × MayStep old × (new.broken ≡ true) × (new.settings ≡ old.settings)
+    IsFaultOfWorkers workers fault × MayStep old × (new.broken ≡ true) × (new.settings ≡ old.settings)
     × (new.rounds_done ≡ old.rounds_done)
 
 -- a step that had nothing to do

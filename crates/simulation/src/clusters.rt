@@ -8,7 +8,7 @@ ghost use Rattle.model.specs.Table.{IsProper};
 ghost use Rattle.model.specs.OwnerListView.{all_writes, written, list_of_owner};
 ghost use Rattle.model.specs.Writes.{AreBornBy};
 ghost use Rattle.model.specs.Tables.{AreProper};
-ghost use Rattle.model.specs.Runs.{AreWorkers, IsPoolFault};
+ghost use Rattle.model.specs.Runs.{AreWorkers, IsFaultOfWorkers};
 ghost use Rattle.round_plan.specs.Words.{run_words_of, AreWordsOf};
 ghost use Rattle.round_plan.specs.Writes.{born_in};
 ghost use Rattle.round_tables.specs.Histories.{own_list, StandsBeside};
@@ -110,7 +110,7 @@ impl<T: MemoryTable + Send + Sync, H: RoundHistories<T>> Cluster<T, H> {
         ensures ended { IfOk result (λ p. H.has_ended p.0.histories round) }
         ensures words { IfOk result (λ p. p.0.words ≡ run_words_of scenario.now round) }
         ensures played { IfOk result (λ p. HasPlayed T.table H.lists scenario.now round self p.0 p.1) }
-        ensures fault { IfErr result (IsPoolFault workers) }
+        ensures fault { IfErr result (IsFaultOfWorkers workers) }
     {
         self.words.next_round();
         self.begin(scenario, round)?;

@@ -1,7 +1,7 @@
 //! Carrying out the exchanges of a list.
 
 ghost use Rattle.std.specs.Prelude.{◌≤◌, map, IfOk, IfErr};
-ghost use Rattle.model.specs.Runs.{AreWorkers, MayCarryOut, AreExchanged, IsPoolFault};
+ghost use Rattle.model.specs.Runs.{AreWorkers, MayCarryOut, AreExchanged, IsFaultOfWorkers};
 
 use crate::gates::Gate;
 use crate::in_order::exchange_all;
@@ -45,7 +45,7 @@ pub fn run_list_with<
     requires tables { MayCarryOut (X.fits shared.now) rules.now list.now.nodes (map T.table tables.items) }
     ensures exchanged { IfOk result
         (λ p. AreExchanged T.table rules.now list.now.exchanges tables.items p.0.items p.1.items) }
-    ensures fault { IfErr result (IsPoolFault workers) }
+    ensures fault { IfErr result (IsFaultOfWorkers workers) }
 {
     if workers == 1 {
         let records = exchange_all(alloc, shared, &mut tables, list, gate, rules)?;

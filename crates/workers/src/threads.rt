@@ -4,7 +4,7 @@ ghost use Rattle.std.specs.Prelude.{◌≡◌, ◌+◌, ◌<◌, ◌≤◌, [], 
 ghost use Rattle.bench_types.specs.declared.faults.Fault.TheVariants.{OutOfMemory, NoThread};
 ghost use Rattle.model.specs.Tables.{IsCluster};
 ghost use Rattle.board.specs.Boards.{plan_of, seat_view, IsMadeOf, IsSeatOf};
-ghost use Rattle.model.specs.Runs.{MayCarryOut, AreExchanged, IsPoolFault};
+ghost use Rattle.model.specs.Runs.{MayCarryOut, AreExchanged, IsFaultOfWorkers};
 ghost use Rattle.workers.specs.inner.Returns.{IsFreshSeat, IsReturned};
 ghost use Rattle.workers.specs.inner.Starts.{AreSeveral, MaySplit};
 ghost use Rattle.workers.specs.inner.Workshops.{IsWorkshop};
@@ -57,7 +57,7 @@ pub(crate) fn exchange_in_threads<
     requires tables { MayCarryOut (X.fits shared.now) rules.now list.now.nodes (map T.table tables.items) }
     ensures exchanged { IfOk result
         (λ p. AreExchanged T.table rules.now list.now.exchanges tables.items p.0.items p.1.items) }
-    ensures fault { IfErr result (IsPoolFault workers) }
+    ensures fault { IfErr result (IsFaultOfWorkers workers) }
 {
     let (board, seat, tasks) = begin::<L, T>(alloc, list, tables, workers, rules)?;
     let shop = Workshop {
@@ -131,7 +131,7 @@ fn run_workers<
     requires limit { L.limit ≡ length shop.now.list.now.exchanges }
     requires begin { MaySplit T.table shop.now.board.now seat (vec_len tasks) }
     ensures made { IfOk result (λ p. HasSeenAll T.table shop.now.board.now p.0 p.1.items) }
-    ensures fault { IfErr result (IsPoolFault (vec_len tasks)) }
+    ensures fault { IfErr result (IsFaultOfWorkers (vec_len tasks)) }
 {
     thread::scope(
         thread::scope_env(),
@@ -141,7 +141,7 @@ fn run_workers<
             requires limit { L.limit ≡ length shop.now.list.now.exchanges }
             requires begin { MaySplit T.table shop.now.board.now seat (vec_len tasks) }
             ensures made { IfOk result (λ p. HasSeenAll T.table shop.entry.now.board.now p.0 p.1.items) }
-            ensures fault { IfErr result (IsPoolFault (vec_len tasks)) }
+            ensures fault { IfErr result (IsFaultOfWorkers (vec_len tasks)) }
         { run_in_scope(scope, rt, shop, seat, tasks) },
     )
 }
@@ -166,7 +166,7 @@ fn run_in_scope<
     requires limit { L.limit ≡ length shop.now.list.now.exchanges }
     requires begin { MaySplit T.table shop.now.board.now seat (vec_len tasks) }
     ensures made { IfOk result (λ p. HasSeenAll T.table shop.now.board.now p.0 p.1.items) }
-    ensures fault { IfErr result (IsPoolFault (vec_len tasks)) }
+    ensures fault { IfErr result (IsFaultOfWorkers (vec_len tasks)) }
 {
     let mut handles = Vec::with_capacity(shop.alloc, tasks.len())?;
     let started = start_all(scope, rt, shop, &mut seat, tasks, &mut handles);

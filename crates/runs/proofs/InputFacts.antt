@@ -1,5 +1,5 @@
 -- What a source gave up to a pull, and then by that pull; and what reading a scenario comes to.
--- Serves the functions of `comparing`, `inputs` and `runs` and `Reporting`.
+-- Serves the functions of `comparing`, `inputs` and `runs`.
 use Rattle.std.proofs.Common.{◌≡◌, ◌≢◌, ◌<◌, ◌≤◌, ◌+◌, ◌++◌, ◌∙◌, ℕ, Bool, true, false, List, Option, None, Some, Result, Ok, Err, IfSome, IfOk, IfErr, inl, inr, length, take, arith, ap, refl, sym, subst, length-append}
 use Rattle.std.specs.Prelude.{IsErrAnd, IsSomeAnd, OnOk}
 use Rattle.std.proofs.lemmas.List.{length-take-le}

@@ -1,5 +1,5 @@
 -- What holds of all nodes at the beginning, and still holds after exchanges, restarts and writes.
--- Serves the functions of `clusters` and `sims`, `Playing` and `Soundness`.
+-- Serves the functions of `clusters`, `Playing` and `Soundness`.
 use Rattle.std.proofs.Common.{◌≡◌, ℕ, ◌+◌, ◌-◌, ◌<◌, ◌≤◌, true, false, if◌then◌else◌, All, List, [], ◌∷◌, ◌++◌, length, map, inl, inr, refl, sym, ap, ◌∙◌, subst, arith, length-append}
 use Rattle.std.specs.List.{range_with_len}
 use Rattle.std.specs.Prelude.{Contains}

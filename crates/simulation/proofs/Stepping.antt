@@ -22,7 +22,7 @@ use Rattle.bench_types.specs.declared.exchanges.Record.{Record}
 use Rattle.bench_types.specs.declared.exchanges.Rules.{Rules}
 use Rattle.simulation.specs.Soundness.{AreSound, OnlyRestartsLowerMarks}
 use Rattle.round_plan.specs.Words.{run_words_of}
-use Rattle.simulation.specs.inner.Insides.{IsInside, HasPlayed, simulation_of, tables_held, lists_held}
+use Rattle.simulation.specs.inner.Insides.{IsInside, IsAfterRound, HasPlayed, simulation_of, tables_held, lists_held}
 use Rattle.simulation.specs.Simulation.{PlaysNext}
 use Rattle.round_plan.specs.Plan.{round_list_of}
 use Rattle.simulation.proofs.Soundness.{sound_run, round_rises}
@@ -69,35 +69,22 @@ module _ {T H : Type 0} (table : T → Table) (lists : H → List OwnerListView)
   unbroken : is_none cluster ≡ false
   unbroken = ap is_none is
 
-  -- what a round asks of the one that it begins with
-  pub standing_before : StandAfterRound s (done + 1 - 1) (map table old.tables.items) (lists old.histories)
-  standing_before =
-      subst (λ r. StandAfterRound s r (map table old.tables.items) (lists old.histories)) previous
-      (subst (λ c. StandAfterRound s done (map table (tables_held c)) (lists_held lists c)) is (so_far.simulation.standing unbroken))
-
   before : map table old.tables.items ≡ tables_after s done
   before = ap (λ c. map table (tables_held c)) (sym is) ∙ so_far.simulation.tables unbroken
 
-  pub tables_before : map table old.tables.items ≡ tables_after s (done + 1 - 1)
+  tables_before : map table old.tables.items ≡ tables_after s (done + 1 - 1)
   tables_before = before ∙ ap (tables_after s) previous
 
-  pub ended_before : Ended old.histories (done + 1 - 1)
-  ended_before = subst (Ended old.histories) previous (subst (λ c. IfSome c (λ d. Ended d.histories done)) is so_far.ended)
-
-  pub words_before : old.words ≡ run_words_of s (done + 1 - 1)
-  words_before =
-      subst (λ c. IfSome c (λ d. d.words ≡ run_words_of s done)) is so_far.words ∙ ap (run_words_of s) previous
+  -- what a round asks of the one that it begins with
+  pub after_before : IsAfterRound table lists Ended s (done + 1 - 1) old
+  after_before = subst (λ r. IsAfterRound table lists Ended s r old) previous (record {
+    standing = subst (λ c. StandAfterRound s done (map table (tables_held c)) (lists_held lists c)) is (so_far.simulation.standing unbroken);
+    tables = before;
+    ended = subst (λ c. IfSome c (λ d. Ended d.histories done)) is so_far.ended;
+    words = subst (λ c. IfSome c (λ d. d.words ≡ run_words_of s done)) is so_far.words;
+  })
 
   module _ (standing : StandAfterRound s (done + 1) (map table new.tables.items) (lists new.histories)) (after : map table new.tables.items ≡ tables_after s (done + 1)) where
-    pub step_inside : Ended new.histories (done + 1) → new.words ≡ run_words_of s (done + 1) → IsInside table lists Ended May s rules (Some new) (done + 1)
-    step_inside ended words = record {
-      simulation = record { within = omega (arith, not_done); standing = λ _. standing; tables = λ _. after };
-      ended = ended;
-      words = words;
-      may_write = so_far.may_write;
-      of_scenario = so_far.of_scenario;
-    }
-
     pub step_played : (round : RoundView) → IsLawfulScenario s → HasPlayed table lists s (done + 1) old new round → PlaysNext table (simulation_of lists s cluster done) (simulation_of lists s (Some new) (done + 1)) round
     step_played round lawful played = record {
       unbroken = unbroken;

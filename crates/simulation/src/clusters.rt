@@ -15,8 +15,8 @@ ghost use Rattle.round_tables.specs.Histories.{own_list, StandsBeside};
 ghost use Rattle.simulation.specs.Rounds.{opening_tables, after_restart, begun, rules_of, tables_after};
 ghost use Rattle.simulation.specs.Simulation.{MayWriteAll};
 ghost use Rattle.simulation.specs.Standing.{IsOwner, StandAfterRound};
-ghost use Rattle.simulation.specs.inner.Insides.{tables_of, HasPlayed};
-ghost use Rattle.simulation.specs.inner.Steps.{begun_table, MayWriteEach, OthersStay, HasWritten, HasRestarted};
+ghost use Rattle.simulation.specs.inner.Insides.{tables_of, HasPlayed, IsAfterRound};
+ghost use Rattle.simulation.specs.inner.Steps.{begun_table, IsRoundOf, IsNodeBefore, MayWriteOwn, OthersStay, HasWritten, HasRestarted};
 
 use crate::rounds::Round;
 use bench_types::limits::MOST_ROUNDS;
@@ -42,11 +42,7 @@ pub(crate) struct Cluster<T: MemoryTable, H: RoundHistories<T>> {
 
 impl<T: MemoryTable + Send + Sync, H: RoundHistories<T>> Cluster<T, H> {
     pub(crate) fn new(alloc: Global, scenario: &Scenario) -> Result<Cluster<T, H>, Fault>
-        ensures tables { IfOk result (λ c. tables_of T.table c ≡ opening_tables scenario.now) }
-        ensures standing { IfOk result
-            (λ c. StandAfterRound scenario.now 0 (tables_of T.table c) (H.lists c.histories)) }
-        ensures ended { IfOk result (λ c. H.has_ended c.histories 0) }
-        ensures words { IfOk result (λ c. c.words ≡ run_words_of scenario.now 0) }
+        ensures opens { IfOk result (IsAfterRound T.table H.lists H.has_ended scenario.now 0) }
         ensures only { IsOkUnless result OutOfMemory }
     {
         Ok(Cluster {
@@ -58,10 +54,7 @@ impl<T: MemoryTable + Send + Sync, H: RoundHistories<T>> Cluster<T, H> {
 
     // What a round begins with: its restarts and its writes, by the words of the round.
     fn begin(&mut self, scenario: &Scenario, round: u32) -> Result<(), Fault>
-        requires first { 1 ≤ round }
-        requires last { round ≤ MOST_ROUNDS }
-        requires within { round ≤ scenario.now.rounds }
-        requires may_write { MayWriteAll H.may_write scenario.now }
+        requires round { IsRoundOf H.may_write scenario.now round }
         requires ended { H.has_ended self.old.histories (round - 1) }
         requires words { self.old.words ≡ run_words_of scenario.now round }
         requires standing { StandAfterRound scenario.now (round - 1) (tables_of T.table self.old)
@@ -96,19 +89,10 @@ impl<T: MemoryTable + Send + Sync, H: RoundHistories<T>> Cluster<T, H> {
     ) -> Result<(Cluster<T, H>, Round), Fault>
         requires workers { AreWorkers workers }
         requires lawful { IsLawfulScenario scenario.now }
-        requires first { 1 ≤ round }
-        requires within { round ≤ scenario.now.rounds }
+        requires round { IsRoundOf H.may_write scenario.now round }
         requires rules { rules.now ≡ rules_of scenario.now }
-        requires may_write { MayWriteAll H.may_write scenario.now }
-        requires ended { H.has_ended self.histories (round - 1) }
-        requires words { self.words ≡ run_words_of scenario.now (round - 1) }
-        requires standing { StandAfterRound scenario.now (round - 1) (tables_of T.table self) (H.lists self.histories) }
-        requires after { tables_of T.table self ≡ tables_after scenario.now (round - 1) }
-        ensures tables { IfOk result (λ p. tables_of T.table p.0 ≡ tables_after scenario.now round) }
-        ensures standing { IfOk result
-            (λ p. StandAfterRound scenario.now round (tables_of T.table p.0) (H.lists p.0.histories)) }
-        ensures ended { IfOk result (λ p. H.has_ended p.0.histories round) }
-        ensures words { IfOk result (λ p. p.0.words ≡ run_words_of scenario.now round) }
+        requires before { IsAfterRound T.table H.lists H.has_ended scenario.now (round - 1) self }
+        ensures after { IfOk result (λ p. IsAfterRound T.table H.lists H.has_ended scenario.now round p.0) }
         ensures played { IfOk result (λ p. HasPlayed T.table H.lists scenario.now round self p.0 p.1) }
         ensures fault { IfErr result (IsFaultOfWorkers workers) }
     {
@@ -163,11 +147,8 @@ fn begin_round<T: MemoryTable, H: RoundHistories<T>>(
     words: &RunWords,
     round: u32,
 ) -> Result<(), Fault>
-    requires first { 1 ≤ round }
-    requires last { round ≤ MOST_ROUNDS }
-    requires within { round ≤ scenario.now.rounds }
+    requires round { IsRoundOf H.may_write scenario.now round }
     requires words { words.now ≡ run_words_of scenario.now round }
-    requires may_write { MayWriteAll H.may_write scenario.now }
     requires ended { H.has_ended histories.old (round - 1) }
     requires standing { StandAfterRound scenario.now (round - 1) (map T.table tables.old) (H.lists histories.old) }
     ensures standing { OnOk result
@@ -200,16 +181,10 @@ fn begin_node<T: MemoryTable, H: RoundHistories<T>>(
     words: &[u32; ROUND_WORDS as usize],
     round: u32,
 ) -> Result<(), Fault>
-    requires first { 1 ≤ round }
-    requires last { round ≤ MOST_ROUNDS }
-    requires within { round ≤ scenario.now.rounds }
-    requires node { node < scenario.now.nodes }
+    requires round { IsRoundOf H.may_write scenario.now round }
     requires words { AreWordsOf scenario.now.seed node round words.now }
-    requires may_write { MayWriteAll H.may_write scenario.now }
     requires ended { H.has_ended histories.old (round - 1) }
-    requires lists { length (H.lists histories.old) ≡ scenario.now.nodes }
-    requires owner { IsOwner scenario.now (round - 1) node (T.table table.old)
-        (list_of_owner (H.lists histories.old) node) }
+    requires node { IsNodeBefore scenario.now round node (T.table table.old) (H.lists histories.old) }
     ensures owner { OnOk result
         (IsOwner scenario.now round node (T.table table.new) (list_of_owner (H.lists histories.new) node)) }
     ensures table { OnOk result (T.table table.new ≡ begun_table scenario.now round node (T.table table.old)) }
@@ -232,11 +207,8 @@ fn restart<T: MemoryTable, H: RoundHistories<T>>(
 )
     requires first { 1 ≤ round }
     requires last { round ≤ MOST_ROUNDS }
-    requires node { node < scenario.now.nodes }
     requires ended { H.has_ended histories.old (round - 1) }
-    requires lists { length (H.lists histories.old) ≡ scenario.now.nodes }
-    requires owner { IsOwner scenario.now (round - 1) node (T.table table.old)
-        (list_of_owner (H.lists histories.old) node) }
+    requires node { IsNodeBefore scenario.now round node (T.table table.old) (H.lists histories.old) }
     ensures owner { HasRestarted scenario.now round node (T.table table.new)
         (list_of_owner (H.lists histories.new) node) }
     ensures table { T.table table.new ≡ after_restart scenario.now round node (T.table table.old) }
@@ -260,19 +232,7 @@ fn write_own<T: MemoryTable, H: RoundHistories<T>>(
     requires first { 1 ≤ round }
     requires last { round ≤ MOST_ROUNDS }
     requires ended { H.has_ended histories.old (round - 1) }
-    requires owner { (T.table table.old).node < length (H.lists histories.old) }
-    requires proper { IsProper (T.table table.old) }
-    requires keys { All (λ w. w.key < (T.table table.old).keys) writes.now }
-    requires next { AreNextAfter (T.table table.old).generation
-        (length (own_list (T.table table.old) (H.lists histories.old)).current)
-        (map (born_in round (T.table table.old).generation) writes.now) }
-    requires may { MayWriteEach H.may_write (T.table table.old).node
-        (length (all_writes (H.lists histories.old) (T.table table.old).node))
-        (map (born_in round (T.table table.old).generation) writes.now) }
-    requires fits { length (own_list (T.table table.old) (H.lists histories.old)).current + length writes.now + 1
-        < 2 ^ 32 }
-    requires beside { StandsBeside (T.table table.old) (own_list (T.table table.old) (H.lists histories.old)) }
-    requires born { AreBornBy round (written (own_list (T.table table.old) (H.lists histories.old))) }
+    requires may { MayWriteOwn H.may_write round writes.now (T.table table.old) (H.lists histories.old) }
     ensures written { OnOk result (HasWritten round writes.now (T.table table.old) (T.table table.new)
         (own_list (T.table table.old) (H.lists histories.old)) (own_list (T.table table.old) (H.lists histories.new))) }
     ensures others { OnOk result (OthersStay (T.table table.old).node (H.lists histories.old) (H.lists histories.new)) }

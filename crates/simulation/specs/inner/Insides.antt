@@ -11,7 +11,7 @@ use Rattle.scenario.specs.Settings.{Settings}
 use Rattle.model.specs.OwnerListView.{OwnerListView}
 use Rattle.round_plan.specs.Words.{run_words_of}
 use Rattle.simulation.specs.RoundView.{RoundView}
-use Rattle.simulation.specs.Rounds.{rules_of}
+use Rattle.simulation.specs.Rounds.{rules_of, tables_after}
 use Rattle.simulation.specs.inner.Steps.{IsPlayedFrom}
 use Rattle.simulation.specs.Standing.{StandAfterRound}
 use Rattle.simulation.specs.Simulation.{AreTablesAfter, MayWriteAll, SimView}
@@ -64,3 +64,12 @@ abbrev pub HasPlayed : {T H : Type 0} → (T → Table) → (H → List OwnerLis
     → Cluster T H → Cluster T H → RoundView → Type 0
 HasPlayed table lists s round old new =
     IsPlayedFrom s round (tables_of table old) (tables_of table new) (lists new.histories)
+
+-- a cluster after a round: what its nodes hold and have written is what the definition gives, its histories have ended
+-- the round, and its words are those of the round
+pub record IsAfterRound {T H : Type 0} (table : T → Table) (lists : H → List OwnerListView) (Ended : H → ℕ → Type 0)
+    (s : Settings) (round : ℕ) (c : Cluster T H) : Type 0 where
+  pub standing : StandAfterRound s round (tables_of table c) (lists c.histories)
+  pub tables : tables_of table c ≡ tables_after s round
+  pub ended : Ended c.histories round
+  pub words : c.words ≡ run_words_of s round

@@ -1,10 +1,12 @@
 -- The parts of a step. Source: this project.
-use Rattle.std.specs.Prelude.{◌≡◌, ◌≢◌, ℕ, List, ◌+◌, ◌-◌, ◌<◌, map, ◌++◌, length, slice_index_or}
+use Rattle.std.specs.Prelude.{◌≡◌, ◌≢◌, ℕ, List, ◌+◌, ◌-◌, ◌^◌, ◌<◌, ◌≤◌, map, ◌++◌, length, slice_index_or, All}
 use Rattle.bench_types.specs.declared.entries.Entry.{Entry}
+use Rattle.bench_types.specs.declared.limits.TheConstants.{MOST_ROUNDS}
+use Rattle.bench_types.specs.Entry.{AreNextAfter}
 use Rattle.round_plan.specs.Plan.{round_list_of}
 use Rattle.scenario.specs.Settings.{Settings}
 use Rattle.model.specs.Figures.{figures_of}
-use Rattle.model.specs.OwnerListView.{OwnerListView, written, list_of_owner, lists_in}
+use Rattle.model.specs.OwnerListView.{OwnerListView, written, list_of_owner, lists_in, all_writes}
 use Rattle.simulation.specs.RoundView.{RoundView}
 use Rattle.simulation.specs.Rounds.{round_of, after_restart}
 use Rattle.simulation.specs.Outcomes.{played_with}
@@ -14,7 +16,9 @@ use Rattle.round_plan.specs.declared.owners.OwnWrite.{OwnWrite}
 use Rattle.round_plan.specs.Generations.{generation_upto}
 use Rattle.model.specs.OwnParts.{OwnPartIsLastWrites}
 use Rattle.model.specs.Writes.{AreBornBy}
-use Rattle.simulation.specs.Standing.{IsOwnerOf}
+use Rattle.round_tables.specs.Histories.{own_list, StandsBeside}
+use Rattle.simulation.specs.Simulation.{MayWriteAll}
+use Rattle.simulation.specs.Standing.{IsOwnerOf, IsOwner}
 
 -- and from the tables before it, and the tables and lists after it
 abbrev pub played_from : Settings → ℕ → List Table → List Table → List OwnerListView → RoundView
@@ -32,6 +36,31 @@ begun_table s round n t = with_own_writes (after_restart s round n t) (own_write
 abbrev pub MayWriteEach : (ℕ → ℕ → Entry → Type 0) → ℕ → ℕ → List Entry → Type 0
 MayWriteEach May owner before writes =
     (i : ℕ) (d : Entry) → i < length writes → May owner (before + i + 1) (slice_index_or writes i d)
+
+-- a round of a scenario, of which tables may hold all that is written
+pub record IsRoundOf (May : ℕ → ℕ → Entry → Type 0) (s : Settings) (round : ℕ) : Type 0 where
+  pub first : 1 ≤ round
+  pub last : round ≤ MOST_ROUNDS
+  pub within : round ≤ s.rounds
+  pub may_write : MayWriteAll May s
+
+-- a node's table, and all owners' lists, before a round
+pub record IsNodeBefore (s : Settings) (round n : ℕ) (t : Table) (lists : List OwnerListView) : Type 0 where
+  pub node : n < s.nodes
+  pub one_each : length lists ≡ s.nodes
+  pub owner : IsOwner s (round - 1) n t (list_of_owner lists n)
+
+-- a node may make these writes in a round, one after another
+pub record MayWriteOwn (May : ℕ → ℕ → Entry → Type 0) (round : ℕ) (writes : List OwnWrite) (t : Table)
+    (lists : List OwnerListView) : Type 0 where
+  pub owner : t.node < length lists
+  pub proper : IsProper t
+  pub keys : All (λ w. w.key < t.keys) writes
+  pub next : AreNextAfter t.generation (length (own_list t lists).current) (map (born_in round t.generation) writes)
+  pub may : MayWriteEach May t.node (length (all_writes lists t.node)) (map (born_in round t.generation) writes)
+  pub fits : length (own_list t lists).current + length writes + 1 < 2 ^ 32
+  pub beside : StandsBeside t (own_list t lists)
+  pub born : AreBornBy round (written (own_list t lists))
 
 -- all lists but this owner's stay
 pub record OthersStay (owner : ℕ) (old new : List OwnerListView) : Type 0 where

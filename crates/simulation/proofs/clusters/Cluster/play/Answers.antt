@@ -11,9 +11,6 @@ use Rattle.simulation.proofs.Standing.{written_by}
 use Rattle.simulation.proofs.clusters.Cluster.play.Given as given
 use Rattle.simulation.proofs.clusters.Cluster.play.Goals as goal
 
-pub begin-requires-clause-last : goal.begin-requires-clause-last
-begin-requires-clause-last g c = omega (arith, c.requires.within, c.requires.lawful.rounds.1)
-
 pub stand_ready-requires-clause-written : goal.stand_ready-requires-clause-written
 stand_ready-requires-clause-written g c = written_by c.args.scenario.now c.args.round _ _ c.in_ok-begin.ensures.standing
 
@@ -24,7 +21,7 @@ run_list_with-requires-clause-tables g c _ _ = record {
       subst (λ n. IsCluster n (map g.T.MemoryTable.table c.begin.new.self.tables.items)) (sym (ap (λ (l : RoundListView). l.nodes) c.in_ok-list.ensures.plan))
       (nodes_cluster g.T.MemoryTable.table c.args.scenario.now c.args.round c.begin.new.self.tables.items (g.H.RoundHistories.lists c.begin.new.self.histories) c.in_ok-begin.ensures.standing);
   each_fits = λ n lt.
-      c.stand_ready.ensures _ (each_begun c.args.scenario.now c.args.round _ _ _ c.requires.lawful c.requires.first c.requires.after c.in_ok-begin.ensures.tables c.in_ok-begin.ensures.standing n lt);
+      c.stand_ready.ensures _ (each_begun c.args.scenario.now c.args.round _ _ _ c.requires.lawful c.requires.round.first c.requires.before.tables c.in_ok-begin.ensures.tables c.in_ok-begin.ensures.standing n lt);
   budget = subst (λ (r : Rules). IsLawfulBudget r.budget) (sym c.requires.rules) (lawful_budget c.args.scenario.now.format c.args.scenario.now.budget c.requires.lawful.budget);
 }
 
@@ -32,7 +29,7 @@ run_list_with-requires-clause-tables g c _ _ = record {
 read : (g : given.Over) (c : goal.After-deref g) → IsLeft g.T.MemoryTable.table c.args.scenario.now c.args.round c.deref.result.now (g.H.RoundHistories.lists c.begin.new.self.histories)
 read g c =
     subst (λ ts. IsLeft g.T.MemoryTable.table c.args.scenario.now c.args.round ts (g.H.RoundHistories.lists c.begin.new.self.histories)) (sym c.deref.ensures.value)
-    (is_left g.T.MemoryTable.table c.args.scenario.now c.args.round c.in_ok-list.list _ _ _ c.in_ok-tables.tables.items c.in_ok-tables.records.items _ c.requires.lawful c.requires.first (subst IsRoundPlan c.list.view_is c.list.invariant) c.in_ok-list.ensures.plan c.requires.rules c.requires.after c.in_ok-begin.ensures.tables c.in_ok-begin.ensures.standing c.in_ok-tables.ensures.exchanged)
+    (is_left g.T.MemoryTable.table c.args.scenario.now c.args.round c.in_ok-list.list _ _ _ c.in_ok-tables.tables.items c.in_ok-tables.records.items _ c.requires.lawful c.requires.round.first (subst IsRoundPlan c.list.view_is c.list.invariant) c.in_ok-list.ensures.plan c.requires.rules c.requires.before.tables c.in_ok-begin.ensures.tables c.in_ok-begin.ensures.standing c.in_ok-tables.ensures.exchanged)
 
 pub figures-requires-clause-cluster : goal.figures-requires-clause-cluster
 figures-requires-clause-cluster g c = standing_cluster g.T.MemoryTable.table c.args.scenario.now c.args.round c.deref.result.now _ (read g c).standing
@@ -53,13 +50,12 @@ of-played-requires g c =
 -- what the round leaves
 left : (g : given.Over) (c : goal.After-of-played g) → IsLeft g.T.MemoryTable.table c.args.scenario.now c.args.round c.in_ok-tables.tables.items (g.H.RoundHistories.lists c.begin.new.self.histories)
 left g c =
-    is_left g.T.MemoryTable.table c.args.scenario.now c.args.round c.in_ok-list.list _ _ _ c.in_ok-tables.tables.items c.in_ok-tables.records.items _ c.requires.lawful c.requires.first (subst IsRoundPlan c.list.view_is c.list.invariant) c.in_ok-list.ensures.plan c.requires.rules c.requires.after c.in_ok-begin.ensures.tables c.in_ok-begin.ensures.standing c.in_ok-tables.ensures.exchanged
+    is_left g.T.MemoryTable.table c.args.scenario.now c.args.round c.in_ok-list.list _ _ _ c.in_ok-tables.tables.items c.in_ok-tables.records.items _ c.requires.lawful c.requires.round.first (subst IsRoundPlan c.list.view_is c.list.invariant) c.in_ok-list.ensures.plan c.requires.rules c.requires.before.tables c.in_ok-begin.ensures.tables c.in_ok-begin.ensures.standing c.in_ok-tables.ensures.exchanged
 
-pub returns-clause-tables : goal.returns-clause-tables
-returns-clause-tables g c = (left g c).after
-
-pub returns-clause-standing : goal.returns-clause-standing
-returns-clause-standing g c = (left g c).standing
+pub returns-clause-after : goal.returns-clause-after
+returns-clause-after g c =
+    let is = left g c in
+    record { standing = is.standing; tables = is.after; ended = c.in_ok-begin.ensures.ended; words = c.begin.ensures.words }
 
 pub returns-clause-played : goal.returns-clause-played
 returns-clause-played g c =
@@ -70,7 +66,7 @@ returns-clause-played g c =
     c.of-played.ensures
 
 pub next_round-requires : goal.next_round-requires
-next_round-requires g c = omega (arith, ap (λ (v : RunWordsView). v.round) c.requires.words, c.requires.first, c.requires.within, c.requires.lawful.rounds.1)
+next_round-requires g c = omega (arith, ap (λ (v : RunWordsView). v.round) c.requires.before.words, c.requires.round.first, c.requires.round.within, c.requires.lawful.rounds.1)
 
 pub begin-requires-clause-words : goal.begin-requires-clause-words
-begin-requires-clause-words g c = λ κs out. next_words_of c.args.scenario.now c.args.round c.requires.first _ _ c.next_round.ensures c.requires.words
+begin-requires-clause-words g c = λ κs out. next_words_of c.args.scenario.now c.args.round c.requires.round.first _ _ c.next_round.ensures c.requires.before.words

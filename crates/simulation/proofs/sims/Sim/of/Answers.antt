@@ -1,13 +1,17 @@
 use Rattle.std.proofs.Common.{arith}
-use Rattle.simulation.specs.Rounds.{tables_after}
 use Rattle.simulation.proofs.sims.Sim.of.Goals as goal
 
 pub invariant_of-result : goal.invariant_of-result
-unfolding tables_after
-invariant_of-result g c = record {
-  simulation = record { within = omega arith; standing = λ _. c.in-Ok.ensures.standing; tables = λ _. c.in-Ok.ensures.tables };
-  ended = c.in-Ok.ensures.ended;
-  words = c.in-Ok.ensures.words;
-  may_write = c.requires;
-  of_scenario = c.rules_of.ensures;
-}
+invariant_of-result g c =
+    let opened = c.in-Ok.ensures.opens in
+    record {
+      simulation = record { within = omega arith; standing = λ _. opened.standing; tables = λ _. opened.tables };
+      ended = opened.ended;
+      words = opened.words;
+      may_write = c.requires;
+      of_scenario = c.rules_of.ensures;
+    }
+
+pub returns-in-Ok-clause-empty : goal.returns-in-Ok-clause-empty
+unfolding Rattle.simulation.specs.Rounds.tables_after
+returns-in-Ok-clause-empty g c = c.in-Ok.ensures.opens.tables

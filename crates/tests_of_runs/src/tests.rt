@@ -6,4 +6,4 @@ mod forgetting;
 mod inputs;
 mod steps;
 mod values;
-mod workers;
+mod several_workers;

@@ -6,7 +6,7 @@ mod exchanges;
 mod fixtures;
 mod generations;
 mod listed;
-mod model;
+mod plain_tables;
 mod owner_entries;
 mod records;
 mod stale_copies;

@@ -5,7 +5,7 @@ ghost use Rattle.simulation.specs.Simulation.{MayWriteAll};
 ghost use Rattle.runs.specs.inner.Writes.{AreWrittenIn, HasWritesBelow};
 
 use crate::tests::steps::{begin, step};
-use crate::tests::workers::expect_same_round;
+use crate::tests::several_workers::expect_same_round;
 use bench::{FreeGate, Sim};
 use bench_types::limits::MOST_WRITES;
 use bench_types::{Entry, Fault, Mode};

@@ -4,7 +4,7 @@
 use crate::tests::fixtures::{
     expect_items, expect_mark, expect_number, item, lawful, new_table, next, take,
 };
-use crate::tests::model::{
+use crate::tests::plain_tables::{
     BUDGETS, NODES, Turn, count_before, is_sent, lacked, list_of, small_table,
 };
 use bench_types::{Budget, Item, Mode};

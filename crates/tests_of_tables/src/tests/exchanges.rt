@@ -2,7 +2,7 @@
 
 use crate::tests::deltas::unturned;
 use crate::tests::fixtures::{expect_held, item, lawful, new_table, take, write};
-use crate::tests::model::Turn;
+use crate::tests::plain_tables::Turn;
 use bench_types::{Budget, Exchange, Fate, Fault, Item, Mode, Record, Rules};
 use exchange::exchange;
 use node_table::NodeTable;

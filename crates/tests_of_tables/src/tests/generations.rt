@@ -5,7 +5,7 @@ use crate::tests::fixtures::{
     expect_entries, expect_held, expect_items, expect_mark, expect_number, forget, item, new_table,
     take, write,
 };
-use crate::tests::model::Turn;
+use crate::tests::plain_tables::Turn;
 use bench_types::{Budget, Item, Mark, Mode};
 use node_table::NodeTable;
 use reconcile::Digest;

@@ -2,7 +2,7 @@
 
 use crate::tests::exchanges::{Plan, expect_sent};
 use crate::tests::fixtures::next;
-use crate::tests::model::{
+use crate::tests::plain_tables::{
     BUDGETS, NODES, Turn, expect_listed, is_sent, lacked, list_of, merge, small_table,
 };
 use bench_types::{Fate, Item, Mode};

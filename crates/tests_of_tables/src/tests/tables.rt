@@ -4,7 +4,7 @@ use crate::tests::fixtures::{
     expect_held, expect_mark, expect_number, expect_same, item, items, new_table, next, take,
     try_write, write,
 };
-use crate::tests::model::{expect_listed, merge};
+use crate::tests::plain_tables::{expect_listed, merge};
 use bench_types::{Entry, Item, Mark};
 use node_table::NodeTable;
 use std::alloc::Global;

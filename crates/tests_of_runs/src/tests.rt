@@ -4,6 +4,6 @@ mod both_tables;
 mod failing_ends;
 mod forgetting;
 mod inputs;
+mod several_workers;
 mod steps;
 mod values;
-mod several_workers;

@@ -157,7 +157,7 @@ fn write_all<
     write_texts(rt, alloc, &mut sim, writer, trace, workers)
 }
 
-// Both headers, and all rounds of a simulation that stands before its first.
+// Both headers, and the texts of all rounds.
 fn write_texts<
     T: MemoryTable + Send + Sync,
     K: RoundHistories<T>,

@@ -5,11 +5,10 @@
 mod entry_histories;
 
 pub use entry_histories::EntryHistories;
+use node_table::NodeTable;
 pub use runs::{check_input, compare, read_all, run};
 pub use simulation::{Round, every_run_is_sound};
 pub use workers::{FreeGate, Gate};
-
-use node_table::NodeTable;
 
 /// A simulation over tables with entries.
 pub type Sim = simulation::Sim<NodeTable, EntryHistories>;

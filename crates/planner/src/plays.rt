@@ -17,8 +17,8 @@ use crate::schedules::Schedule;
 use bench_types::{Fault, Record, Rules};
 use dependencies::{Deps, Event};
 use exchange::exchange;
-use node_table::NodeTable;
 use model::RoundList;
+use node_table::NodeTable;
 use std::alloc::Global;
 
 // The tables that a running exchange has taken out.

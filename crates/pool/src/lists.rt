@@ -46,4 +46,3 @@ pub fn run_list<R: Threads + Wait + Sync, G: Gate + Sync>(
 {
     run_list_with(rt, alloc, &Entries, list, tables, workers, gate, rules)
 }
-

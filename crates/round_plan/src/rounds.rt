@@ -7,13 +7,13 @@ ghost use Rattle.round_plan.specs.Words.{run_words_of, AreWordsOf};
 ghost use Rattle.round_plan.specs.inner.Rounds.{AreChosen, IsNodeInRound};
 ghost use Rattle.bench_types.specs.declared.faults.Fault.TheVariants.{OutOfMemory};
 
-use model::RoundList;
 use crate::outages::{is_up, separated};
 use crate::peers::peer_by;
 use crate::run_words::RunWords;
 use crate::words::{ROUND_WORDS, words_of};
 use bench_types::limits::{MOST_LOSS, MOST_ROUNDS};
 use bench_types::{Exchange, Fault};
+use model::RoundList;
 use rayon::prelude::*;
 use scenario::{Rotation, Scenario};
 use std::alloc::{AllocError, Global};

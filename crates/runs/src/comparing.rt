@@ -128,12 +128,7 @@ fn write_rows<
 }
 
 // The next round of a simulation, and its row under this mode.
-fn write_row<
-    T: MemoryTable + Send + Sync,
-    K: RoundHistories<T>,
-    H: Threads + Wait + Sync,
-    W: Sink,
->(
+fn write_row<T: MemoryTable + Send + Sync, K: RoundHistories<T>, H: Threads + Wait + Sync, W: Sink>(
     rt: &H,
     alloc: Global,
     sim: &mut Sim<T, K>,

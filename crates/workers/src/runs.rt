@@ -51,6 +51,8 @@ pub fn run_list_with<
         let records = exchange_all(alloc, shared, &mut tables, list, gate, rules)?;
         Ok((tables, records))
     } else {
-        exchange_in_threads::<Brand, R, T, X, G>(rt, alloc, shared, list, tables, workers, gate, rules)
+        exchange_in_threads::<Brand, R, T, X, G>(
+            rt, alloc, shared, list, tables, workers, gate, rules,
+        )
     }
 }

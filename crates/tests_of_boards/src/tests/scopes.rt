@@ -6,8 +6,8 @@ ghost use Rattle.board.specs.Boards.{exchanges_of, IsSeatOf};
 
 use crate::tests::jobs::Job;
 use crate::tests::small_boards::{ONE_ENTRY, TWICE, expect_owners, list_of};
-use crate::tests::threads::{Worked, together};
 use crate::tests::tables::{Board, Seat};
+use crate::tests::threads::{Worked, together};
 use crate::tests::turns::{expect_next, held};
 use bench_types::Fault;
 use node_table::NodeTable;

@@ -4,8 +4,8 @@
 ghost use Rattle.simulation.specs.Simulation.{MayWriteAll};
 ghost use Rattle.runs.specs.inner.Writes.{AreWrittenIn, HasWritesBelow};
 
-use crate::tests::steps::{begin, step};
 use crate::tests::several_workers::expect_same_round;
+use crate::tests::steps::{begin, step};
 use bench::{FreeGate, Sim};
 use bench_types::limits::MOST_WRITES;
 use bench_types::{Entry, Fault, Mode};
@@ -210,8 +210,12 @@ fn expect_same_numbers<L: Written + Send + Sync>(
     requires below { HasWritesBelow 65535 scenario }
 {
     match bits {
-        Bits::Sixteen => expect_same_rounds::<VersionTable<u16, L>, Histories<u16, L>>(rt, scenario, twin),
-        Bits::ThirtyTwo => expect_same_rounds::<VersionTable<u32, L>, Histories<u32, L>>(rt, scenario, twin),
+        Bits::Sixteen => expect_same_rounds::<VersionTable<u16, L>, Histories<u16, L>>(
+            rt, scenario, twin,
+        ),
+        Bits::ThirtyTwo => expect_same_rounds::<VersionTable<u32, L>, Histories<u32, L>>(
+            rt, scenario, twin,
+        ),
     }
 }
 

@@ -1,14 +1,12 @@
 -- The tables in memory of all nodes, in order: how they are read and written.
 -- Serves `planner` and `staleness`.
-use Rattle.std.proofs.Common.{◌≡◌, ◌≢◌, ℕ, zero, suc, ◌<◌, List, length, map, get_or, set, ap, sym, ◌∙◌, subst, arith}
-use Rattle.std.specs.List.{range_with_len}
+use Rattle.std.proofs.Common.{◌≡◌, ℕ, ◌<◌, List, length, get_or, set, ap, sym, ◌∙◌}
 use Rattle.std.proofs.Math.ListN.{get_or-map}
-use Rattle.std.proofs.lemmas.List.{ext_get_or, get_or_default, get_or-set_same, get_or-set_other, length-map, map-set}
-use Rattle.std.proofs.lemmas.List.FromFn.{get_or-map-range_with_len}
-use Rattle.model.specs.Table.{Table, empty_table}
+use Rattle.std.proofs.lemmas.List.{get_or_default, length-map, map-set}
+use Rattle.model.specs.Table.{empty_table}
 use Rattle.node_table.specs.NodeTableView.{NodeTableView}
 use Rattle.node_table.specs.NodeTableView.{tables_in}
-use Rattle.model.specs.Tables.{table_of_node, IsTableOf, AreTablesInOrder, IsCluster}
+use Rattle.model.specs.Tables.{table_of_node}
 
 abbrev pub no_table : NodeTableView
 no_table = record { table = empty_table 0 0 0; room = 0 }

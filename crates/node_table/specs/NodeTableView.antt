@@ -1,10 +1,10 @@
 -- What contracts see of a node's table in memory: the table, and for how many more owners it has room.
 -- Room is no part of the table: two tables are equal where node, nodes, keys, generation and entries are. Source: this
 -- project.
-use Rattle.std.specs.Prelude.{◌≢◌, ℕ, zero, suc, ◌+◌, ◌≤◌, ◌==◌, ◌&&◌, Bool, List, All, if◌then◌else◌, map}
+use Rattle.std.specs.Prelude.{ℕ, zero, suc, ◌+◌, ◌≤◌, ◌==◌, ◌&&◌, Bool, List, All, if◌then◌else◌, map}
 use Rattle.std.specs.List.{list_any}
 use Rattle.bench_types.specs.declared.entries.Item.{Item}
-use Rattle.model.specs.Table.{Table, greatest_version, IsItemInPlace, MayReceive}
+use Rattle.model.specs.Table.{Table, greatest_version, MayReceive}
 
 pub record NodeTableView : Type 0 where
   pub table : Table

@@ -1,11 +1,9 @@
 -- What a digest tells is what the table holds, and what is sent stood among the candidates.
 -- Serves `delta` and `push_newer`.
-use Rattle.std.proofs.Common.{◌≡◌, ◌≢◌, ℕ, zero, suc, ◌+◌, ◌<◌, Bool, true, false, cond, not, ◌&&◌, eqb, List, [], ◌∷◌, get_or, All, Some, None, Result, IfOk, refl, sym, ap, ◌∙◌, subst}
-use Rattle.std.specs.Prelude.{count_by, filter}
-use Rattle.std.specs.List.{filter_map, range_with_len, cons_option}
-use Rattle.std.specs.declared.cmp.Ordering.{Ordering}
-use Rattle.std.proofs.lemmas.Bool.{eq-eqb, eqb-true}
-use Rattle.std.proofs.lemmas.List.Elements.{All-nil, All-cons, All-head, All-tail}
+use Rattle.std.proofs.Common.{◌≡◌, ◌≢◌, ℕ, ◌<◌, Bool, true, false, cond, not, ◌&&◌, eqb, List, [], ◌∷◌, get_or, All, Result, IfOk, refl, sym, ap, ◌∙◌, subst}
+use Rattle.std.specs.Prelude.{filter}
+use Rattle.std.proofs.lemmas.Bool.{eqb-true}
+use Rattle.std.proofs.lemmas.List.Elements.{All-head, All-tail}
 use Rattle.std.proofs.lemmas.Result.{IfOk-weaker}
 use Rattle.bench_types.specs.declared.exchanges.Budget.{Budget}
 use Rattle.bench_types.specs.Budget.{amount_of}
@@ -23,11 +21,10 @@ use Rattle.model.specs.Table.{IsFor}
 use Rattle.model.proofs.Proper.{items_sound}
 use Rattle.model.specs.Candidates.{items_above, candidates, known_mark}
 use Rattle.reconcile.specs.Digests.{DigestView, ToldVersions, Greatest, Each, kind_told, IsDigestOf, greatest_in, each_in, told_up_to, mark_with, told_generation, told_mark}
-use Rattle.model.specs.Deltas.{DeltaView, item_share, delta_of, delta_between}
+use Rattle.model.specs.Deltas.{DeltaView, item_share, delta_of}
 use Rattle.reconcile.specs.Answers.{answer_of, IsDeltaToReceiver}
 use Rattle.model.specs.Order.{sending_order}
-use Rattle.model.specs.Picks.{at_place, fits, sent}
-use Rattle.model.proofs.Picked.{find_stands}
+use Rattle.model.specs.Picks.{fits}
 use Rattle.model.proofs.Sent.{candidates-in_place, All-sent}
 
 -- two tests that agree on a list keep the same of it

@@ -1,17 +1,12 @@
 -- The delta that answers a digest: its candidates are the sender's items above the marks that the digest tells.
 -- Source: this project.
-use Rattle.std.specs.Prelude.{◌≡◌, ℕ, ◌≤◌, List}
-use Rattle.std.specs.List.{sum_by}
-use Rattle.bench_types.specs.declared.entries.Item.{Item}
+use Rattle.std.specs.Prelude.{◌≡◌, ℕ}
 use Rattle.bench_types.specs.declared.exchanges.Mode.{Mode}
 use Rattle.bench_types.specs.declared.exchanges.Budget.{Budget}
-use Rattle.bench_types.specs.Budget.{amount_of, share_of}
 use Rattle.bench_types.specs.Mode.{digest_kind}
 use Rattle.model.specs.Table.{Table, items_of}
-use Rattle.model.specs.Candidates.{items_above, candidates}
+use Rattle.model.specs.Candidates.{items_above}
 use Rattle.reconcile.specs.Digests.{DigestView, IsDigestOf, told_mark}
-use Rattle.model.specs.Order.{sending_order}
-use Rattle.model.specs.Picks.{sent, cut_count}
 use Rattle.model.specs.Deltas.{DeltaView, delta_of, delta_between}
 
 -- what a table sends to a receiver whose digest this is

@@ -1,14 +1,13 @@
 -- What contracts see of a digest, and when it is a table's: in a scuttle mode it tells the greatest mark of each owner,
 -- in a precise one the mark of each key of each owner. A copy has one generation, so a digest tells that once for each
 -- owner. Source: the LADIS 2008 paper; generations are this project's.
-use Rattle.std.specs.Prelude.{◌≡◌, ℕ, ◌+◌, ◌*◌, ◌<◌, ◌==◌, nat_lt, List, count_by, slice_index, if◌then◌else◌}
-use Rattle.std.specs.List.{range_with_len}
+use Rattle.std.specs.Prelude.{◌≡◌, ℕ, ◌+◌, ◌*◌, ◌<◌, ◌==◌, List, slice_index, if◌then◌else◌}
 use Rattle.bench_types.specs.declared.entries.Item.{Item}
 use Rattle.bench_types.specs.declared.exchanges.DigestKind.{DigestKind}
 use Rattle.bench_types.specs.declared.exchanges.DigestKind.TheVariants as kinds
 use Rattle.bench_types.specs.declared.entries.Mark.{Mark}
 use Rattle.bench_types.specs.Mark.{absent}
-use Rattle.model.specs.Table.{Table, mark_at, greatest_mark, greatest_version, generation_held, count_of}
+use Rattle.model.specs.Table.{Table, mark_at, greatest_mark, generation_held}
 use Rattle.model.specs.Digests.{digest_size}
 
 -- which versions a digest tells: the greatest one of each owner, in order, or that of each key of each owner, owner by

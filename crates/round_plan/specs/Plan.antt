@@ -1,6 +1,6 @@
 -- The list of a round of a scenario: by ascending initiator, each node that is up begins one exchange with its peer,
 -- where that is up too and no partition lies between them. Source: this project.
-use Rattle.std.specs.Prelude.{ℕ, ◌%◌, ◌≤◌, Bool, not, ◌&&◌, nat_lt, List, length, map, All, count_by}
+use Rattle.std.specs.Prelude.{ℕ, ◌%◌, Bool, not, ◌&&◌, nat_lt, map, count_by}
 use Rattle.std.specs.List.{range_with_len, filter}
 use Rattle.bench_types.specs.declared.exchanges.Exchange.{Exchange}
 use Rattle.bench_types.specs.declared.limits.TheConstants.{MOST_LOSS}

@@ -1,9 +1,7 @@
 -- The code of a table's view. Source: this project.
 use Rattle.std.specs.Prelude.{ℕ, refl}
 use Rattle.std.specs.Coded.{Coded, code_by, coded×, coded_ℕ}
-use Rattle.std.specs.FinMap as finite
-use Rattle.bench_types.specs.contracts.entries.Entry as entry
-use Rattle.model.specs.Table.{Held, Table}
+use Rattle.model.specs.Table.{Table}
 use Rattle.node_table.specs.NodeTableView.{NodeTableView}
 use Rattle.model.specs.inner.Codes.{table_code}
 

@@ -1,6 +1,6 @@
 -- How a table lies in memory. Each owner of whom something is held has a block of slots, one for each key; the
 -- front of the block is the owner's row. Blocks don't overlap. Source: this project.
-use Rattle.std.specs.Prelude.{◌≡◌, ◌≢◌, ℕ, ◌+◌, ◌-◌, ◌/◌, ◌<◌, ◌≤◌, ◌==◌, ◌⊎◌, Bool, not, false, List, [], ◌∷◌, Option, None, Some, length, map, take, drop, All, AllPairs, sum_by, slice_index, slice_index_or, vec_len, vec_capacity, if◌then◌else◌}
+use Rattle.std.specs.Prelude.{◌≡◌, ◌≢◌, ℕ, ◌+◌, ◌-◌, ◌/◌, ◌<◌, ◌≤◌, ◌==◌, ◌⊎◌, Bool, not, false, List, [], ◌∷◌, Some, length, map, take, drop, All, AllPairs, sum_by, slice_index, slice_index_or, vec_len, vec_capacity, if◌then◌else◌}
 use Rattle.std.specs.FinMap.{insert}
 use Rattle.std.specs.Ordering.{is_lt}
 use Rattle.bench_types.specs.declared.entries.Entry.{Entry}

@@ -1,6 +1,6 @@
 use Rattle.std.proofs.Common.{◌≡◌, ℕ, length}
 use Rattle.model.specs.OwnerListView.{no_writes, list_of_owner}
-use Rattle.bench.proofs.entry_histories.EntryHistoriesRoundHistories.new.Given as goal
+use Rattle.bench.proofs.entry_histories.EntryHistoriesRoundHistoriesNodeTable.new.Given as goal
 
 abbrev pub invariant-loop : goal.invariant-loop
 invariant-loop l = (length l.lists.items ≡ l.counter) × ((n : ℕ) → list_of_owner l.lists.items n ≡ no_writes)

@@ -1,9 +1,0 @@
-use Rattle.std.proofs.Common.{All, sym, subst}
-use Rattle.model.specs.OwnerListView.{lists_in}
-use Rattle.model.specs.Writes.{AreBornBy}
-use Rattle.bench.proofs.Born.{lists_born}
-use Rattle.bench.proofs.entry_histories.EntryHistoriesRoundHistories.figures.Goals as goal
-
-pub figures-requires-clause-born : goal.figures-requires-clause-born
-figures-requires-clause-born g c κs within =
-    subst (λ ls. All (AreBornBy c.args.round) (lists_in ls)) (sym c.deref.ensures.value) (lists_born c.args.round c.self.inside.lists.items c.requires.written)

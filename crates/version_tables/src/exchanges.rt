@@ -142,8 +142,8 @@ fn take_both<N: Number, H: Written>(
     ensures responder_stays { OnErr result (responder.new ≡ responder.old) }
     ensures only { IsOkUnless result OutOfMemory }
 {
-    let initiator_before = copy_of(alloc, initiator.greatest())?;
-    let responder_before = copy_of(alloc, responder.greatest())?;
+    let initiator_before = Vec::from_slice(alloc, initiator.greatest())?;
+    let responder_before = Vec::from_slice(alloc, responder.greatest())?;
     let came_back = responder.cells();
     take_unless(
         nothing_back,
@@ -204,12 +204,4 @@ fn sent_both<N: Number>(
         forth_cut: forth.cut,
         fate: if lost3 { Fate::Lost3 } else { Fate::Ok },
     }
-}
-
-// The same numbers again.
-fn copy_of<N: Number>(alloc: Global, numbers: &[N]) -> Result<Vec<N>, Fault>
-    ensures numbers { IfOk result (λ v. map N.number v.items ≡ map N.number numbers.now) }
-    ensures only { IsOkUnless result OutOfMemory }
-{
-    Ok(Vec::from_slice(alloc, numbers)?)
 }

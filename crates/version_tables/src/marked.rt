@@ -3,7 +3,7 @@
 ghost use Rattle.std.specs.Prelude.{◌≡◌, ℕ, ◌<◌, ◌≤◌, length, map, IfOk, IsOkUnless};
 ghost use Rattle.bench_types.specs.declared.faults.Fault.TheVariants.{OutOfMemory};
 ghost use Rattle.version_tables.specs.inner.Marked.{HasShapeIn, AreMarked, whole_marks};
-ghost use Rattle.version_tables.specs.inner.Offered.{marks, IsCountOffered, IsOffer, IsTooLarge};
+ghost use Rattle.version_tables.specs.inner.OfferInMemory.{marks, IsCountOffered, IsOffer, IsTooLarge};
 ghost use Rattle.version_tables.specs.inner.Plans.{IsLevel};
 ghost use Rattle.version_tables.specs.inner.RoundLevels.{AreEndsOf};
 

@@ -3,7 +3,7 @@ use Rattle.std.proofs.lemmas.List.{length-map}
 use Rattle.planes.specs.Planes.{cell, total_above}
 use Rattle.version_tables.specs.inner.Deltas.{AreMarksOf}
 use Rattle.version_tables.specs.inner.Marked.{low_list, high_list}
-use Rattle.version_tables.specs.inner.Offered.{marks}
+use Rattle.version_tables.specs.inner.OfferInMemory.{marks}
 use Rattle.version_tables.proofs.RoundMarks.{count-newest}
 use Rattle.version_tables.proofs.Delivered.{offer-is, delta-marks}
 use Rattle.version_tables.proofs.deltas.marks_sent.Goals as goal

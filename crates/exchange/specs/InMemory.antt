@@ -1,16 +1,10 @@
 -- An exchange of two tables that have their entries in memory: both become those of the definition, or both stay, with
 -- no less room. Source: this project.
-use Rattle.std.specs.Prelude.{◌≡◌, ◌≤◌, ℕ, Bool, length, if◌then◌else◌}
+use Rattle.std.specs.Prelude.{◌≡◌, ◌≤◌}
 use Rattle.bench_types.specs.declared.exchanges.Exchange.{Exchange}
-use Rattle.bench_types.specs.declared.exchanges.Fate.{Fate}
-use Rattle.bench_types.specs.declared.exchanges.Fate.TheVariants as fate
 use Rattle.bench_types.specs.declared.exchanges.Record.{Record}
 use Rattle.bench_types.specs.declared.exchanges.Rules.{Rules}
-use Rattle.bench_types.specs.Mode.{digest_kind}
-use Rattle.model.specs.Table.{Table, applied}
 use Rattle.node_table.specs.NodeTableView.{NodeTableView}
-use Rattle.model.specs.Digests.{digest_size}
-use Rattle.model.specs.Deltas.{DeltaView, delta_between}
 use Rattle.model.specs.Exchanged.{exchanged}
 
 -- the tables p and q in memory became p' and q' by the exchange, which has this record

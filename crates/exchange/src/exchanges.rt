@@ -1,20 +1,17 @@
 //! The exchange of an initiator and a responder.
 
-ghost use Rattle.std.specs.Prelude.{◌≡◌, ℕ, ◌^◌, ◌<◌, All, IfOk, OnOk, OnErr, IsOkUnless, false, length};
+ghost use Rattle.std.specs.Prelude.{◌≡◌, ◌^◌, ◌<◌, All, IfOk, OnOk, OnErr, IsOkUnless, false, length};
 ghost use Rattle.bench_types.specs.declared.faults.Fault.TheVariants.{OutOfMemory};
-ghost use Rattle.bench_types.specs.declared.exchanges.Fate.TheVariants as fate;
 ghost use Rattle.bench_types.specs.Budget.{IsLawfulBudget};
 ghost use Rattle.bench_types.specs.Mode.{digest_kind};
 ghost use Rattle.model.specs.Table.{IsFor, MayReceive};
 ghost use Rattle.model.specs.Table.{applied};
 ghost use Rattle.reconcile.specs.Digests.{IsDigestOf, IsOfKind};
-ghost use Rattle.model.specs.Deltas.{DeltaView};
 ghost use Rattle.exchange.specs.inner.Messages.{IsAnswer, MayAnswerEachOther, after_message};
 ghost use Rattle.exchange.specs.InMemory.{IsExchanged, BothTablesStay};
-ghost use Rattle.model.specs.Exchanged.{last_fate, sent_until};
 
-use bench_types::{Exchange, Fate, Fault, Record, Rules};
-use model::sent_before_an_answer;
+use bench_types::{Exchange, Fault, Record, Rules};
+use model::{DeltaCounts, sent_back, sent_before_an_answer, sent_both};
 use node_table::NodeTable;
 use reconcile::{Delta, Digest, delta};
 use std::alloc::Global;
@@ -75,12 +72,16 @@ fn exchange_deltas(
     ensures only { IsOkUnless result OutOfMemory }
 {
     let back = answer(alloc, responder, digest1, initiator.node(), plan, rules)?;
+    let size1 = digest1.size();
+    let size2 = digest2.size();
+    let counts_back = counts_of(&back);
     if plan.lost2 {
-        return Ok(sent_back(digest1, digest2, &back));
+        return Ok(sent_back(size1, size2, counts_back));
     }
     let forth = answer(alloc, initiator, digest2, responder.node(), plan, rules)?;
     take_deltas(initiator, responder, &back, &forth, plan.lost3)?;
-    Ok(sent_both(digest1, digest2, &back, &forth, plan.lost3))
+    let counts_forth = counts_of(&forth);
+    Ok(sent_both(size1, size2, counts_back, counts_forth, plan.lost3))
 }
 
 // Each side takes the delta that came to it. The third message, which has the second delta, may be
@@ -139,35 +140,14 @@ fn answer(
     )
 }
 
-// The record where the second message was lost.
-fn sent_back(digest1: &Digest, digest2: &Digest, back: &Delta) -> Record
-    requires { length back.now.items < 2 ^ 32 }
-    ensures { (forth : DeltaView) → result ≡ sent_until fate.Lost2 digest1.now.size digest2.now.size back.now forth }
+// How many items a delta has, and how many candidates it cut.
+fn counts_of(delta: &Delta) -> DeltaCounts
+    requires { length delta.now.items < 2 ^ 32 }
+    ensures sent { result.sent ≡ length delta.now.items }
+    ensures cut { result.cut ≡ delta.now.cut }
 {
-    Record {
-        digest1: digest1.size(),
-        digest2: digest2.size(),
-        back: back.items().len() as u32,
-        forth: 0,
-        back_cut: back.cut(),
-        forth_cut: 0,
-        fate: Fate::Lost2,
-    }
-}
-
-// The record where all three messages were sent.
-fn sent_both(digest1: &Digest, digest2: &Digest, back: &Delta, forth: &Delta, lost3: bool) -> Record
-    requires back { length back.now.items < 2 ^ 32 }
-    requires forth { length forth.now.items < 2 ^ 32 }
-    ensures { result ≡ sent_until (last_fate lost3) digest1.now.size digest2.now.size back.now forth.now }
-{
-    Record {
-        digest1: digest1.size(),
-        digest2: digest2.size(),
-        back: back.items().len() as u32,
-        forth: forth.items().len() as u32,
-        back_cut: back.cut(),
-        forth_cut: forth.cut(),
-        fate: if lost3 { Fate::Lost3 } else { Fate::Ok },
+    DeltaCounts {
+        sent: delta.items().len() as u32,
+        cut: delta.cut(),
     }
 }

@@ -11,5 +11,5 @@ mod writes;
 
 pub use exchanging::{Exchanging, MemoryTable};
 pub use lists::{MOST_EXCHANGES, RoundList};
-pub use records::sent_before_an_answer;
+pub use records::{DeltaCounts, sent_back, sent_before_an_answer, sent_both};
 pub use writes::Write;

@@ -26,10 +26,10 @@ use Rattle.version_tables.specs.inner.Deltas.{is_taken_at, AreMarksOf}
 use Rattle.version_tables.specs.inner.Histories.{IsWrittenSoFar, FitsHistories}
 use Rattle.version_tables.specs.Laid.{AreNumbers}
 use Rattle.version_tables.specs.inner.Marked.{HasShape, LetAll, ShareLevel, KeepsLow, AreMarked, AreOffered, low_list, high_list}
-use Rattle.version_tables.specs.inner.Offered.{cells_in, low_in, high_in, weights_in, count_in, IsOffer}
+use Rattle.version_tables.specs.inner.OfferInMemory.{cells_in, low_in, high_in, weights_in, count_in, IsOffer}
 use Rattle.version_tables.specs.inner.Offers.{IsHistory, Offers, offered_by, told_by, told_number}
 use Rattle.version_tables.specs.inner.Plans.{weight_on, count_on}
-use Rattle.version_tables.specs.inner.Shares.{lets_through, NumbersDiffer}
+use Rattle.version_tables.specs.inner.LevelMarks.{lets_through, NumbersDiffer}
 use Rattle.version_tables.specs.inner.Taken.{is_taken}
 use Rattle.version_tables.specs.inner.Told.{AreKnown}
 use Rattle.version_tables.specs.inner.Weights.{number_shares, weight_between, one_each}

@@ -16,10 +16,10 @@ use Rattle.version_tables.specs.SentSets.{HasSet, size_in}
 use Rattle.version_tables.specs.inner.Offers.{Offers, IsHistory}
 use Rattle.planes.specs.Planes.{Cells}
 use Rattle.version_tables.specs.inner.Levels.{item_number}
-use Rattle.version_tables.specs.inner.Shares.{lets_through, AreLevelMarks, StopAt, size_through_marks}
+use Rattle.version_tables.specs.inner.LevelMarks.{lets_through, AreLevelMarks, StopAt, size_through_marks}
 use Rattle.version_tables.proofs.Offers.{offered-sum}
 use Rattle.version_tables.proofs.SentSets.{stops_sent, all_sent, set_sent}
-use Rattle.version_tables.proofs.Shares.{marks-stop}
+use Rattle.version_tables.proofs.StopMarks.{marks-stop}
 
 module _ (mode : Mode) (from to : Table) (proper : IsProper from) (lists : ℕ → List Entry) (histories : (owner : ℕ) → IsHistory (lists owner)) (cells : Cells) (low : ℕ → ℕ) (offers : Offers mode from to lists cells low) (rotation : ℕ) (in_nodes : rotation < from.nodes)
     (budget : Budget) (sizes : ℕ → ℕ → ℕ) (sizes_are : (c : Item) → Contains (candidates mode from to) c → item_share budget c ≡ sizes c.owner c.entry.key) where

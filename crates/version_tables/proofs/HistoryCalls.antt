@@ -13,8 +13,8 @@ use Rattle.owner_lists.proofs.Keeping.{writes_more, writes_begun}
 use Rattle.planes.specs.Planes.{HasEach, cell}
 use Rattle.version_tables.specs.inner.Histories.{AreHistories, AreMadeBy, IsBeginning, IsWrittenSoFar, IsWriteUnder}
 use Rattle.version_tables.specs.inner.Offers.{IsHistory, IsNumberedHistory}
-use Rattle.version_tables.specs.inner.Rounds.{AreEnds}
-use Rattle.version_tables.specs.inner.Shares.{IsRoundMark}
+use Rattle.version_tables.specs.inner.RoundEnds.{AreEnds}
+use Rattle.version_tables.specs.inner.LevelMarks.{IsRoundMark}
 use Rattle.version_tables.proofs.Numbers.{write_from-some, numbered-within}
 use Rattle.version_tables.proofs.Offers.{write_from-at}
 

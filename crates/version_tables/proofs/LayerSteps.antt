@@ -9,9 +9,9 @@ use Rattle.planes.specs.Elementwise.{AreChanged}
 use Rattle.bench_types.specs.Sums.{sum_below}
 use Rattle.bench_types.proofs.Sums.{sum_below-same, sum_below-plus, sum_below-le}
 use Rattle.version_tables.specs.declared.weights.Offer.{Offer}
-use Rattle.version_tables.specs.inner.Offered.{cells_in, low_in, high_in, weights_in, weight_in, count_in, IsOffer}
+use Rattle.version_tables.specs.inner.OfferInMemory.{cells_in, low_in, high_in, weights_in, weight_in, count_in, IsOffer}
 use Rattle.version_tables.specs.inner.Plans.{raised, IsNextMark, AreLayersSoFar}
-use Rattle.version_tables.specs.inner.Shares.{IsLayerMark}
+use Rattle.version_tables.specs.inner.LevelMarks.{IsLayerMark}
 use Rattle.version_tables.proofs.Columns.{where_true}
 use Rattle.version_tables.proofs.Layers.{counted-next, layer-stays, layer-next}
 use Rattle.version_tables.proofs.OfferWeights.{offer-weighs_none, offer-counts_none}

@@ -5,7 +5,7 @@ use Rattle.std.proofs.lemmas.Bool.{cases_lt, cases_eq, lt-ltb, le-ltb, le-leb, l
 use Rattle.bench_types.specs.Sums.{sum_below}
 use Rattle.version_tables.specs.inner.Offers.{rank_above}
 use Rattle.planes.specs.Planes.{Cells}
-use Rattle.version_tables.specs.inner.Shares.{IsLayerMark, NumbersDiffer}
+use Rattle.version_tables.specs.inner.LevelMarks.{IsLayerMark, NumbersDiffer}
 use Rattle.planes.specs.Planes.{count_between, IsLeastAbove, HasNoneAbove}
 use Rattle.bench_types.proofs.Sums.{sum_below-le, sum_below-plus}
 use Rattle.bench_types.proofs.Sums.{sum_below-same}

@@ -16,7 +16,7 @@ use Rattle.model.specs.Order.{rank_among, owner_count}
 use Rattle.version_tables.specs.inner.Offers.{Offers, IsHistory, rank_above}
 use Rattle.planes.specs.Planes.{Cells, count_above}
 use Rattle.version_tables.specs.inner.Levels.{item_number}
-use Rattle.version_tables.specs.inner.Shares.{AreLevelMarks, IsLayerMark, IsRunMark, IsRoundMark}
+use Rattle.version_tables.specs.inner.LevelMarks.{AreLevelMarks, IsLayerMark, IsRunMark, IsRoundMark}
 use Rattle.version_tables.proofs.Columns.{rank_among-is, owner_count-is}
 use Rattle.version_tables.proofs.Layers.{layer-upto, layer-above}
 use Rattle.version_tables.proofs.Levels.{candidate-number, candidate-below, candidate-key}

@@ -1,5 +1,5 @@
 -- The order of a mode as levels, turns and numbers.
--- Serves `Columns`, `Delivered`, `LevelMarks`, `Lifts` and `Shares`.
+-- Serves `Columns`, `Delivered`, `LevelMarks`, `Lifts` and `StopMarks`.
 use Rattle.std.proofs.Common.{◌≡◌, ◌≢◌, ℕ, ◌<◌, ◌≤◌, Bool, true, false, List, Some, inl, inr, refl, sym, ap, ◌∙◌, subst, arith}
 use Rattle.std.specs.Prelude.{Contains}
 use Rattle.std.specs.declared.cmp.Ordering.{Ordering}

@@ -1,5 +1,5 @@
 pub mod SentSets
-pub mod TakenSets
+pub mod TakenEntries
 pub mod Grids
 pub mod Offers
 pub mod Numbers
@@ -10,7 +10,7 @@ pub mod MarkedLaws
 pub mod RoundMarks
 pub mod Starts
 pub mod Levels
-pub mod Shares
+pub mod StopMarks
 pub mod Columns
 pub mod Layers
 pub mod LevelMarks
@@ -34,7 +34,7 @@ pub mod WeightLaws
 pub mod OfferWeights
 pub mod LayerSteps
 pub mod TakenNumbers
-pub mod TakenTables
+pub mod TakenByOwner
 pub mod TakenViews
 pub mod RunSteps
 pub mod StopSteps

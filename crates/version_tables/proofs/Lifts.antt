@@ -25,7 +25,7 @@ use Rattle.version_tables.specs.SentSets.{HasSet}
 use Rattle.version_tables.specs.inner.Levels.{comes_first, item_number}
 use Rattle.version_tables.specs.inner.Marked.{HasShape, KeepsLow}
 use Rattle.version_tables.specs.inner.Offers.{IsHistory, Offers, is_lacked}
-use Rattle.version_tables.specs.inner.Shares.{lets_through, AreLevelMarks, StopAt, IsRunMark, size_through_marks}
+use Rattle.version_tables.specs.inner.LevelMarks.{lets_through, AreLevelMarks, StopAt, IsRunMark, size_through_marks}
 use Rattle.version_tables.specs.inner.Taken.{AreSent}
 use Rattle.version_tables.specs.inner.Weights.{share_or_none, number_shares, weight_between, one_each}
 use Rattle.version_tables.proofs.Columns.{where_true, where_none}

@@ -11,7 +11,7 @@ use Rattle.bench_types.proofs.Sums.{sum_below-le}
 use Rattle.version_tables.specs.declared.weights.Offer.{Offer}
 use Rattle.version_tables.specs.declared.weights.Level.{Level}
 use Rattle.version_tables.specs.inner.Marked.{HasShapeIn, KeepsLow, AreMarked, whole_marks}
-use Rattle.version_tables.specs.inner.Offered.{cells_in, low_in, high_in, marks, weight_in, count_in, IsOffer}
+use Rattle.version_tables.specs.inner.OfferInMemory.{cells_in, low_in, high_in, marks, weight_in, count_in, IsOffer}
 use Rattle.version_tables.specs.inner.Plans.{count_on}
 use Rattle.version_tables.specs.inner.Sharing.{AreShared}
 use Rattle.version_tables.specs.inner.Weights.{count_all_between}

@@ -12,7 +12,7 @@ use Rattle.bench_types.specs.declared.limits.TheConstants.{MOST_NODES, MOST_KEYS
 use Rattle.model.specs.Numbers.{write_numbered}
 use Rattle.model.specs.OwnerListView.{all_writes}
 use Rattle.version_tables.specs.declared.weights.Offer.{Offer}
-use Rattle.version_tables.specs.inner.Offered.{cells_in, marks, weights_in, weight_in, count_in, IsOffer}
+use Rattle.version_tables.specs.inner.OfferInMemory.{cells_in, marks, weights_in, weight_in, count_in, IsOffer}
 use Rattle.version_tables.specs.inner.Weights.{share_or_none, one_each}
 use Rattle.version_tables.proofs.Columns.{sum_below-none}
 use Rattle.version_tables.proofs.WeightLaws.{weight_of-none, weight_between-same, weight_between-most, number_share-one, count_all_between-most}

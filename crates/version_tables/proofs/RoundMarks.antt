@@ -14,11 +14,11 @@ use Rattle.bench_types.proofs.Sums.{sum_below-same, sum_below-plus}
 use Rattle.version_tables.specs.declared.weights.Offer.{Offer}
 use Rattle.version_tables.specs.declared.weights.Level.{Level}
 use Rattle.version_tables.specs.inner.Histories.{AreMadeBy}
-use Rattle.version_tables.specs.inner.Offered.{cells_in, low_in, high_in, marks, weights_in, weight_in, count_in, IsOffer}
+use Rattle.version_tables.specs.inner.OfferInMemory.{cells_in, low_in, high_in, marks, weights_in, weight_in, count_in, IsOffer}
 use Rattle.version_tables.specs.inner.Plans.{weight_on, count_on, AreFarther, IsLevel}
 use Rattle.version_tables.specs.inner.RoundLevels.{round_mode, round_at, end_mark, round_mark, AreFewAndEnough, AreRounds}
-use Rattle.version_tables.specs.inner.Rounds.{AreEnds}
-use Rattle.version_tables.specs.inner.Shares.{IsRoundMark}
+use Rattle.version_tables.specs.inner.RoundEnds.{AreEnds}
+use Rattle.version_tables.specs.inner.LevelMarks.{IsRoundMark}
 use Rattle.version_tables.specs.inner.Weights.{weight_of, weight_between, count_all_between}
 use Rattle.version_tables.proofs.Columns.{where_true, where_none, sum_below-none}
 use Rattle.version_tables.proofs.Numbers.{numbered-some}

@@ -9,12 +9,12 @@ use Rattle.planes.specs.Elementwise.{AreChanged}
 use Rattle.bench_types.specs.Sums.{sum_below}
 use Rattle.bench_types.proofs.Sums.{sum_below-same, sum_below-plus}
 use Rattle.version_tables.specs.declared.weights.Offer.{Offer}
-use Rattle.version_tables.specs.inner.Offered.{cells_in, low_in, high_in, marks, owner_count_in, weights_in, weight_in, count_in, IsOffer}
+use Rattle.version_tables.specs.inner.OfferInMemory.{cells_in, low_in, high_in, marks, owner_count_in, weights_in, weight_in, count_in, IsOffer}
 use Rattle.bench_types.specs.declared.limits.TheConstants.{MOST_KEYS}
 use Rattle.version_tables.specs.declared.weights.Level.{Level}
 use Rattle.version_tables.specs.declared.weights.Step.{Step}
 use Rattle.version_tables.specs.inner.Plans.{IsMarkFrom, AreMarksFrom, AreNextRuns, AreRuns, AreRunsSoFar}
-use Rattle.version_tables.specs.inner.Shares.{IsRunMark}
+use Rattle.version_tables.specs.inner.LevelMarks.{IsRunMark}
 use Rattle.version_tables.specs.inner.Weights.{weight_of}
 use Rattle.version_tables.proofs.Columns.{where_true, sum_below-none}
 use Rattle.version_tables.proofs.OfferWeights.{offer-weighs_none, offer-counts_none}

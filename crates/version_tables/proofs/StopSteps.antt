@@ -4,7 +4,7 @@ use Rattle.std.proofs.Common.{◌≡◌, ◌≢◌, ℕ, zero, suc, ◌+◌, ◌
 use Rattle.std.proofs.lemmas.Bool.{cases_lt}
 use Rattle.planes.specs.Planes.{Cells}
 use Rattle.bench_types.specs.Sums.{sum_below}
-use Rattle.version_tables.specs.inner.Shares.{NumbersDiffer}
+use Rattle.version_tables.specs.inner.LevelMarks.{NumbersDiffer}
 use Rattle.version_tables.specs.inner.Stops.{weight_from, HasBetween, HasNext, IsNext, IsNextUp, IsNextDown, IsOn, IsPast, IsStopFrom}
 use Rattle.version_tables.specs.inner.Weights.{weight_of}
 use Rattle.version_tables.proofs.WeightLaws.{part, part-in, part-low, part-high, part-cases, weight_of-none, weight_of-split, count_between-most}

@@ -11,7 +11,7 @@ use Rattle.version_tables.specs.inner.Offers.{HasCells}
 use Rattle.model.specs.Numbers.{write_numbered}
 use Rattle.planes.specs.Planes.{Cells}
 use Rattle.version_tables.specs.inner.Taken.{AreSent, AreTakenCells}
-use Rattle.version_tables.proofs.TakenSets.{after, Comes, after-sent, after-kept, after-dropped, came-held}
+use Rattle.version_tables.proofs.TakenEntries.{after, Comes, after-sent, after-kept, after-dropped, came-held}
 
 module _ (rules : Rules) (rotation : ℕ) (from to : Table) (from_proper : IsProper from) (to_proper : IsProper to) (nodes : from.nodes ≡ to.nodes) (keys : from.keys ≡ to.keys)
     (lists : ℕ → List Entry) (sender receiver taken : Cells) (has_sender : HasCells lists sender from) (has_receiver : HasCells lists receiver to)

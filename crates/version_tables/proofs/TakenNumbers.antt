@@ -1,5 +1,5 @@
--- A table that took a delta by marks is the one that took its items.
--- Serves `take_unless`, `TakenTables` and `TakenViews`.
+-- One number, taken or not, and kept or dropped; and a table that has taken such numbers.
+-- Serves `take_unless`, `TakenByOwner` and `TakenViews`.
 use Rattle.std.proofs.Common.{◌≡◌, ℕ, ◌<◌, ◌≤◌, ◌&&◌, Bool, true, false, cond, max, nat_lt, nat_le, List, inl, inr, refl, sym, ap, ◌∙◌, subst, arith}
 use Rattle.std.proofs.lemmas.Bool.{cases_lt, lt-ltb, le-leb, lt-leb, ltb-true, and_parts}
 use Rattle.planes.specs.Planes.{number_taken}

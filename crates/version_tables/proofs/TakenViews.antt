@@ -21,8 +21,8 @@ use Rattle.version_tables.proofs.Fitting.{fits-upto, fits-cells}
 use Rattle.version_tables.proofs.Laid.{cells_table}
 use Rattle.version_tables.proofs.TakenCells.{taken_cells}
 use Rattle.version_tables.proofs.TakenNumbers.{taken-number, stays-number}
-use Rattle.version_tables.proofs.TakenSets.{came-lacked}
-use Rattle.version_tables.proofs.TakenTables.{generation-of, generation-upto, AreNumbersTaken, are_numbers_taken}
+use Rattle.version_tables.proofs.TakenEntries.{came-lacked}
+use Rattle.version_tables.proofs.TakenByOwner.{generation-of, generation-upto, AreNumbersTaken, are_numbers_taken}
 
 nothing : (e : Entry) → None ≡ Some e → ⊥
 nothing e h = cc

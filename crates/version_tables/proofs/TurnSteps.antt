@@ -15,9 +15,9 @@ use Rattle.bench_types.proofs.Sums.{sum_below-same, sum_below-plus}
 use Rattle.model.specs.Order.{rotated}
 use Rattle.model.proofs.Apart.{rotated-injective, rotated-is}
 use Rattle.version_tables.specs.declared.weights.Offer.{Offer}
-use Rattle.version_tables.specs.inner.Offered.{cells_in, low_in, high_in, marks, weights_in, IsOffer}
+use Rattle.version_tables.specs.inner.OfferInMemory.{cells_in, low_in, high_in, marks, weights_in, IsOffer}
 use Rattle.version_tables.specs.inner.Plans.{weight_on, count_on, AreFarther}
-use Rattle.version_tables.specs.inner.Shares.{lets_through}
+use Rattle.version_tables.specs.inner.LevelMarks.{lets_through}
 use Rattle.version_tables.specs.inner.Sharing.{AreShared}
 use Rattle.version_tables.specs.inner.Stops.{IsStopFrom}
 use Rattle.version_tables.specs.inner.Turns.{part_between, AreTurnsPassed, IsStop}

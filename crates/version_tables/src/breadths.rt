@@ -8,7 +8,7 @@ ghost use Rattle.bench_types.specs.declared.limits.TheConstants.{MOST_NODES};
 ghost use Rattle.planes.specs.Elementwise.{AreChanged};
 ghost use Rattle.planes.specs.Planes.{HasEach};
 ghost use Rattle.bench_types.specs.Sums.{sum_below};
-ghost use Rattle.version_tables.specs.inner.Offered.{cells_in, marks, weight_in, IsOffer, IsTooLarge};
+ghost use Rattle.version_tables.specs.inner.OfferInMemory.{cells_in, marks, weight_in, IsOffer, IsTooLarge};
 ghost use Rattle.version_tables.specs.inner.Plans.{raised, IsLevelOfLayers, IsNextMark};
 
 use crate::weights::{Level, Offer, Step, one_if, pick};

@@ -20,6 +20,7 @@ use crate::tables::{VersionTable, Written};
 use crate::told_marks::told;
 use crate::weights::Offer;
 use bench_types::{DigestKind, Fault, Mode, Rules};
+use model::DeltaCounts;
 use planes::{Masked, Number};
 use std::alloc::Global;
 
@@ -28,8 +29,7 @@ use std::alloc::Global;
 pub(crate) struct DeltaMarks<N: Number> {
     pub(crate) low: Vec<N>,
     pub(crate) high: Vec<N>,
-    pub(crate) sent: u32,
-    pub(crate) cut: u32,
+    pub(crate) counts: DeltaCounts,
 }
 
 // The numbers that are offered, and how many of them are above the low marks.
@@ -55,7 +55,7 @@ pub(crate) fn delta<N: Number, H: Written>(
     requires sender { FitsHistories histories.now (table_in H.lists sender.now) }
     requires receiver { FitsHistories histories.now (table_in H.lists receiver.now) }
     ensures delta { IfOk result (λ d. AreMarksOf rules.now rotation H.lists sender.now receiver.now
-        (map N.number d.low.items) (map N.number d.high.items) d.sent d.cut) }
+        (map N.number d.low.items) (map N.number d.high.items) d.counts.sent d.counts.cut) }
     ensures only { IsOkUnless result OutOfMemory }
 {
     let kind = rules.mode.digest_kind();
@@ -95,7 +95,7 @@ fn marks_sent<N: Number, H: Written>(
         (map N.number low.now) }
     ensures marks { IfOk result (λ m. AreMarksOf rules.now rotation H.lists sender.now receiver.now
         (low_list rules.now.mode (map N.number low.now) (map N.number m.mark.items))
-        (high_list rules.now.mode (map N.number m.mark.items) sender.now.greatest) m.sent m.cut) }
+        (high_list rules.now.mode (map N.number m.mark.items) sender.now.greatest) m.counts.sent m.counts.cut) }
     ensures only { IsOkUnless result OutOfMemory }
 {
     let offer = Offer {
@@ -228,23 +228,20 @@ fn marks_of<N: Number>(
         ≡ low_list mode (map N.number low.items) (map N.number marked.mark.items)) }
     ensures high { IfOk result (λ d. map N.number d.high.items
         ≡ high_list mode (map N.number marked.mark.items) (map N.number high.now)) }
-    ensures sent { IfOk result (λ d. d.sent ≡ marked.sent) }
-    ensures cut { IfOk result (λ d. d.cut ≡ marked.cut) }
+    ensures counts { IfOk result (λ d. d.counts ≡ marked.counts) }
     ensures only { IsOkUnless result OutOfMemory }
 {
-    let Marked { mark, sent, cut } = marked;
+    let Marked { mark, counts } = marked;
     match mode {
         Mode::ScuttleBreadth | Mode::ScuttleDepth | Mode::PreciseOldest => Ok(DeltaMarks {
             low,
             high: mark,
-            sent,
-            cut,
+            counts,
         }),
         Mode::PreciseNewest => Ok(DeltaMarks {
             low: mark,
             high: Vec::from_slice(alloc, high)?,
-            sent,
-            cut,
+            counts,
         }),
     }
 }

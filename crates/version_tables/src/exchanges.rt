@@ -1,29 +1,25 @@
 //! The exchange of an initiator and a responder whose tables keep versions alone.
 
-ghost use Rattle.std.specs.Prelude.{◌≡◌, ◌==◌, ℕ, ◌<◌, length, map, IfOk, OnOk, OnErr, IsOkUnless, Bool, true, false};
+ghost use Rattle.std.specs.Prelude.{◌≡◌, ◌==◌, ℕ, ◌<◌, length, map, IfOk, OnOk, OnErr, IsOkUnless, false};
 ghost use Rattle.bench_types.specs.declared.faults.Fault.TheVariants.{OutOfMemory};
-ghost use Rattle.bench_types.specs.declared.exchanges.Fate.TheVariants as fate;
 ghost use Rattle.bench_types.specs.Budget.{IsLawfulBudget};
 ghost use Rattle.bench_types.specs.Mode.{digest_kind};
-ghost use Rattle.model.specs.Exchanged.{exchanged, last_fate, sent_until};
 ghost use Rattle.model.specs.Exchanging.{MayBeExchanged, MakesOf};
 ghost use Rattle.model.specs.OwnerListView.{all_writes};
 ghost use Rattle.planes.specs.Planes.{HasEach};
-ghost use Rattle.model.specs.Deltas.{DeltaView};
 ghost use Rattle.model.specs.Digests.{digest_size};
 ghost use Rattle.version_tables.specs.Views.{table_in, IsKept, VersionTableView};
-ghost use Rattle.version_tables.specs.inner.Deltas.{AreMarksOf};
 ghost use Rattle.version_tables.specs.inner.Histories.{bases_in, FitsHistories, IsReadyExchange};
 ghost use Rattle.version_tables.specs.inner.Offers.{IsNumberedHistory};
-ghost use Rattle.version_tables.specs.inner.Taken.{HasTaken, HasTakenUnless, StaysOne};
+ghost use Rattle.version_tables.specs.inner.Taken.{HasTakenUnless, StaysOne};
 
 use crate::deltas::{DeltaMarks, delta};
 use crate::digests::digest_size;
 use crate::histories::Histories;
 use crate::tables::{VersionTable, Written};
 use crate::taking::take_unless;
-use bench_types::{Exchange, Fate, Fault, Record, Rules};
-use model::sent_before_an_answer;
+use bench_types::{Exchange, Fault, Record, Rules};
+use model::{sent_back, sent_before_an_answer, sent_both};
 use owner_lists::OwnerList;
 use planes::Number;
 use std::alloc::Global;
@@ -79,7 +75,7 @@ fn exchange_deltas<N: Number, H: Written>(
     let back = delta(alloc, responder, initiator, histories, rules, plan.rotation)?;
     let digest2 = digest_size(responder, rules.mode);
     if plan.lost2 {
-        return Ok(sent_back(digest1, digest2, &back));
+        return Ok(sent_back(digest1, digest2, back.counts));
     }
     let forth = delta(alloc, initiator, responder, histories, rules, plan.rotation)?;
     let lists = histories.lists();
@@ -92,10 +88,10 @@ fn exchange_deltas<N: Number, H: Written>(
         &forth,
         bases,
         lists,
-        is_nothing(back.sent),
-        plan.lost3 | is_nothing(forth.sent),
+        is_nothing(back.counts.sent),
+        plan.lost3 | is_nothing(forth.counts.sent),
     )?;
-    Ok(sent_both(digest1, digest2, &back, &forth, plan.lost3))
+    Ok(sent_both(digest1, digest2, back.counts, forth.counts, plan.lost3))
 }
 
 fn is_nothing(sent: u32) -> bool
@@ -142,8 +138,8 @@ fn take_both<N: Number, H: Written>(
     ensures responder_stays { OnErr result (responder.new ≡ responder.old) }
     ensures only { IsOkUnless result OutOfMemory }
 {
-    let initiator_before = copy_of(alloc, initiator.greatest())?;
-    let responder_before = copy_of(alloc, responder.greatest())?;
+    let initiator_before = Vec::from_slice(alloc, initiator.greatest())?;
+    let responder_before = Vec::from_slice(alloc, responder.greatest())?;
     let came_back = responder.cells();
     take_unless(
         nothing_back,
@@ -165,51 +161,4 @@ fn take_both<N: Number, H: Written>(
         lists,
     );
     Ok(())
-}
-
-// The record where the second message was lost.
-fn sent_back<N: Number>(digest1: u32, digest2: u32, back: &DeltaMarks<N>) -> Record
-    ensures { (b f : DeltaView) → back.now.sent ≡ length b.items → back.now.cut ≡ b.cut
-        → result ≡ sent_until fate.Lost2 digest1 digest2 b f }
-{
-    Record {
-        digest1,
-        digest2,
-        back: back.sent,
-        forth: 0,
-        back_cut: back.cut,
-        forth_cut: 0,
-        fate: Fate::Lost2,
-    }
-}
-
-// The record where all three messages were sent.
-fn sent_both<N: Number>(
-    digest1: u32,
-    digest2: u32,
-    back: &DeltaMarks<N>,
-    forth: &DeltaMarks<N>,
-    lost3: bool,
-) -> Record
-    ensures { (b f : DeltaView) → back.now.sent ≡ length b.items → back.now.cut ≡ b.cut
-        → forth.now.sent ≡ length f.items → forth.now.cut ≡ f.cut
-        → result ≡ sent_until (last_fate lost3) digest1 digest2 b f }
-{
-    Record {
-        digest1,
-        digest2,
-        back: back.sent,
-        forth: forth.sent,
-        back_cut: back.cut,
-        forth_cut: forth.cut,
-        fate: if lost3 { Fate::Lost3 } else { Fate::Ok },
-    }
-}
-
-// The same numbers again.
-fn copy_of<N: Number>(alloc: Global, numbers: &[N]) -> Result<Vec<N>, Fault>
-    ensures numbers { IfOk result (λ v. map N.number v.items ≡ map N.number numbers.now) }
-    ensures only { IsOkUnless result OutOfMemory }
-{
-    Ok(Vec::from_slice(alloc, numbers)?)
 }

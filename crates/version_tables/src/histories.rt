@@ -48,7 +48,7 @@ impl<N: Number, H: Written> Histories<N, H> {
     ghost use Rattle.model.specs.OwnerListView.{all_writes, list_of_owner, no_writes, next_entry, with_write, begun_generation, AreWrites, ListBecomes};
     ghost use Rattle.planes.specs.Planes.{HasEach};
     ghost use Rattle.version_tables.specs.inner.Histories.{IsWrittenSoFar, IsWriteUnder};
-    ghost use Rattle.version_tables.specs.inner.Rounds.{AreEnds};
+    ghost use Rattle.version_tables.specs.inner.RoundEnds.{AreEnds};
 
     /// Where so many owners have written nothing, before the first round. An error is lack of memory
     /// (`OutOfMemory`).

@@ -44,13 +44,6 @@ fn keys_of<N: Number, H: Written>(tables: &[VersionTable<N, H>]) -> usize
     }
 }
 
-fn copied<N: Number>(alloc: Global, numbers: &[N]) -> Result<Vec<N>, Fault>
-    ensures same { IfOk result (λ v. v.items ≡ numbers.now) }
-    ensures only { IsOkUnless result OutOfMemory }
-{
-    Ok(Vec::from_slice(alloc, numbers)?)
-}
-
 // Puts the numbers of a key that the owners' own tables hold.
 fn put_own_numbers<N: Number, H: Written>(
     plane: &mut [N],
@@ -181,7 +174,7 @@ impl<'a, N: Number> Numbers<'a, N> {
         } = *self;
         let mut stale = 0;
         let mut leftover = 0;
-        let mut least = copied(alloc, last)?;
+        let mut least = Vec::from_slice(alloc, last)?;
         for at in 0..count {
             let here = cells[from + at];
             let behind = count_behind(&mut least, here, last, nodes, keys);
@@ -336,7 +329,7 @@ fn counted<N: Number, H: Written>(
     let parts = parts_of(rt, alloc, &numbers, size)?;
     let mut stale = 0;
     let mut leftover = 0;
-    let mut least = copied(alloc, last)?;
+    let mut least = Vec::from_slice(alloc, last)?;
     for part in &parts {
         match part {
             Ok(part) => {

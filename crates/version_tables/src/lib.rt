@@ -9,6 +9,7 @@ mod depths;
 mod digests;
 mod exchanges;
 mod exchanging;
+mod generations;
 mod histories;
 mod lags;
 mod laws;

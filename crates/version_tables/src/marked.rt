@@ -3,7 +3,7 @@
 ghost use Rattle.std.specs.Prelude.{◌≡◌, ℕ, ◌<◌, ◌≤◌, length, map, IfOk, IsOkUnless};
 ghost use Rattle.bench_types.specs.declared.faults.Fault.TheVariants.{OutOfMemory};
 ghost use Rattle.version_tables.specs.inner.Marked.{HasShapeIn, AreMarked, whole_marks};
-ghost use Rattle.version_tables.specs.inner.Offered.{marks, IsCountOffered, IsOffer, IsTooLarge};
+ghost use Rattle.version_tables.specs.inner.OfferInMemory.{marks, IsCountOffered, IsOffer, IsTooLarge};
 ghost use Rattle.version_tables.specs.inner.Plans.{IsLevel};
 ghost use Rattle.version_tables.specs.inner.RoundLevels.{AreEndsOf};
 
@@ -14,6 +14,7 @@ use crate::sharing::share;
 use crate::stops::First;
 use crate::weights::{Level, Offer};
 use bench_types::{Fault, Mode};
+use model::DeltaCounts;
 use planes::Number;
 use std::alloc::Global;
 
@@ -21,8 +22,7 @@ use std::alloc::Global;
 #[derive(Drop)]
 pub(crate) struct Marked<N: Number> {
     pub(crate) mark: Vec<N>,
-    pub(crate) sent: u32,
-    pub(crate) cut: u32,
+    pub(crate) counts: DeltaCounts,
 }
 
 /// All where it fits, else whole levels and a share of the first one that doesn't fit with them. How many numbers are
@@ -41,24 +41,28 @@ pub(crate) fn planned<N: Number>(
     requires ends { AreEndsOf N.number offer.now ends }
     ensures size { IfOk result (λ m. length m.mark.items ≡ offer.now.nodes) }
     ensures marked { IfOk result
-        (λ m. AreMarked mode rotation N.number offer.now (marks N.number m.mark.items) m.sent m.cut) }
+        (λ m. AreMarked mode rotation N.number offer.now (marks N.number m.mark.items) m.counts.sent
+        m.counts.cut) }
     ensures only { IsOkUnless result OutOfMemory }
 {
     if offer.fits(found, offer.low, offer.high) {
         let mark = whole_mark(alloc, offer, mode)?;
-        return Ok(Marked {
-            mark,
+        let counts = DeltaCounts {
             sent: found,
             cut: 0,
-        });
+        };
+        return Ok(Marked { mark, counts });
     }
     let level = level_of(alloc, offer, mode, ends, found)?;
     let share = share(alloc, offer, &level, mode, rotation)?;
     let cut = found - share.sent;
-    Ok(Marked {
-        mark: share.mark,
+    let counts = DeltaCounts {
         sent: share.sent,
         cut,
+    };
+    Ok(Marked {
+        mark: share.mark,
+        counts,
     })
 }
 

@@ -6,7 +6,7 @@ ghost use Rattle.bench_types.specs.declared.faults.Fault.TheVariants.{OutOfMemor
 ghost use Rattle.bench_types.specs.declared.limits.TheConstants.{MOST_NODES};
 ghost use Rattle.planes.specs.Planes.{cell, HasEach};
 ghost use Rattle.planes.specs.Elementwise.{AreChanged};
-ghost use Rattle.version_tables.specs.inner.Offered.{marks, IsCountOffered, IsOffer, IsTooLarge};
+ghost use Rattle.version_tables.specs.inner.OfferInMemory.{marks, IsCountOffered, IsOffer, IsTooLarge};
 ghost use Rattle.version_tables.specs.inner.Plans.{weight_on, count_on, IsLevel};
 ghost use Rattle.version_tables.specs.inner.RoundLevels.{round_mode, round_at, end_mark, round_mark, AreEndsOf, AreFewAndEnough, AreRounds};
 ghost use Rattle.version_tables.specs.inner.Stops.{is_newest};

@@ -5,7 +5,7 @@ ghost use Rattle.std.specs.Prelude.{◌≡◌, ℕ, ◌+◌, ◌-◌, ◌<◌, �
 ghost use Rattle.bench_types.specs.Budget.{amount_of};
 ghost use Rattle.bench_types.specs.declared.faults.Fault.TheVariants.{OutOfMemory};
 ghost use Rattle.model.specs.Order.{rotated};
-ghost use Rattle.version_tables.specs.inner.Offered.{cells_in, marks, weights_in, IsOffer};
+ghost use Rattle.version_tables.specs.inner.OfferInMemory.{cells_in, marks, weights_in, IsOffer};
 ghost use Rattle.version_tables.specs.inner.Plans.{weight_on, IsLevel};
 ghost use Rattle.version_tables.specs.inner.Sharing.{AreShared};
 ghost use Rattle.version_tables.specs.inner.Turns.{part_between, AreTurnsOf, AreTurnsPassed, ArePartCounts, IsStop};

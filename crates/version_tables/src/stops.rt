@@ -1,7 +1,7 @@
 //! An owner's part of a level, candidate by candidate up to the first that doesn't fit.
 
 ghost use Rattle.std.specs.Prelude.{◌≡◌, ℕ, ◌+◌, ◌-◌, ◌*◌, ◌<◌, ◌≤◌, length};
-ghost use Rattle.version_tables.specs.inner.Offered.{cells_in, weights_in, IsOffer};
+ghost use Rattle.version_tables.specs.inner.OfferInMemory.{cells_in, weights_in, IsOffer};
 ghost use Rattle.version_tables.specs.inner.Stops.{is_newest, weight_from, HasBetween, HasNext, IsNext, IsNextUp, IsNextDown, IsPast, IsStopFrom};
 
 use crate::weights::Offer;

@@ -1,29 +1,17 @@
 //! What a table holds once it has taken a delta.
 
-ghost use Rattle.std.specs.Prelude.{◌≡◌, ◌==◌, ℕ, ◌<◌, ◌≤◌, ◌&&◌, List, length, map, nat_lt, nat_le, slice_index, if◌then◌else◌, None, Some};
-ghost use Rattle.bench_types.specs.declared.entries.Entry.{Entry};
-ghost use Rattle.model.specs.OwnerListView.{OwnerListView, all_writes, entries_of};
-ghost use Rattle.model.specs.Numbers.{write_numbered};
+ghost use Rattle.std.specs.Prelude.{◌≡◌, ◌==◌, ℕ, ◌<◌, length, map, slice_index, if◌then◌else◌};
+ghost use Rattle.model.specs.OwnerListView.{all_writes, entries_of};
 ghost use Rattle.planes.specs.Planes.{cell, ArePlanesChanged, HasEach, IsGrid};
-ghost use Rattle.version_tables.specs.inner.Offers.{start_of, IsNumberedHistory};
+ghost use Rattle.version_tables.specs.inner.Offers.{IsNumberedHistory};
 ghost use Rattle.version_tables.specs.inner.Histories.{bases_in};
 ghost use Rattle.version_tables.specs.inner.Taken.{drop_start, number_kept, HasTakenUnless, IsTaken, MayTake, StaysOne};
 
 use crate::deltas::DeltaMarks;
+use crate::generations::start_of;
 use crate::tables::{VersionTable, Written};
 use owner_lists::OwnerList;
 use planes::Number;
-
-// How many writes an owner had made before the generation of a number's write.
-fn start_of(list: &OwnerList, number: u32) -> u32
-    requires { (e : Entry) → write_numbered (entries_of list.now) number ≡ Some e → e.version ≤ number }
-    ensures { result ≡ start_of (entries_of list.now) number }
-{
-    match list.numbered(number) {
-        Some(write) => number - write.version,
-        None => 0,
-    }
-}
 
 // Drops what an owner's keys have up to a mark.
 fn clear_column<N: Number>(cells: &mut [N], nodes: usize, keys: usize, owner: usize, start: u32)

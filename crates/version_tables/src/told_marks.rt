@@ -9,6 +9,7 @@ ghost use Rattle.planes.specs.Elementwise.{AreChanged};
 ghost use Rattle.version_tables.specs.inner.Offers.{start_of, told_by, told_number, IsNumberedHistory};
 ghost use Rattle.version_tables.specs.inner.Told.{AreKnown, IsEarlierStart};
 
+use crate::generations::start_of;
 use bench_types::{DigestKind, Fault};
 use owner_lists::OwnerList;
 use planes::Number;
@@ -102,20 +103,8 @@ fn earlier_start<N: Number>(list: &OwnerList, number: N, base: N) -> N
     ensures { IsEarlierStart (entries_of list.now) (N.number base) (N.number number) (N.number result) }
 {
     if number.is_above(N::zero()) && number.is_upto(base) {
-        start_of(list, number)
+        N::narrow(start_of(list, number.widen()))
     } else {
         number
-    }
-}
-
-// How many writes there are before the generation of a number's, 0 for none.
-fn start_of<N: Number>(list: &OwnerList, number: N) -> N
-    requires numbered { IsNumberedHistory (entries_of list.now) }
-    requires fits { N.number number ≤ N.most }
-    ensures { N.number result ≡ start_of (entries_of list.now) (N.number number) }
-{
-    match list.numbered(number.widen()) {
-        Some(entry) => N::narrow(number.widen() - entry.version),
-        None => N::zero(),
     }
 }

@@ -3,7 +3,7 @@
 ghost use Rattle.std.specs.Prelude.{◌≡◌, ℕ, ◌*◌, ◌<◌, ◌≤◌, ◌↔◌, IsTrue, length, if◌then◌else◌};
 ghost use Rattle.bench_types.specs.Budget.{amount_of, largest_share};
 ghost use Rattle.bench_types.specs.declared.limits.TheConstants.{MOST_NODES, MOST_KEYS};
-ghost use Rattle.version_tables.specs.inner.Offered.{cells_in, count_in, marks, weight_in, weights_in, IsOffer};
+ghost use Rattle.version_tables.specs.inner.OfferInMemory.{cells_in, count_in, marks, weight_in, weights_in, IsOffer};
 ghost use Rattle.version_tables.specs.inner.Weights.{weight_of};
 
 use bench_types::Budget;

@@ -13,7 +13,7 @@ use Rattle.model.specs.Numbers.{write_numbered}
 use Rattle.planes.specs.Planes.{HasEach, cell}
 use Rattle.version_tables.specs.Views.{HistoriesView}
 use Rattle.version_tables.specs.inner.Offers.{IsHistory, IsNumberedHistory}
-use Rattle.version_tables.specs.inner.Rounds.{AreEnds}
+use Rattle.version_tables.specs.inner.RoundEnds.{AreEnds}
 
 -- some writes are the first of all
 abbrev pub IsBeginning : List Entry → List Entry → Type 0

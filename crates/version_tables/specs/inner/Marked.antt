@@ -9,10 +9,10 @@ use Rattle.model.specs.OwnerListView.{all_writes}
 use Rattle.planes.specs.Planes.{Cells, cell}
 use Rattle.version_tables.specs.Views.{VersionTableView}
 use Rattle.version_tables.specs.declared.weights.Offer.{Offer}
-use Rattle.version_tables.specs.inner.Offered.{cells_in, low_in, high_in, count_in}
+use Rattle.version_tables.specs.inner.OfferInMemory.{cells_in, low_in, high_in, count_in}
 use Rattle.version_tables.specs.inner.Offers.{offered_by}
 use Rattle.version_tables.specs.inner.Plans.{weight_on, count_on}
-use Rattle.version_tables.specs.inner.Shares.{lets_through, IsLayerMark, IsRunMark, IsRoundMark}
+use Rattle.version_tables.specs.inner.LevelMarks.{lets_through, IsLayerMark, IsRunMark, IsRoundMark}
 use Rattle.version_tables.specs.inner.Sharing.{AreShared}
 
 -- the marks of a level, as its mode has them

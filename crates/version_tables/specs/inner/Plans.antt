@@ -9,8 +9,8 @@ use Rattle.bench_types.specs.Sums.{sum_below}
 use Rattle.version_tables.specs.declared.weights.Offer.{Offer}
 use Rattle.version_tables.specs.declared.weights.Level.{Level}
 use Rattle.version_tables.specs.declared.weights.Step.{Step}
-use Rattle.version_tables.specs.inner.Offered.{cells_in, low_in, high_in, owner_count_in, marks, weight_in, count_in}
-use Rattle.version_tables.specs.inner.Shares.{IsLayerMark, IsRunMark}
+use Rattle.version_tables.specs.inner.OfferInMemory.{cells_in, low_in, high_in, owner_count_in, marks, weight_in, count_in}
+use Rattle.version_tables.specs.inner.LevelMarks.{IsLayerMark, IsRunMark}
 
 -- a mark goes on to the owner's next number, or stays where there is none
 abbrev pub IsNextMark : Cells → ℕ → ℕ → ℕ → ℕ → Type 0

@@ -9,10 +9,10 @@ use Rattle.version_tables.specs.declared.rounds.Ends.{Ends}
 use Rattle.version_tables.specs.declared.weights.Offer.{Offer}
 use Rattle.version_tables.specs.declared.weights.Level.{Level}
 use Rattle.version_tables.specs.inner.Histories.{AreMadeBy}
-use Rattle.version_tables.specs.inner.Offered.{marks}
+use Rattle.version_tables.specs.inner.OfferInMemory.{marks}
 use Rattle.version_tables.specs.inner.Plans.{weight_on, count_on}
-use Rattle.version_tables.specs.inner.Rounds.{AreEnds}
-use Rattle.version_tables.specs.inner.Shares.{IsRoundMark}
+use Rattle.version_tables.specs.inner.RoundEnds.{AreEnds}
+use Rattle.version_tables.specs.inner.LevelMarks.{IsRoundMark}
 
 abbrev pub round_mode : Bool → Mode
 round_mode true = PreciseNewest

@@ -5,9 +5,9 @@ use Rattle.bench_types.specs.Budget.{amount_of}
 use Rattle.model.specs.Order.{rotated}
 use Rattle.version_tables.specs.declared.weights.Offer.{Offer}
 use Rattle.version_tables.specs.inner.Levels.{comes_first}
-use Rattle.version_tables.specs.inner.Offered.{cells_in, low_in, weights_in}
+use Rattle.version_tables.specs.inner.OfferInMemory.{cells_in, low_in, weights_in}
 use Rattle.version_tables.specs.inner.Plans.{weight_on, count_on}
-use Rattle.version_tables.specs.inner.Shares.{lets_through}
+use Rattle.version_tables.specs.inner.LevelMarks.{lets_through}
 
 -- marks that share out a level up to a number that doesn't fit any more: the owners whose turn is before that of its
 -- owner have the far mark, those whose turn is behind it the near one, and its owner's lets through what comes before

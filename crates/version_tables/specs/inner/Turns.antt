@@ -9,9 +9,9 @@ use Rattle.version_tables.specs.declared.sharing.Turns.{Turns}
 use Rattle.version_tables.specs.declared.weights.Level.{Level}
 use Rattle.version_tables.specs.declared.weights.Offer.{Offer}
 use Rattle.version_tables.specs.inner.Levels.{comes_first}
-use Rattle.version_tables.specs.inner.Offered.{cells_in, marks}
+use Rattle.version_tables.specs.inner.OfferInMemory.{cells_in, marks}
 use Rattle.version_tables.specs.inner.Plans.{weight_on, count_on, AreFarther, IsLevel}
-use Rattle.version_tables.specs.inner.Shares.{lets_through}
+use Rattle.version_tables.specs.inner.LevelMarks.{lets_through}
 use Rattle.version_tables.specs.inner.Weights.{weight_of}
 
 -- what an owner's part between a near and a far mark weighs

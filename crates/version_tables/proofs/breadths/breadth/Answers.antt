@@ -1,6 +1,6 @@
 use Rattle.std.proofs.Common.{◌≡◌, ℕ, ◌+◌, ◌<◌, length, sym, ap, ◌∙◌, subst, arith}
 use Rattle.std.proofs.lemmas.List.{length-map}
-use Rattle.version_tables.specs.inner.Offered.{cells_in, low_in, marks, count_in}
+use Rattle.version_tables.specs.inner.OfferInMemory.{cells_in, low_in, marks, count_in}
 use Rattle.version_tables.specs.inner.Plans.{AreLayersSoFar, IsNextMark, raised}
 use Rattle.version_tables.proofs.LayerSteps.{layers-first, layers-count, layers-upto, layers-more, layers-next, layers-far, layers-farther, smaller_by}
 use Rattle.version_tables.proofs.OfferWeights.{offer-few, offer-fits, offer-cut}

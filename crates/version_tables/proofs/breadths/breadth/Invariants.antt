@@ -1,5 +1,5 @@
 use Rattle.std.proofs.Common.{◌≡◌, ◌-◌, length}
-use Rattle.version_tables.specs.inner.Offered.{marks, count_in}
+use Rattle.version_tables.specs.inner.OfferInMemory.{marks, count_in}
 use Rattle.version_tables.specs.inner.Plans.{AreLayersSoFar}
 use Rattle.version_tables.proofs.breadths.breadth.Given as goal
 

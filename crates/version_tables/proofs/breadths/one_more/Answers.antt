@@ -3,7 +3,7 @@ use Rattle.std.proofs.lemmas.List.{length-map, with_items_is}
 use Rattle.bench_types.specs.declared.limits.TheConstants.{MOST_NODES}
 use Rattle.planes.specs.Planes.{HasEach, IsNextAbove}
 use Rattle.planes.proofs.Places.{each-next}
-use Rattle.version_tables.specs.inner.Offered.{cells_in, marks}
+use Rattle.version_tables.specs.inner.OfferInMemory.{cells_in, marks}
 use Rattle.version_tables.specs.inner.Plans.{raised, IsNextMark}
 use Rattle.version_tables.proofs.LayerSteps.{next-mark, steps-raised}
 use Rattle.version_tables.proofs.breadths.one_more.Given as given

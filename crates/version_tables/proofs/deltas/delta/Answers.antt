@@ -3,6 +3,7 @@ use Rattle.std.proofs.lemmas.List.{length-map}
 use Rattle.bench_types.specs.declared.entries.Entry.{Entry}
 use Rattle.bench_types.specs.declared.exchanges.Rules.{Rules}
 use Rattle.bench_types.specs.Mode.{digest_kind}
+use Rattle.model.specs.declared.records.DeltaCounts.{DeltaCounts}
 use Rattle.model.specs.OwnerListView.{all_writes}
 use Rattle.planes.specs.Planes.{cell, number_ahead, total_above, HasEach, HasEachPlace}
 use Rattle.version_tables.specs.Views.{VersionTableView, table_in}
@@ -75,4 +76,4 @@ returns-clause-delta g c =
     same_marks c.args.rules.now c.args.rotation g.H.Written.lists c.args.sender.now c.args.receiver.now _ _ _ _ _ _ _ _
     (c.in_ok-marks.ensures.low ∙ ap (λ low. low_list mode (map number low) (map number marked.mark.items)) (sym c.deref-3.ensures.value))
     (c.in_ok-marks.ensures.high ∙ ap (high_list mode (map number marked.mark.items)) c.greatest.ensures.value)
-    c.in_ok-marks.ensures.sent c.in_ok-marks.ensures.cut c.in_ok-marked.ensures.marks
+    (ap (λ (n : DeltaCounts). n.sent) c.in_ok-marks.ensures.counts) (ap (λ (n : DeltaCounts). n.cut) c.in_ok-marks.ensures.counts) c.in_ok-marked.ensures.marks

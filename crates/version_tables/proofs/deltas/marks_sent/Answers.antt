@@ -3,7 +3,7 @@ use Rattle.std.proofs.lemmas.List.{length-map}
 use Rattle.planes.specs.Planes.{cell, total_above}
 use Rattle.version_tables.specs.inner.Deltas.{AreMarksOf}
 use Rattle.version_tables.specs.inner.Marked.{low_list, high_list}
-use Rattle.version_tables.specs.inner.Offered.{marks}
+use Rattle.version_tables.specs.inner.OfferInMemory.{marks}
 use Rattle.version_tables.proofs.RoundMarks.{count-newest}
 use Rattle.version_tables.proofs.Delivered.{offer-is, delta-marks}
 use Rattle.version_tables.proofs.deltas.marks_sent.Goals as goal
@@ -28,12 +28,12 @@ pub returns-clause-marks : goal.returns-clause-marks
 returns-clause-marks g c =
     subst (λ highs. AreMarksOf c.args.rules.now c.args.rotation g.H.Written.lists c.args.sender.now c.args.receiver.now
     (low_list c.args.rules.now.mode (map g.N.Number.number c.args.low.now) (map g.N.Number.number c.in_ok-marked.marked.mark.items))
-    (high_list c.args.rules.now.mode (map g.N.Number.number c.in_ok-marked.marked.mark.items) highs) c.in_ok-marked.marked.sent c.in_ok-marked.marked.cut)
+    (high_list c.args.rules.now.mode (map g.N.Number.number c.in_ok-marked.marked.mark.items) highs) c.in_ok-marked.marked.counts.sent c.in_ok-marked.marked.counts.cut)
     c.greatest.ensures.value
     (delta-marks g.N.Number.number g.N.Number.most g.H.Written.lists c.args.sender.now c.args.receiver.now c.nodes.ensures.kept c.requires.kept c.args.histories.now c.lists.ensures.so_far
     c.requires.sender c.requires.receiver c.requires.nodes c.requires.keys c.args.rules.now.mode
     (record { cells = c.args.offered.cells; nodes = c.nodes.result; keys = c.keys.result; low = c.args.low; high = c.greatest.result; lists = c.lists.result; budget = c.args.rules.now.budget })
     c.nodes.ensures.value c.keys.ensures.value c.lists.ensures.value c.greatest.ensures.value c.requires.low (sym (length-map c.args.offered.cells.now g.N.Number.number) ∙ c.requires.cells.size)
     (λ owner key in_nodes in_keys. ap (λ n. cell (map g.N.Number.number c.args.offered.cells.now) n owner key) c.nodes.ensures.value ∙ c.requires.cells.each owner key in_nodes in_keys)
-    c.args.rules.now.budget refl c.args.rotation c.requires.rotation (map g.N.Number.number c.in_ok-marked.marked.mark.items) c.in_ok-marked.marked.sent c.in_ok-marked.marked.cut
+    c.args.rules.now.budget refl c.args.rotation c.requires.rotation (map g.N.Number.number c.in_ok-marked.marked.mark.items) c.in_ok-marked.marked.counts.sent c.in_ok-marked.marked.counts.cut
     c.in_ok-marked.ensures.marked (length-map c.in_ok-marked.marked.mark.items g.N.Number.number ∙ c.in_ok-marked.ensures.size ∙ c.nodes.ensures.value))

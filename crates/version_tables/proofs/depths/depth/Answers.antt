@@ -2,7 +2,7 @@ use Rattle.std.proofs.Common.{◌≡◌, ℕ, ◌+◌, ◌-◌, ◌≤◌, ◌<�
 use Rattle.std.proofs.lemmas.List.{length-map}
 use Rattle.bench_types.specs.declared.limits.TheConstants.{MOST_KEYS}
 use Rattle.planes.specs.Planes.{HasEach}
-use Rattle.version_tables.specs.inner.Offered.{low_in, marks, count_in, owner_count_in}
+use Rattle.version_tables.specs.inner.OfferInMemory.{low_in, marks, count_in, owner_count_in}
 use Rattle.version_tables.specs.inner.Plans.{AreRunsSoFar, AreNextRuns}
 use Rattle.version_tables.proofs.OfferWeights.{offer-few, offer-fits, offer-cut}
 use Rattle.version_tables.proofs.RunSteps.{runs-start, runs-next, runs-some, runs-of_level, runs-farther, counts-few}

@@ -1,6 +1,6 @@
 use Rattle.std.proofs.Common.{◌≡◌, ◌≤◌, length}
 use Rattle.bench_types.specs.declared.limits.TheConstants.{MOST_KEYS}
-use Rattle.version_tables.specs.inner.Offered.{marks}
+use Rattle.version_tables.specs.inner.OfferInMemory.{marks}
 use Rattle.version_tables.specs.inner.Plans.{AreRunsSoFar}
 use Rattle.version_tables.proofs.depths.depth.Given as goal
 

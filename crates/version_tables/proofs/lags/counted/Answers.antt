@@ -27,7 +27,7 @@ loop-part-init g c =
     let none : 0 ≡ min (0 * c.tables_of_a_thread-size.result) (length c.args.tables.now) = omega arith in
     subst (λ m. IsPieceOf tables lists 0 m 0 0 least) none
     (part-none g.H.Written.lists c.args.tables.now lists c.requires.laid 0 least
-    (subst (λ xs. AreLastNumbers tables lists (map g.N.Number.number xs)) (sym c.in_ok-least.ensures.same) c.requires.last))
+    (subst (λ xs. AreLastNumbers tables lists (map g.N.Number.number xs)) (sym c.in_ok-least.ensures.items) c.requires.last))
 
 pub overflow_add-stale : goal.overflow_add-stale
 overflow_add-stale g c =

@@ -1,7 +1,7 @@
 use Rattle.std.proofs.Common.{inl, inr, arith}
 use Rattle.std.proofs.lemmas.Bool.{cases_lt, both_ways}
 use Rattle.bench_types.specs.Budget.{amount_of}
-use Rattle.version_tables.specs.inner.Offered.{marks, weight_in}
+use Rattle.version_tables.specs.inner.OfferInMemory.{marks, weight_in}
 use Rattle.version_tables.proofs.MarkedLaws.{whole-size, whole-marked, sent-found, share-marked}
 use Rattle.version_tables.proofs.marked.planned.Goals as goal
 

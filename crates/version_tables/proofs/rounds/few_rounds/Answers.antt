@@ -2,7 +2,7 @@ use Rattle.std.proofs.Common.{◌≡◌, ℕ, ◌+◌, ◌<◌, get_or, length, 
 use Rattle.std.proofs.lemmas.List.{length-map}
 use Rattle.std.proofs.lemmas.Bool.{cases_lt, both_ways}
 use Rattle.bench_types.specs.Budget.{amount_of}
-use Rattle.version_tables.specs.inner.Offered.{marks}
+use Rattle.version_tables.specs.inner.OfferInMemory.{marks}
 use Rattle.version_tables.specs.inner.Plans.{weight_on}
 use Rattle.version_tables.specs.inner.RoundLevels.{round_mode, round_mark, AreFewAndEnough}
 use Rattle.version_tables.specs.inner.Stops.{is_newest}

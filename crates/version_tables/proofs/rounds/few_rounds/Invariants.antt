@@ -1,5 +1,5 @@
 use Rattle.std.proofs.Common.{◌-◌, ◌<◌, map}
-use Rattle.version_tables.specs.inner.Offered.{marks}
+use Rattle.version_tables.specs.inner.OfferInMemory.{marks}
 use Rattle.version_tables.specs.inner.RoundLevels.{round_mark, AreFewAndEnough}
 use Rattle.version_tables.specs.inner.Stops.{is_newest}
 use Rattle.version_tables.proofs.rounds.few_rounds.Given as goal

@@ -1,5 +1,5 @@
 use Rattle.std.proofs.Common.{◌≡◌, ◌-◌, sym, ◌∙◌, subst, arith}
-use Rattle.version_tables.specs.inner.Offered.{marks}
+use Rattle.version_tables.specs.inner.OfferInMemory.{marks}
 use Rattle.version_tables.specs.inner.Plans.{count_on}
 use Rattle.version_tables.specs.inner.RoundLevels.{round_mode}
 use Rattle.version_tables.specs.inner.Stops.{is_newest}

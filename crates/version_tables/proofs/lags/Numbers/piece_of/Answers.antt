@@ -11,7 +11,7 @@ loop-at-init g c =
     let cells = numbers_in number c.args.self.now.cells.now in
     let bases = map number c.args.self.now.bases.now in
     let last = map number c.args.self.now.last.now in
-    subst (λ xs. CountsPiece c.args.self.now.nodes c.args.self.now.keys cells bases last c.args.from 0 0 0 (map number xs)) (sym c.in_ok-least.ensures.same) (counts-none c.args.self.now.nodes c.args.self.now.keys cells bases last c.args.from)
+    subst (λ xs. CountsPiece c.args.self.now.nodes c.args.self.now.keys cells bases last c.args.from 0 0 0 (map number xs)) (sym c.in_ok-least.ensures.items) (counts-none c.args.self.now.nodes c.args.self.now.keys cells bases last c.args.from)
 
 pub count_behind-behind-requires-clause-cells : goal.count_behind-behind-requires-clause-cells
 count_behind-behind-requires-clause-cells g c κs within =

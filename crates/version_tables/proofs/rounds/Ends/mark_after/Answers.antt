@@ -3,7 +3,7 @@ use Rattle.std.specs.Vec.{with_items}
 use Rattle.std.proofs.lemmas.List.{with_items_is}
 use Rattle.bench_types.specs.declared.limits.TheConstants.{MOST_NODES}
 use Rattle.planes.specs.Planes.{HasEach}
-use Rattle.version_tables.specs.inner.Offered.{marks}
+use Rattle.version_tables.specs.inner.OfferInMemory.{marks}
 use Rattle.version_tables.specs.inner.RoundLevels.{round_at, end_mark}
 use Rattle.version_tables.specs.inner.Stops.{is_newest}
 use Rattle.version_tables.proofs.rounds.Ends.mark_after.Given as given

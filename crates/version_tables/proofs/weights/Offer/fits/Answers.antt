@@ -1,6 +1,6 @@
 use Rattle.std.proofs.Common.{ap, arith, rules}
 use Rattle.bench_types.specs.Budget.{amount_of}
-use Rattle.version_tables.specs.inner.Offered.{marks}
+use Rattle.version_tables.specs.inner.OfferInMemory.{marks}
 use Rattle.version_tables.proofs.OfferWeights.{offer-entries, offer-most, offer-few}
 use Rattle.version_tables.proofs.weights.Offer.fits.Goals as goal
 

@@ -1,5 +1,5 @@
 use Rattle.std.proofs.Common.{sym, subst}
-use Rattle.version_tables.specs.inner.Offered.{cells_in}
+use Rattle.version_tables.specs.inner.OfferInMemory.{cells_in}
 use Rattle.version_tables.specs.inner.Stops.{is_newest, HasNext, IsNext}
 use Rattle.version_tables.proofs.weights.Offer.next.Goals as goal
 

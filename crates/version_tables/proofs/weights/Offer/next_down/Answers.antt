@@ -1,6 +1,6 @@
 use Rattle.std.proofs.Common.{◌≡◌, true, leb, max, sym, ap, ◌∙◌, arith}
 use Rattle.std.proofs.lemmas.Bool.{leb-true, leb-false}
-use Rattle.version_tables.specs.inner.Offered.{cells_in}
+use Rattle.version_tables.specs.inner.OfferInMemory.{cells_in}
 use Rattle.version_tables.proofs.StopSteps.{next-first, next-here, next-past, next-found}
 use Rattle.version_tables.proofs.weights.Offer.next_down.Goals as goal
 use Rattle.version_tables.proofs.weights.Offer.next_down.Goals.{then-is_upto, else-is_upto}

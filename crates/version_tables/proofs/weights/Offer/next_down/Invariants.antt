@@ -1,5 +1,5 @@
 use Rattle.std.proofs.Common.{true}
-use Rattle.version_tables.specs.inner.Offered.{cells_in}
+use Rattle.version_tables.specs.inner.OfferInMemory.{cells_in}
 use Rattle.version_tables.proofs.StopSteps.{IsNextSoFar}
 use Rattle.version_tables.proofs.weights.Offer.next_down.Given as goal
 

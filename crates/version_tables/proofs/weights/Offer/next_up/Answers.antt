@@ -1,6 +1,6 @@
 use Rattle.std.proofs.Common.{◌≡◌, false, ltb, min, sym, ap, ◌∙◌, arith}
 use Rattle.std.proofs.lemmas.Bool.{ltb-true, ltb-false}
-use Rattle.version_tables.specs.inner.Offered.{cells_in}
+use Rattle.version_tables.specs.inner.OfferInMemory.{cells_in}
 use Rattle.version_tables.proofs.StopSteps.{next-first, next-here, next-past, next-found}
 use Rattle.version_tables.proofs.weights.Offer.next_up.Goals as goal
 use Rattle.version_tables.proofs.weights.Offer.next_up.Goals.{then-is_above, else-is_above}

@@ -1,7 +1,7 @@
 use Rattle.std.proofs.Common.{◌≡◌, length, map, ap, sym, subst, ◌∙◌}
 use Rattle.std.specs.Prelude.{IfOk}
 use Rattle.planes.specs.Planes.{count_between, HasEach}
-use Rattle.version_tables.specs.inner.Offered.{cells_in, marks}
+use Rattle.version_tables.specs.inner.OfferInMemory.{cells_in, marks}
 use Rattle.version_tables.specs.inner.Turns.{ArePartCounts}
 use Rattle.version_tables.proofs.Modes.{of-each}
 use Rattle.version_tables.proofs.weights.Offer.parts.Goals as goal

@@ -1,6 +1,6 @@
 use Rattle.std.proofs.Common.{◌<◌, length, set, sym, ap, ◌∙◌, subst, arith}
 use Rattle.std.proofs.lemmas.List.{length-map, length-set}
-use Rattle.version_tables.specs.inner.Offered.{cells_in, marks, weights_in}
+use Rattle.version_tables.specs.inner.OfferInMemory.{cells_in, marks, weights_in}
 use Rattle.version_tables.specs.inner.Turns.{part_between, AreTurnsPassed}
 use Rattle.version_tables.proofs.TurnSteps.{turns-first, turns-next, turns-end, put-here, put-other, part-few, count_on-few}
 use Rattle.version_tables.proofs.weights.Offer.pass_turns.Goals as goal

@@ -1,5 +1,5 @@
 use Rattle.std.proofs.Common.{◌≡◌, length}
-use Rattle.version_tables.specs.inner.Offered.{marks}
+use Rattle.version_tables.specs.inner.OfferInMemory.{marks}
 use Rattle.version_tables.specs.inner.Turns.{AreTurnsPassed}
 use Rattle.version_tables.proofs.weights.Offer.pass_turns.Given as goal
 

@@ -1,7 +1,7 @@
 use Rattle.std.proofs.Common.{◌<◌, length, set, refl, ap, ◌∙◌, subst, arith}
 use Rattle.std.proofs.lemmas.List.{length-set}
 use Rattle.model.specs.Order.{rotated}
-use Rattle.version_tables.specs.inner.Offered.{cells_in, marks, weights_in}
+use Rattle.version_tables.specs.inner.OfferInMemory.{cells_in, marks, weights_in}
 use Rattle.version_tables.specs.inner.Turns.{IsStop}
 use Rattle.version_tables.proofs.TurnSteps.{turns-shared, put-here, put-other, part-few, count_on-few}
 use Rattle.version_tables.proofs.weights.Offer.share_into.Goals as goal

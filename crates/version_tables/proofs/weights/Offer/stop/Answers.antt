@@ -1,5 +1,5 @@
 use Rattle.std.proofs.Common.{◌<◌, sym, subst}
-use Rattle.version_tables.specs.inner.Offered.{cells_in, weights_in}
+use Rattle.version_tables.specs.inner.OfferInMemory.{cells_in, weights_in}
 use Rattle.version_tables.specs.inner.Turns.{part_between, IsStop}
 use Rattle.version_tables.specs.inner.Weights.{weight_of}
 use Rattle.version_tables.proofs.Modes.{of-each}

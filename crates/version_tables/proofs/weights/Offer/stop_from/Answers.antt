@@ -1,5 +1,5 @@
 use Rattle.std.proofs.Common.{arith}
-use Rattle.version_tables.specs.inner.Offered.{cells_in, weights_in}
+use Rattle.version_tables.specs.inner.OfferInMemory.{cells_in, weights_in}
 use Rattle.version_tables.specs.inner.Stops.{is_newest}
 use Rattle.version_tables.proofs.StopSteps.{past-rest, some-next, few-from, next-held, stop-first, stop-more, stop-next, stop-found}
 use Rattle.version_tables.proofs.weights.Offer.stop_from.Goals as goal

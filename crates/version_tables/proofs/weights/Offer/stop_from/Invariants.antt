@@ -1,4 +1,4 @@
-use Rattle.version_tables.specs.inner.Offered.{cells_in, weights_in}
+use Rattle.version_tables.specs.inner.OfferInMemory.{cells_in, weights_in}
 use Rattle.version_tables.specs.inner.Stops.{is_newest, weight_from}
 use Rattle.version_tables.proofs.StopSteps.{IsStopSoFar}
 use Rattle.version_tables.proofs.weights.Offer.stop_from.Given as goal

@@ -1,5 +1,5 @@
 use Rattle.std.proofs.Common.{sym, ◌∙◌}
-use Rattle.version_tables.specs.inner.Offered.{marks}
+use Rattle.version_tables.specs.inner.OfferInMemory.{marks}
 use Rattle.version_tables.proofs.OfferWeights.{offer-entries}
 use Rattle.version_tables.proofs.weights.Offer.weight.Goals as goal
 

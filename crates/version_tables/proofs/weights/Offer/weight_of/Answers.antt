@@ -1,7 +1,7 @@
 use Rattle.std.proofs.Common.{◌≡◌, ℕ, ◌<◌, ◌≤◌, refl, sym, ap, ◌∙◌, subst, arith}
 use Rattle.std.proofs.lemmas.Bool.{ltb-true, ltb-false, leb-true, leb-false}
 use Rattle.planes.proofs.Counts.{number_next}
-use Rattle.version_tables.specs.inner.Offered.{cells_in, weights_in}
+use Rattle.version_tables.specs.inner.OfferInMemory.{cells_in, weights_in}
 use Rattle.version_tables.proofs.WeightLaws.{part, part-in, part-low, part-high}
 use Rattle.version_tables.proofs.weights.Offer.weight_of.Goals as goal
 use Rattle.version_tables.proofs.weights.Offer.weight_of.Goals.{then-is_above+then-is_upto, else-is_above, else-is_above-via-then-is_above+else-is_upto, else-is_above-via-else-is_above}

@@ -1,6 +1,6 @@
 use Rattle.std.proofs.Common.{◌≡◌, ◌*◌, ◌≤◌}
 use Rattle.bench_types.specs.Budget.{largest_share}
-use Rattle.version_tables.specs.inner.Offered.{cells_in, weights_in}
+use Rattle.version_tables.specs.inner.OfferInMemory.{cells_in, weights_in}
 use Rattle.version_tables.specs.inner.Weights.{weight_of}
 use Rattle.version_tables.proofs.weights.Offer.weight_of.Given as goal
 

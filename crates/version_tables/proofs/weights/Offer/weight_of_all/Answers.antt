@@ -1,6 +1,6 @@
 use Rattle.std.proofs.Common.{ltb, sym, ◌∙◌, arith}
 use Rattle.std.proofs.lemmas.Bool.{ltb-false}
-use Rattle.version_tables.specs.inner.Offered.{cells_in, marks, weights_in}
+use Rattle.version_tables.specs.inner.OfferInMemory.{cells_in, marks, weights_in}
 use Rattle.version_tables.specs.inner.Weights.{weight_of}
 use Rattle.version_tables.proofs.WeightLaws.{weight_of-none, weight-next}
 use Rattle.version_tables.proofs.weights.Offer.weight_of_all.Goals as goal

@@ -1,6 +1,6 @@
 use Rattle.std.proofs.Common.{◌≡◌, ◌*◌, ◌≤◌}
 use Rattle.bench_types.specs.Budget.{largest_share}
-use Rattle.version_tables.specs.inner.Offered.{cells_in, marks, weights_in}
+use Rattle.version_tables.specs.inner.OfferInMemory.{cells_in, marks, weights_in}
 use Rattle.version_tables.specs.inner.Weights.{weight_between}
 use Rattle.version_tables.proofs.weights.Offer.weight_of_all.Given as goal
 

@@ -1,5 +1,5 @@
 use Rattle.std.proofs.Common.{sym, ◌∙◌}
-use Rattle.version_tables.specs.inner.Offered.{cells_in}
+use Rattle.version_tables.specs.inner.OfferInMemory.{cells_in}
 use Rattle.version_tables.proofs.TurnSteps.{part-entries, part-none}
 use Rattle.version_tables.proofs.weights.Offer.weight_of_part.Goals as goal
 

@@ -1,5 +1,5 @@
 use Rattle.std.proofs.Common.{◌≡◌, length, refl, ap, sym, ◌∙◌}
-use Rattle.version_tables.specs.inner.Offered.{count_in, marks, weight_in}
+use Rattle.version_tables.specs.inner.OfferInMemory.{count_in, marks, weight_in}
 use Rattle.version_tables.specs.inner.Plans.{count_on, weight_on}
 use Rattle.version_tables.proofs.Modes.{of-each}
 use Rattle.version_tables.proofs.weights.Offer.weight_of_whole.Goals as goal

@@ -17,7 +17,7 @@ use Rattle.model.proofs.Apart.{rotated-injective}
 use Rattle.version_tables.specs.inner.Offers.{Offers, IsHistory}
 use Rattle.planes.specs.Planes.{Cells}
 use Rattle.version_tables.specs.inner.Levels.{level_cmp, turn_cmp, item_number}
-use Rattle.version_tables.specs.inner.Shares.{lets_through, AreLevelMarks, StopAt}
+use Rattle.version_tables.specs.inner.LevelMarks.{lets_through, AreLevelMarks, StopAt}
 use Rattle.version_tables.proofs.Levels.{comes-before, candidate-below}
 
 then_less : (a b : Ordering) → b ≡ Less → is_lt (ordering_then a b) ≡ is_lt (ordering_then a Less)

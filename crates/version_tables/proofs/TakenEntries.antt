@@ -1,4 +1,4 @@
--- What a table holds once it has taken what another sent it.
+-- The entries that the model's table has once it has taken what another sent it.
 -- Serves `TakenCells` and `TakenViews`.
 use Rattle.std.proofs.Common.{◌≡◌, ◌≢◌, ℕ, ◌<◌, ◌≤◌, List, Some, None, ◌⊎◌, inl, inr, refl, sym, ap, ◌∙◌, subst, arith}
 use Rattle.std.specs.Prelude.{Contains}

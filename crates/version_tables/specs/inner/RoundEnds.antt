@@ -2,7 +2,7 @@
 use Rattle.std.specs.Prelude.{◌≡◌, ℕ, ◌+◌, ◌*◌, ◌<◌, ◌≤◌, List, length}
 use Rattle.bench_types.specs.declared.entries.Entry.{Entry}
 use Rattle.planes.specs.Planes.{cell}
-use Rattle.version_tables.specs.inner.Shares.{IsRoundMark}
+use Rattle.version_tables.specs.inner.LevelMarks.{IsRoundMark}
 
 -- a row for each round from 0 on, which has no writes, with how many writes each owner has made up to that round
 pub record AreEnds (lists : ℕ → List Entry) (nodes rounds : ℕ) (ends : List ℕ) : Type 0 where

@@ -4,7 +4,7 @@ use Rattle.bench_types.specs.Budget.{amount_of}
 use Rattle.model.specs.OwnerListView.{all_writes}
 use Rattle.planes.specs.Planes.{Cells, cell, count_above, IsGrid, HasNoneAbove}
 use Rattle.version_tables.specs.declared.weights.Offer.{Offer}
-use Rattle.version_tables.specs.inner.Shares.{NumbersDiffer}
+use Rattle.version_tables.specs.inner.LevelMarks.{NumbersDiffer}
 use Rattle.version_tables.specs.inner.Weights.{number_shares, weight_between, count_all_between}
 
 -- a number for each owner

@@ -1,5 +1,5 @@
 -- What owners write up to a round, in each owner's list.
--- Serves `EntryHistoriesRoundHistories::figures`.
+-- Serves `EntryHistoriesRoundHistoriesNodeTable::figures`.
 use Rattle.std.proofs.Common.{ℕ, ◌≤◌, All, List, [], ◌∷◌, ◌++◌, sym, subst, arith}
 use Rattle.std.proofs.lemmas.List.Elements.{All-tail, All-map}
 use Rattle.bench_types.specs.declared.entries.Entry.{Entry}

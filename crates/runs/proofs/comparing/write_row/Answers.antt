@@ -1,0 +1,21 @@
+use Rattle.std.proofs.Common.{inr, subst}
+use Rattle.std.proofs.lemmas.Result.{on_ok_weaker, IfErr-weaker}
+use Rattle.bench_types.specs.Output.{IsWritten, IsWriteFault}
+use Rattle.report.specs.Compare.{compare_line}
+use Rattle.runs.proofs.comparing.write_row.Goals as goal
+
+pub returns-clause-written : goal.returns-clause-written
+returns-clause-written g c =
+    on_ok_weaker c.write_compare_row.result
+    (λ row. record {
+      round = c.in_ok-round.round;
+      played = c.in_ok-round.ensures.played;
+      row = subst (IsWritten g.W.Sink _ _) (λ i. compare_line (c.format.ensures.value i) c.args.mode (c.row.ensures i)) row;
+    })
+    c.write_compare_row.ensures.written
+
+pub returns-clause-fault : goal.returns-clause-fault
+returns-clause-fault g c =
+    IfErr-weaker c.write_compare_row.result _ _
+    (λ fault stop. inr (c.in_ok-round.round, c.in_ok-round.ensures.played, subst (λ line. IsWriteFault g.W.Sink c.args.writer.now c.write_compare_row.new.writer line fault) (λ i. compare_line (c.format.ensures.value i) c.args.mode (c.row.ensures i)) stop))
+    c.write_compare_row.ensures.fault

@@ -9,11 +9,12 @@ use crate::tests::small_boards::{ONE_ENTRY, TWICE, board_of, expect_owners, list
 use crate::tests::tables::{Board, Hold, Seat};
 use bench_types::Fault;
 use board::{Claim, Progress};
+use node_table::NodeTable;
 use std::alloc::AllocGlobal;
 use std::process::Abort;
 
 // The answer in a word.
-fn answer_to(claim: &Claim) -> &'static str {
+fn answer_to(claim: &Claim<NodeTable>) -> &'static str {
     match claim {
         Claim::Held(_) => "held",
         Claim::Taken => "taken",

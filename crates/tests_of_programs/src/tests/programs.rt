@@ -1,12 +1,11 @@
 //! What the program prints and ends with, by its words.
 
-use crate::tests::endings::ending_of;
+use crate::tests::endings::{Ending, ending_of};
 use bench_types::{Pull, Push};
 use command_line::main_with;
 use fixtures::{FOUR_MODES, FOUR_MODES_COMPARED, TWO_NODES, TWO_NODES_REPORT};
 use std::io::{self, ErrorKind, Write};
 use std::process::Abort;
-use std::test::Fail;
 
 // What a program was given, and what it has to print and end with.
 #[derive(Clone, Copy)]
@@ -103,23 +102,19 @@ const CASES: [Case; 10] = [
     },
 ];
 
+// That a program printed and ended with what it had to.
+fn expect_ended(rt: &impl Abort, case: Case, ended: &Ending) {
+    let words = case.words;
+    assert!(rt; ended.status == case.status, "{words:?}");
+    assert!(rt; ended.out.as_slice() == case.out.as_bytes(), "{words:?}");
+    assert!(rt; ended.err.as_slice() == case.err.as_bytes(), "{words:?}");
+}
+
 #[test]
-fn command_line_statuses(rt: HostRuntime) -> Result<(), Fail> {
+fn command_line_statuses(rt: HostRuntime) {
     for case in CASES {
-        let ended = ending_of(&rt, case.words, case.text);
-        assert!(rt; ended.status == case.status, "{:?}", case.words);
-        assert!(rt;
-            ended.out.as_slice() == case.out.as_bytes(),
-            "{:?}",
-            case.words
-        );
-        assert!(rt;
-            ended.err.as_slice() == case.err.as_bytes(),
-            "{:?}",
-            case.words
-        );
+        expect_ended(&rt, case, &ending_of(&rt, case.words, case.text));
     }
-    Ok(())
 }
 
 // What `check` says of texts at fault.
@@ -148,14 +143,17 @@ const LINES: [(&str, &str); 7] = [
     ),
 ];
 
+// That a text is at fault, which has this line.
+fn expect_fault(rt: &impl Abort, text: &str, line: &str, ended: &Ending) {
+    assert!(rt; ended.status == 1 && ended.out.is_empty(), "{text:?}");
+    assert!(rt; ended.err.as_slice() == line.as_bytes(), "{text:?}");
+}
+
 #[test]
-fn lines_of_faults(rt: HostRuntime) -> Result<(), Fail> {
+fn lines_of_faults(rt: HostRuntime) {
     for (text, line) in LINES {
-        let ended = ending_of(&rt, &["check"], text);
-        assert!(rt; ended.status == 1 && ended.out.is_empty(), "{text:?}");
-        assert!(rt; ended.err.as_slice() == line.as_bytes(), "{text:?}");
+        expect_fault(&rt, text, line, &ending_of(&rt, &["check"], text));
     }
-    Ok(())
 }
 
 // The words and the message of each row, which stands behind `error: `.
@@ -185,18 +183,18 @@ const REFUSED: [(&[&str], &str); 16] = refused!(
     ["--version"] "unexpected argument '--version' found"
 );
 
+// That words were refused with a text that begins so, and nothing was read.
+fn expect_refused(rt: &impl Abort, words: &[&str], begin: &str, ended: &Ending) {
+    assert!(rt; ended.status == 2, "{words:?}");
+    assert!(rt; ended.out.is_empty() && ended.left == TWO_NODES.len());
+    assert!(rt; ended.err.starts_with(begin.as_bytes()), "{words:?}");
+}
+
 #[test]
-fn command_lines_of_the_program(rt: HostRuntime) -> Result<(), Fail> {
+fn command_lines_of_the_program(rt: HostRuntime) {
     for (words, begin) in REFUSED {
-        let ended = ending_of(&rt, words, TWO_NODES);
-        assert!(rt; ended.status == 2, "{words:?}");
-        assert!(rt; ended.out.is_empty() && ended.left == TWO_NODES.len());
-        assert!(rt;
-            ended.err.as_slice().starts_with(begin.as_bytes()),
-            "{words:?}"
-        );
+        expect_refused(&rt, words, begin, &ending_of(&rt, words, TWO_NODES));
     }
-    Ok(())
 }
 
 // Words that ask for help, and what stands in it.
@@ -213,15 +211,18 @@ const HELP: [(&[&str], &str); 7] = [
     (&["compare", "--help"], "[default: 1]"),
 ];
 
+// That a text with this part was printed.
+fn expect_help(rt: &impl Abort, words: &[&str], part: &str, ended: &Ending) {
+    assert!(rt; ended.status == 0 && ended.err.is_empty(), "{words:?}");
+    let help = str::from_utf8(&ended.out).unwrap_or("");
+    assert!(rt; help.contains(part), "{words:?}");
+}
+
 #[test]
-fn help_is_printed(rt: HostRuntime) -> Result<(), Fail> {
+fn help_is_printed(rt: HostRuntime) {
     for (words, part) in HELP {
-        let ended = ending_of(&rt, words, TWO_NODES);
-        assert!(rt; ended.status == 0 && ended.err.is_empty(), "{words:?}");
-        let help = String::from_utf8(ended.out).ok().ok_or("a text")?;
-        assert!(rt; help.contains(part), "{words:?}");
+        expect_help(&rt, words, part, &ending_of(&rt, words, TWO_NODES));
     }
-    Ok(())
 }
 
 // A writer that takes nothing.
@@ -242,7 +243,7 @@ impl Write for Closed {
 const PRINTING: [&[&str]; 4] = [&["check"], &["run"], &["compare"], &["--help"]];
 
 #[test]
-fn a_closed_output_is_fault_13(rt: HostRuntime) -> Result<(), Fail> {
+fn a_closed_output_is_fault_13(rt: HostRuntime) {
     for words in PRINTING {
         let mut reader = Pull::new(TWO_NODES.as_bytes());
         let mut err = Push::new(Vec::new(rt.alloc()));
@@ -254,7 +255,6 @@ fn a_closed_output_is_fault_13(rt: HostRuntime) -> Result<(), Fail> {
             "{words:?}"
         );
     }
-    Ok(())
 }
 
 // Words, and the status that they have although nobody takes what is said of it.
@@ -265,7 +265,7 @@ const UNHEARD: [(&[&str], u8); 3] = [
 ];
 
 #[test]
-fn a_closed_error_stream_changes_no_status(rt: HostRuntime) -> Result<(), Fail> {
+fn a_closed_error_stream_changes_no_status(rt: HostRuntime) {
     for (words, wanted) in UNHEARD {
         let mut reader = Pull::new(TWO_NODES.as_bytes());
         let mut out = Push::new(Vec::new(rt.alloc()));
@@ -273,5 +273,4 @@ fn a_closed_error_stream_changes_no_status(rt: HostRuntime) -> Result<(), Fail> 
         let status = main_with(&rt, rt.alloc(), words, &mut reader, &mut out, &mut err);
         assert!(rt; status == wanted, "{words:?}");
     }
-    Ok(())
 }

@@ -3,6 +3,7 @@
 use bench_types::{Pull, Push};
 use command_line::main_with;
 use std::alloc::AllocGlobal;
+use std::process::Abort;
 use std::rt::Files;
 use std::sync::Wait;
 use std::thread::Threads;
@@ -32,4 +33,10 @@ pub(crate) fn ending_of<R: AllocGlobal + Threads + Wait + Sync + Files>(
         err: err.into_inner(),
         left: reader.into_inner().len(),
     }
+}
+
+/// It printed nothing, and ended at the fault that has this line.
+pub(crate) fn expect_fault(rt: &impl Abort, ended: &Ending, line: &str) {
+    assert!(rt; ended.status == 1 && ended.out.is_empty(), "{line:?}");
+    assert!(rt; ended.err.as_slice() == line.as_bytes(), "{line:?}");
 }

@@ -1,6 +1,6 @@
 //! What the program prints and ends with, by its words.
 
-use crate::tests::endings::{Ending, ending_of};
+use crate::tests::endings::{Ending, ending_of, expect_fault};
 use bench_types::{Pull, Push};
 use command_line::main_with;
 use fixtures::{FOUR_MODES, FOUR_MODES_COMPARED, TWO_NODES, TWO_NODES_REPORT};
@@ -9,12 +9,12 @@ use std::process::Abort;
 
 // What a program was given, and what it has to print and end with.
 #[derive(Clone, Copy)]
-struct Case<'a> {
-    words: &'a [&'a str],
-    text: &'a str,
+struct Case {
+    words: &'static [&'static str],
+    text: &'static str,
     status: u8,
-    out: &'a str,
-    err: &'a str,
+    out: &'static str,
+    err: &'static str,
 }
 
 // A scenario whose budget has no room for the largest entry.
@@ -29,7 +29,7 @@ const PARTITION_WITH_A_NOTE: &str = "format = 1\nnodes = 2\nkeys = 1\nrounds = 1
     mode = 'scuttle-depth'\nbudget = 1\npeers = 'ring'\nrotation = 'none'\nchoice = 'cycle'\n\
     loss_ppm = 0\nwrites = 1\n[[partition]]\nfrom = 1\nto = 1\napart = [0]\nnote = 1\n";
 
-const CASES: [Case; 10] = [
+const CASES: &[Case] = &[
     Case {
         words: &["check"],
         text: TWO_NODES,
@@ -113,12 +113,12 @@ fn expect_ended(rt: &impl Abort, case: Case, ended: &Ending) {
 #[test]
 fn command_line_statuses(rt: HostRuntime) {
     for case in CASES {
-        expect_ended(&rt, case, &ending_of(&rt, case.words, case.text));
+        expect_ended(&rt, *case, &ending_of(&rt, case.words, case.text));
     }
 }
 
 // What `check` says of texts at fault.
-const LINES: [(&str, &str); 7] = [
+const LINES: &[(&str, &str)] = &[
     ("[[parti", "fault 2: input is not TOML\n"),
     ("", "fault 4: missing field format\n"),
     (
@@ -143,28 +143,22 @@ const LINES: [(&str, &str); 7] = [
     ),
 ];
 
-// That a text is at fault, which has this line.
-fn expect_fault(rt: &impl Abort, text: &str, line: &str, ended: &Ending) {
-    assert!(rt; ended.status == 1 && ended.out.is_empty(), "{text:?}");
-    assert!(rt; ended.err.as_slice() == line.as_bytes(), "{text:?}");
-}
-
 #[test]
 fn lines_of_faults(rt: HostRuntime) {
     for (text, line) in LINES {
-        expect_fault(&rt, text, line, &ending_of(&rt, &["check"], text));
+        expect_fault(&rt, &ending_of(&rt, &["check"], *text), *line);
     }
 }
 
 // The words and the message of each row, which stands behind `error: `.
 macro_rules! refused {
     ($([$($word:literal),*] $message:literal),+) => {
-        [$((&[$($word),*], concat!("error: ", $message))),+]
+        &[$((&[$($word),*], concat!("error: ", $message))),+]
     };
 }
 
 // Words that are refused, and how the text on standard error begins.
-const REFUSED: [(&[&str], &str); 16] = refused!(
+const REFUSED: &[(&[&str], &str)] = refused!(
     [] "'gossip_bench' requires a subcommand but one was not provided",
     ["walk"] "unrecognized subcommand 'walk'",
     ["help"] "unrecognized subcommand 'help'",
@@ -193,12 +187,12 @@ fn expect_refused(rt: &impl Abort, words: &[&str], begin: &str, ended: &Ending) 
 #[test]
 fn command_lines_of_the_program(rt: HostRuntime) {
     for (words, begin) in REFUSED {
-        expect_refused(&rt, words, begin, &ending_of(&rt, words, TWO_NODES));
+        expect_refused(&rt, *words, *begin, &ending_of(&rt, *words, TWO_NODES));
     }
 }
 
 // Words that ask for help, and what stands in it.
-const HELP: [(&[&str], &str); 7] = [
+const HELP: &[(&[&str], &str)] = &[
     (&["--help"], "Usage: gossip_bench <COMMAND>"),
     (
         &["-h"],
@@ -221,7 +215,7 @@ fn expect_help(rt: &impl Abort, words: &[&str], part: &str, ended: &Ending) {
 #[test]
 fn help_is_printed(rt: HostRuntime) {
     for (words, part) in HELP {
-        expect_help(&rt, words, part, &ending_of(&rt, words, TWO_NODES));
+        expect_help(&rt, *words, *part, &ending_of(&rt, *words, TWO_NODES));
     }
 }
 

@@ -4,8 +4,12 @@ use crate::tests::endings::{Ending, ending_of, expect_fault};
 use bench_types::{Pull, Push};
 use command_line::main_with;
 use fixtures::{FOUR_MODES, FOUR_MODES_COMPARED, TWO_NODES, TWO_NODES_REPORT};
+use std::alloc::AllocGlobal;
 use std::io::{self, ErrorKind, Write};
 use std::process::Abort;
+use std::rt::Files;
+use std::sync::Wait;
+use std::thread::Threads;
 
 // What a program was given, and what it has to print and end with.
 #[derive(Clone, Copy)]
@@ -234,37 +238,50 @@ impl Write for Closed {
 }
 
 // The words that print, and the status where nothing takes what is printed.
-const PRINTING: [&[&str]; 4] = [&["check"], &["run"], &["compare"], &["--help"]];
+const PRINTING: &[&[&str]] = &[&["check"], &["run"], &["compare"], &["--help"]];
+
+// The status and what is said of it, where nothing takes what is printed.
+fn ending_without_output<R: AllocGlobal + Threads + Wait + Sync + Files>(
+    rt: &R,
+    words: &[&str],
+) -> (u8, Vec<u8>) {
+    let mut reader = Pull::new(TWO_NODES.as_bytes());
+    let mut out = Push::new(Closed);
+    let mut err = Push::new(Vec::new(rt.alloc()));
+    let status = main_with(rt, rt.alloc(), words, &mut reader, &mut out, &mut err);
+    (status, err.into_inner())
+}
 
 #[test]
 fn a_closed_output_is_fault_13(rt: HostRuntime) {
     for words in PRINTING {
-        let mut reader = Pull::new(TWO_NODES.as_bytes());
-        let mut err = Push::new(Vec::new(rt.alloc()));
-        let mut out = Push::new(Closed);
-        let status = main_with(&rt, rt.alloc(), words, &mut reader, &mut out, &mut err);
+        let (status, said) = ending_without_output(&rt, *words);
         assert!(rt; status == 1, "{words:?}");
         assert!(rt;
-            err.into_inner().as_slice() == b"fault 13: writing failed\n".as_slice(),
+            said.as_slice() == b"fault 13: writing failed\n".as_slice(),
             "{words:?}"
         );
     }
 }
 
 // Words, and the status that they have although nobody takes what is said of it.
-const UNHEARD: [(&[&str], u8); 3] = [
+const UNHEARD: &[(&[&str], u8)] = &[
     (&["run"], 0),
     (&["walk"], 2),
     (&["run", "--trace", "no/such/folder"], 1),
 ];
 
+// The status where nobody takes what is said of it.
+fn status_unheard<R: AllocGlobal + Threads + Wait + Sync + Files>(rt: &R, words: &[&str]) -> u8 {
+    let mut reader = Pull::new(TWO_NODES.as_bytes());
+    let mut out = Push::new(Vec::new(rt.alloc()));
+    let mut err = Push::new(Closed);
+    main_with(rt, rt.alloc(), words, &mut reader, &mut out, &mut err)
+}
+
 #[test]
 fn a_closed_error_stream_changes_no_status(rt: HostRuntime) {
     for (words, wanted) in UNHEARD {
-        let mut reader = Pull::new(TWO_NODES.as_bytes());
-        let mut out = Push::new(Vec::new(rt.alloc()));
-        let mut err = Push::new(Closed);
-        let status = main_with(&rt, rt.alloc(), words, &mut reader, &mut out, &mut err);
-        assert!(rt; status == wanted, "{words:?}");
+        assert!(rt; status_unheard(&rt, *words) == *wanted, "{words:?}");
     }
 }

@@ -1,5 +1,5 @@
 -- The numbers of an ascending array, and so the nodes of one side of a partition.
--- Serves `PartitionElement::of`.
+-- Serves `PartitionsElements::of`.
 use Rattle.std.proofs.Common.{◌≡◌, ℕ, zero, suc, ◌+◌, ◌-◌, ◌<◌, ◌≤◌, pos, negsuc, nat_le, ◌&&◌, List, [], ◌∷◌, get_or, Ok, All, sym, subst, arith}
 use Rattle.std.specs.List.Sorted.{IsStrictlyIncreasing}
 use Rattle.std.proofs.lemmas.Bool.{leb-true, and_parts}

@@ -12,19 +12,22 @@ use bench_types::{Fault, Field, TableName};
 use std::alloc::Global;
 use toml::{Table, Value};
 
-/// An element of an array of tables.
-pub(crate) trait Element: Drop {
+/// An array of tables in a scenario's text. (What reads an element isn't its own type's: a crate that names the type
+/// would load all of TOML with it.)
+pub(crate) trait Elements {
+    type Element: Drop;
+
     ghost use Rattle.std.specs.Prelude.{ℕ, Result};
     ghost use Rattle.bench_types.specs.declared.faults.Fault.{Fault};
     ghost use Rattle.toml.specs.Data.{Data};
 
-    ghost checked: { ℕ → ℕ → Data → Result Self Fault };
+    ghost checked: { ℕ → ℕ → Data → Result Self.Element Fault };
 
     // The limits of an element, in a scenario of a format and of so many nodes.
-    ghost lawful: { ℕ → ℕ → Self → Type 0 };
+    ghost lawful: { ℕ → ℕ → Self.Element → Type 0 };
 
     /// The element that the value says, in a scenario of the format and of so many nodes.
-    fn of(alloc: Global, value: &Value, format: u32, nodes: u32) -> Result<Self, Fault>
+    fn of(alloc: Global, value: &Value, format: u32, nodes: u32) -> Result<Self::Element, Fault>
         requires { 2 ≤ nodes }
         ensures ok { IfOk result (λ element. checked format nodes (view value.now) ≡ Ok element) }
         ensures lawful { IfOk result (lawful format nodes) }
@@ -73,24 +76,24 @@ fn elements_at(table: &Table, field: Field) -> Result<&[Value], Fault>
 
 /// The elements of an array of tables. One that is absent has none, and one with too many is out of
 /// range, whatever they are.
-pub(crate) fn array_at<T: Element>(
+pub(crate) fn array_at<A: Elements>(
     alloc: Global,
     table: &Table,
     field: Field,
     format: u32,
     nodes: u32,
-) -> Result<Vec<T>, Fault>
+) -> Result<Vec<A::Element>, Fault>
     requires { 2 ≤ nodes }
     ensures ok { IfOk result (λ elements.
-        array_at field (T.checked format nodes) (table_view table.now) ≡ Ok elements.items) }
-    ensures lawful { IfOk result (λ elements. AreLawful (T.lawful format nodes) elements.items) }
+        array_at field (A.checked format nodes) (table_view table.now) ≡ Ok elements.items) }
+    ensures lawful { IfOk result (λ elements. AreLawful (A.lawful format nodes) elements.items) }
     ensures refused { IfErr result (λ fault. fault ≢ Fault.OutOfMemory →
-        array_at field (T.checked format nodes) (table_view table.now) ≡ Err fault) }
+        array_at field (A.checked format nodes) (table_view table.now) ≡ Err fault) }
 {
     let values = elements_at(table, field)?;
     let mut elements = Vec::new(alloc);
     for value in values {
-        elements.push(T::of(alloc, value, format, nodes)?)?;
+        elements.push(A::of(alloc, value, format, nodes)?)?;
     }
     Ok(elements)
 }

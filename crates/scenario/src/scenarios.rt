@@ -12,7 +12,7 @@ use crate::choices::{Choice, Peers, Rotation};
 use crate::elements::{Load, Partition, Restart};
 use crate::fields::only_fields;
 use crate::parts::{Basics, Conduct, basics_at, conduct_at};
-use crate::tables::restart_fields;
+use crate::tables::{Loads, Partitions, Restarts, restart_fields};
 use bench_types::limits::{
     LEAST_KEYS, LEAST_NODES, MOST_ENTRIES, MOST_KEYS, MOST_LOSS, MOST_NODES, MOST_ROUNDS,
     MOST_SEED, MOST_WRITES,
@@ -106,9 +106,9 @@ impl Scenario {
         let basics = basics_at(table)?;
         let (format, nodes) = (basics.format, basics.nodes);
         let conduct = conduct_at(table, format)?;
-        let partitions = array_at(alloc, table, Field::Partition, format, nodes)?;
-        let restarts = array_at(alloc, table, Field::Restart, format, nodes)?;
-        let loads = array_at(alloc, table, Field::Load, format, nodes)?;
+        let partitions = array_at::<Partitions>(alloc, table, Field::Partition, format, nodes)?;
+        let restarts = array_at::<Restarts>(alloc, table, Field::Restart, format, nodes)?;
+        let loads = array_at::<Loads>(alloc, table, Field::Load, format, nodes)?;
         check_unknown(table, format)?;
         Ok(Scenario {
             basics,

@@ -5,7 +5,7 @@ ghost use Rattle.toml.specs.View.{table_view};
 ghost use Rattle.scenario.specs.Elements.{has_generations, restart_fields, apart_at, forget_at};
 ghost use Rattle.scenario.specs.Fields.{number_at};
 
-use crate::arrays::{Element, array_at, array_of, table_of};
+use crate::arrays::{Elements, array_at, array_of, table_of};
 use crate::elements::{Load, Partition, Restart};
 use crate::fields::{flag_at, number_at, number_of, value_at};
 use bench_types::limits::{MOST_ROUNDS, MOST_WRITES};
@@ -20,7 +20,12 @@ const RESTART_FIELDS: [Field; 4] = [
     Field::RestartForget,
 ];
 
-impl Element for Partition {
+/// The partitions of a scenario.
+pub(crate) struct Partitions;
+
+impl Elements for Partitions {
+    type Element = Partition;
+
     ghost use Rattle.scenario.specs.Elements.{partition_of};
     ghost use Rattle.scenario.specs.Settings.{IsLawfulPartition};
 
@@ -37,7 +42,12 @@ impl Element for Partition {
     }
 }
 
-impl Element for Restart {
+/// The restarts of a scenario.
+pub(crate) struct Restarts;
+
+impl Elements for Restarts {
+    type Element = Restart;
+
     ghost use Rattle.scenario.specs.Elements.{restart_of};
     ghost use Rattle.scenario.specs.Settings.{IsLawfulRestart};
 
@@ -60,7 +70,12 @@ impl Element for Restart {
     }
 }
 
-impl Element for Load {
+/// The loads of a scenario.
+pub(crate) struct Loads;
+
+impl Elements for Loads {
+    type Element = Load;
+
     ghost use Rattle.scenario.specs.Elements.{load_of};
     ghost use Rattle.scenario.specs.Settings.{IsLawfulLoad};
 

@@ -1,6 +1,6 @@
 use Rattle.toml.specs.View.{table_view}
 use Rattle.scenario.proofs.Lawful.{apart_lawful}
-use Rattle.scenario.proofs.tables.PartitionElement.of.Goals as goal
+use Rattle.scenario.proofs.tables.PartitionsElements.of.Goals as goal
 
 pub returns-clause-lawful : goal.returns-clause-lawful
 returns-clause-lawful c =

@@ -12,4 +12,4 @@ pub use grids::{
     total_upto, zeros,
 };
 pub use lags::{count_behind, least_behind, lower, lower_all};
-pub use numbers::Number;
+pub use numbers::{Number, Short};

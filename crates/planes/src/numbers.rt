@@ -1,5 +1,7 @@
 //! Numbers of writes, in as many bits as a scenario needs.
 
+use std::marker::Model;
+
 /// The number of a write: its place, from 1, among all writes of its owner; 0 for none.
 pub trait Number: Copy + Send + Sync {
     ghost use Rattle.std.specs.Prelude.{◌≡◌, ℕ, ◌+◌, ◌-◌, ◌<◌, ◌≤◌, Bool, nat_lt, nat_le, max, min, if◌then◌else◌};
@@ -48,52 +50,81 @@ pub trait Number: Copy + Send + Sync {
     ghost counts_nodes: { MOST_NODES ≤ most };
 }
 
-impl Number for u16 {
+/// A number below 32768, in 16 bits with a sign: a processor compares many such numbers, or takes the greater of each two,
+/// in one instruction, and without a sign only in two.
+#[derive(Clone, Copy)]
+pub struct Short {
+    number: i16,
+}
+
+impl Model for Short {
+    ghost use Rattle.std.specs.Prelude.{◌≡◌, ℕ};
+    ghost use Rattle.std.specs.Int.RustNames.{unsigned_abs};
+    ghost use lib.IntN.{pos};
+
+    ghost Value = { ℕ };
+
+    ghost view = { λ s. unsigned_abs s.number };
+
+    ghost invariant = { λ s. s.number ≡ pos (unsigned_abs s.number) };
+
+    ghost inverse = { λ n. record { number = pos n } };
+}
+
+impl Number for Short {
     ghost use Rattle.std.specs.Prelude.{ℕ};
     ghost use Rattle.std.proofs.Common.{rules};
 
     ghost number = { λ n. n };
 
-    ghost most = { 65535 };
+    ghost most = { 32767 };
 
     ghost counts_keys = { Prim.search rules };
 
     ghost counts_nodes = { Prim.search rules };
 
-    fn zero() -> u16 {
-        0
+    fn zero() -> Short {
+        Short { number: 0 }
     }
 
-    fn greatest() -> u16 {
-        u16::MAX
+    fn greatest() -> Short {
+        Short { number: i16::MAX }
     }
 
     fn widen(self) -> u32 {
-        u32::from(self)
+        self.number as u32
     }
 
-    fn narrow(wide: u32) -> u16 {
-        wide as u16
+    fn narrow(wide: u32) -> Short {
+        Short {
+            number: wide as i16,
+        }
     }
 
-    fn is_above(self, other: u16) -> bool {
-        self > other
+    fn is_above(self, other: Short) -> bool {
+        self.number > other.number
     }
 
-    fn is_upto(self, other: u16) -> bool {
-        self <= other
+    fn is_upto(self, other: Short) -> bool {
+        self.number <= other.number
     }
 
-    fn max_with(self, other: u16) -> u16 {
-        self.max(other)
+    fn max_with(self, other: Short) -> Short {
+        Short {
+            number: self.number.max(other.number),
+        }
     }
 
-    fn min_with(self, other: u16) -> u16 {
-        self.min(other)
+    fn min_with(self, other: Short) -> Short {
+        Short {
+            number: self.number.min(other.number),
+        }
     }
 
-    fn plus(self, more: bool) -> u16 {
-        self + u16::from(more)
+    fn plus(self, more: bool) -> Short {
+        Short {
+            number: self.number + i16::from(more),
+        }
     }
 }
 

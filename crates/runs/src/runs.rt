@@ -22,7 +22,7 @@ use std::alloc::Global;
 use std::marker::Brand;
 use std::sync::Wait;
 use std::thread::Threads;
-use version_tables::{Histories, VersionTable, Written};
+use version_tables::{Histories, Short, VersionTable, Written};
 use workers::FreeGate;
 
 /// Reads a scenario, and writes the report of its run to `writer` and its trace to `trace`: the two
@@ -66,16 +66,16 @@ pub fn check_input<R: Source>(alloc: Global, reader: &mut R) -> Result<Scenario,
 
 // Whether all that an owner writes in a run has numbers of 16 bits.
 fn has_few_writes(scenario: &Scenario) -> bool
-    ensures few { result ≡ true → HasWritesBelow 65535 scenario.now }
+    ensures few { result ≡ true → HasWritesBelow 32767 scenario.now }
     ensures some { HasWritesBelow 4294967295 scenario.now }
 {
-    MOST_WRITES * scenario.rounds() < u32::from(u16::MAX)
+    MOST_WRITES * scenario.rounds() < i16::MAX as u32
 }
 
 /// A simulation by tables that keep versions alone, in numbers of 16 bits or of 32.
 #[derive(Drop)]
 pub(crate) enum Opened<L: Written + Send + Sync> {
-    Narrow(Sim<VersionTable<u16, L>, Histories<u16, L>>),
+    Narrow(Sim<VersionTable<Short, L>, Histories<Short, L>>),
     Wide(Sim<VersionTable<u32, L>, Histories<u32, L>>),
 }
 

@@ -13,7 +13,7 @@ use crate::histories::Histories;
 use crate::lags::figures;
 use crate::tables::{VersionTable, Written};
 use bench_types::{Fault, Figures};
-use planes::Number;
+use planes::{Number, Short};
 use round_tables::RoundHistories;
 use std::alloc::Global;
 use std::marker::Brand;
@@ -67,7 +67,7 @@ fn stand_ready<N: Number, H: Written>(histories: &Histories<N, H>, round: u32)
     let _lists = histories.lists();
 }
 
-impl<H: Written + Send + Sync> RoundHistories<VersionTable<u16, H>> for Histories<u16, H> {
+impl<H: Written + Send + Sync> RoundHistories<VersionTable<Short, H>> for Histories<Short, H> {
     ghost use Rattle.std.specs.Prelude.{◌≡◌};
     ghost use Rattle.version_tables.specs.inner.Histories.{IsWriteUnder};
 
@@ -75,9 +75,9 @@ impl<H: Written + Send + Sync> RoundHistories<VersionTable<u16, H>> for Historie
 
     ghost has_ended = { λ h round. h.rounds ≡ round };
 
-    ghost may_write = { IsWriteUnder H.lists 65535 };
+    ghost may_write = { IsWriteUnder H.lists 32767 };
 
-    fn new(alloc: Global, nodes: u32) -> Result<Histories<u16, H>, Fault> {
+    fn new(alloc: Global, nodes: u32) -> Result<Histories<Short, H>, Fault> {
         Histories::new(alloc, nodes)
     }
 
@@ -86,15 +86,15 @@ impl<H: Written + Send + Sync> RoundHistories<VersionTable<u16, H>> for Historie
         node: u32,
         nodes: u32,
         keys: u32,
-    ) -> Result<VersionTable<u16, H>, Fault> {
+    ) -> Result<VersionTable<Short, H>, Fault> {
         VersionTable::new(alloc, node, nodes, keys)
     }
 
-    fn restart(table: &mut VersionTable<u16, H>) {
+    fn restart(table: &mut VersionTable<Short, H>) {
         table.forget_others();
     }
 
-    fn forget(&mut self, table: &mut VersionTable<u16, H>) {
+    fn forget(&mut self, table: &mut VersionTable<Short, H>) {
         self.begin_generation(table.node());
         table.forget_all();
     }
@@ -105,7 +105,7 @@ impl<H: Written + Send + Sync> RoundHistories<VersionTable<u16, H>> for Historie
 
     fn write(
         &mut self,
-        table: &mut VersionTable<u16, H>,
+        table: &mut VersionTable<Short, H>,
         key: u32,
         value: u32,
         born: u32,
@@ -125,7 +125,7 @@ impl<H: Written + Send + Sync> RoundHistories<VersionTable<u16, H>> for Historie
         &self,
         rt: &R,
         alloc: Global,
-        tables: &[VersionTable<u16, H>],
+        tables: &[VersionTable<Short, H>],
         round: u32,
     ) -> Result<Figures, Fault> {
         figures(rt, alloc, tables, self, round)

@@ -5,7 +5,7 @@ use crate::histories::Histories;
 use crate::tables::{VersionTable, Written};
 use bench_types::{Exchange, Fault, Record, Rules};
 use model::{Exchanging, MemoryTable};
-use planes::Number;
+use planes::{Number, Short};
 use std::alloc::Global;
 
 impl<N: Number, H: Written> MemoryTable for VersionTable<N, H> {
@@ -14,7 +14,7 @@ impl<N: Number, H: Written> MemoryTable for VersionTable<N, H> {
     ghost table = { table_in H.lists };
 }
 
-impl<H: Written + Send + Sync> Exchanging<VersionTable<u16, H>> for Histories<u16, H> {
+impl<H: Written + Send + Sync> Exchanging<VersionTable<Short, H>> for Histories<Short, H> {
     ghost use Rattle.version_tables.specs.inner.Histories.{FitsHistories};
     ghost use Rattle.version_tables.specs.inner.FitsKept.{fits_stays};
 
@@ -25,8 +25,8 @@ impl<H: Written + Send + Sync> Exchanging<VersionTable<u16, H>> for Histories<u1
     fn exchange(
         &self,
         alloc: Global,
-        initiator: &mut VersionTable<u16, H>,
-        responder: &mut VersionTable<u16, H>,
+        initiator: &mut VersionTable<Short, H>,
+        responder: &mut VersionTable<Short, H>,
         plan: &Exchange,
         rules: &Rules,
     ) -> Result<Record, Fault> {

@@ -26,4 +26,5 @@ mod weights;
 pub use histories::Histories;
 pub use lags::figures;
 pub use laws::deltas_have_their_sets;
+pub use planes::{Number, Short};
 pub use tables::{VersionTable, Written};

@@ -20,7 +20,7 @@ use std::marker::Brand;
 use std::process::Abort;
 use std::sync::Wait;
 use std::thread::Threads;
-use version_tables::{Histories, VersionTable, Written};
+use version_tables::{Histories, Number, Short, VersionTable, Written};
 
 // What can be read of a table that keeps versions alone.
 trait Versions: MemoryTable + Send + Sync {
@@ -31,7 +31,7 @@ trait Versions: MemoryTable + Send + Sync {
     fn numbers(&self, alloc: Global) -> Result<Vec<u32>, AllocError>;
 }
 
-impl<L: Written + Send + Sync> Versions for VersionTable<u16, L> {
+impl<N: Number, L: Written + Send + Sync> Versions for VersionTable<N, L> {
     fn head(&self) -> [u32; 4] {
         [self.node(), self.nodes(), self.keys(), self.generation()]
     }
@@ -39,18 +39,8 @@ impl<L: Written + Send + Sync> Versions for VersionTable<u16, L> {
     fn numbers(&self, alloc: Global) -> Result<Vec<u32>, AllocError> {
         self.cells()
             .iter()
-            .map(|number: &u16| u32::from(*number))
+            .map(|number: &N| number.widen())
             .collect(alloc)
-    }
-}
-
-impl<L: Written + Send + Sync> Versions for VersionTable<u32, L> {
-    fn head(&self) -> [u32; 4] {
-        [self.node(), self.nodes(), self.keys(), self.generation()]
-    }
-
-    fn numbers(&self, alloc: Global) -> Result<Vec<u32>, AllocError> {
-        Vec::from_slice(alloc, self.cells())
     }
 }
 
@@ -207,10 +197,10 @@ fn expect_same_numbers<L: Written + Send + Sync>(
     bits: Bits,
 ) -> Result<(), Fault>
     requires written { AreWrittenIn L.lists scenario }
-    requires below { HasWritesBelow 65535 scenario }
+    requires below { HasWritesBelow 32767 scenario }
 {
     match bits {
-        Bits::Sixteen => expect_same_rounds::<VersionTable<u16, L>, Histories<u16, L>>(
+        Bits::Sixteen => expect_same_rounds::<VersionTable<Short, L>, Histories<Short, L>>(
             rt, scenario, twin,
         ),
         Bits::ThirtyTwo => expect_same_rounds::<VersionTable<u32, L>, Histories<u32, L>>(
@@ -227,7 +217,7 @@ fn expect_same(
 ) -> Result<(), Fault> {
     let scenario = scenario_of(rt.alloc(), text, mode)?;
     let twin = scenario_of(rt.alloc(), text, mode)?;
-    assert!(rt; MOST_WRITES * scenario.rounds() < u32::from(u16::MAX));
+    assert!(rt; MOST_WRITES * scenario.rounds() < i16::MAX as u32);
     expect_same_numbers::<Brand>(rt, scenario, twin, bits)
 }
 

@@ -4,7 +4,7 @@ use Rattle.tests_of_runs.proofs.tests.both_tables.expect_same_numbers.Goals as g
 
 pub expect_same_rounds-requires-clause-may_write : goal.expect_same_rounds-requires-clause-may_write
 expect_same_rounds-requires-clause-may_write g c lives within =
-    may_write_all c.args.scenario 65535 g.L.Written.lists c.requires.written c.requires.below
+    may_write_all c.args.scenario 32767 g.L.Written.lists c.requires.written c.requires.below
 
 pub expect_same_rounds-requires-in-ThirtyTwo-clause-may_write : goal.expect_same_rounds-requires-in-ThirtyTwo-clause-may_write
 expect_same_rounds-requires-in-ThirtyTwo-clause-may_write g c lives within =

@@ -50,8 +50,8 @@ pub trait Number: Copy + Send + Sync {
     ghost counts_nodes: { MOST_NODES ≤ most };
 }
 
-/// A number below 32768, in 16 bits with a sign: a processor compares many such numbers, or takes the greater of each two,
-/// in one instruction, and without a sign only in two.
+/// A number below 32768, in 16 bits with a sign: a processor compares many such numbers in one instruction, and those
+/// without a sign in two.
 #[derive(Clone, Copy)]
 pub struct Short {
     number: i16,

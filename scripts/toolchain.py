@@ -4,9 +4,13 @@ import importlib.machinery
 import importlib.util
 import os
 import shutil
+import subprocess
 import sys
 
 sys.dont_write_bytecode = True
+# The kinds of x86-64 processor that programs are built for: by rt, and where the processor has what the newer one has.
+OLDER, NEWER = "x86-64-v2", "x86-64-v3"
+LOADER = "/lib64/ld-linux-x86-64.so.2"
 
 
 def load_rt(top):
@@ -24,3 +28,21 @@ def load_rt(top):
     # (its first call sets handlers of signals, which only the main thread may)
     rt.rtlib.guarded()
     return rt
+
+
+def has_newer():
+    """Whether this machine has a processor of the newer kind, by the loader that starts each program."""
+    if not os.access(LOADER, os.X_OK):
+        return False
+    return f" {NEWER} (supported" in subprocess.run([LOADER, "--help"], capture_output=True, text=True).stdout
+
+
+def build_for_newer(crate):
+    """Has a program built for the newer kind."""
+    crate.said = {**crate.said, "cpu": NEWER}
+
+
+def build_program(rt, crate, flags, to):
+    """Proves a program, builds it by LLVM and links it, as rt ci does, and says whether that failed."""
+    words = [*crate.words(flags, keeps=False), "--toolchain", f"{rt.KIT}/toolchain", "--backend", "llvm"]
+    return crate.prove(["build", *words, "-o", f"{to}.o"]) or crate.link(f"{to}.o", to)

@@ -6,7 +6,7 @@
 # so that read_runs.py can read them.
 # The runs go at once on all cores, or JOBS of them, by GNU parallel where it is there, else by xargs. With GNU
 # parallel they also go to HOSTS, as in HOSTS=:,alpha,beta, where `:` is this machine: each has the program under the
-# same path, and rsync.
+# same path, and rsync. Nothing is run where the program doesn't start on one of them.
 
 refuse() {
     echo "grid.sh: $1" >&2
@@ -108,6 +108,9 @@ elif parallel --version 2>&1 | grep -q '^GNU parallel'; then
     set --
     [ ! -t 2 ] || set -- --bar
     [ -z "$JOBS" ] || set -- "$@" --jobs "$JOBS"
+    [ -z "$HOSTS" ] ||
+        parallel --nonall --tag --sshlogin "$HOSTS" --env GOSSIP_BENCH '"$GOSSIP_BENCH" --help >/dev/null' \
+            >"$room/answer" 2>&1 || refuse "not each of HOSTS runs the program. $(sed 's/\t/: /; q' "$room/answer")"
     # (a folder of the same name there, so that two sweeps keep apart)
     [ -z "$HOSTS" ] || set -- "$@" --sshlogin "$HOSTS" --workdir . --transferfile {}.toml --return {}.csv --cleanup
     parallel "$@" --halt soon,fail=1 --env GOSSIP_BENCH \

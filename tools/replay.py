@@ -1,0 +1,412 @@
+#!/usr/bin/env python3
+"""replay.py: the bench once more, in plain Python: the rules of docs/model.md and docs/formats.md in a form to read.
+
+    tools/replay.py check < SCENARIO
+    tools/replay.py run [--trace FILE] [--sent FILE] [--tables FILE] < SCENARIO
+    tools/replay.py compare < SCENARIO
+
+It prints what `gossip_bench` prints, and writes the same trace, byte for byte. Two more files show what the program
+doesn't: --sent has a row for each entry that was sent, in the order of sending, and --tables has every table after each
+round, by holder, owner and key. It needs Python 3.11 or newer and nothing else. 64 nodes with 4 keys take some seconds
+for 30 rounds.
+
+The status is 1 after a fault, and 2 where the words are refused. The line of a fault in the scenario is the program's,
+but where a number is too large or something is nested too deep it may be another. What only TOML 1.1 has, such as an
+inline table over several lines, is refused too, as Python reads TOML 1.0.
+"""
+import argparse
+import sys
+import tomllib
+from collections import defaultdict
+from dataclasses import dataclass, field, replace
+from functools import lru_cache
+from itertools import accumulate, pairwise
+from types import SimpleNamespace
+from typing import NamedTuple
+
+REPORT = "round,exchanges,unreached,lost,entries,cut,stale,greatest"
+TRACE = "round,index,initiator,responder,fate,digest1,digest2,back,forth,back_cut,forth_cut"
+SENT = "round,index,direction,sender,receiver,arrived,owner,key,generation,version,value,born"
+TABLES = "round,holder,owner,key,generation,version,value,born"
+MODES = ("scuttle-breadth", "scuttle-depth", "precise-oldest", "precise-newest")
+ROUNDS = range(1, 100001)
+ABSENT = (0, 0)  # the mark where there is no entry
+
+
+# The scenario, by docs/formats.md.
+
+class Fault(Exception):
+    """What is wrong, in the line that says so."""
+
+
+def check_value(value, path, lawful):
+    """The value is one of the lawful ones, and of their type. A type alone stands for all of its values."""
+    kind = lawful if isinstance(lawful, type) else int if isinstance(lawful, range) else type(lawful[0])
+    if type(value) is not kind:
+        raise Fault(f"fault 5: wrong type of field {path}")
+    if path == "budget_bytes" and value < 1023:
+        raise Fault("fault 20: budget_bytes is below 1023")
+    if lawful is not kind and value not in lawful:
+        raise Fault(f"fault 6: field {path} is out of range")
+
+
+def check_fields(table, array, lawful):
+    """Each of these fields is there and lawful, in order. The array is the one that has the table, if any."""
+    for name, values in lawful.items():
+        path = f"{array}.{name}" if array else name
+        if name not in table:
+            raise Fault(f"fault 4: missing field {path}")
+        check_value(table[name], path, values)
+
+
+def check_element(table, array, top):
+    check_value(table, array, dict)
+    if array == "restart":
+        check_fields(table, array, {"node": range(top["nodes"]), "round": ROUNDS, "down": range(100001)})
+        if top["format"] == 2 and "forget" in table:
+            check_fields(table, array, {"forget": (False, True)})
+    else:
+        check_fields(table, array, {"from": ROUNDS})
+        check_fields(table, array, {"to": range(table["from"], 100001)})
+    if array == "load":
+        check_fields(table, array, {"writes": range(9)})
+    if array == "partition":
+        check_fields(table, array, {"apart": list})
+        for before, node in pairwise([-1, *table["apart"]]):
+            check_value(node, "partition.apart", range(before + 1, top["nodes"]))
+
+
+def check_scenario(top):
+    """Makes the checks of a document in order. The first that fails is the answer."""
+    check_fields(top, "", {"format": (1, 2), "nodes": range(2, 4097), "keys": range(1, 65)})
+    if top["nodes"] ** 2 * top["keys"] > 268435456:
+        raise Fault("fault 8: nodes * nodes * keys is above 268435456")
+    budget = {"budget": range(1, 65536)} if top["format"] == 1 else {"budget_bytes": range(1023, 67108865)}
+    fields = {"rounds": ROUNDS, "seed": range(2**63), "mode": MODES, **budget, "peers": ("random", "ring"),
+              "rotation": ("random", "none"), "choice": ("random", "cycle"), "loss_ppm": range(1000001),
+              "writes": range(9)}
+    check_fields(top, "", fields)
+    forget = [] if top["format"] == 1 else ["forget"]
+    arrays = {"partition": ["from", "to", "apart"], "restart": ["node", "round", "down", *forget],
+              "load": ["from", "to", "writes"]}
+    for array in arrays:
+        elements = top.get(array, [])
+        check_value(elements, array, list)
+        check_value(len(elements), array, range(1001))
+        for table in elements:
+            check_element(table, array, top)
+    if set(top) - {"format", "nodes", "keys", *fields, *arrays}:
+        raise Fault("fault 7: unknown field in table top")
+    for array, names in arrays.items():
+        if any(set(table) - set(names) for table in top.get(array, [])):
+            raise Fault(f"fault 7: unknown field in table {array}")
+
+
+def read_scenario(text):
+    """The scenario by the names of its fields. The elements of its three arrays stay as they stand in the text."""
+    if len(text) > 1048576:
+        raise Fault("fault 3: input is longer than 1048576 bytes")
+    try:
+        top = tomllib.loads(text.decode("utf-8-sig"))
+    except (ValueError, RecursionError):
+        raise Fault("fault 2: input is not TOML")
+    check_scenario(top)
+    return SimpleNamespace(**{"partition": [], "restart": [], "load": []} | top)
+
+
+# The words of a node and what they decide, by docs/model.md, as all that follows.
+
+def quarter(state, a, b, c, d):
+    for target, added, mixed, places in ((a, b, d, 16), (c, d, b, 12), (a, b, d, 8), (c, d, b, 7)):
+        state[target] = (state[target] + state[added]) % 2**32
+        crossed = state[mixed] ^ state[target]
+        state[mixed] = (crossed << places | crossed >> 32 - places) % 2**32
+
+
+@lru_cache(maxsize=65536)
+def block(seed, node, number):
+    """The 16 words of a block of a node's ChaCha20 stream."""
+    begin = [0x61707865, 0x3320646E, 0x79622D32, 0x6B206574, seed % 2**32, seed // 2**32, 0, 0, 0, 0, 0, 0,
+             number, 0, node, 0]
+    state = list(begin)
+    for _ in range(10):
+        for places in ((0, 4, 8, 12), (1, 5, 9, 13), (2, 6, 10, 14), (3, 7, 11, 15),
+                       (0, 5, 10, 15), (1, 6, 11, 12), (2, 7, 8, 13), (3, 4, 9, 14)):
+            quarter(state, *places)
+    return [(first + last) % 2**32 for first, last in zip(begin, state)]
+
+
+def word(scenario, node, round, place):
+    return block(scenario.seed, node, round - 1)[place]
+
+
+def peer(scenario, node, round):
+    if scenario.peers == "ring":
+        return (node + 1 + (round - 1) % (scenario.nodes - 1)) % scenario.nodes
+    place = word(scenario, node, round, 0) % (scenario.nodes - 1)
+    return place if place < node else place + 1
+
+
+def is_down(scenario, node, round):
+    return any(it["node"] == node and it["round"] <= round < it["round"] + it["down"] for it in scenario.restart)
+
+
+def are_separated(scenario, node, other, round):
+    return any(it["from"] <= round <= it["to"] and (node in it["apart"]) != (other in it["apart"])
+               for it in scenario.partition)
+
+
+def writes_of(scenario, round):
+    """The number of writes of each up node. The last listed load counts."""
+    return [scenario.writes, *(it["writes"] for it in scenario.load if it["from"] <= round <= it["to"])][-1]
+
+
+# Entries, tables, digests and deltas.
+
+class Entry(NamedTuple):
+    owner: int
+    key: int
+    generation: int
+    version: int
+    value: int
+    born: int
+
+    @property
+    def mark(self):
+        return self.generation, self.version
+
+
+@dataclass
+class Node:
+    number: int
+    generation: int = 0
+    writes: list = field(default_factory=list)  # all of its current generation
+    table: dict = field(default_factory=dict)  # for each owner of whom it holds something, the entries by their keys
+
+
+def entries(table):
+    return [entry for part in table.values() for entry in part.values()]
+
+
+def mark(table, owner, key):
+    held = table.get(owner, {}).get(key)
+    return held.mark if held else ABSENT
+
+
+def generation(table, owner):
+    """That of any entry of the owner, as all have the same."""
+    return next((entry.generation for entry in table.get(owner, {}).values()), 0)
+
+
+class ScuttleDigest:
+    def __init__(self, table):
+        self.greatest = {owner: max(entry.mark for entry in part.values()) for owner, part in table.items()}
+        self.size = len(self.greatest)
+
+    def lacks(self, entry):
+        return entry.mark > self.greatest.get(entry.owner, ABSENT)
+
+
+class PreciseDigest:
+    def __init__(self, table):
+        self.marks = {(entry.owner, entry.key): entry.mark for entry in entries(table)}
+        self.generations = {owner: generation(table, owner) for owner in table}
+        self.size = len(self.marks)
+
+    def lacks(self, entry):
+        is_above = entry.mark > self.marks.get((entry.owner, entry.key), ABSENT)
+        return is_above and entry.generation >= self.generations.get(entry.owner, 0)
+
+
+def in_sending_order(scenario, candidates, turn):
+    """The candidates as the mode puts them. A minus stands for `greater first`."""
+    versions = defaultdict(list)
+    for it in candidates:
+        versions[it.owner].append(it.version)
+
+    def rank(it):
+        return sum(version < it.version for version in versions[it.owner])
+
+    def turned(it):
+        return (it.owner + scenario.nodes - turn) % scenario.nodes
+
+    order = {
+        "scuttle-breadth": lambda it: (rank(it), turned(it), it.key),
+        "scuttle-depth": lambda it: (-len(versions[it.owner]), turned(it), it.version, it.key),
+        "precise-oldest": lambda it: (it.born, turned(it), it.version, it.key),
+        "precise-newest": lambda it: (-it.born, turned(it), -it.version, it.key),
+    }
+    return sorted(candidates, key=order[scenario.mode])
+
+
+def delta(scenario, sender, receiver, told, turn):
+    """What one node sends to another by the digest that this one told, and how much the budget cuts."""
+    candidates = [it for it in entries(sender.table) if it.owner != receiver.number and told.lacks(it)]
+    ordered = in_sending_order(scenario, candidates, turn)
+    if scenario.format == 1:
+        sent = ordered[:scenario.budget]
+    else:
+        taken = accumulate(24 + it.value % 1000 for it in ordered)
+        sent = [it for it, bytes in zip(ordered, taken) if bytes <= scenario.budget_bytes]
+    return sent, len(candidates) - len(sent)
+
+
+def apply(sent, table):
+    for it in sent:
+        held = generation(table, it.owner)
+        if it.generation > held:
+            table[it.owner] = {it.key: it}
+        elif it.generation == held and it.mark > mark(table, it.owner, it.key):
+            table.setdefault(it.owner, {})[it.key] = it
+
+
+# Exchanges, rounds and figures.
+
+@dataclass(frozen=True)
+class Record:
+    """What was sent in an exchange."""
+    initiator: int
+    responder: int
+    fate: str
+    digest1: int
+    digest2: int = 0
+    back: list = ()
+    forth: list = ()
+    back_cut: int = 0
+    forth_cut: int = 0
+
+
+def exchange(scenario, p, q, round):
+    """Carries out an exchange from p to q. Both deltas are taken from the tables as they were before it."""
+    digest = ScuttleDigest if scenario.mode.startswith("scuttle-") else PreciseDigest
+    words = [word(scenario, p.number, round, place) for place in range(5)]
+    lost = next((message for message in (1, 2, 3) if words[message] % 1000000 < scenario.loss_ppm), None)
+    turn = words[4] % scenario.nodes if scenario.rotation == "random" else 0
+    told1, told2 = digest(p.table), digest(q.table)
+    back, back_cut = delta(scenario, q, p, told1, turn)
+    forth, forth_cut = delta(scenario, p, q, told2, turn)
+    record = Record(p.number, q.number, f"lost{lost}" if lost else "ok", told1.size)
+    if lost != 1:
+        record = replace(record, digest2=told2.size, back=back, back_cut=back_cut)
+    if lost in (3, None):
+        record = replace(record, forth=forth, forth_cut=forth_cut)
+        apply(back, p.table)
+    if lost is None:
+        apply(forth, q.table)
+    return record
+
+
+def restart(scenario, node, round):
+    restarts = [it for it in scenario.restart if it["node"] == node.number and it["round"] == round]
+    if any(it.get("forget") for it in restarts):
+        node.generation, node.writes, node.table = node.generation + 1, [], {}
+    elif restarts:
+        node.table = {owner: part for owner, part in node.table.items() if owner == node.number}
+
+
+def write(scenario, node, round):
+    for place in range(writes_of(scenario, round)):
+        version = 1 + len(node.writes)
+        drawn = word(scenario, node.number, round, 8 + place) if scenario.choice == "random" else version - 1
+        value, key = divmod(drawn, scenario.keys)
+        node.writes.append(Entry(node.number, key, node.generation, version, value, round))
+        node.table.setdefault(node.number, {})[key] = node.writes[-1]
+
+
+def figures(scenario, nodes, round):
+    """How many triples are stale, the greatest staleness, and how many are left over. An owner's own keys never are."""
+    stalenesses, leftover = [], 0
+    for owner in nodes:
+        for key in range(scenario.keys):
+            writes = [it for it in owner.writes if it.key == key]
+            newest = mark(owner.table, owner.number, key)
+            for holder in nodes:
+                held = mark(holder.table, owner.number, key)
+                if held < newest:
+                    first_missed = next(it for it in writes if it.mark > held)
+                    stalenesses.append(round - first_missed.born + 1)
+                leftover += held != ABSENT and held[0] < owner.generation
+    return len(stalenesses), max(stalenesses, default=0), leftover
+
+
+def play(scenario):
+    """Carries out the rounds. After each one it gives the round, its row of the report, its records and the nodes."""
+    nodes = [Node(number) for number in range(scenario.nodes)]
+    for round in range(1, scenario.rounds + 1):
+        for node in nodes:
+            restart(scenario, node, round)
+        up = [node.number for node in nodes if not is_down(scenario, node.number, round)]
+        for node in up:
+            write(scenario, nodes[node], round)
+        pairs = [(node, peer(scenario, node, round)) for node in up]
+        reached = [(p, q) for p, q in pairs if q in up and not are_separated(scenario, p, q, round)]
+        records = [exchange(scenario, nodes[p], nodes[q], round) for p, q in reached]
+        row = [round, len(records), len(up) - len(records), sum(it.fate != "ok" for it in records),
+               sum(len(it.back) + len(it.forth) for it in records), sum(it.back_cut + it.forth_cut for it in records)]
+        stale, oldest, leftover = figures(scenario, nodes, round)
+        yield round, [*row, stale, oldest, leftover][:8 if scenario.format == 1 else 9], records, nodes
+
+
+# The texts, and the words of the command line.
+
+def put(file, *values):
+    if file:
+        print(*values, sep=",", file=file)
+
+
+def put_record(trace, sent, round, index, it):
+    put(trace, round, index, it.initiator, it.responder, it.fate, it.digest1, it.digest2, len(it.back), len(it.forth),
+        it.back_cut, it.forth_cut)
+    for entry in it.back:
+        arrived = "no" if it.fate == "lost2" else "yes"
+        put(sent, round, index, "back", it.responder, it.initiator, arrived, *entry)
+    for entry in it.forth:
+        arrived = "no" if it.fate == "lost3" else "yes"
+        put(sent, round, index, "forth", it.initiator, it.responder, arrived, *entry)
+
+
+def run(scenario, columns, trace, sent, tables):
+    for file, header in ((trace, TRACE), (sent, SENT), (tables, TABLES), (sys.stdout, columns)):
+        put(file, header)
+    for round, row, records, nodes in play(scenario):
+        for index, record in enumerate(records):
+            put_record(trace, sent, round, index, record)
+        for node in nodes if tables else []:
+            for entry in sorted(entries(node.table)):
+                put(tables, round, node.number, *entry)
+        put(sys.stdout, *row)
+
+
+def compare(scenario, columns):
+    put(sys.stdout, "mode", columns)
+    for scenario.mode in MODES:
+        for _, row, _, _ in play(scenario):
+            put(sys.stdout, scenario.mode, *row)
+
+
+def main():
+    words = argparse.ArgumentParser(description=__doc__, formatter_class=argparse.RawDescriptionHelpFormatter)
+    commands = words.add_subparsers(dest="command", required=True)
+    commands.add_parser("check")
+    commands.add_parser("compare")
+    options = commands.add_parser("run")
+    for name in ("trace", "sent", "tables"):
+        options.add_argument(f"--{name}", metavar="FILE")
+    asked = vars(words.parse_args())
+    sys.stdout.reconfigure(newline="\n", line_buffering=True)
+    try:
+        files = [open(path, "w", newline="\n") if (path := asked.get(name)) else None
+                 for name in ("trace", "sent", "tables")]
+        scenario = read_scenario(sys.stdin.buffer.read(1048577))
+        columns = REPORT if scenario.format == 1 else f"{REPORT},leftover"
+        if asked["command"] == "check":
+            put(sys.stdout, "ok")
+        elif asked["command"] == "run":
+            run(scenario, columns, *files)
+        else:
+            compare(scenario, columns)
+    except (Fault, OSError) as fault:
+        sys.exit(str(fault))
+
+
+main()

@@ -115,7 +115,7 @@ fn two_scoped_threads_on_one_board(rt: HostRuntime) -> Result<(), Fault> {
     let second = job.board.split(&mut first);
     let Worked { mut seat, made } = do_all(&rt, &job, (first, second));
     expect_each_once(&rt, made);
-    expect(rt, job.board.look(&mut seat).finished, 4);
+    expect(&rt, job.board.look(&mut seat).finished, 4);
     let Job { board, .. } = job;
     expect_pairs(&rt, &board.close(seat)?);
     Ok(())

@@ -89,7 +89,7 @@ fn a_stop_is_seen(rt: HostRuntime) -> Result<(), Fault> {
         finished: 0,
         stopped: true,
     };
-    expect(rt, board.look(&mut second), progress);
+    expect(&rt, board.look(&mut second), progress);
     expect_claim(&rt, &board, &mut second, 0, "held");
     Ok(())
 }

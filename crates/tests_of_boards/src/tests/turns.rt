@@ -94,10 +94,10 @@ fn expect_both_entries(rt: &impl Abort, board: Board, seat: Seat) -> Result<(), 
 fn two_seats_on_one_board(rt: HostRuntime) -> Result<(), Fault> {
     let (job, mut first) = Job::new(&rt, list_of(&rt, 2, PAIR), 1, ONE_ENTRY)?;
     let mut second = first_of_two(&rt, &job, &mut first)?;
-    expect(rt, job.board.look(&mut first).finished, 1);
+    expect(&rt, job.board.look(&mut first).finished, 1);
     second_of_two(&rt, &job, &mut second)?;
     let Job { board, .. } = job;
-    expect(rt, board.look(&mut first).finished, 2);
+    expect(&rt, board.look(&mut first).finished, 2);
     board.join(&mut first, second);
     expect_both_entries(&rt, board, first)
 }

@@ -118,7 +118,7 @@ fn done_until(
 
 // That a job answered this, and wrote so much of what it writes.
 fn expect_done(rt: &impl Abort, case: Case, done: &Done, answer: Result<(), Fault>, length: usize) {
-    expect_at(rt, done.answer, answer, case.asked);
+    expect_at(rt, &done.answer, &answer, case.asked);
     assert!(rt; done.out.len() == length, "{:?}", case.asked);
     assert!(rt;
         case.out.as_bytes().starts_with(&done.out),

@@ -132,7 +132,7 @@ fn expect_written(
 // A run in which a writer failed within the part behind the first so many: what was flushed stands in
 // front, and what was written is the beginning of the whole.
 fn expect_front(rt: &impl Abort, alloc: Global, ran: &Ran, parts: usize) -> Result<(), AllocError> {
-    expect(rt, ran.answer, Err(Fault::WriteFailed));
+    expect(rt, &ran.answer, &Err(Fault::WriteFailed));
     let parts = (parts, PARTS.len());
     expect_written(rt, alloc, End::Report, &ran.report, parts)?;
     expect_written(rt, alloc, End::Trace, &ran.trace, parts)
@@ -183,7 +183,7 @@ fn byte_by_byte(rt: HostRuntime) -> Result<(), Fault> {
     };
     for team in Team::ALL {
         let ran = run_until(&rt, RESTART_WITHOUT_DOWNTIME, calls, team);
-        expect(rt, ran.answer, Ok(()));
+        expect(&rt, ran.answer, Ok(()));
         let all = (PARTS.len(), PARTS.len());
         expect_written(&rt, rt.alloc(), End::Report, &ran.report, all)?;
         expect_written(&rt, rt.alloc(), End::Trace, &ran.trace, all)?;

@@ -108,20 +108,20 @@ impl Read for Endless {
 fn a_reader_that_never_ends(rt: HostRuntime) {
     let mut reader = Pull::new(Endless { given: 0 });
     let fault = read_all(rt.alloc(), &mut reader).err();
-    expect(rt, fault, Some(Fault::TooLong));
-    expect(rt, reader.into_inner().given, MOST_BYTES + 1);
+    expect(&rt, fault, Some(Fault::TooLong));
+    expect(&rt, reader.into_inner().given, MOST_BYTES + 1);
 }
 
 #[test]
 fn checked_inputs(rt: HostRuntime) -> Result<(), Fault> {
     let alloc = rt.alloc();
     let scenario = check_input(alloc, &mut Pull::new(TWO_NODES.as_bytes()))?;
-    expect(rt, scenario.nodes(), 2);
+    expect(&rt, scenario.nodes(), 2);
     let empty = check_input(alloc, &mut Pull::new(b"".as_slice())).err();
-    expect(rt, empty, Some(Fault::Missing(Field::Format)));
+    expect(&rt, empty, Some(Fault::Missing(Field::Format)));
     let mut failing = source(TWO_NODES.as_bytes(), 1, Some(3));
     let fault = check_input(alloc, &mut failing).err();
-    expect(rt, fault, Some(Fault::ReadFailed));
+    expect(&rt, fault, Some(Fault::ReadFailed));
     Ok(())
 }
 
@@ -130,7 +130,7 @@ fn a_run_without_a_trace(rt: HostRuntime) {
     let mut reader = Pull::new(TWO_NODES.as_bytes());
     let mut writer = Push::new(Vec::new(rt.alloc()));
     let answer = run(&rt, rt.alloc(), &mut reader, &mut writer, &mut Discard, 1);
-    expect(rt, answer, Ok(()));
+    expect(&rt, answer, Ok(()));
     assert!(rt; writer.into_inner().as_slice() == TWO_NODES_REPORT.as_bytes());
 }
 
@@ -142,8 +142,8 @@ fn bytes_behind_an_overlong_input(rt: HostRuntime) -> Result<(), Fault> {
     let mut reader = Pull::new(text.as_slice());
     let mut writer = Push::new(Vec::new(rt.alloc()));
     let answer = run(&rt, rt.alloc(), &mut reader, &mut writer, &mut Discard, 1);
-    expect(rt, answer, Err(Fault::TooLong));
-    expect(rt, reader.into_inner().len(), 7);
+    expect(&rt, answer, Err(Fault::TooLong));
+    expect(&rt, reader.into_inner().len(), 7);
     assert!(rt; writer.into_inner().is_empty());
     Ok(())
 }

@@ -61,7 +61,7 @@ fn expect_round(rt: &impl Abort, round: &Round) {
 #[test]
 fn two_nodes(rt: HostRuntime) -> Result<(), Fault> {
     let mut sim = sim_of(rt.alloc(), TWO_NODES)?;
-    expect(rt, sim.rounds_done(), 0);
+    expect(&rt, sim.rounds_done(), 0);
     expect_counts(&rt, &sim, 0);
     expect_round(&rt, &step(&rt, &mut sim)?);
     expect_counts(&rt, &sim, 2);
@@ -84,7 +84,7 @@ fn steps_behind_the_last_round(rt: HostRuntime) -> Result<(), Fault> {
         expect_counts(&rt, &sim, 2);
     }
     let scenario = sim.into_scenario();
-    expect(rt, (scenario.nodes(), scenario.rounds()), (2, 1));
+    expect(&rt, (scenario.nodes(), scenario.rounds()), (2, 1));
     Ok(())
 }
 

@@ -69,7 +69,7 @@ fn byte_budget_limits(rt: HostRuntime) -> Result<(), Fault> {
         let text = changed(rt.alloc(), &changes, "")?;
         let scenario = read(rt.alloc(), text.as_bytes())?;
         assert!(rt; scenario.format() == 2);
-        expect(rt, scenario.budget(), Budget::Bytes(bytes));
+        expect(&rt, scenario.budget(), Budget::Bytes(bytes));
     }
     Ok(())
 }
@@ -160,8 +160,8 @@ fn values_of_the_elements(rt: HostRuntime) -> Result<(), Fault> {
         let text = changed(rt.alloc(), &[("nodes = 2", "nodes = 5")], tables)?;
         let scenario = read(rt.alloc(), text.as_bytes())?;
         expect_partitions(&rt, scenario.partitions());
-        expect(rt, scenario.restarts(), RESTARTS.as_slice());
-        expect(rt, scenario.loads(), LOADS.as_slice());
+        expect(&rt, scenario.restarts(), RESTARTS.as_slice());
+        expect(&rt, scenario.loads(), LOADS.as_slice());
     }
     Ok(())
 }
@@ -189,7 +189,7 @@ const FORGETTING_RESTARTS: [Restart; 2] = [
 fn restarts_that_forget(rt: HostRuntime) -> Result<(), Fault> {
     let text = changed_in_bytes(rt.alloc(), &[], FORGETTING)?;
     let scenario = read(rt.alloc(), text.as_bytes())?;
-    expect(rt, scenario.restarts(), FORGETTING_RESTARTS.as_slice());
+    expect(&rt, scenario.restarts(), FORGETTING_RESTARTS.as_slice());
     Ok(())
 }
 
@@ -198,8 +198,8 @@ fn another_mode(rt: HostRuntime) -> Result<(), Fault> {
     let tables = "[[restart]]\nnode = 1\nround = 1\ndown = 0\n";
     let text = changed(rt.alloc(), &[("seed = 0", "seed = 7")], tables)?;
     let scenario = read(rt.alloc(), text.as_bytes())?.with_mode(Mode::PreciseOldest);
-    expect(rt, scenario.mode(), Mode::PreciseOldest);
-    expect(rt, scenario.seed(), 7);
-    expect(rt, scenario.restarts().len(), 1);
+    expect(&rt, scenario.mode(), Mode::PreciseOldest);
+    expect(&rt, scenario.seed(), 7);
+    expect(&rt, scenario.restarts().len(), 1);
     Ok(())
 }

@@ -80,7 +80,20 @@ pub fn refused(
     refused_with(rt, name, 1, fault)
 }
 
-/// The same of a call with so many workers: of several, one may want a thread.
+/// The same, and what stands then is as it should be.
+pub fn refused_once(
+    rt: &impl Eprint,
+    name: &'static str,
+    fault: impl Into<Failure> + Drop,
+    stands: bool,
+) -> Result<(), Failure>
+    ensures { OnOk result (IsTrue stands) }
+{
+    refused(rt, name, fault)?;
+    check(stands, name)
+}
+
+/// As `refused`, of a call with so many workers: of several, one may want a thread.
 pub fn refused_with(
     rt: &impl Eprint,
     name: impl Display + Drop,

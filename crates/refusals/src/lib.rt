@@ -7,7 +7,7 @@
 
 mod failures;
 
-pub use failures::{Failure, check, check_budget, end, pass, refused, refused_with};
+pub use failures::{Failure, check, check_budget, end, pass, refused, refused_once, refused_with};
 
 /// What a call answers, at the second try where memory was refused once. Between the tries stands what the last
 /// argument says.
@@ -20,8 +20,7 @@ macro_rules! retried {
         match $call {
             Ok(value) => value,
             Err(fault) => {
-                $crate::refused($rt, $name, fault)?;
-                $crate::check($stands, $name)?;
+                $crate::refused_once($rt, $name, fault, $stands)?;
                 $call?
             }
         }

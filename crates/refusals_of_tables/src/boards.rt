@@ -1,6 +1,6 @@
 //! Boards, and what collects records.
 
-ghost use Rattle.std.specs.Prelude.{IfOk};
+ghost use Rattle.std.specs.Prelude.{◌≡◌, IfOk};
 ghost use Rattle.node_table.specs.NodeTableView.{kept_table};
 ghost use Rattle.board.specs.Boards.{IsSeatOf};
 
@@ -9,6 +9,7 @@ use bench_types::{Fault, Record};
 use collector::{Collector, Stamped};
 use fixtures::{sent, tables_of};
 use node_table::NodeTable;
+use planner::Deps;
 use refusals::{Failure, check, pass, refused, retried};
 
 type Board = board::Board<NodeTable>;
@@ -19,13 +20,19 @@ const FIRST: Record = sent!(1, 1, 1, 1, 0, 0);
 
 const SECOND: Record = sent!(2, 2, 2, 2, 0, 0);
 
+fn crossing_deps<R: Eprint + AllocGlobal>(rt: &R) -> Result<Deps, Failure>
+    ensures { IfOk result (λ deps. deps.nodes ≡ 4) }
+{
+    let list = crossing(rt)?;
+    deps_of(rt, &list)
+}
+
 // A board of four nodes with fresh tables. Where memory is refused these are given up.
 fn board_of<R: Eprint + AllocGlobal>(rt: &R) -> Result<Result<(Board, Seat), Fault>, Failure>
     ensures { IfOk result (λ answer. IfOk answer (λ made. IsSeatOf kept_table made.1 made.0)) }
 {
     let alloc = rt.alloc();
-    let list = crossing(rt)?;
-    let deps = deps_of(rt, &list)?;
+    let deps = crossing_deps(rt)?;
     let tables = retried!(rt, "tables", tables_of(alloc, FOUR));
     Ok(Board::new(alloc, deps, ALL_ENTRIES, tables))
 }

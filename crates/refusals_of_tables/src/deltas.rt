@@ -1,6 +1,6 @@
 //! Digests, and the deltas that answer them.
 
-ghost use Rattle.std.specs.Prelude.{IfOk};
+ghost use Rattle.std.specs.Prelude.{◌≡◌, IfOk};
 ghost use Rattle.bench_types.specs.Mode.{digest_kind};
 ghost use Rattle.reconcile.specs.Digests.{IsDigestOf};
 
@@ -76,9 +76,13 @@ const SENT: [Sent; 6] = [
 // The table of node 3 that holds those entries.
 fn sender<R: Eprint + AllocGlobal>(rt: &R) -> Result<NodeTable, Failure> {
     let mut table = new_table(rt, 3, 4, 2)?;
-    take(rt, &mut table, &[], &[OLD, NEW])?;
-    take(rt, &mut table, &[OLD, NEW], &[OTHER])?;
+    take_all(rt, &mut table)?;
     Ok(table)
+}
+
+fn take_all(rt: &impl Eprint, table: &mut NodeTable) -> Result<(), Failure> {
+    take(rt, table, &[], &[OLD, NEW])?;
+    take(rt, table, &[OLD, NEW], &[OTHER])
 }
 
 fn digest_of<R: Eprint + AllocGlobal>(
@@ -92,9 +96,26 @@ fn digest_of<R: Eprint + AllocGlobal>(
     Ok(retried!(rt, "Digest::of", Digest::of(alloc, table, mode)))
 }
 
-fn try_sent<R: Eprint + AllocGlobal>(rt: &R, from: &NodeTable, sent: Sent) -> Result<(), Failure> {
-    let to = new_table(rt, 0, 4, 2)?;
-    let digest = digest_of(rt, &to, sent.mode)?;
+fn try_digest<R: Eprint + AllocGlobal>(
+    rt: &R,
+    from: &NodeTable,
+    sent: Sent,
+) -> Result<(), Failure> {
+    let digest = digest_of(rt, from, sent.mode)?;
+    check(digest.size() == sent.size, "Digest::of")
+}
+
+// The answer to the digest of node 0.
+fn try_answer<R: Eprint + AllocGlobal>(
+    rt: &R,
+    from: &NodeTable,
+    to: &NodeTable,
+    digest: &Digest,
+    sent: Sent,
+) -> Result<(), Failure>
+    requires node { to.now.table.node ≡ 0 }
+    requires digest { IsDigestOf (digest_kind sent.mode) to.now.table digest.now }
+{
     check(
         from.nodes() == to.nodes() && from.keys() == to.keys() && from.nodes() > 0,
         "NodeTable::nodes",
@@ -104,7 +125,7 @@ fn try_sent<R: Eprint + AllocGlobal>(rt: &R, from: &NodeTable, sent: Sent) -> Re
     let delta = retried!(
         rt,
         "delta",
-        delta(alloc, from, &digest, 0, sent.mode, 0, sent.budget)
+        delta(alloc, from, digest, 0, sent.mode, 0, sent.budget)
     );
     check(
         delta.items() == sent.items && delta.cut() == sent.cut,
@@ -112,17 +133,26 @@ fn try_sent<R: Eprint + AllocGlobal>(rt: &R, from: &NodeTable, sent: Sent) -> Re
     )
 }
 
+fn try_sent<R: Eprint + AllocGlobal>(rt: &R, from: &NodeTable, sent: Sent) -> Result<(), Failure> {
+    let to = new_table(rt, 0, 4, 2)?;
+    let digest = digest_of(rt, &to, sent.mode)?;
+    try_answer(rt, from, &to, &digest, sent)
+}
+
+fn try_all<R: Print + Eprint + AllocGlobal>(rt: &R, from: &NodeTable) -> Result<(), Failure> {
+    for sent in SENT {
+        try_digest(rt, from, sent)?;
+    }
+    pass(rt, "Digest::of")?;
+    for sent in SENT {
+        try_sent(rt, from, sent)?;
+    }
+    pass(rt, "delta")
+}
+
 pub(crate) fn try_digests_and_deltas<R: Print + Eprint + AllocGlobal>(
     rt: &R,
 ) -> Result<(), Failure> {
     let from = sender(rt)?;
-    for sent in SENT {
-        let digest = digest_of(rt, &from, sent.mode)?;
-        check(digest.size() == sent.size, "Digest::of")?;
-    }
-    pass(rt, "Digest::of")?;
-    for sent in SENT {
-        try_sent(rt, &from, sent)?;
-    }
-    pass(rt, "delta")
+    try_all(rt, &from)
 }

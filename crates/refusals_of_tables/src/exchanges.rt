@@ -102,24 +102,35 @@ fn exchanged(
     Ok(exchange(alloc, initiator, responder, plan, &rules)?)
 }
 
+// Two nodes that have written meet.
+fn meet<R: Eprint + AllocGlobal>(
+    rt: &R,
+    initiator: &mut NodeTable,
+    responder: &mut NodeTable,
+    meeting: Meeting,
+    mode: Mode,
+) -> Result<(), Failure> {
+    let (alloc, plan) = (rt.alloc(), meeting.plan());
+    let record = retried!(
+        rt,
+        "exchange",
+        exchanged(alloc, initiator, responder, &plan, mode),
+        holds(initiator, &[OWN]) && holds(responder, &[OTHER])
+    );
+    check(record == meeting.record(), "exchange")?;
+    check(
+        holds(initiator, meeting.initiator) && holds(responder, meeting.responder),
+        "exchange",
+    )
+}
+
 fn try_meeting<R: Eprint + AllocGlobal>(
     rt: &R,
     meeting: Meeting,
     mode: Mode,
 ) -> Result<(), Failure> {
-    let (alloc, plan) = (rt.alloc(), meeting.plan());
     let (mut initiator, mut responder) = (written(rt, 0)?, written(rt, 1)?);
-    let record = retried!(
-        rt,
-        "exchange",
-        exchanged(alloc, &mut initiator, &mut responder, &plan, mode),
-        holds(&initiator, &[OWN]) && holds(&responder, &[OTHER])
-    );
-    check(record == meeting.record(), "exchange")?;
-    check(
-        holds(&initiator, meeting.initiator) && holds(&responder, meeting.responder),
-        "exchange",
-    )
+    meet(rt, &mut initiator, &mut responder, meeting, mode)
 }
 
 pub(crate) fn try_exchanges<R: Print + Eprint + AllocGlobal>(rt: &R) -> Result<(), Failure> {

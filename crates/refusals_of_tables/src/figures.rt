@@ -85,10 +85,14 @@ fn check_node(table: &NodeTable, node: u32) -> Result<(), Failure>
 // The owner's table.
 fn owner_table<R: Eprint + AllocGlobal>(rt: &R) -> Result<NodeTable, Failure> {
     let mut table = new_table(rt, 0, 2, 1)?;
-    write(rt, &mut table, &[], WRITTEN[0])?;
-    write(rt, &mut table, &[WRITTEN[0]], WRITTEN[1])?;
-    write(rt, &mut table, &[WRITTEN[1]], WRITTEN[2])?;
+    write_three(rt, &mut table)?;
     Ok(table)
+}
+
+fn write_three(rt: &impl Eprint, table: &mut NodeTable) -> Result<(), Failure> {
+    write(rt, table, &[], WRITTEN[0])?;
+    write(rt, table, &[WRITTEN[0]], WRITTEN[1])?;
+    write(rt, table, &[WRITTEN[1]], WRITTEN[2])
 }
 
 // That of the node that holds the copy.
@@ -98,12 +102,21 @@ fn holder_table<R: Eprint + AllocGlobal>(rt: &R) -> Result<NodeTable, Failure> {
     Ok(table)
 }
 
-fn try_figures<R: Eprint + AllocGlobal + Threads + Sync>(rt: &R) -> Result<(), Failure> {
-    let alloc = rt.alloc();
-    let (written, unwritten) = (owner_list(rt)?, OwnerList::new(alloc));
+// The tables of both.
+fn both_tables<R: Eprint + AllocGlobal>(rt: &R) -> Result<(NodeTable, NodeTable), Failure>
+    ensures owner { IfOk result (λ both. (both.0.table.node ≡ 0) × (both.0.table.nodes ≡ 2) × (both.0.table.keys ≡ 1)) }
+    ensures holder { IfOk result (λ both. (both.1.table.node ≡ 1) × (both.1.table.nodes ≡ 2) × (both.1.table.keys ≡ 1)) }
+{
     let (owner, holder) = (owner_table(rt)?, holder_table(rt)?);
     check_node(&owner, 0)?;
     check_node(&holder, 1)?;
+    Ok((owner, holder))
+}
+
+fn try_figures<R: Eprint + AllocGlobal + Threads + Sync>(rt: &R) -> Result<(), Failure> {
+    let alloc = rt.alloc();
+    let (owner, holder) = both_tables(rt)?;
+    let (written, unwritten) = (owner_list(rt)?, OwnerList::new(alloc));
     let (tables, lists) = ([owner, holder], [written, unwritten]);
     let found = retried!(rt, "figures", figures(rt, alloc, &tables, &lists, 3));
     check(found == STALE, "figures")

@@ -125,8 +125,12 @@ fn try_line<R: Eprint + AllocGlobal>(
 pub(crate) fn try_lines<R: Print + Eprint + AllocGlobal>(rt: &R) -> Result<(), Failure> {
     let alloc = rt.alloc();
     let list = retried!(rt, "RoundList::of", list_of(alloc, 2, &[(0, 1), (1, 0)]));
+    try_all(rt, &list)
+}
+
+fn try_all<R: Print + Eprint + AllocGlobal>(rt: &R, list: &RoundList) -> Result<(), Failure> {
     for (line, name, wanted) in LINES {
-        try_line(rt, &list, (line, name, wanted))?;
+        try_line(rt, list, (line, name, wanted))?;
         pass(rt, name)?;
     }
     Ok(())

@@ -3,11 +3,11 @@
 mod above_marks;
 mod deltas;
 mod exchanges;
-mod fixtures;
 mod generations;
 mod listed;
 mod owner_entries;
 mod plain_tables;
 mod records;
+mod shared;
 mod stale_copies;
 mod tables;

@@ -11,7 +11,7 @@ use crate::tests::threads::{Order, Worked, work_in_four, work_in_three, work_in_
 use bench_types::limits::MOST_WORKERS;
 use bench_types::{Budget, Exchange, Fault, Mode, Record, Rules};
 use exchange::exchange;
-use fixtures::{Writers, tables_of};
+use fixtures::{Writers, expect, tables_of};
 use node_table::NodeTable;
 use pool::FreeGate;
 use round_plan::RoundList;
@@ -127,7 +127,7 @@ fn holds_the_same(one: &NodeTable, two: &NodeTable) -> bool {
 }
 
 fn expect_the_same(rt: &impl Abort, tables: &[NodeTable], wanted: &[NodeTable]) {
-    assert_eq!(rt; tables.len(), wanted.len());
+    expect(rt, tables.len(), wanted.len());
     assert!(rt;
         tables
             .iter()
@@ -139,7 +139,7 @@ fn expect_the_same(rt: &impl Abort, tables: &[NodeTable], wanted: &[NodeTable]) 
 // Each exchange was put back by one thread, once.
 fn expect_each_once(rt: &impl Abort, mut made: Vec<u32>) {
     made.sort_unstable();
-    assert_eq!(rt; made.len(), EXCHANGES as usize);
+    expect(rt, made.len(), EXCHANGES as usize);
     assert!(rt; made.iter().zip(0..EXCHANGES).all(|(i, at)| *i == at));
 }
 

@@ -8,7 +8,7 @@ use crate::tests::gates::{Call, Gathering, Handover, Meeting, Notes, Theft};
 use crate::tests::small_boards::{CROSSING, ONE_ENTRY, TWICE, list_of};
 use bench_types::limits::{MOST_KEYS, MOST_WORKERS};
 use bench_types::{Fault, Record, Rules};
-use fixtures::{Writers, tables_of};
+use fixtures::{Writers, expect, tables_of};
 use node_table::NodeTable;
 use pool::{FreeGate, Gate, run_list};
 use round_plan::RoundList;
@@ -51,7 +51,7 @@ fn expect_counts(
     exchanges: u32,
 ) {
     assert!(rt; tables.iter().all(|table| table.count() == count));
-    assert_eq!(rt; records.len(), exchanges as usize);
+    expect(rt, records.len(), exchanges as usize);
 }
 
 // Workers carry out a list, and each node then holds so many entries.
@@ -83,7 +83,7 @@ fn calls_of<R: Abort + AllocGlobal + Threads + Wait + Sync>(
 
 // Of each of the eight exchanges a gate was told that it is entered, and then that it is left.
 fn expect_each_once(rt: &impl Abort, calls: &[Call]) {
-    assert_eq!(rt; calls.len(), 16);
+    expect(rt, calls.len(), 16);
     for i in 0..8 {
         expect_once(rt, calls, i);
     }
@@ -92,12 +92,16 @@ fn expect_each_once(rt: &impl Abort, calls: &[Call]) {
 fn expect_once(rt: &impl Abort, calls: &[Call], i: u32) {
     let mut of_one = calls.iter().copied().filter(|call| call.place() == i);
     let found = (of_one.next(), of_one.next(), of_one.next());
-    assert_eq!(rt; found, (Some(Call::Enter(i)), Some(Call::Leave(i)), None));
+    expect(
+        rt,
+        found,
+        (Some(Call::Enter(i)), Some(Call::Leave(i)), None),
+    );
 }
 
 // They were entered and left one behind the other, in list order.
 fn expect_in_list_order(rt: &impl Abort, calls: &[Call]) {
-    assert_eq!(rt; calls.len(), 16);
+    expect(rt, calls.len(), 16);
     for (place, call) in (0..16).zip(calls) {
         let i = place / 2;
         let wanted = if place % 2 == 0 {
@@ -105,7 +109,7 @@ fn expect_in_list_order(rt: &impl Abort, calls: &[Call]) {
         } else {
             Call::Leave(i)
         };
-        assert_eq!(rt; *call, wanted);
+        expect(rt, *call, wanted);
     }
 }
 

@@ -10,6 +10,7 @@ use crate::tests::tables::{Board, Seat};
 use crate::tests::threads::{Worked, together};
 use crate::tests::turns::{expect_next, held};
 use bench_types::Fault;
+use fixtures::expect;
 use node_table::NodeTable;
 use std::alloc::AllocGlobal;
 use std::process::Abort;
@@ -97,7 +98,7 @@ fn do_all_in_scope<'s, 'e: 's, R: Abort + AllocGlobal + Threads + Sync>(
 
 // Nodes 0 and 2 hold the entries of both, and so do nodes 1 and 3.
 fn expect_pairs(rt: &impl Abort, tables: &[NodeTable]) {
-    assert_eq!(rt; tables.len(), 4);
+    expect(rt, tables.len(), 4);
     for (table, owners) in tables.iter().zip([[0, 2], [1, 3], [0, 2], [1, 3]]) {
         expect_owners(rt, table, &owners);
     }
@@ -105,7 +106,7 @@ fn expect_pairs(rt: &impl Abort, tables: &[NodeTable]) {
 
 fn expect_each_once(rt: &impl Abort, mut made: Vec<u32>) {
     made.sort_unstable();
-    assert_eq!(rt; made.as_slice(), [0, 1, 2, 3].as_slice());
+    expect(rt, made.as_slice(), [0, 1, 2, 3].as_slice());
 }
 
 #[test]
@@ -114,7 +115,7 @@ fn two_scoped_threads_on_one_board(rt: HostRuntime) -> Result<(), Fault> {
     let second = job.board.split(&mut first);
     let Worked { mut seat, made } = do_all(&rt, &job, (first, second));
     expect_each_once(&rt, made);
-    assert_eq!(rt; job.board.look(&mut seat).finished, 4);
+    expect(&rt, job.board.look(&mut seat).finished, 4);
     let Job { board, .. } = job;
     expect_pairs(&rt, &board.close(seat)?);
     Ok(())

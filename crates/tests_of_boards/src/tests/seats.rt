@@ -9,6 +9,7 @@ use crate::tests::small_boards::{ONE_ENTRY, TWICE, board_of, expect_owners, list
 use crate::tests::tables::{Board, Hold, Seat};
 use bench_types::Fault;
 use board::{Claim, Progress};
+use fixtures::expect;
 use node_table::NodeTable;
 use std::alloc::AllocGlobal;
 use std::process::Abort;
@@ -30,7 +31,7 @@ pub(crate) fn expect_claim(rt: &impl Abort, board: &Board, seat: &mut Seat, i: u
     ensures held { (k : ℕ) → Has (seat_view seat.old).held k → Has (seat_view seat.new).held k }
 {
     let claim = board.claim(seat, i);
-    assert_eq!(rt; answer_to(&claim), answer);
+    expect(rt, answer_to(&claim), answer);
 }
 
 // It is held with the tables of these two nodes, each of which has its own entry alone.
@@ -44,7 +45,7 @@ fn expect_fresh(rt: &impl Abort, board: &Board, seat: &mut Seat, i: u32, nodes: 
         panic!(rt; "exchange {i} isn't held")
     };
     let (initiator, responder) = (&hold.initiator, &hold.responder);
-    assert_eq!(rt; (initiator.node(), responder.node()), nodes);
+    expect(rt, (initiator.node(), responder.node()), nodes);
     expect_owners(rt, initiator, &[nodes.0]);
     expect_owners(rt, responder, &[nodes.1]);
 }
@@ -54,7 +55,7 @@ fn expect_unfinished(rt: &impl Abort, board: Board, seat: Seat)
 {
     match board.close(seat) {
         Ok(_) => panic!(rt; "closed"),
-        Err(fault) => assert_eq!(rt; fault, Fault::Unfinished),
+        Err(fault) => expect(rt, fault, Fault::Unfinished),
     }
 }
 
@@ -88,7 +89,7 @@ fn a_stop_is_seen(rt: HostRuntime) -> Result<(), Fault> {
         finished: 0,
         stopped: true,
     };
-    assert_eq!(rt; board.look(&mut second), progress);
+    expect(&rt, board.look(&mut second), progress);
     expect_claim(&rt, &board, &mut second, 0, "held");
     Ok(())
 }

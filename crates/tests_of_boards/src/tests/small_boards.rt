@@ -9,7 +9,7 @@ ghost use Rattle.board.specs.SeatView.{first_seat};
 use crate::tests::tables::{Board, Seat};
 use bench_types::{Budget, Fault, Mode, Rules};
 use dependencies::Deps;
-use fixtures::{WRITTEN, Writers, tables_of};
+use fixtures::{WRITTEN, Writers, expect_at, tables_of};
 use node_table::NodeTable;
 use round_plan::RoundList;
 use std::alloc::AllocGlobal;
@@ -67,12 +67,8 @@ pub(crate) fn board_of(
 /// A table that holds the first keys of these owners, and nothing else.
 pub(crate) fn expect_owners(rt: &impl Abort, table: &NodeTable, owners: &[u32]) {
     let node = table.node();
-    assert_eq!(rt; table.count() as usize, owners.len(), "node {node}");
+    expect_at(rt, table.count() as usize, owners.len(), node);
     for owner in owners {
-        assert_eq!(rt;
-            table.get(*owner, 0),
-            Some(WRITTEN),
-            "owner {owner} at node {node}"
-        );
+        expect_at(rt, table.get(*owner, 0), Some(WRITTEN), (owner, node));
     }
 }

@@ -12,6 +12,7 @@ use crate::tests::small_boards::{ONE_ENTRY, list_of};
 use crate::tests::tables::{Board, Hold, Seat};
 use bench_types::Fault;
 use board::{Claim, Freed};
+use fixtures::expect;
 use std::alloc::AllocGlobal;
 use std::process::Abort;
 
@@ -50,7 +51,7 @@ pub(crate) fn expect_next(
         first: next,
         second: None,
     };
-    assert_eq!(rt; job.carry_out(rt, seat, hold)?, freed);
+    expect(rt, job.carry_out(rt, seat, hold)?, freed);
     Ok(())
 }
 
@@ -93,10 +94,10 @@ fn expect_both_entries(rt: &impl Abort, board: Board, seat: Seat) -> Result<(), 
 fn two_seats_on_one_board(rt: HostRuntime) -> Result<(), Fault> {
     let (job, mut first) = Job::new(&rt, list_of(&rt, 2, PAIR), 1, ONE_ENTRY)?;
     let mut second = first_of_two(&rt, &job, &mut first)?;
-    assert_eq!(rt; job.board.look(&mut first).finished, 1);
+    expect(&rt, job.board.look(&mut first).finished, 1);
     second_of_two(&rt, &job, &mut second)?;
     let Job { board, .. } = job;
-    assert_eq!(rt; board.look(&mut first).finished, 2);
+    expect(&rt, board.look(&mut first).finished, 2);
     board.join(&mut first, second);
     expect_both_entries(&rt, board, first)
 }

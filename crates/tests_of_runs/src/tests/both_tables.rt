@@ -9,7 +9,7 @@ use crate::tests::steps::{begin, step};
 use bench::{FreeGate, Sim};
 use bench_types::limits::MOST_WRITES;
 use bench_types::{Entry, Fault, Mode};
-use fixtures::changed;
+use fixtures::{changed, expect};
 use model::MemoryTable;
 use node_table::NodeTable;
 use round_tables::RoundHistories;
@@ -31,7 +31,7 @@ trait Versions: MemoryTable + Send + Sync {
     fn numbers(&self, alloc: Global) -> Result<Vec<u32>, AllocError>;
 }
 
-impl<N: Number, L: Written + Send + Sync> Versions for VersionTable<N, L> {
+impl<L: Written + Send + Sync> Versions for VersionTable<Short, L> {
     fn head(&self) -> [u32; 4] {
         [self.node(), self.nodes(), self.keys(), self.generation()]
     }
@@ -39,8 +39,18 @@ impl<N: Number, L: Written + Send + Sync> Versions for VersionTable<N, L> {
     fn numbers(&self, alloc: Global) -> Result<Vec<u32>, AllocError> {
         self.cells()
             .iter()
-            .map(|number: &N| number.widen())
+            .map(|number: &Short| number.widen())
             .collect(alloc)
+    }
+}
+
+impl<L: Written + Send + Sync> Versions for VersionTable<u32, L> {
+    fn head(&self) -> [u32; 4] {
+        [self.node(), self.nodes(), self.keys(), self.generation()]
+    }
+
+    fn numbers(&self, alloc: Global) -> Result<Vec<u32>, AllocError> {
+        Vec::from_slice(alloc, self.cells())
     }
 }
 
@@ -105,9 +115,9 @@ fn expect_same_table<T: Versions>(
         wanted.keys(),
         wanted.generation(),
     ];
-    assert_eq!(rt; table.head(), head);
+    expect(rt, table.head(), head);
     let numbers = table.numbers(rt.alloc())?;
-    assert_eq!(rt; numbers, numbers_of(rt.alloc(), counts, wanted)?);
+    expect(rt, numbers, numbers_of(rt.alloc(), counts, wanted)?);
     Ok(())
 }
 
@@ -117,7 +127,7 @@ fn expect_same_tables<T: Versions>(
     tables: &[T],
     wanted: &[NodeTable],
 ) -> Result<(), AllocError> {
-    assert_eq!(rt; tables.len(), wanted.len());
+    expect(rt, tables.len(), wanted.len());
     for (table, wanted) in tables.iter().zip(wanted) {
         expect_same_table(rt, counts, table, wanted)?;
     }

@@ -2,7 +2,7 @@
 
 use bench::run;
 use bench_types::{Fault, Field, Pull, Push};
-use fixtures::{ALL, Drip, Halting, RESTART_WITHOUT_DOWNTIME, Taking, Team};
+use fixtures::{ALL, Drip, Halting, RESTART_WITHOUT_DOWNTIME, Taking, Team, expect};
 use std::alloc::{AllocError, AllocGlobal, Global};
 use std::io::ErrorKind;
 use std::process::Abort;
@@ -132,7 +132,7 @@ fn expect_written(
 // A run in which a writer failed within the part behind the first so many: what was flushed stands in
 // front, and what was written is the beginning of the whole.
 fn expect_front(rt: &impl Abort, alloc: Global, ran: &Ran, parts: usize) -> Result<(), AllocError> {
-    assert_eq!(rt; ran.answer, Err(Fault::WriteFailed));
+    expect(rt, &ran.answer, &Err(Fault::WriteFailed));
     let parts = (parts, PARTS.len());
     expect_written(rt, alloc, End::Report, &ran.report, parts)?;
     expect_written(rt, alloc, End::Trace, &ran.trace, parts)
@@ -140,7 +140,7 @@ fn expect_front(rt: &impl Abort, alloc: Global, ran: &Ran, parts: usize) -> Resu
 
 // A run that answers this fault of its input, and writes nothing.
 fn expect_nothing(rt: &impl Abort, ran: Ran, fault: Fault) {
-    assert_eq!(rt; ran.answer, Err(fault));
+    expect(rt, ran.answer, Err(fault));
     assert!(rt; ran.report.is_empty() && ran.trace.is_empty());
 }
 
@@ -183,7 +183,7 @@ fn byte_by_byte(rt: HostRuntime) -> Result<(), Fault> {
     };
     for team in Team::ALL {
         let ran = run_until(&rt, RESTART_WITHOUT_DOWNTIME, calls, team);
-        assert_eq!(rt; ran.answer, Ok(()));
+        expect(&rt, ran.answer, Ok(()));
         let all = (PARTS.len(), PARTS.len());
         expect_written(&rt, rt.alloc(), End::Report, &ran.report, all)?;
         expect_written(&rt, rt.alloc(), End::Trace, &ran.trace, all)?;

@@ -3,7 +3,7 @@
 use crate::tests::steps::{sim_of, step};
 use bench::Sim;
 use bench_types::{Fault, Figures};
-use fixtures::changed_in_bytes;
+use fixtures::{changed_in_bytes, expect, expect_at};
 use node_table::NodeTable;
 use std::alloc::Global;
 use std::process::Abort;
@@ -20,7 +20,7 @@ fn forgetting(alloc: Global, lines: &[(&str, &str)], restart: &str) -> Result<Si
 fn expect_node(rt: &impl Abort, sim: &Sim, wanted: (u32, u32)) {
     let tables = sim.tables();
     assert!(rt; tables.len() == 2);
-    assert_eq!(rt; (tables[1].generation(), tables[1].count()), wanted);
+    expect(rt, (tables[1].generation(), tables[1].count()), wanted);
 }
 
 // The next round: its figures, and node 1 after it.
@@ -31,7 +31,7 @@ fn expect_step(
     node: (u32, u32),
 ) -> Result<(), Fault> {
     let round = step(rt, sim)?;
-    assert_eq!(rt; round.figures(), figures);
+    expect(rt, round.figures(), figures);
     expect_node(rt, sim, node);
     Ok(())
 }
@@ -106,7 +106,7 @@ fn expect_last_write(
 ) {
     let found = table.get(owner, key);
     let mark = found.map(|entry| (entry.generation, entry.version));
-    assert_eq!(rt; mark, Some(wanted), "at {owner} {key}");
+    expect_at(rt, mark, Some(wanted), (owner, key));
 }
 
 #[test]

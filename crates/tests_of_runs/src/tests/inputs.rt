@@ -3,7 +3,7 @@
 use bench::{check_input, read_all, run};
 use bench_types::limits::MOST_BYTES;
 use bench_types::{Discard, Fault, Field, Pull, Push};
-use fixtures::{Halting, TWO_NODES, TWO_NODES_REPORT};
+use fixtures::{Halting, TWO_NODES, TWO_NODES_REPORT, expect, expect_at};
 use std::alloc::{AllocError, Global};
 use std::io::{self, ErrorKind, Read};
 use std::process::Abort;
@@ -44,8 +44,8 @@ fn expect_too_long(
 ) -> Result<(), Fault> {
     let bytes = bytes_of(alloc, length)?;
     let mut reader = source(&bytes, step, None);
-    assert_eq!(rt; read_all(alloc, &mut reader).err(), Some(Fault::TooLong));
-    assert_eq!(rt; reader.into_inner().rest.len(), left);
+    expect(rt, read_all(alloc, &mut reader).err(), Some(Fault::TooLong));
+    expect(rt, reader.into_inner().rest.len(), left);
     Ok(())
 }
 
@@ -72,7 +72,7 @@ fn expect_failure(rt: &impl Abort, alloc: Global, bytes: &[u8], calls: usize) {
     let mut reader = source(bytes, 4, Some(calls));
     for _ in 0..2 {
         let fault = read_all(alloc, &mut reader).err();
-        assert_eq!(rt; fault, Some(Fault::ReadFailed), "after {calls} calls");
+        expect_at(rt, fault, Some(Fault::ReadFailed), calls);
     }
 }
 
@@ -108,20 +108,20 @@ impl Read for Endless {
 fn a_reader_that_never_ends(rt: HostRuntime) {
     let mut reader = Pull::new(Endless { given: 0 });
     let fault = read_all(rt.alloc(), &mut reader).err();
-    assert_eq!(rt; fault, Some(Fault::TooLong));
-    assert_eq!(rt; reader.into_inner().given, MOST_BYTES + 1);
+    expect(&rt, fault, Some(Fault::TooLong));
+    expect(&rt, reader.into_inner().given, MOST_BYTES + 1);
 }
 
 #[test]
 fn checked_inputs(rt: HostRuntime) -> Result<(), Fault> {
     let alloc = rt.alloc();
     let scenario = check_input(alloc, &mut Pull::new(TWO_NODES.as_bytes()))?;
-    assert_eq!(rt; scenario.nodes(), 2);
+    expect(&rt, scenario.nodes(), 2);
     let empty = check_input(alloc, &mut Pull::new(b"".as_slice())).err();
-    assert_eq!(rt; empty, Some(Fault::Missing(Field::Format)));
+    expect(&rt, empty, Some(Fault::Missing(Field::Format)));
     let mut failing = source(TWO_NODES.as_bytes(), 1, Some(3));
     let fault = check_input(alloc, &mut failing).err();
-    assert_eq!(rt; fault, Some(Fault::ReadFailed));
+    expect(&rt, fault, Some(Fault::ReadFailed));
     Ok(())
 }
 
@@ -130,7 +130,7 @@ fn a_run_without_a_trace(rt: HostRuntime) {
     let mut reader = Pull::new(TWO_NODES.as_bytes());
     let mut writer = Push::new(Vec::new(rt.alloc()));
     let answer = run(&rt, rt.alloc(), &mut reader, &mut writer, &mut Discard, 1);
-    assert_eq!(rt; answer, Ok(()));
+    expect(&rt, answer, Ok(()));
     assert!(rt; writer.into_inner().as_slice() == TWO_NODES_REPORT.as_bytes());
 }
 
@@ -142,8 +142,8 @@ fn bytes_behind_an_overlong_input(rt: HostRuntime) -> Result<(), Fault> {
     let mut reader = Pull::new(text.as_slice());
     let mut writer = Push::new(Vec::new(rt.alloc()));
     let answer = run(&rt, rt.alloc(), &mut reader, &mut writer, &mut Discard, 1);
-    assert_eq!(rt; answer, Err(Fault::TooLong));
-    assert_eq!(rt; reader.into_inner().len(), 7);
+    expect(&rt, answer, Err(Fault::TooLong));
+    expect(&rt, reader.into_inner().len(), 7);
     assert!(rt; writer.into_inner().is_empty());
     Ok(())
 }

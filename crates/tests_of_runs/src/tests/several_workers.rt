@@ -9,7 +9,7 @@ use bench_types::limits::MOST_WORKERS;
 use bench_types::{Fault, Row};
 use fixtures::{
     A_NODE_DOWN, RESTART_WITHOUT_DOWNTIME, RING_OF_FOUR, TWO_NODES, TWO_NODES_CUT, changed,
-    changed_in_bytes, row,
+    changed_in_bytes, expect, row,
 };
 use node_table::NodeTable;
 use std::alloc::AllocGlobal;
@@ -18,25 +18,26 @@ use std::sync::Wait;
 use std::thread::Threads;
 
 pub(crate) fn expect_same_round(rt: &impl Abort, round: &Round, alone: &Round) {
-    assert_eq!(rt; round.row(), alone.row());
-    assert_eq!(rt; round.list().exchanges(), alone.list().exchanges());
-    assert_eq!(rt; round.records(), alone.records());
+    expect(rt, round.row(), alone.row());
+    expect(rt, round.list().exchanges(), alone.list().exchanges());
+    expect(rt, round.records(), alone.records());
 }
 
 fn expect_same_table(rt: &impl Abort, table: &NodeTable, alone: &NodeTable) {
-    assert_eq!(rt;
+    expect(
+        rt,
         (table.node(), table.generation(), table.count()),
-        (alone.node(), alone.generation(), alone.count())
+        (alone.node(), alone.generation(), alone.count()),
     );
     for owner in 0..table.nodes() {
         for key in 0..table.keys() {
-            assert_eq!(rt; table.get(owner, key), alone.get(owner, key));
+            expect(rt, table.get(owner, key), alone.get(owner, key));
         }
     }
 }
 
 fn expect_same_tables(rt: &impl Abort, sim: &Sim, alone: &Sim) {
-    assert_eq!(rt; sim.tables().len(), alone.tables().len());
+    expect(rt, sim.tables().len(), alone.tables().len());
     for (table, alone) in sim.tables().iter().zip(alone.tables()) {
         expect_same_table(rt, table, alone);
     }
@@ -128,6 +129,6 @@ fn first_row(rt: &(impl Threads + Wait + AllocGlobal + Sync), text: &str) -> Res
 fn all_nodes_down_with_workers(rt: HostRuntime) -> Result<(), Fault> {
     let text = changed(rt.alloc(), &[], BOTH_DOWN)?;
     let row = first_row(&rt, text.as_str())?;
-    assert_eq!(rt; row, row!(1, 0, 0, 0, 0, 0, 0, 0, 0));
+    expect(&rt, row, row!(1, 0, 0, 0, 0, 0, 0, 0, 0));
     expect_same(&rt, text.as_str(), MOST_WORKERS)
 }

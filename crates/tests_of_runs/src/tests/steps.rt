@@ -2,7 +2,7 @@
 
 use bench::{FreeGate, Round, Sim};
 use bench_types::{Fault, Figures, Mark};
-use fixtures::{RING_OF_FOUR, TWO_NODES, between, row, sent};
+use fixtures::{RING_OF_FOUR, TWO_NODES, between, expect, expect_at, row, sent};
 use node_table::NodeTable;
 use scenario::{Scenario, read};
 use std::alloc::Global;
@@ -29,35 +29,39 @@ pub(crate) fn step(rt: &(impl Threads + Wait + Sync), sim: &mut Sim) -> Result<R
 
 // Two nodes that hold so many entries each.
 fn expect_counts(rt: &impl Abort, sim: &Sim, count: u32) {
-    assert_eq!(rt; sim.tables().len(), 2);
+    expect(rt, sim.tables().len(), 2);
     for table in sim.tables() {
-        assert_eq!(rt; table.count(), count);
+        expect(rt, table.count(), count);
     }
 }
 
 fn expect_exchanges(rt: &impl Abort, round: &Round) {
     let list = round.list();
-    assert_eq!(rt; list.exchanges(), [between(0, 1), between(1, 0)].as_slice());
-    assert_eq!(rt; (list.nodes(), list.unreached()), (2, 0));
+    expect(
+        rt,
+        list.exchanges(),
+        [between(0, 1), between(1, 0)].as_slice(),
+    );
+    expect(rt, (list.nodes(), list.unreached()), (2, 0));
     let records = [sent!(1, 1, 1, 1, 0, 0), sent!(2, 2, 0, 0, 0, 0)];
-    assert_eq!(rt; round.records(), records.as_slice());
+    expect(rt, round.records(), records.as_slice());
 }
 
 fn expect_round(rt: &impl Abort, round: &Round) {
     expect_exchanges(rt, round);
-    assert_eq!(rt; round.row(), row!(1, 2, 0, 0, 2, 0, 0, 0, 0));
+    expect(rt, round.row(), row!(1, 2, 0, 0, 2, 0, 0, 0, 0));
     let figures = Figures {
         stale: 0,
         greatest: 0,
         leftover: 0,
     };
-    assert_eq!(rt; round.figures(), figures);
+    expect(rt, round.figures(), figures);
 }
 
 #[test]
 fn two_nodes(rt: HostRuntime) -> Result<(), Fault> {
     let mut sim = sim_of(rt.alloc(), TWO_NODES)?;
-    assert_eq!(rt; sim.rounds_done(), 0);
+    expect(&rt, sim.rounds_done(), 0);
     expect_counts(&rt, &sim, 0);
     expect_round(&rt, &step(&rt, &mut sim)?);
     expect_counts(&rt, &sim, 2);
@@ -66,8 +70,8 @@ fn two_nodes(rt: HostRuntime) -> Result<(), Fault> {
 
 // No round is left behind the first.
 fn expect_finished(rt: &(impl Threads + Wait + Abort + Sync), sim: &mut Sim) {
-    assert_eq!(rt; step(rt, sim).err(), Some(Fault::Finished));
-    assert_eq!(rt; sim.rounds_done(), 1);
+    expect(rt, step(rt, sim).err(), Some(Fault::Finished));
+    expect(rt, sim.rounds_done(), 1);
     assert!(rt; !sim.is_broken());
 }
 
@@ -80,7 +84,7 @@ fn steps_behind_the_last_round(rt: HostRuntime) -> Result<(), Fault> {
         expect_counts(&rt, &sim, 2);
     }
     let scenario = sim.into_scenario();
-    assert_eq!(rt; (scenario.nodes(), scenario.rounds()), (2, 1));
+    expect(&rt, (scenario.nodes(), scenario.rounds()), (2, 1));
     Ok(())
 }
 
@@ -89,12 +93,12 @@ fn expect_missed(rt: &impl Abort, table: &NodeTable, missed: u32) {
     let node = table.node();
     for owner in 0..table.nodes() {
         let lacks = table.greatest(owner) == Mark::ABSENT;
-        assert_eq!(rt; lacks, owner == missed, "owner {owner} at node {node}");
+        expect_at(rt, lacks, owner == missed, (owner, node));
     }
 }
 
 fn expect_all_missed(rt: &impl Abort, tables: &[NodeTable], missed: &[u32]) {
-    assert_eq!(rt; tables.len(), missed.len());
+    expect(rt, tables.len(), missed.len());
     for (table, missed) in tables.iter().zip(missed) {
         expect_missed(rt, table, *missed);
     }

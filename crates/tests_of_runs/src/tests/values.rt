@@ -1,7 +1,7 @@
 //! What an accepted scenario says.
 
 use bench_types::{Budget, Fault, Mode};
-use fixtures::{changed, changed_in_bytes};
+use fixtures::{changed, changed_in_bytes, expect};
 use scenario::{Choice, Load, Partition, Peers, Restart, Rotation, Scenario, read};
 use std::process::Abort;
 
@@ -27,9 +27,9 @@ fn expect_numbers(rt: &impl Abort, scenario: &Scenario) {
         scenario.keys(),
         scenario.rounds(),
     ];
-    assert_eq!(rt; sizes, [1, 2048, 64, 100_000]);
+    expect(rt, sizes, [1, 2048, 64, 100_000]);
     let rules = [scenario.loss_ppm(), scenario.writes()];
-    assert_eq!(rt; rules, [999_999, 8]);
+    expect(rt, rules, [999_999, 8]);
     let budget = scenario.budget();
     assert!(rt; scenario.seed() == 42 && budget == Budget::Entries(65_535));
 }
@@ -40,9 +40,9 @@ fn expect_words(
     mode: Mode,
     words: (Peers, Rotation, Choice),
 ) {
-    assert_eq!(rt; scenario.mode(), mode);
+    expect(rt, scenario.mode(), mode);
     let found = (scenario.peers(), scenario.rotation(), scenario.choice());
-    assert_eq!(rt; found, words);
+    expect(rt, found, words);
 }
 
 #[test]
@@ -69,7 +69,7 @@ fn byte_budget_limits(rt: HostRuntime) -> Result<(), Fault> {
         let text = changed(rt.alloc(), &changes, "")?;
         let scenario = read(rt.alloc(), text.as_bytes())?;
         assert!(rt; scenario.format() == 2);
-        assert_eq!(rt; scenario.budget(), Budget::Bytes(bytes));
+        expect(&rt, scenario.budget(), Budget::Bytes(bytes));
     }
     Ok(())
 }
@@ -123,8 +123,8 @@ load = [{ from = 4, to = 100_000, writes = 0 }]
 ";
 
 fn expect_partition(rt: &impl Abort, found: &Partition, from: u32, to: u32, apart: &[u32]) {
-    assert_eq!(rt; (found.from, found.to), (from, to));
-    assert_eq!(rt; found.apart.as_slice(), apart);
+    expect(rt, (found.from, found.to), (from, to));
+    expect(rt, found.apart.as_slice(), apart);
 }
 
 const RESTARTS: [Restart; 2] = [
@@ -160,8 +160,8 @@ fn values_of_the_elements(rt: HostRuntime) -> Result<(), Fault> {
         let text = changed(rt.alloc(), &[("nodes = 2", "nodes = 5")], tables)?;
         let scenario = read(rt.alloc(), text.as_bytes())?;
         expect_partitions(&rt, scenario.partitions());
-        assert_eq!(rt; scenario.restarts(), RESTARTS.as_slice());
-        assert_eq!(rt; scenario.loads(), LOADS.as_slice());
+        expect(&rt, scenario.restarts(), RESTARTS.as_slice());
+        expect(&rt, scenario.loads(), LOADS.as_slice());
     }
     Ok(())
 }
@@ -189,7 +189,7 @@ const FORGETTING_RESTARTS: [Restart; 2] = [
 fn restarts_that_forget(rt: HostRuntime) -> Result<(), Fault> {
     let text = changed_in_bytes(rt.alloc(), &[], FORGETTING)?;
     let scenario = read(rt.alloc(), text.as_bytes())?;
-    assert_eq!(rt; scenario.restarts(), FORGETTING_RESTARTS.as_slice());
+    expect(&rt, scenario.restarts(), FORGETTING_RESTARTS.as_slice());
     Ok(())
 }
 
@@ -198,8 +198,8 @@ fn another_mode(rt: HostRuntime) -> Result<(), Fault> {
     let tables = "[[restart]]\nnode = 1\nround = 1\ndown = 0\n";
     let text = changed(rt.alloc(), &[("seed = 0", "seed = 7")], tables)?;
     let scenario = read(rt.alloc(), text.as_bytes())?.with_mode(Mode::PreciseOldest);
-    assert_eq!(rt; scenario.mode(), Mode::PreciseOldest);
-    assert_eq!(rt; scenario.seed(), 7);
-    assert_eq!(rt; scenario.restarts().len(), 1);
+    expect(&rt, scenario.mode(), Mode::PreciseOldest);
+    expect(&rt, scenario.seed(), 7);
+    expect(&rt, scenario.restarts().len(), 1);
     Ok(())
 }

@@ -1,13 +1,12 @@
 //! Deltas by hand: what is sent of one table in each mode, and of many tables against a program that
 //! places each candidate by counting those that come before it.
 
-use crate::tests::fixtures::{
-    expect_items, expect_mark, expect_number, item, lawful, new_table, next, take,
-};
 use crate::tests::plain_tables::{
     BUDGETS, NODES, Turn, count_before, is_sent, lacked, list_of, small_table,
 };
+use crate::tests::shared::{expect_mark, item, lawful, new_table, next, take};
 use bench_types::{Budget, Item, Mode};
+use fixtures::expect_at;
 use node_table::NodeTable;
 use reconcile::{Delta, Digest, delta};
 use std::alloc::Global;
@@ -54,8 +53,8 @@ pub(crate) fn answer(
 fn expect_sent(rt: &impl Abort, alloc: Global, turn: Turn, items: &[Item], cut: u32) {
     let to = new_table(rt, alloc, 0, NODES, 2);
     let delta = answer(rt, alloc, &sender(rt, alloc), &to, turn);
-    expect_items(rt, "sent", delta.items(), items);
-    expect_number(rt, "cut", delta.cut(), cut);
+    expect_at(rt, delta.items(), items, "sent");
+    expect_at(rt, delta.cut(), cut, "cut");
 }
 
 /// The order of a mode with no rotation, and so many entries.
@@ -80,7 +79,7 @@ fn expect_scuttle_digest(rt: &impl Abort, alloc: Global) {
     let from = sender(rt, alloc);
     let digest = Digest::of(alloc, &from, Mode::ScuttleDepth).expect(rt, "memory");
     assert!(rt; from.nodes() == 4);
-    expect_number(rt, "size", digest.size(), 2);
+    expect_at(rt, digest.size(), 2, "size");
     expect_mark(rt, "greatest of 0", digest.greatest(0), (0, 0));
     expect_mark(rt, "greatest of 1", digest.greatest(1), (0, 5));
 }
@@ -89,7 +88,7 @@ fn expect_precise_digest(rt: &impl Abort, alloc: Global) {
     let from = sender(rt, alloc);
     let digest = Digest::of(alloc, &from, Mode::PreciseOldest).expect(rt, "memory");
     assert!(rt; from.nodes() == 4 && from.keys() == 2);
-    expect_number(rt, "size", digest.size(), 3);
+    expect_at(rt, digest.size(), 3, "size");
     expect_mark(rt, "mark of 1 0", digest.version(1, 0), (0, 3));
     expect_mark(rt, "mark of 2 1", digest.version(2, 1), (0, 0));
 }
@@ -142,8 +141,8 @@ fn byte_budget_delta(rt: HostRuntime) {
             budget: Budget::Bytes(bytes),
         };
         let delta = answer(&rt, alloc, &from, &to, turn);
-        expect_items(&rt, "sent", delta.items(), items);
-        expect_number(&rt, "cut", delta.cut(), cut);
+        expect_at(&rt, delta.items(), items, "sent");
+        expect_at(&rt, delta.cut(), cut, "cut");
     }
 }
 
@@ -161,7 +160,7 @@ fn expect_first(rt: &impl Abort, alloc: Global, mode: Mode, versions: [u32; 2]) 
     let delta = answer(rt, alloc, &sender(rt, alloc), &to, unturned(mode, 1));
     take(rt, &mut to, delta.items());
     let held = [version_of(&to, 1, 0), version_of(&to, 1, 1)];
-    assert_eq!(rt; held, versions, "{mode:?}");
+    expect_at(rt, held, versions, mode);
 }
 
 #[test]
@@ -171,25 +170,20 @@ fn precise_newest_leaves_a_gap(rt: HostRuntime) {
     expect_first(&rt, rt.alloc(), Mode::ScuttleDepth, [3, 0]);
 }
 
-// Compares the item that is sent at a place.
-fn expect_at(rt: &impl Abort, delta: &Delta, place: usize, item: Item, mode: Mode) {
-    let sent = delta.items().get(place).copied();
-    assert_eq!(rt; sent, Some(item), "{mode:?} {place}");
-}
-
 // Compares a delta with the candidates, each at the place that is the number of those before it.
 fn compare_by_counting(rt: &impl Abort, delta: &Delta, all: &[Item], turn: Turn) {
     let mut cut = 0u32;
     for item in all {
         if is_sent(turn, all, *item) {
             let before = count_before(turn, all, *item);
-            expect_at(rt, delta, before, *item, turn.mode);
+            let sent = delta.items().get(before).copied();
+            expect_at(rt, sent, Some(*item), turn.mode);
         } else {
             cut = cut.saturating_add(1);
         }
     }
     assert!(rt; delta.items().len() == all.len().saturating_sub(cut as usize));
-    expect_number(rt, "cut", delta.cut(), cut);
+    expect_at(rt, delta.cut(), cut, "cut");
 }
 
 // Compares the deltas of a mode at each rotation and with each budget.

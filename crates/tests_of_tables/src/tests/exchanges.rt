@@ -1,10 +1,11 @@
 //! Exchanges of two tables, with records and tables worked out from the rules.
 
 use crate::tests::deltas::unturned;
-use crate::tests::fixtures::{expect_held, item, lawful, new_table, take, write};
 use crate::tests::plain_tables::Turn;
+use crate::tests::shared::{expect_held, item, lawful, new_table, take, write};
 use bench_types::{Budget, Exchange, Fate, Fault, Item, Mode, Record, Rules};
 use exchange::exchange;
+use fixtures::expect_at;
 use node_table::NodeTable;
 use std::alloc::Global;
 use std::process::Abort;
@@ -63,7 +64,7 @@ fn expect_record(rt: &impl Abort, sent: Record, fate: Fate, wanted: [u32; 6]) {
         forth_cut,
         fate,
     };
-    assert_eq!(rt; sent, record);
+    expect_at(rt, sent, record, "record");
 }
 
 /// Two nodes meet, and their record is compared: the sizes of both digests, the entries sent back and

@@ -1,12 +1,12 @@
 //! Nodes that forgot: what their tables hold, and which of two generations is sent and kept.
 
 use crate::tests::deltas::answer;
-use crate::tests::fixtures::{
-    expect_entries, expect_held, expect_items, expect_mark, expect_number, forget, item, new_table,
-    take, write,
-};
 use crate::tests::plain_tables::Turn;
+use crate::tests::shared::{
+    expect_entries, expect_held, expect_mark, forget, item, new_table, take, write,
+};
 use bench_types::{Budget, Item, Mark, Mode};
+use fixtures::expect_at;
 use node_table::NodeTable;
 use reconcile::Digest;
 use std::alloc::Global;
@@ -35,8 +35,8 @@ fn expect_taken(rt: &impl Abort, alloc: Global, mode: Mode, held: [Item; 2], sen
         budget: Budget::Bytes(1023),
     };
     let delta = answer(rt, alloc, &holder(rt, alloc, 2, from), &receiver, turn);
-    expect_items(rt, "sent", delta.items(), sent);
-    expect_number(rt, "cut", delta.cut(), 0);
+    expect_at(rt, delta.items(), sent, "sent");
+    expect_at(rt, delta.cut(), 0, "cut");
     take(rt, &mut receiver, delta.items());
     expect_held(rt, "taken", &receiver, &[NEWER]);
 }
@@ -66,7 +66,7 @@ const AGAIN: Item = item!(0, 1, generation 1, 1, 12, 2);
 fn expect_forgotten(rt: &impl Abort, table: &NodeTable, times: u32) {
     assert!(rt; table.nodes() == 4);
     expect_held(rt, "forgotten", table, &[]);
-    expect_number(rt, "generation", table.generation(), times);
+    expect_at(rt, table.generation(), times, "generation");
     for owner in 0..4 {
         expect_mark(rt, "greatest", table.greatest(owner), (0, 0));
         assert!(rt; table.entries_of(owner).is_empty());
@@ -82,13 +82,13 @@ fn forgetting_all(rt: HostRuntime) {
         write(&rt, &mut table, item.entry);
     }
     take(&rt, &mut table, &OTHERS);
-    expect_number(&rt, "generation", table.generation(), 0);
+    expect_at(&rt, table.generation(), 0, "generation");
     forget(&rt, &mut table, 1);
     expect_forgotten(&rt, &table, 1);
     write(&rt, &mut table, AGAIN.entry);
     expect_held(&rt, "written again", &table, &[AGAIN]);
     table.forget_others();
-    expect_number(&rt, "generation", table.generation(), 1);
+    expect_at(&rt, table.generation(), 1, "generation");
     forget(&rt, &mut table, 1);
     expect_forgotten(&rt, &table, 2);
 }
@@ -169,7 +169,7 @@ fn digests_of_generations(rt: HostRuntime) {
 fn expect_scuttle(rt: &impl Abort, alloc: Global, table: &NodeTable) {
     let digest = Digest::of(alloc, table, Mode::ScuttleBreadth).expect(rt, "memory");
     assert!(rt; table.nodes() == 4);
-    expect_number(rt, "size", digest.size(), 3);
+    expect_at(rt, digest.size(), 3, "size");
     for owner in 0..4 {
         let mark = digest.greatest(owner);
         expect_mark(rt, "greatest", mark, GREATEST[owner as usize]);
@@ -180,10 +180,10 @@ fn expect_scuttle(rt: &impl Abort, alloc: Global, table: &NodeTable) {
 fn expect_precise(rt: &impl Abort, alloc: Global, table: &NodeTable) {
     let digest = Digest::of(alloc, table, Mode::PreciseNewest).expect(rt, "memory");
     assert!(rt; table.nodes() == 4 && table.keys() == 2);
-    expect_number(rt, "size", digest.size(), 3);
+    expect_at(rt, digest.size(), 3, "size");
     for owner in 0..4 {
         let (generation, _version) = GREATEST[owner as usize];
-        expect_number(rt, "generation", digest.generation(owner), generation);
+        expect_at(rt, digest.generation(owner), generation, "generation");
         for key in 0..2 {
             let mark = digest.version(owner, key);
             expect_mark(rt, "mark", mark, MARKS[owner as usize][key as usize]);

@@ -1,6 +1,7 @@
 //! An owner that wrote in two of its three generations: what stands under each mark.
 
 use bench_types::{Entry, Mark};
+use fixtures::expect_at;
 use staleness::OwnerList;
 use std::alloc::Global;
 use std::process::Abort;
@@ -72,13 +73,18 @@ fn expect_under(
         Some(write) => Some(entry_under(mark, write)),
         None => None,
     };
-    assert_eq!(rt; list.entry(mark), wanted);
+    expect_at(rt, list.entry(mark), wanted, "entry");
 }
 
 #[test]
 fn a_write_of_any_generation_stands_under_its_mark(rt: HostRuntime) {
     let list = written(&rt, rt.alloc());
-    assert_eq!(&rt; [list.generation(), list.len()], [2, 2]);
+    expect_at(
+        &rt,
+        [list.generation(), list.len()],
+        [2, 2],
+        "generation and writes",
+    );
     for (mark, wanted) in UNDER {
         expect_under(&rt, &list, mark, wanted);
     }
@@ -88,7 +94,12 @@ fn a_write_of_any_generation_stands_under_its_mark(rt: HostRuntime) {
 fn a_list_that_forgot_is_as_a_new_one(rt: HostRuntime) {
     let mut list = written(&rt, rt.alloc());
     list.forget();
-    assert_eq!(&rt; [list.generation(), list.len()], [0, 0]);
+    expect_at(
+        &rt,
+        [list.generation(), list.len()],
+        [0, 0],
+        "generation and writes",
+    );
     for (mark, _) in UNDER {
         expect_under(&rt, &list, mark, None);
     }

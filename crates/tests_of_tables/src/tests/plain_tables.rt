@@ -1,8 +1,9 @@
 //! A plain model of what a node holds, as a list of items, and of the orders in which candidates are sent,
 //! and small tables to hold the program against it.
 
-use crate::tests::fixtures::{forget, item, new_table, next, take, try_write};
+use crate::tests::shared::{forget, item, new_table, next, take, try_write};
 use bench_types::{Budget, Item, Mark, Mode};
+use fixtures::expect_at;
 use node_table::NodeTable;
 use std::alloc::Global;
 use std::cmp::Ordering;
@@ -131,7 +132,7 @@ pub(crate) fn lacked(
 pub(crate) fn expect_listed(rt: &impl Abort, table: &NodeTable, held: &[Item]) {
     for item in held {
         let found = table.get(item.owner, item.entry.key);
-        assert_eq!(rt; found, Some(item.entry));
+        expect_at(rt, found, Some(item.entry), "entry");
     }
     assert!(rt; table.count() as usize == held.len());
 }

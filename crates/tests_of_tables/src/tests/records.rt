@@ -2,6 +2,7 @@
 
 use bench_types::{Fate, Fault, Record};
 use collector::{Collector, Stamped};
+use fixtures::expect;
 use std::process::Abort;
 
 // The record of an exchange in which this many entries were sent back.
@@ -27,7 +28,7 @@ fn expect_put(
     wanted: Result<(), Fault>,
 ) {
     let answer = collector.put(stamped(index, back));
-    assert_eq!(rt; answer, wanted);
+    expect(rt, answer, wanted);
 }
 
 // A record is missing: compares the fault, and gives the collector back.
@@ -35,7 +36,7 @@ fn expect_missing(rt: &impl Abort, collector: Collector, index: u32) -> Collecto
     let Err((fault, collector)) = collector.finish() else {
         panic!(rt; "a record is missing");
     };
-    assert_eq!(rt; fault, Fault::NoRecord(index));
+    expect(rt, fault, Fault::NoRecord(index));
     collector
 }
 
@@ -44,7 +45,7 @@ fn expect_finished(rt: &impl Abort, collector: Collector, wanted: &[Record]) {
     let Ok(records) = collector.finish() else {
         panic!(rt; "no record is missing");
     };
-    assert_eq!(rt; records.as_slice(), wanted);
+    expect(rt, records.as_slice(), wanted);
 }
 
 #[test]

@@ -6,8 +6,9 @@ ghost use Rattle.model.specs.OwnerListView.{written};
 ghost use Rattle.model.specs.Writes.{AreBornBy};
 ghost use Rattle.tests_of_tables.specs.Missed.{missed, missed_in};
 
-use crate::tests::fixtures::{item, may_take, new_table};
+use crate::tests::shared::{item, may_take, new_table};
 use bench_types::{Figures, Item};
+use fixtures::expect_at;
 use node_table::NodeTable;
 use staleness::{OwnerList, figures};
 use std::alloc::Global;
@@ -135,7 +136,7 @@ fn expect_figures(rt: &impl Abort, found: Figures, case: Case) {
         greatest,
         leftover,
     };
-    assert_eq!(rt; found, wanted);
+    expect_at(rt, found, wanted, "figures");
 }
 
 // One key, written in each of three rounds.

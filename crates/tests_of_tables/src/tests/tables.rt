@@ -1,11 +1,11 @@
 //! Tables by hand: what they hold is worked out from the rules, and for long lists by a plain model.
 
-use crate::tests::fixtures::{
-    expect_held, expect_mark, expect_number, expect_same, item, items, new_table, next, take,
-    try_write, write,
-};
 use crate::tests::plain_tables::{expect_listed, merge};
+use crate::tests::shared::{
+    expect_held, expect_mark, expect_same, item, items, new_table, next, take, try_write, write,
+};
 use bench_types::{Entry, Item, Mark};
+use fixtures::expect_at;
 use node_table::NodeTable;
 use std::alloc::Global;
 use std::process::Abort;
@@ -16,7 +16,7 @@ const KEYS: u32 = 3;
 
 // Compares what is held of a key.
 fn expect_entry(rt: &impl Abort, table: &NodeTable, owner: u32, key: u32, wanted: Option<Entry>) {
-    assert_eq!(rt; table.get(owner, key), wanted, "at {owner} {key}");
+    expect_at(rt, table.get(owner, key), wanted, "entry");
 }
 
 const OWN: Item = item!(0, 0, 1, 0, 1);
@@ -42,9 +42,9 @@ fn forgetting_others(rt: HostRuntime) {
 
 fn expect_copy(rt: &impl Abort, copy: &NodeTable) {
     expect_held(rt, "held", copy, &[OWN, OTHER]);
-    expect_number(rt, "node", copy.node(), 0);
-    expect_number(rt, "nodes", copy.nodes(), 2);
-    expect_number(rt, "keys", copy.keys(), 1);
+    expect_at(rt, copy.node(), 0, "node");
+    expect_at(rt, copy.nodes(), 2, "nodes");
+    expect_at(rt, copy.keys(), 1, "keys");
 }
 
 const FIRST_TAKEN: [Item; 2] = items!(3 1: 4 10, 0 2: 2 20);
@@ -101,7 +101,12 @@ fn expect_above(rt: &impl Abort, table: &NodeTable, version: u32, row: Row) {
 fn expect_place(rt: &impl Abort, table: &NodeTable, entry: Entry, at: usize, row: Row) {
     let (versions, keys) = row;
     let wanted = (versions.get(at).copied(), keys.get(at).copied());
-    assert_eq!(rt; (Some(entry.version), Some(entry.key)), wanted);
+    expect_at(
+        rt,
+        (Some(entry.version), Some(entry.key)),
+        wanted,
+        "version and key",
+    );
     expect_entry(rt, table, 1, entry.key, Some(entry));
 }
 
@@ -113,7 +118,12 @@ fn expect_row(rt: &impl Abort, table: &NodeTable, row: Row) {
     }
     assert!(rt; table.entries_of(1).len() == row.0.len());
     let greatest = row.0.last().copied().unwrap_or(0);
-    assert_eq!(rt; table.greatest_versions(), [0, greatest].as_slice());
+    expect_at(
+        rt,
+        table.greatest_versions(),
+        [0, greatest].as_slice(),
+        "greatest",
+    );
 }
 
 #[test]
@@ -141,7 +151,7 @@ fn write_at_last(rt: &impl Abort, table: &mut NodeTable, entry: Entry) {
         expect_same(rt, "after a refusal", table, &before);
         write(rt, table, entry);
     }
-    expect_number(rt, "count before", before.count(), entry.key);
+    expect_at(rt, before.count(), entry.key, "count before");
 }
 
 const ADDED: [Item; 3] = items!(3 0: 9 10, 0 2: 4 20, 2 1: 7 30);

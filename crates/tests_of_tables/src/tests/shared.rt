@@ -6,6 +6,7 @@ ghost use Rattle.model.specs.Table.{empty_table};
 ghost use Rattle.model.specs.Table.{IsItemInPlace};
 
 use bench_types::{Budget, Entry, Fault, Item, Mark};
+use fixtures::expect_at;
 use node_table::NodeTable;
 use std::alloc::Global;
 use std::process::Abort;
@@ -26,14 +27,14 @@ macro_rules! item {
         }
     };
     ($owner:expr, $key:expr, $version:expr, $value:expr, $born:expr) => {
-        crate::tests::fixtures::item!($owner, $key, generation 0, $version, $value, $born)
+        crate::tests::shared::item!($owner, $key, generation 0, $version, $value, $born)
     };
 }
 
 // Items of generation 0 that were born in round 1: by owner and key, the version and the value.
 macro_rules! items {
     ($($owner:literal $key:literal: $version:literal $value:literal),+) => {
-        [$(crate::tests::fixtures::item!($owner, $key, $version, $value, 1)),+]
+        [$(crate::tests::shared::item!($owner, $key, $version, $value, 1)),+]
     };
 }
 
@@ -97,7 +98,7 @@ pub(crate) fn write(rt: &impl Abort, table: &mut NodeTable, entry: Entry) {
         Ok(version) => version,
         Err(_) => try_write(rt, table, entry.key, entry.value, entry.born).expect(rt, "memory"),
     };
-    expect_number(rt, "version", version, entry.version);
+    expect_at(rt, version, entry.version, "version");
 }
 
 /// The node forgets so often.
@@ -117,14 +118,9 @@ pub(crate) fn next(state: &mut u64, below: u32) -> u32 {
     (high % u64::from(below.max(1))) as u32
 }
 
-/// Compares a number.
-pub(crate) fn expect_number(rt: &impl Abort, name: &str, found: u32, wanted: u32) {
-    assert_eq!(rt; found, wanted, "{name}");
-}
-
 /// Compares a mark, by its generation and its version.
 pub(crate) fn expect_mark(rt: &impl Abort, name: &str, found: Mark, wanted: (u32, u32)) {
-    assert_eq!(rt; (found.generation, found.version), wanted, "{name}");
+    expect_at(rt, (found.generation, found.version), wanted, name);
 }
 
 /// The empty table of a node, at the second try where memory is refused once.
@@ -154,7 +150,7 @@ pub(crate) fn expect_held(rt: &impl Abort, name: &str, table: &NodeTable, wanted
         for key in 0..table.keys() {
             if let Some(entry) = table.get(owner, key) {
                 let found = Item { owner, entry };
-                assert_eq!(rt; Some(found), wanted.get(count).copied(), "{name}");
+                expect_at(rt, Some(found), wanted.get(count).copied(), name);
                 count = count.saturating_add(1);
             }
         }
@@ -167,21 +163,16 @@ pub(crate) fn expect_held(rt: &impl Abort, name: &str, table: &NodeTable, wanted
 pub(crate) fn expect_same(rt: &impl Abort, name: &str, table: &NodeTable, other: &NodeTable) {
     for owner in 0..table.nodes() {
         for key in 0..table.keys() {
-            assert_eq!(rt; table.get(owner, key), other.get(owner, key), "{name}");
+            expect_at(rt, table.get(owner, key), other.get(owner, key), name);
         }
     }
-    expect_number(rt, name, table.count(), other.count());
-}
-
-/// Compares a list of items.
-pub(crate) fn expect_items(rt: &impl Abort, name: &str, found: &[Item], wanted: &[Item]) {
-    assert_eq!(rt; found, wanted, "{name}");
+    expect_at(rt, table.count(), other.count(), name);
 }
 
 /// Compares entries with those of items.
 pub(crate) fn expect_entries(rt: &impl Abort, name: &str, found: &[Entry], wanted: &[Item]) {
-    assert!(rt; found.len() == wanted.len(), "{name}");
+    expect_at(rt, found.len(), wanted.len(), name);
     for (entry, item) in found.iter().zip(wanted) {
-        assert_eq!(rt; *entry, item.entry, "{name}");
+        expect_at(rt, *entry, item.entry, name);
     }
 }

@@ -123,15 +123,26 @@ fn try_exchanges<R: Print + Eprint + AllocGlobal + Threads + Wait + Sync>(
         "RoundList::of",
         list_of(alloc, first.writers.nodes, first.pairs)
     );
-    match exchanged(rt, &list, first, team, gate)? {
-        Ok(exchanged) => check_exchanged(first, exchanged, gate)?,
+    try_listed(rt, &list, first, trial, gate)?;
+    pass(rt, trial)
+}
+
+fn try_listed<R: Eprint + AllocGlobal + Threads + Wait + Sync>(
+    rt: &R,
+    list: &RoundList,
+    first: &FirstRound,
+    trial: Trial,
+    gate: &Counter,
+) -> Result<(), Failure> {
+    let team = trial.team;
+    match exchanged(rt, list, first, team, gate)? {
+        Ok(exchanged) => check_exchanged(first, exchanged, gate),
         Err(fault) => {
             check(fault != Fault::NoThread || !gate.has_gathered(), CALL)?;
             refused_with(rt, trial, team.workers(), fault)?;
-            try_list_again(rt, &list, first, team, gate)?;
+            try_list_again(rt, list, first, team, gate)
         }
     }
-    pass(rt, trial)
 }
 
 // The second try, with a gate of its own: the first one's counts stay as they are.

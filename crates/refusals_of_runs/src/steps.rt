@@ -113,11 +113,20 @@ fn play_at_last<R: Eprint + AllocGlobal + Threads + Wait + Sync>(
     refused_with(rt, trial, team.workers(), failure)?;
     let counts = gate.counts();
     check_broken(rt, &mut sim, team, &gate)?;
-    let scenario = sim.into_scenario();
+    play_again(rt, sim.into_scenario(), case, team)?;
+    check(gate.counts() == counts, "step")
+}
+
+// All rounds of another simulation, of the scenario that a broken one had.
+fn play_again<R: Eprint + AllocGlobal + Threads + Wait + Sync>(
+    rt: &R,
+    scenario: Scenario,
+    case: &Case,
+    team: Team,
+) -> Result<(), Failure> {
     check(is_of_case(rt, &scenario, case)?, "into_scenario")?;
     let mut sim = open(rt, case, scenario)?;
-    play(rt, &mut sim, case, team, &Counter::new())?;
-    check(gate.counts() == counts, "step")
+    play(rt, &mut sim, case, team, &Counter::new())
 }
 
 pub(crate) fn try_steps<R: Print + Eprint + AllocGlobal + Threads + Wait + Sync>(

@@ -63,16 +63,28 @@ impl Job {
         let alloc = rt.alloc();
         let mut report = retried!(rt, "room", writer(alloc));
         let mut trace = retried!(rt, "room", writer(alloc));
-        let reader = &mut Pull::new(case.texts.scenario.as_bytes());
-        let answer = match self {
-            Job::Run => run(rt, alloc, reader, &mut report, &mut trace, team.workers()),
-            Job::Compare => compare(rt, alloc, reader, &mut report, team.workers()),
-        };
+        let answer = self.write(rt, case, team, &mut report, &mut trace);
         Ok(Outcome {
             answer,
             report: report.into_inner(),
             trace: trace.into_inner(),
         })
+    }
+
+    fn write<R: AllocGlobal + Threads + Wait + Sync>(
+        self,
+        rt: &R,
+        case: &Case,
+        team: Team,
+        report: &mut Push<Vec<u8>>,
+        trace: &mut Push<Vec<u8>>,
+    ) -> Result<(), Fault> {
+        let (alloc, workers) = (rt.alloc(), team.workers());
+        let reader = &mut Pull::new(case.texts.scenario.as_bytes());
+        match self {
+            Job::Run => run(rt, alloc, reader, report, trace, workers),
+            Job::Compare => compare(rt, alloc, reader, report, workers),
+        }
     }
 }
 
@@ -100,22 +112,42 @@ pub(crate) fn try_job<R: Print + Eprint + AllocGlobal + Threads + Wait + Sync>(
         case: case.name,
         team,
     };
+    let outcome = job.carry_out(rt, case, team)?;
+    try_outcome(rt, job, case, trial, outcome)?;
+    pass(rt, trial)
+}
+
+fn try_outcome<R: Eprint + AllocGlobal + Threads + Wait + Sync>(
+    rt: &R,
+    job: Job,
+    case: &Case,
+    trial: Trial,
+    outcome: Outcome,
+) -> Result<(), Failure> {
     let Outcome {
         answer,
         report,
         trace,
-    } = job.carry_out(rt, case, team)?;
+    } = outcome;
     match answer {
-        Ok(()) => check_whole(job, case, &report, &trace)?,
+        Ok(()) => check_whole(job, case, &report, &trace),
         Err(fault) => {
             check_beginnings(job, case, &report, &trace)?;
-            refused_with(rt, trial, team.workers(), fault)?;
-            let second = job.carry_out(rt, case, team)?;
-            second.answer?;
-            check_whole(job, case, &second.report, &second.trace)?;
+            refused_with(rt, trial, trial.team.workers(), fault)?;
+            try_again(rt, job, case, trial.team)
         }
     }
-    pass(rt, trial)
+}
+
+fn try_again<R: Eprint + AllocGlobal + Threads + Wait + Sync>(
+    rt: &R,
+    job: Job,
+    case: &Case,
+    team: Team,
+) -> Result<(), Failure> {
+    let second = job.carry_out(rt, case, team)?;
+    second.answer?;
+    check_whole(job, case, &second.report, &second.trace)
 }
 
 /// A text is read whole, and checked.

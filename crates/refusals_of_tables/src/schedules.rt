@@ -88,14 +88,19 @@ pub(crate) fn deps_of<R: Eprint + AllocGlobal>(rt: &R, list: &RoundList) -> Resu
 }
 
 fn try_schedule<R: Eprint + AllocGlobal>(rt: &R, deps: Deps) -> Result<(), Failure> {
-    let schedule = match Schedule::new(rt.alloc(), deps) {
-        Ok(schedule) => schedule,
+    match Schedule::new(rt.alloc(), deps) {
+        Ok(schedule) => check_schedule(&schedule),
         Err((fault, deps)) => {
             refused(rt, "Schedule::new", fault)?;
             check(are_crossing(&deps), "Schedule::new")?;
-            Schedule::new(rt.alloc(), deps).map_err(|(fault, _)| fault)?
+            let schedule = Schedule::new(rt.alloc(), deps).map_err(|(fault, _)| fault)?;
+            check_schedule(&schedule)
         }
-    };
+    }
+}
+
+// A schedule of the crossing list, of which nothing has begun.
+fn check_schedule(schedule: &Schedule) -> Result<(), Failure> {
     check(
         schedule.next_ready() == Some(0) && schedule.may_start(1) && !schedule.may_start(2),
         "Schedule::new",
@@ -150,15 +155,26 @@ fn try_play<R: Eprint + AllocGlobal>(rt: &R, list: &RoundList) -> Result<(), Fai
     )
 }
 
-pub(crate) fn try_schedules<R: Print + Eprint + AllocGlobal>(rt: &R) -> Result<(), Failure> {
-    let list = crossing(rt)?;
-    let deps = deps_of(rt, &list)?;
+// The dependencies of a list, and a schedule of it.
+fn try_deps<R: Print + Eprint + AllocGlobal>(rt: &R, list: &RoundList) -> Result<(), Failure> {
+    let deps = deps_of(rt, list)?;
     check(are_crossing(&deps), "Deps::new")?;
     pass(rt, "Deps::new")?;
     try_schedule(rt, deps)?;
-    pass(rt, "Schedule::new")?;
-    try_play(rt, &list)?;
-    try_unlawful(rt, &list, TOO_EARLY, Fault::NotAllowed)?;
-    try_unlawful(rt, &list, &[], Fault::Unfinished)?;
+    pass(rt, "Schedule::new")
+}
+
+fn try_plays<R: Print + Eprint + AllocGlobal>(rt: &R, list: &RoundList) -> Result<(), Failure>
+    requires { list.now.nodes ≡ 4 }
+{
+    try_play(rt, list)?;
+    try_unlawful(rt, list, TOO_EARLY, Fault::NotAllowed)?;
+    try_unlawful(rt, list, &[], Fault::Unfinished)?;
     pass(rt, "play")
+}
+
+pub(crate) fn try_schedules<R: Print + Eprint + AllocGlobal>(rt: &R) -> Result<(), Failure> {
+    let list = crossing(rt)?;
+    try_deps(rt, &list)?;
+    try_plays(rt, &list)
 }

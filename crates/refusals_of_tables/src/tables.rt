@@ -112,14 +112,27 @@ fn is_first_of_two(table: &NodeTable) -> bool {
 
 pub(crate) fn try_tables<R: Print + Eprint + AllocGlobal>(rt: &R) -> Result<(), Failure> {
     let mut table = written(rt, 0)?;
+    try_table(rt, &mut table)
+}
+
+fn try_table(rt: &(impl Print + Eprint), table: &mut NodeTable) -> Result<(), Failure> {
     pass(rt, "NodeTable::new")?;
-    take(rt, &mut table, &[OWN], &[OTHER])?;
+    take(rt, table, &[OWN], &[OTHER])?;
     pass(rt, "NodeTable::reserve_for")?;
-    let copy = cloned(rt, &table)?;
-    forget_and_write(rt, &mut table)?;
+    let copy = cloned(rt, table)?;
+    try_changes(rt, table, &copy)
+}
+
+// The changes of a table, of which a copy sees nothing.
+fn try_changes(
+    rt: &(impl Print + Eprint),
+    table: &mut NodeTable,
+    copy: &NodeTable,
+) -> Result<(), Failure> {
+    forget_and_write(rt, table)?;
     pass(rt, "NodeTable::write_own")?;
     check(
-        is_first_of_two(&copy) && holds(&copy, &[OWN, OTHER]),
+        is_first_of_two(copy) && holds(copy, &[OWN, OTHER]),
         "NodeTable::try_clone",
     )?;
     pass(rt, "NodeTable::try_clone")

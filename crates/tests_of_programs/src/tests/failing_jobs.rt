@@ -6,7 +6,6 @@ use bench_types::{Fault, Pull, Push};
 use command_line::{Job, perform};
 use fixtures::{
     ALL, Drip, FOUR_MODES, FOUR_MODES_COMPARED, Halting, TWO_NODES, TWO_NODES_REPORT, Taking, Team,
-    expect_at,
 };
 use std::alloc::AllocGlobal;
 use std::io::ErrorKind;
@@ -118,7 +117,7 @@ fn done_until(
 
 // That a job answered this, and wrote so much of what it writes.
 fn expect_done(rt: &impl Abort, case: Case, done: &Done, answer: Result<(), Fault>, length: usize) {
-    expect_at(rt, &done.answer, &answer, case.asked);
+    assert_eq!(rt; done.answer, answer, "{:?}", case.asked);
     assert!(rt; done.out.len() == length, "{:?}", case.asked);
     assert!(rt;
         case.out.as_bytes().starts_with(&done.out),

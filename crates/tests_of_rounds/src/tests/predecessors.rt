@@ -1,7 +1,7 @@
 //! What the exchanges of small lists wait for.
 
+use crate::tests::comparing::{expect, expect_at};
 use crate::tests::exchange_lists::{CROSSING, PAIR, TWICE, between, list_of};
-use fixtures::{expect, expect_at};
 use planner::{After, Deps, Schedule};
 use std::alloc::AllocGlobal;
 use std::process::Abort;
@@ -33,7 +33,7 @@ pub(crate) fn schedule_of(
 
 // Compares how many each exchange waits for, in list order.
 fn expect_pending(rt: &impl Abort, deps: &Deps, wanted: &[u32]) {
-    expect(rt, deps.len() as usize, wanted.len());
+    assert_eq!(rt; deps.len() as usize, wanted.len());
     for i in 0..deps.len() {
         expect_at(rt, deps.pending(i), wanted[i as usize], i);
     }

@@ -1,8 +1,9 @@
 //! Ends that go byte by byte and fail at each place of a run of two rounds.
 
+use crate::tests::comparing::expect;
 use bench::run;
 use bench_types::{Fault, Field, Pull, Push};
-use fixtures::{ALL, Drip, Halting, RESTART_WITHOUT_DOWNTIME, Taking, Team, expect};
+use fixtures::{ALL, Drip, Halting, RESTART_WITHOUT_DOWNTIME, Taking, Team};
 use std::alloc::{AllocError, AllocGlobal, Global};
 use std::io::ErrorKind;
 use std::process::Abort;

@@ -1,9 +1,10 @@
 //! Inputs read whole: lengths about the limit, and readers that go byte by byte, fail or never end.
 
+use crate::tests::comparing::{expect, expect_at};
 use bench::{check_input, read_all, run};
 use bench_types::limits::MOST_BYTES;
 use bench_types::{Discard, Fault, Field, Pull, Push};
-use fixtures::{Halting, TWO_NODES, TWO_NODES_REPORT, expect, expect_at};
+use fixtures::{Halting, TWO_NODES, TWO_NODES_REPORT};
 use std::alloc::{AllocError, Global};
 use std::io::{self, ErrorKind, Read};
 use std::process::Abort;

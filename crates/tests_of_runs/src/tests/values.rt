@@ -1,7 +1,8 @@
 //! What an accepted scenario says.
 
+use crate::tests::comparing::expect;
 use bench_types::{Budget, Fault, Mode};
-use fixtures::{changed, changed_in_bytes, expect};
+use fixtures::{changed, changed_in_bytes};
 use scenario::{Choice, Load, Partition, Peers, Restart, Rotation, Scenario, read};
 use std::process::Abort;
 

@@ -1,7 +1,7 @@
 //! What a table holds of an owner above a mark.
 
 use crate::tests::deltas::{NEW, OLD, sender};
-use crate::tests::shared::{expect_entries, item, new_table, take};
+use crate::tests::fixtures::{expect_entries, item, new_table, take};
 use bench_types::{Item, Mark};
 use node_table::NodeTable;
 use std::process::Abort;

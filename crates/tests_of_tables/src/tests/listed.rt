@@ -1,10 +1,10 @@
 //! Exchanges of many small tables against a program that keeps what a node holds as a list of items.
 
 use crate::tests::exchanges::{Plan, expect_sent};
+use crate::tests::fixtures::next;
 use crate::tests::plain_tables::{
     BUDGETS, NODES, Turn, expect_listed, is_sent, lacked, list_of, merge, small_table,
 };
-use crate::tests::shared::next;
 use bench_types::{Fate, Item, Mode};
 use node_table::NodeTable;
 use std::alloc::Global;

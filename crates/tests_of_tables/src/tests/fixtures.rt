@@ -5,8 +5,8 @@ ghost use Rattle.bench_types.specs.Budget.{IsLawfulBudget};
 ghost use Rattle.model.specs.Table.{empty_table};
 ghost use Rattle.model.specs.Table.{IsItemInPlace};
 
+use crate::tests::comparing::expect_at;
 use bench_types::{Budget, Entry, Fault, Item, Mark};
-use fixtures::expect_at;
 use node_table::NodeTable;
 use std::alloc::Global;
 use std::process::Abort;
@@ -27,14 +27,14 @@ macro_rules! item {
         }
     };
     ($owner:expr, $key:expr, $version:expr, $value:expr, $born:expr) => {
-        crate::tests::shared::item!($owner, $key, generation 0, $version, $value, $born)
+        crate::tests::fixtures::item!($owner, $key, generation 0, $version, $value, $born)
     };
 }
 
 // Items of generation 0 that were born in round 1: by owner and key, the version and the value.
 macro_rules! items {
     ($($owner:literal $key:literal: $version:literal $value:literal),+) => {
-        [$(crate::tests::shared::item!($owner, $key, $version, $value, 1)),+]
+        [$(crate::tests::fixtures::item!($owner, $key, $version, $value, 1)),+]
     };
 }
 

@@ -46,6 +46,9 @@ def main(report, trace):
     return 0
 
 
+if "--help" in sys.argv:
+    print(__doc__)
+    sys.exit()
 if len(sys.argv) != 3:
     refuse("usage: check_trace.py REPORT TRACE")
 sys.exit(main(rows(sys.argv[1], "greatest"), rows(sys.argv[2], "forth_cut")))

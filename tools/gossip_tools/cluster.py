@@ -75,11 +75,12 @@ def told(words, usual, call):
             raise Refused(f"{name}= is missing; {call} is a whole call.")
     values = {**usual, **values}
     for name, text in values.items():
-        if name in TEXTS:
-            if text not in TEXTS[name]:
-                raise Refused(f"{name} is one of {', '.join(TEXTS[name])}.")
-        elif text is not None:
+        if text is None:
+            continue
+        if name not in TEXTS:
             values[name] = number_of(name, text)
+        elif text not in TEXTS[name]:
+            raise Refused(f"{name} is one of {', '.join(TEXTS[name])}.")
     return values
 
 

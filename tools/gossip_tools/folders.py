@@ -8,7 +8,7 @@ import fcntl
 import os
 import socket
 
-from gossip_tools import read
+from gossip_tools import files, read
 from gossip_tools.commands import Refused
 
 
@@ -70,27 +70,17 @@ class Folder:
                 others = ", ".join(fields_of(name))
                 raise Refused(f"{self.path} has runs of the fields {others}: take these, in this order, or a new folder.")
 
-    def put(self, name, text):
-        """Writes a file that counts: whole, or not at all."""
-        part = self.path / f".{name}.{os.getpid()}.part"
-        try:
-            part.write_text(text)
-            os.replace(part, self.path / name)
-        except BaseException:
-            part.unlink(missing_ok=True)
-            raise
-
     def fill(self):
         """Fixes the scenario and those of the runs, and drops what ended sweeps have left half-written."""
         for it in self.path.glob(".*.part"):
             it.unlink()
         if not (self.path / "scenario").exists():
-            self.put("scenario", self.scenario)
+            files.put(self.path / "scenario", self.scenario)
         for name, text in self.runs.items():
             it = self.path / f"{name}.toml"
             if not it.exists() or it.read_text() != text:
                 (self.path / f"{name}.csv").unlink(missing_ok=True)
-                self.put(it.name, text)
+                files.put(it, text)
 
     def lacks(self, name):
         """What the report of a run lacks, or nothing."""
@@ -100,13 +90,9 @@ class Folder:
             return str(why)
         return ""
 
-    def to_do(self):
-        """The runs that have no whole report."""
-        return [name for name in self.runs if self.lacks(name)]
-
     def part(self, name):
         """Where a run of this process writes."""
-        return self.path / f".{name}.{os.getpid()}.part"
+        return files.part_of(self.path / f"{name}.csv")
 
     def keep(self, name):
         """Gives the report of a run its name. Answers what it lacks, and drops it, where it isn't whole."""

@@ -6,7 +6,6 @@ import shutil
 import signal
 import subprocess
 import tempfile
-import threading
 import time
 
 
@@ -178,28 +177,3 @@ def answers(lines, names):
             text = None
         elif text is not None:
             text.append(line)
-
-
-class Progress:
-    """How many runs are done, and about how long the others take: on a terminal, after each run."""
-
-    def __init__(self, what, total, stream, also_elsewhere=False):
-        self.what, self.total, self.stream, self.shown = what, total, stream, stream.isatty()
-        self.count, self.began, self.lock = 0, time.monotonic(), threading.Lock()
-        if also_elsewhere and not self.shown:
-            print(f"{what}: {total} runs", file=stream, flush=True)
-
-    def done(self, _=None):
-        self.count += 1
-        if self.shown:
-            left = (time.monotonic() - self.began) / self.count * (self.total - self.count)
-            print(f"\r\033[K{self.what}: {self.count} of {self.total} runs, {in_words(left)} left", end="",
-                  file=self.stream, flush=True)
-
-    def close(self):
-        if self.shown:
-            print("\r\033[K", end="", file=self.stream, flush=True)
-
-
-def in_words(seconds):
-    return f"some {seconds:.0f} s" if seconds < 100 else f"some {seconds / 60:.0f} min"

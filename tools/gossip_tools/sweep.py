@@ -18,6 +18,7 @@ import sys
 
 from gossip_tools import folders, running, scenario
 from gossip_tools.commands import Refused, the_program, workers
+from gossip_tools.progress import Progress
 
 
 def choices_of(words):
@@ -61,27 +62,27 @@ def check(runs, program):
             raise Refused(f"{program} doesn't answer as gossip_bench does: what does GOSSIP_BENCH name?")
 
 
-def carry_out(path, text, runs, program, what, hosts=None, also_elsewhere=False):
+def carry_out(path, text, runs, program, progress, hosts=None, what="gossip_sweep"):
     """Makes the reports of the runs that have none in the folder."""
     stand = 0
     try:
         with folders.Folder(path, text, runs) as folder:
-            to_do = folder.to_do()
-            for name in to_do:
-                if "isn't there" not in (lacks := folder.lacks(name)):
-                    print(f"gossip_sweep: {name} is run again, as its report isn't whole: {lacks}.", file=sys.stderr)
-            if not to_do:
-                return
-            progress = running.Progress(what, len(to_do), sys.stderr, also_elsewhere)
+            lacking = {name: lacks for name in runs if (lacks := folder.lacks(name))}
+            for name, lacks in lacking.items():
+                if (path / f"{name}.csv").exists():
+                    print(f"{what}: {name} is run again, as its report isn't whole: {lacks}.", file=sys.stderr)
+            progress.begin(path.name, list(lacking), runs.keys() - lacking.keys())
             try:
+                if not lacking:
+                    return
                 if hosts:
                     jobs = workers() if os.environ.get("JOBS") else None
-                    running.far(folder, to_do, program, hosts, jobs, progress.done)
+                    running.far(folder, list(lacking), program, hosts, jobs, progress.done)
                 else:
-                    running.here(folder, to_do, program, workers(), progress.done)
+                    running.here(folder, list(lacking), program, workers(), progress.done)
             finally:
-                progress.close()
-                stand = len(runs) - len(folder.to_do())
+                progress.end()
+                stand = sum(not folder.lacks(name) for name in runs)
     except running.Stopped as stopped:
         why, status = f"stopped by {stopped}", stopped.status
     except running.Failed as failed:
@@ -115,5 +116,6 @@ def main(words):
         raise Refused("the scenario isn't UTF-8.") from None
     runs = spread(text, choices)
     check(runs, program)
-    carry_out(pathlib.Path(folder), text, runs, program, "gossip_sweep", hosts)
+    path = pathlib.Path(folder)
+    carry_out(path, text, runs, program, Progress({f"{path.name}/{name}": 1 for name in runs}), hosts)
     print(f"{len(runs)} runs in {folder}")

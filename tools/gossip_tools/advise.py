@@ -28,7 +28,7 @@ import tomllib
 from fractions import Fraction
 
 from gossip_tools import answer, cluster, files, page, rules, running, scenario, study, sweep
-from gossip_tools.commands import Refused, the_program
+from gossip_tools.commands import Refused, the_program, workers
 from gossip_tools.progress import Progress, in_words
 
 USUAL = {"digest": "0", "shared": "yes", "loss": "0", "interval": "1", "restarts": "0", "forget": "no", "split": "30",
@@ -50,6 +50,9 @@ def numbers_of(words, file):
         words = [f"{name}={value}" for name, value in kept.items() if name != "program"]
     told = cluster.told(words, USUAL, CALL)
     cluster.check_limits(told)
+    if not told["writes"]:
+        raise Refused("writes would be 0, and then nothing has to be sent: count what changes in each interval alone, a "
+                      "heartbeat for one as keys=1 and writes=1.")
     if not told["interval"]:
         raise Refused("an interval has seconds.")
     if not told["split"] or told["split"] > 100000:
@@ -73,9 +76,6 @@ def keep(folder, told, kept, program):
         if differ := [it for it in fields.keys() | kept.keys() if fields.get(it) != kept.get(it)]:
             raise Refused(f"{folder} has the answer for another {', '.join(sorted(differ))}: name a new folder.")
         return check_sum
-    if folder.exists() and any(folder.iterdir()):
-        raise Refused(f"{folder} isn't empty and has no answer: name a new folder.")
-    folder.mkdir(parents=True, exist_ok=True)
     files.put(folder / "cluster.toml", scenario.written(fields))
     return check_sum
 
@@ -97,7 +97,6 @@ class Stages:
 
     def carry_out(self, stage, mode=rules.USUAL_MODE):
         text, runs, choices = self.runs(stage, mode)
-        sweep.check(dict([next(iter(runs.items()))]), self.program)
         at = study.STAGES.index(stage) + 1
         left = f", {in_words(self.progress.left())} in all" if self.progress.left() else ""
         print(f"{stage}, {at} of {len(study.STAGES)}: {len(runs)} runs of {self.rounds(stage)} rounds{left}",
@@ -107,21 +106,15 @@ class Stages:
         return study.Found(self.study, self.folder / stage, choices)
 
 
-def main(words):
-    folder = pathlib.Path("advice")
-    if words[:1] == ["-o"]:
-        if not words[1:2] or not words[1]:
-            raise Refused("-o needs a folder.")
-        folder, words = pathlib.Path(words[1]), words[2:]
-    told, kept = numbers_of(words, folder / "cluster.toml")
-    it, program = study.Study(told), the_program()
-    if os.environ.get("HOSTS") and not running.is_gnu_parallel():
-        raise Refused("other machines need GNU parallel, which isn't there.")
-    stages = Stages(it, folder, program)
-    sweep.check({"the first scenario": next(iter(stages.runs("few")[1].values()))}, program)
-    check_sum = keep(folder, told, kept, program)
-    running.Signals.listen()
+def look(folder):
+    """Refuses a folder with other things in it."""
+    if folder.exists() and not (folder / "cluster.toml").exists() and {it.name for it in folder.iterdir()} - {"lock"}:
+        raise Refused(f"{folder} isn't empty and has no answer: name a new folder.")
 
+
+def study_of(it, folder, program, check_sum):
+    """Carries out the stages, and prints the answers."""
+    stages = Stages(it, folder, program)
     few = answer.Decision(it, stages.carry_out("few"), rules.FEW_WINDOW)
     print(*answer.first_words(few), "", sep="\n", flush=True)
     decision = answer.Decision(it, stages.carry_out("knee"), rules.MANY_WINDOW)
@@ -130,3 +123,26 @@ def main(words):
     files.put(folder / "answer.txt", "\n".join(lines) + "\n")
     said = page.make(folder, decision, healing, check_sum)
     print(*lines, "", said, sep="\n")
+
+
+def main(words):
+    folder = pathlib.Path("advice")
+    if words[:1] == ["-o"]:
+        if not words[1:2] or not words[1]:
+            raise Refused("-o needs a folder.")
+        folder, words = pathlib.Path(words[1]), words[2:]
+    if os.environ.get("HOSTS") and not running.is_gnu_parallel():
+        raise Refused("other machines need GNU parallel, which isn't there.")
+    look(folder)
+    numbers_of(words, folder / "cluster.toml")
+    program = the_program()
+    workers()
+    running.Signals.listen()
+    try:
+        with files.locked(folder):
+            told, kept = numbers_of(words, folder / "cluster.toml")
+            it = study.Study(told)
+            sweep.check({"the first scenario": it.stage("few")[0]}, program)
+            study_of(it, folder, program, keep(folder, told, kept, program))
+    except running.Stopped as stopped:
+        raise Refused(f"stopped by {stopped}; the same command goes on.", stopped.status) from None

@@ -8,6 +8,10 @@ def span(figure, places=0):
     return least if least == most else f"{least} to {most}"
 
 
+def in_rounds(figure):
+    return f"{span(figure)} round{'s' if max(figure) != 1 else ''}"
+
+
 def in_time(rounds, interval):
     """Rounds as time: in seconds, or in minutes where they are many."""
     seconds = [float(it * interval) for it in rules.band(rounds)]
@@ -77,24 +81,25 @@ class Healing:
         taken = self.taken(stage, budget)
         if None in taken:
             return f"not within {self.study.healing_rounds() - self.study.ends(stage)} rounds under each seed"
-        return f"{span(taken)} rounds, {in_time(taken, self.study.told['interval'])}"
+        return f"{in_rounds(taken)}, {in_time(taken, self.study.told['interval'])}"
 
 
 def first_words(decision):
     """The first answer, from few rounds."""
     return [f"First answer, from {rules.FEW_ROUNDS} rounds: {decision.takes()}.",
-            f"Worst staleness {span(decision.worst)} rounds, {in_time(decision.worst, decision.study.told['interval'])}. "
+            f"Worst staleness {in_rounds(decision.worst)}, {in_time(decision.worst, decision.study.told['interval'])}. "
             "It is refined now."]
 
 
 def too_close(decision):
     """Which figures are too close to call."""
-    said = [f"{mode} with {decision.study.budget(mode)} entries, {span(decision.figures[mode])} rounds against "
+    said = [f"{mode} with {decision.study.budget(mode)} entries, {in_rounds(decision.figures[mode])} against "
             f"{span(decision.worst)}" for mode in decision.close]
     if smaller := decision.smaller():
-        worst = span(decision.found.worst(smaller, decision.mode, decision.window))
-        said.append(f"{decision.mode} with any budget from {smaller} entries on, {worst} rounds with that")
-    return said or ["none: each other mode, and each smaller budget, is worse under all seeds by more than they differ"]
+        worst = in_rounds(decision.found.worst(smaller, decision.mode, decision.window))
+        said.append(f"{decision.mode} with a budget from {smaller} entries on, {worst} with that")
+    return said or ["none: each other mode and smaller budget that was run is worse under all seeds by more than they "
+                    "differ"]
 
 
 def warnings(decision):
@@ -108,9 +113,12 @@ def warnings(decision):
     elif decision.budget < it.knee:
         said.append(f"The budget is below nodes * writes = {it.knee * it.parts}, the knee, so copies lag more than they "
                     "have to: a delta in a packet of its own, a shorter entry or a larger packet would help.")
-    for mode in scenario.MODES:
-        if it.rooms[mode] < 1 and it.parts == 1:
-            said.append(f"{mode} has no room: its digest alone takes the packet.")
+    if it.in_bytes:
+        said.append("With room for so few entries a large one holds up smaller ones behind it: give the delta room for one "
+                    "mean entry more than the sum says.")
+    no_room = [mode for mode in scenario.MODES if it.rooms[mode] < 1]
+    if no_room and it.parts == 1:
+        said.append(f"{' and '.join(no_room)} have no room: their digest alone takes the packet.")
     if it.parts > 1:
         said.append(f"A tenth was run, {it.nodes} nodes with a tenth of the packet, in scuttle-depth alone. {rules.TENTH}")
         if not 0.5 <= decision.of_knee() <= 2:
@@ -158,10 +166,10 @@ def in_words(decision, healing):
     it, told = decision.study, decision.study.told
     first, last = decision.window
     each, ends = it.restarting()
-    many = f"{each} nodes in each of {ends - 49 - 1} rounds" if it.restarts else "one node"
+    many = f"{each} nodes in each of {ends - it.begins + 1} rounds" if it.restarts else "one node"
     what = {"split": f"of half of the nodes for {it.split} rounds", "restart": f"of {many}", "forgotten": f"of {many}"}
     lines = [f"Take {decision.takes()}.", "",
-             f"  worst staleness     {span(decision.worst)} rounds, {in_time(decision.worst, told['interval'])}: rounds "
+             f"  worst staleness     {in_rounds(decision.worst)}, {in_time(decision.worst, told['interval'])}: rounds "
              f"{first} to {last}, least and most of {len(rules.SEEDS)} seeds",
              f"  share cut           {span(decision.cut, 2)} % of what was lacking"]
     lines += [f"  {HEALED[stage]:<19} {what[stage]}: {healing.in_words(stage, decision.budget)}" for stage in HEALED]

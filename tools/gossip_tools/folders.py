@@ -4,9 +4,8 @@ It has the `scenario`, the `lock`, and for each run its scenario and, once that 
 budget-600.mode-precise-oldest.toml and .csv. A run writes to a name of its own, `.NAME.PROCESS.part`, and the one who
 holds the lock renames that. So nobody writes to a name that counts.
 """
-import fcntl
+import contextlib
 import os
-import socket
 
 from gossip_tools import files, read
 from gossip_tools.commands import Refused
@@ -18,7 +17,7 @@ def fields_of(name):
 
 
 class Folder:
-    """A folder that is held, as in `with Folder(path, scenario, runs) as folder`. The runs are scenarios by name."""
+    """A folder with the runs of a scenario, which are scenarios by name."""
 
     def __init__(self, path, scenario, runs):
         self.path, self.scenario, self.runs = path, scenario, runs
@@ -27,31 +26,15 @@ class Folder:
             top = read.settings(text)
             self.lengths[name] = top["format"], top["rounds"]
 
-    def __enter__(self):
+    @contextlib.contextmanager
+    def held(self):
+        """The folder, made ready for the runs, while no other process works in it."""
         self.look()
-        self.path.mkdir(parents=True, exist_ok=True)
-        self.lock = open(self.path / "lock", "a+")
-        try:
-            fcntl.flock(self.lock, fcntl.LOCK_EX | fcntl.LOCK_NB)
-        except BlockingIOError:
-            self.lock.seek(0)
-            who = self.lock.read().strip() or "another one"
-            self.lock.close()
-            raise Refused(f"{self.path} is in use by {who}: wait until it ends, or name another folder.") from None
-        try:
+        with files.locked(self.path):
             # (another sweep may have come first)
             self.look()
-            self.lock.truncate(0)
-            print(f"process {os.getpid()} on {socket.gethostname()}", file=self.lock, flush=True)
             self.fill()
-        except BaseException:
-            self.lock.close()
-            raise
-        return self
-
-    def __exit__(self, *_):
-        self.lock.truncate(0)
-        self.lock.close()
+            yield self
 
     def look(self):
         """Refuses a folder with other things in it, with runs of another scenario or of other fields."""

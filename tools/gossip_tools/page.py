@@ -8,7 +8,7 @@ from gossip_tools import answer, files, plots, read, rules, study
 STYLE = """
 body { font: 16px/1.45 sans-serif; color: #222; max-width: 1080px; margin: 0 auto; padding: 0 16px 32px; }
 h1 { font-size: 1.5em; line-height: 1.2; } h2 { font-size: 1.2em; margin: 1.6em 0 .4em; }
-.cards { display: grid; grid-template-columns: repeat(auto-fit, minmax(150px, 1fr)); gap: 10px; }
+.cards { display: grid; grid-template-columns: repeat(auto-fit, minmax(128px, 1fr)); gap: 10px; }
 .cards div { border: 1px solid #ccc; border-radius: 6px; padding: 8px 10px; } .cards b { display: block; font-size: 1.25em; }
 .cards .first { background: #00407a; color: #fff; border-color: #00407a; }
 .pictures { display: grid; grid-template-columns: repeat(auto-fit, minmax(min(100%, 440px), 1fr)); gap: 16px; }
@@ -37,8 +37,8 @@ def cards(decision, healing):
     rows = [("mode", decision.mode, "", "first"),
             ("budget", f"{budget} entries", f"{int(budget * it.told['entry'])} bytes, {decision.of_knee():.2g} times "
              "nodes * writes", "first"),
-            ("worst staleness", f"{answer.span(decision.worst)} rounds", answer.in_time(decision.worst, interval), ""),
-            ("share cut", f"{answer.span(decision.cut, 2)} %", "of what was lacking", "")]
+            ("worst staleness", answer.in_rounds(decision.worst), answer.in_time(decision.worst, interval), ""),
+            ("share cut", f"{answer.span(decision.cut, 2)}\u00a0%", "of what was lacking", "")]
     for stage, name in answer.HEALED.items():
         words, _, time = healing.in_words(stage, decision.budget).partition(", ")
         rows.append((f"{name} heals in", words, time, ""))
@@ -49,7 +49,7 @@ def captions(decision, healing):
     """What each picture shows."""
     it, many = decision.study, len(rules.SEEDS)
     first, last = decision.window
-    above = "What is higher than the picture is in the table. " if it.parts == 1 else ""
+    above = "What is higher than the picture is in the table. "
     same = plots.lie_on_each_other(decision, lambda *at: decision.found.worst(*at, decision.window))
     same = f"All modes have the same figures from {same} entries on. " if same else ""
     band = f"The line has the middle of {many} seeds, the band their least and most"
@@ -57,7 +57,7 @@ def captions(decision, healing):
     return {
         "worst": f"The knee: worst staleness in rounds {first} to {last}. Bars go from the least to the most of {many} seeds, "
                  f"points are the seed in the middle. {above}{same}",
-        "cut": f"The share of lacking entries that the budget cut, in the same rounds. {same}",
+        "cut": f"The share of lacking entries that the budget cut, in the same rounds.",
         "greatest": "The age of the oldest write that some copy lacks, round by round, under seed 1. Each mode has the "
                     "budget that it would take, as the key says. Wide curves lie below narrow ones.",
         "stale": "The share of copies that are behind their owner, in the same runs.",
@@ -126,8 +126,8 @@ def make(folder, decision, healing, check_sum):
 <html lang="en"><head><meta charset="utf-8"><meta name="viewport" content="width=device-width, initial-scale=1">
 <title>{told(title)}</title><style>{STYLE}</style></head><body>
 <h1>{told(title)}</h1>
-<p>{it.told['nodes']} nodes{tenth} with {it.keys} keys, {it.writes} writes a round of {float(it.told['interval']):g} s,
-{float(it.told['loss']):g} % loss. All figures go from the least to the most of {len(rules.SEEDS)} seeds.</p>
+<p>{it.told['nodes']} nodes{tenth}. Keys of each: {it.keys}; writes in a round of {float(it.told['interval']):g} s:
+{it.writes}; messages lost: {float(it.told['loss']):g} %. All figures go from the least to the most of {len(rules.SEEDS)} seeds.</p>
 <div class="cards">{cards(decision, healing)}</div>
 {listed("Mind", answer.warnings(decision), "mind")}
 {pictures(folder, decision, healing)}

@@ -13,11 +13,11 @@ MODES = {"scuttle-breadth": ("#e69f00", 9, 5), "precise-newest": ("#cc79a7", 6, 
 BUDGETS = (("#e69f00", 8, 5), ("#56b4e9", 5.5, 9), ("#009e73", 3.5, 13), ("#00407a", 1.5, 7))
 HEAD = """set terminal svg size 480, 380 dynamic font "sans-serif,14" background "white"
 set output "{name}.svg"
-set key outside bottom center horizontal maxcols 2 width -1
+set key outside bottom center horizontal maxcols 2 width -2 samplen 2 font ",12" title " "
 set grid ytics linecolor "#dddddd"
 set border 3
 set tics nomirror
-set xlabel "{x}"
+set xlabel "{x}" offset 0, 0.4
 set ylabel "{y}"
 """
 LEAST_SHOWN = 20
@@ -42,8 +42,9 @@ def block(name, rows):
     return f"${name} << END\n{lines}\nEND\n"
 
 
-def knee(decision, name, y, figure, places=1):
-    """A figure against the budget, by mode: the seed in the middle and the band of the seeds."""
+def knee(decision, name, y, figure, capped):
+    """A figure against the budget, by mode: the seed in the middle and the band of the seeds. A capped one shows no more
+    than six times what the decision has, so that the knee is seen."""
     study, found = decision.study, decision.found
     text, plots, most = HEAD.format(name=name, x="budget, in entries", y=y), [], 0
     marks = {study.fits[decision.mode]: decision.mode}
@@ -60,7 +61,7 @@ def knee(decision, name, y, figure, places=1):
         plots += [f'$mode{at} using 1:2 with lines linewidth {min(width, 2)} linecolor "{colour}" notitle',
                   f'$mode{at} using 1:2:3:4 with yerrorbars linewidth 2 pointtype {point} pointsize 0.7 '
                   f'linecolor "{colour}" title "{mode}"']
-    top = min(most, 6 * max(figure(decision.budget, decision.mode)) or most) or 1
+    top = (min(most, 6 * max(figure(decision.budget, decision.mode))) if capped else most) or 1
     tics = ", ".join(str(it) for it in spaced(study.budgets))
     text += f"set logscale x 2\nset xtics ({tics}) rotate by -45\nset yrange [0:{1.08 * top:.4g}]\n"
     text += f"set xrange [{0.85 * study.budgets[0]:.4g}:{1.18 * study.budgets[-1]:.4g}]\n"
@@ -120,8 +121,9 @@ def all_of(decision, healed):
     of_node = (study.nodes - 1) * study.keys
     return {
         "worst": knee(decision, "worst", "worst staleness, in rounds",
-                      lambda budget, mode: decision.found.worst(budget, mode, window)),
-        "cut": knee(decision, "cut", "share cut, in per cent", lambda budget, mode: decision.found.cut(budget, mode, window)),
+                      lambda budget, mode: decision.found.worst(budget, mode, window), capped=True),
+        "cut": knee(decision, "cut", "share cut, in per cent",
+                    lambda budget, mode: decision.found.cut(budget, mode, window), capped=False),
         "greatest": rounds(decision, "greatest", "greatest, in rounds", lambda row: row["greatest"]),
         "stale": rounds(decision, "stale", "stale copies, in per cent", lambda row: round(100 * row["stale"] / copies, 3)),
         "split": healing(healed, "split", "split", "greatest, in rounds", lambda row: row["greatest"]),

@@ -8,9 +8,9 @@
 """
 from gossip_tools import cluster, read, rules, scenario
 
-# The round in which what is to be healed begins. Before it the tables have filled and `greatest` is level.
-BEFORE = (31, 50)
-BEGINS = 51
+# What is to be healed begins once the tables have filled and `greatest` is level: after so many rounds, of which the last
+# ones tell the level, and later with a budget below the knee.
+FILLING, LEVEL = 30, 20
 RESTARTING = 10
 
 
@@ -39,9 +39,13 @@ class Study:
         self.fits = {mode: min(int(self.rooms[mode]), most) for mode in modes if self.rooms[mode] >= least}
         if rules.USUAL_MODE not in self.fits:
             taken = it["delta"] - self.rooms[rules.USUAL_MODE] * it["entry"]
-            raise cluster.Refused(f"the digest takes {int(taken)} of the {int(it['delta'])} bytes, which leaves no room "
+            raise cluster.Refused(f"the digest takes {int(taken * self.parts)} of the {told['delta']} bytes, which leaves no room "
                                   f"for {least} entries of {it['entry']} bytes: give the delta a packet of its own.")
         self.budgets = [it for it in rules.budgets_of(self.fits.values(), self.nodes, self.keys, self.writes) if it >= least]
+        slowness = -(-self.knee // self.budget(rules.USUAL_MODE))
+        self.before = FILLING * slowness + 1, (FILLING + LEVEL) * slowness
+        self.begins = self.before[1] + 1
+        self.tail = 40 + min(3 * self.keys * slowness, 400)
         self.split, self.restarts = self.split_of(int(told["split"])), int(told["restarts"]) // self.parts
         self.loss = int(told["loss"] * 10000)
 
@@ -64,17 +68,17 @@ class Study:
         return {values[0][0]: [str(it) for _, it in values], "seed": [str(it) for it in rules.SEEDS], "mode": list(modes)}
 
     def healing_rounds(self):
-        return BEGINS + max(self.split, RESTARTING) + 40 + 3 * self.keys
+        return self.begins + max(self.split, RESTARTING) + self.tail
 
     def restarting(self):
         """The nodes that restart in a round, at least one, and the last of the rounds in which they do."""
         each = max(1, min(self.restarts, self.nodes // 2, scenario.MOST_SECTIONS))
         count = min(RESTARTING, self.nodes // each, scenario.MOST_SECTIONS // each) if self.restarts else 1
-        return each, BEGINS + count - 1
+        return each, self.begins + count - 1
 
     def ends(self, stage):
         """The last round of what is to be healed."""
-        return BEGINS + self.split - 1 if stage == "split" else self.restarting()[1]
+        return self.begins + self.split - 1 if stage == "split" else self.restarting()[1]
 
     def healing_budgets(self):
         """Those from a half of the knee on, and the most that is of use."""
@@ -92,10 +96,10 @@ class Study:
         in_bytes = self.in_bytes or name == "forgotten"
         text = self.top(self.healing_rounds(), in_bytes)
         if name == "split":
-            text += scenario.partition(0, self.nodes // 2 - 1, BEGINS, self.ends(name))
+            text += scenario.partition(0, self.nodes // 2 - 1, self.begins, self.ends(name))
         else:
             each, last = self.restarting()
-            text += scenario.restarts(self.nodes, each, BEGINS, last, 1, forget=name == "forgotten")
+            text += scenario.restarts(self.nodes, each, self.begins, last, 1, forget=name == "forgotten")
         return text, self.choices([it for it in self.healing_budgets() if it >= 2], [mode], in_bytes)
 
 
@@ -106,6 +110,7 @@ class Found:
     """The runs of a stage that are there: the rows of each seed, by budget in entries and mode."""
 
     def __init__(self, study, folder, choices):
+        self.before = study.before
         runs = read.Runs(folder)
         field, values = next(iter(choices.items()))
         self.rows = {}
@@ -131,7 +136,7 @@ class Found:
         """The rounds after `ends` until `greatest` was back at its level, for each seed; None where it never was."""
         taken = []
         for rows in self.rows[(budget, mode)]:
-            level = rules.healed_level(max(row["greatest"] for row in read.between(rows, *BEFORE)))
+            level = rules.healed_level(max(row["greatest"] for row in read.between(rows, *self.before)))
             taken.append(rounds_until("greatest", rows, ends, level))
         return taken
 

@@ -66,7 +66,7 @@ def carry_out(path, text, runs, program, progress, hosts=None, what="gossip_swee
     """Makes the reports of the runs that have none in the folder."""
     stand = 0
     try:
-        with folders.Folder(path, text, runs) as folder:
+        with folders.Folder(path, text, runs).held() as folder:
             lacking = {name: lacks for name in runs if (lacks := folder.lacks(name))}
             for name, lacks in lacking.items():
                 if (path / f"{name}.csv").exists():

@@ -4,13 +4,12 @@ Python 3.11 is the oldest that they run on, and the one that they were tried wit
 Pictures need gnuplot, and a sweep over several machines GNU parallel.
 
   commands   how a tool answers its caller: help, refusals, faults, the program
-  scenario   scenarios from the numbers of a cluster, and their sections
-  sweep      runs of one scenario with other values of its fields, in a folder that loses nothing
+  scenario   scenarios and their sections; `cluster` has the numbers that they are made of, `sections` two tools
+  sweep      runs of one scenario with other values of its fields, over `files`, `folders`, `running` and `progress`
   read       reports and what they say of some rounds
-  rules      what counts as better and as enough
-  advise     from a cluster to a mode and a budget
-  plots      pictures, by gnuplot
-  page       the page that has them
+  rules      what counts as better, as enough and as healed
+  advise     from a cluster to a mode and a budget, over `study`, what is run, and `answer`, what it says
+  page       the page that has it all, over `plots`, its pictures
 """
 import sys
 

@@ -134,15 +134,15 @@ def main(words):
     if os.environ.get("HOSTS") and not running.is_gnu_parallel():
         raise Refused("other machines need GNU parallel, which isn't there.")
     look(folder)
-    numbers_of(words, folder / "cluster.toml")
+    it = study.Study(numbers_of(words, folder / "cluster.toml")[0])
     program = the_program()
     workers()
+    sweep.check({"the first scenario": it.stage("few")[0]}, program)
     running.Signals.listen()
     try:
         with files.locked(folder):
+            # (another call may have come first)
             told, kept = numbers_of(words, folder / "cluster.toml")
-            it = study.Study(told)
-            sweep.check({"the first scenario": it.stage("few")[0]}, program)
-            study_of(it, folder, program, keep(folder, told, kept, program))
+            study_of(study.Study(told), folder, program, keep(folder, told, kept, program))
     except running.Stopped as stopped:
         raise Refused(f"stopped by {stopped}; the same command goes on.", stopped.status) from None

@@ -7,13 +7,13 @@ from gossip_tools import answer, files, plots, read, rules, study
 
 STYLE = """
 body { font: 16px/1.45 sans-serif; color: #222; max-width: 1080px; margin: 0 auto; padding: 0 16px 32px; }
-h1 { font-size: 1.5em; line-height: 1.2; } h2 { font-size: 1.2em; margin: 1.6em 0 .4em; }
+h1 { font-size: 1.5em; line-height: 1.2; } h2 { font-size: 1.2em; margin: 1.6em 0 .4em; break-after: avoid; }
 .cards { display: grid; grid-template-columns: repeat(auto-fit, minmax(128px, 1fr)); gap: 10px; }
 .cards div { border: 1px solid #ccc; border-radius: 6px; padding: 8px 10px; } .cards b { display: block; font-size: 1.25em; }
 .cards .first { background: #00407a; color: #fff; border-color: #00407a; }
 .pictures { display: grid; grid-template-columns: repeat(auto-fit, minmax(min(100%, 440px), 1fr)); gap: 16px; }
 figure { margin: 0; break-inside: avoid; } figure img { width: 100%; max-width: 600px; display: block; }
-figcaption { font-size: .9em; color: #444; } .wide { overflow-x: auto; } .mind { border-left: 4px solid #c60; padding-left: 10px; }
+figcaption { font-size: .9em; color: #444; } .wide { overflow-x: auto; } .mind { border-left: 4px solid #c60; } ul { padding-left: 28px; }
 table { border-collapse: collapse; font-size: .9em; } td, th { border: 1px solid #ccc; padding: 3px 8px; text-align: right; }
 td.chosen { background: #dbe9f6; font-weight: bold; }
 pre { font-size: .8em; white-space: pre-wrap; overflow-wrap: anywhere; background: #f4f4f4; padding: 8px; }

@@ -47,7 +47,7 @@ def knee(decision, name, y, figure, capped):
     than six times what the decision has, so that the knee is seen."""
     study, found = decision.study, decision.found
     text, plots, most = HEAD.format(name=name, x="budget, in entries", y=y), [], 0
-    marks = {study.fits[decision.mode]: decision.mode}
+    fits = study.fits[decision.mode]
     for at, (mode, (colour, width, point)) in enumerate(MODES.items()):
         if mode not in study.fits:
             continue
@@ -65,10 +65,9 @@ def knee(decision, name, y, figure, capped):
     tics = ", ".join(str(it) for it in spaced(study.budgets))
     text += f"set logscale x 2\nset xtics ({tics}) rotate by -45\nset yrange [0:{1.08 * top:.4g}]\n"
     text += f"set xrange [{0.85 * study.budgets[0]:.4g}:{1.18 * study.budgets[-1]:.4g}]\n"
-    for budget, mode in marks.items():
-        at = min(budget, study.nodes * study.keys)
-        text += (f'set arrow from {at}, graph 0 to {at}, graph 1 nohead dashtype 2 linewidth 1.5 linecolor "#555555"\n'
-                 f'set label "fits" at {at}, graph 1.03 center\n')
+    at, label = (fits, f"fits: {fits}") if fits <= study.budgets[-1] else (study.budgets[-1], "all fit")
+    text += (f'set arrow from {at}, graph 0 to {at}, graph 1 nohead dashtype 2 linewidth 1.5 linecolor "#555555"\n'
+             f'set label "{label}" at {at}, graph 1.03 center\n')
     return text + "set clip two\nplot " + ", \\\n  ".join(plots) + "\n"
 
 

@@ -80,11 +80,10 @@ class Study:
         """The last round of what is to be healed."""
         return self.begins + self.split - 1 if stage == "split" else self.restarting()[1]
 
-    def healing_budgets(self):
-        """Those from a half of the knee on, and the most that is of use."""
-        wanted = {max(self.knee // 2, self.budgets[0]), self.knee, self.budget(rules.USUAL_MODE), *self.fits.values()}
-        wanted = {min(it, self.nodes * self.keys) for it in wanted} | {min(2 * self.knee, self.nodes * self.keys)}
-        return sorted(it for it in wanted if it >= self.budgets[0])
+    def healing_budgets(self, mode):
+        """A half of the knee, the knee, twice that, and the one that the mode would take."""
+        wanted = {self.knee // 2, self.knee, self.budget(mode), 2 * self.knee}
+        return sorted(it for it in {min(it, self.nodes * self.keys) for it in wanted} if it >= 1)
 
     def stage(self, name, mode=rules.USUAL_MODE):
         """The scenario of a stage and the choices of values of its fields."""
@@ -100,7 +99,7 @@ class Study:
         else:
             each, last = self.restarting()
             text += scenario.restarts(self.nodes, each, self.begins, last, 1, forget=name == "forgotten")
-        return text, self.choices([it for it in self.healing_budgets() if it >= 2], [mode], in_bytes)
+        return text, self.choices([it for it in self.healing_budgets(mode) if it >= 2], [mode], in_bytes)
 
 
 STAGES = ("few", "knee", "split", "restart", "forgotten")
@@ -114,8 +113,8 @@ class Found:
         runs = read.Runs(folder)
         field, values = next(iter(choices.items()))
         self.rows = {}
-        entries = {str(scenario.budget_field(it, field == "budget_bytes")[1]): it
-                   for it in {*study.budgets, *study.healing_budgets(), study.knee, max(study.knee // 2, study.budgets[0])}}
+        known = {*study.budgets, *study.healing_budgets(choices["mode"][0]), study.knee, study.knee // 2, 1}
+        entries = {str(scenario.budget_field(it, field == "budget_bytes")[1]): it for it in known}
         for value in values:
             for mode in choices["mode"]:
                 seeds = [runs.rows[(value, seed, mode)] for seed in choices["seed"]]

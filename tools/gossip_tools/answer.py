@@ -51,6 +51,9 @@ class Decision:
         """How the budget stands to nodes * writes."""
         return self.budget / self.study.knee
 
+    def times(self):
+        return "nodes * writes" if self.budget == self.study.knee else f"{self.of_knee():.2g} times nodes * writes"
+
     def whole_budget(self):
         """The budget of the whole cluster, where a tenth was run."""
         return self.budget * self.study.parts
@@ -59,7 +62,7 @@ class Decision:
         """The decision, in words."""
         it = self.study
         in_bytes = self.whole_budget() * it.told["entry"]
-        why = "nodes * writes" if self.budget == it.knee else f"{self.of_knee():.2g} times nodes * writes"
+        why = self.times()
         if self.budget == it.nodes * it.keys:
             why = f"nodes * keys, above which nothing changes; {why}"
         elif self.budget == it.fits[self.mode]:
@@ -122,7 +125,7 @@ def warnings(decision):
     if it.parts > 1:
         said.append(f"A tenth was run, {it.nodes} nodes with a tenth of the packet, in scuttle-depth alone. {rules.TENTH}")
         if not 0.5 <= decision.of_knee() <= 2:
-            said.append(f"This budget is {decision.of_knee():.2g} times nodes * writes, where a tenth wasn't seen to hold.")
+            said.append(f"This budget is {decision.times()}, where a tenth wasn't seen to hold.")
     if it.split < it.told["split"]:
         said.append(f"A split of {it.split} rounds was run in place of {int(it.told['split'])}: each key was written "
                     "anew meanwhile, so a longer one leaves no more to catch up with.")
@@ -168,7 +171,8 @@ def in_words(decision, healing):
     each, ends = it.restarting()
     many = f"{each} nodes in each of {ends - it.begins + 1} rounds" if it.restarts else "one node"
     what = {"split": f"of half of the nodes for {it.split} rounds", "restart": f"of {many}", "forgotten": f"of {many}"}
-    lines = [f"Take {decision.takes()}.", "",
+    takes = "Take" if decision.suffices else "No budget that fits is enough. The best that there is:"
+    lines = [f"{takes} {decision.takes()}.", "",
              f"  worst staleness     {in_rounds(decision.worst)}, {in_time(decision.worst, told['interval'])}: rounds "
              f"{first} to {last}, least and most of {len(rules.SEEDS)} seeds",
              f"  share cut           {span(decision.cut, 2)} % of what was lacking"]

@@ -37,7 +37,9 @@ def workers():
     told = os.environ.get("JOBS", "")
     if told and not re.fullmatch("[1-9][0-9]{0,3}", told):
         raise Refused("JOBS isn't a number from 1 on.")
-    return int(told) if told else len(os.sched_getaffinity(0))
+    if told:
+        return int(told)
+    return len(os.sched_getaffinity(0)) if hasattr(os, "sched_getaffinity") else os.cpu_count() or 1
 
 
 def drop_output():

@@ -1,6 +1,7 @@
 """The page of an answer, report.html: one file that needs no network, to be looked at before it is read."""
 import base64
 import html
+import re
 import shlex
 
 from gossip_tools import answer, files, plots, read, rules, study
@@ -22,7 +23,8 @@ pre { font-size: .8em; white-space: pre-wrap; overflow-wrap: anywhere; backgroun
 
 
 def told(it):
-    return html.escape(str(it))
+    """A text in the page, where what stands in backquotes is code."""
+    return re.sub("`([^`]*)`", r"<code>\1</code>", html.escape(str(it)))
 
 
 def listed(head, said, kind=""):
@@ -35,8 +37,7 @@ def cards(decision, healing):
     it, interval = decision.study, decision.study.told["interval"]
     budget = decision.whole_budget()
     rows = [("mode", decision.mode, "", "first"),
-            ("budget", f"{budget} entries", f"{int(budget * it.told['entry'])} bytes, {decision.of_knee():.2g} times "
-             "nodes * writes", "first"),
+            ("budget", f"{budget} entries", f"{int(budget * it.told['entry'])} bytes, {decision.times()}", "first"),
             ("worst staleness", answer.in_rounds(decision.worst), answer.in_time(decision.worst, interval), ""),
             ("share cut", f"{answer.span(decision.cut, 2)}\u00a0%", "of what was lacking", "")]
     for stage, name in answer.HEALED.items():
@@ -81,7 +82,7 @@ def pictures(folder, decision, healing):
         svg = base64.b64encode(plots.draw(room, name, script).encode()).decode()
         if name in heads:
             text += ("</div>" if text else "") + f'<h2>{heads[name]}</h2><div class="pictures">'
-        text += (f'<figure><img src="data:image/svg+xml;base64,{svg}" alt="{told(said[name])}">'
+        text += (f'<figure><img src="data:image/svg+xml;base64,{svg}" alt="{html.escape(said[name])}">'
                  f"<figcaption>{told(said[name])} <small>pictures/{name}.gnuplot</small></figcaption></figure>")
     return text + "</div>"
 

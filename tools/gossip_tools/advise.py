@@ -2,9 +2,9 @@
 gossip_advise -o FOLDER
 
 Says which mode and which budget to take for a cluster, how stale its copies get, and how long it takes to heal. It runs
-all modes with budgets around nodes * writes and what fits, under five seeds, on all cores: first few rounds, for a first
-answer, then many. The folder, `advice` where none is named, gets the scenarios, the reports, `answer.txt` and the page
-`report.html`. It can be stopped: the same call goes on. Without numbers it takes those that the folder has.
+all modes with budgets around nodes * writes and what fits, under five seeds, on all cores: first few rounds, for a
+first answer, then many. The folder, `advice` where none is named, gets the scenarios, the reports, `answer.txt` and the
+page `report.html`. It can be stopped: the same call goes on. Without numbers it takes those that the folder has.
 
   nodes, keys, writes    how many nodes; the things that each tells of itself; how many of these change in an interval
   entry     the bytes of a mean entry: key, version and value
@@ -51,8 +51,8 @@ def numbers_of(words, file):
     told = cluster.told(words, USUAL, CALL)
     cluster.check_limits(told)
     if not told["writes"]:
-        raise Refused("writes would be 0, and then nothing has to be sent: count what changes in each interval alone, a "
-                      "heartbeat for one as keys=1 and writes=1.")
+        raise Refused("writes would be 0, and then nothing has to be sent: count what changes in each interval alone, "
+                      "a heartbeat for one as keys=1 and writes=1.")
     if not told["interval"]:
         raise Refused("an interval has seconds.")
     if not told["split"] or told["split"] > 100000:
@@ -118,7 +118,8 @@ def study_of(it, folder, program, check_sum):
     few = answer.Decision(it, stages.carry_out("few"), rules.FEW_WINDOW)
     print(*answer.first_words(few), "", sep="\n", flush=True)
     decision = answer.Decision(it, stages.carry_out("knee"), rules.MANY_WINDOW)
-    healing = answer.Healing(it, decision.mode, {stage: stages.carry_out(stage, decision.mode) for stage in answer.HEALED})
+    healed = {stage: stages.carry_out(stage, decision.mode) for stage in answer.HEALED}
+    healing = answer.Healing(it, decision.mode, healed)
     lines = answer.in_words(decision, healing)
     files.put(folder / "answer.txt", "\n".join(lines) + "\n")
     said = page.make(folder, decision, healing, check_sum)

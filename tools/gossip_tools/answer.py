@@ -111,19 +111,20 @@ def warnings(decision):
     if not decision.suffices:
         enough = decision.enough()
         more = f"{enough * it.parts} entries were enough" if enough else "no budget that was tried was enough"
-        said.append(f"This budget isn't enough: `greatest` still rises in the second half of the window. {more}. A delta "
-                    "in a packet of its own, a shorter entry, a larger packet or fewer writes would help.")
+        said.append(f"This budget isn't enough: `greatest` still rises in the second half of the window. {more}. A "
+                    "delta in a packet of its own, a shorter entry, a larger packet or fewer writes would help.")
     elif decision.budget < it.knee:
-        said.append(f"The budget is below nodes * writes = {it.knee * it.parts}, the knee, so copies lag more than they "
-                    "have to: a delta in a packet of its own, a shorter entry or a larger packet would help.")
+        said.append(f"The budget is below nodes * writes = {it.knee * it.parts}, the knee, so copies lag more than "
+                    "they have to: a delta in a packet of its own, a shorter entry or a larger packet would help.")
     if it.in_bytes:
-        said.append("With room for so few entries a large one holds up smaller ones behind it: give the delta room for one "
-                    "mean entry more than the sum says.")
+        said.append("With room for so few entries a large one holds up smaller ones behind it: give the delta room for "
+                    "one mean entry more than the sum says.")
     no_room = [mode for mode in scenario.MODES if it.rooms[mode] < 1]
     if no_room and it.parts == 1:
         said.append(f"{' and '.join(no_room)} have no room: their digest alone takes the packet.")
     if it.parts > 1:
-        said.append(f"A tenth was run, {it.nodes} nodes with a tenth of the packet, in scuttle-depth alone. {rules.TENTH}")
+        said.append(f"A tenth was run, {it.nodes} nodes with a tenth of the packet, in scuttle-depth alone. "
+                    f"{rules.TENTH}")
         if not 0.5 <= decision.of_knee() <= 2:
             said.append(f"This budget is {decision.times()}, where a tenth wasn't seen to hold.")
     if it.split < it.told["split"]:
@@ -137,10 +138,11 @@ def warnings(decision):
 def left_out(decision):
     """What the model leaves out for this cluster."""
     it, told = decision.study, decision.study.told
-    said = [f"Latency: right where an exchange takes much less than the interval of {float(told['interval']):g} s; else "
-            "the cluster is slower.",
+    said = [f"Latency: right where an exchange takes much less than the interval of {float(told['interval']):g} s; "
+            "else the cluster is slower.",
             "More than one peer in an interval: such a cluster is faster.",
-            f"Failure detectors: one that needs a heartbeat in time has to wait longer than {max(decision.worst)} rounds.",
+            "Failure detectors: one that needs a heartbeat in time has to wait longer than "
+            f"{max(decision.worst)} rounds.",
             "Nodes that join and leave: one that joins is like one that restarts."]
     if it.in_bytes:
         said.append(f"Your sizes: those of the bench are spread evenly up to {1023 / 523.5 * float(told['entry']):.0f} "
@@ -151,7 +153,8 @@ def left_out(decision):
     if told["shared"] == "yes" and told["digest"]:
         said.append("The digest is taken off each message, though the last of an exchange has none.")
     elif told["digest"]:
-        said.append(f"A digest of up to {numbers} numbers, {int(numbers * told['digest'])} bytes, comes on top of the delta.")
+        size = int(numbers * told["digest"])
+        said.append(f"A digest of up to {numbers} numbers, {size} bytes, comes on top of the delta.")
     if told["forget"] == "yes" and told["restarts"]:
         more = int(told["nodes"] * it.writes + told["restarts"] * it.keys)
         said.append("In Cassandra a node tells all its keys as it starts, here as many as it writes: reckon with "

@@ -23,8 +23,8 @@ def put(path, text):
 
 @contextlib.contextmanager
 def locked(folder):
-    """A folder, made where it isn't there, that is in use until the block ends. Refuses one that another process uses. The
-    file `lock` says who; the system drops the lock with its process."""
+    """A folder, made where it isn't there, that is in use until the block ends. Refuses one that another process uses.
+    The file `lock` says who; the system drops the lock with its process."""
     folder.mkdir(parents=True, exist_ok=True)
     with open(folder / "lock", "a+") as lock:
         try:

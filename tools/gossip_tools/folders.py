@@ -51,7 +51,8 @@ class Folder:
             name, dot, ending = it.rpartition(".")
             if dot and ending in ("toml", "csv") and "-" in name and fields_of(name) not in wanted:
                 others = ", ".join(fields_of(name))
-                raise Refused(f"{self.path} has runs of the fields {others}: take these, in this order, or a new folder.")
+                raise Refused(f"{self.path} has runs of the fields {others}: take these, in this order, or a new "
+                              "folder.")
 
     def fill(self):
         """Fixes the scenario and those of the runs, and drops what ended sweeps have left half-written."""

@@ -10,15 +10,22 @@ STYLE = """
 body { font: 16px/1.45 sans-serif; color: #222; max-width: 1080px; margin: 0 auto; padding: 0 16px 32px; }
 h1 { font-size: 1.5em; line-height: 1.2; } h2 { font-size: 1.2em; margin: 1.6em 0 .4em; break-after: avoid; }
 .cards { display: grid; grid-template-columns: repeat(auto-fit, minmax(128px, 1fr)); gap: 10px; }
-.cards div { border: 1px solid #ccc; border-radius: 6px; padding: 8px 10px; } .cards b { display: block; font-size: 1.25em; }
+.cards div { border: 1px solid #ccc; border-radius: 6px; padding: 8px 10px; }
+.cards b { display: block; font-size: 1.25em; }
 .cards .first { background: #00407a; color: #fff; border-color: #00407a; }
 .pictures { display: grid; grid-template-columns: repeat(auto-fit, minmax(min(100%, 440px), 1fr)); gap: 16px; }
 figure { margin: 0; break-inside: avoid; } figure img { width: 100%; max-width: 600px; display: block; }
-figcaption { font-size: .9em; color: #444; } .wide { overflow-x: auto; } .mind { border-left: 4px solid #c60; } ul { padding-left: 28px; }
-table { border-collapse: collapse; font-size: .9em; } td, th { border: 1px solid #ccc; padding: 3px 8px; text-align: right; }
+figcaption { font-size: .9em; color: #444; } .wide { overflow-x: auto; }
+.mind { border-left: 4px solid #c60; } ul { padding-left: 28px; }
+table { border-collapse: collapse; font-size: .9em; }
+td, th { border: 1px solid #ccc; padding: 3px 8px; text-align: right; }
 td.chosen { background: #dbe9f6; font-weight: bold; }
 pre { font-size: .8em; white-space: pre-wrap; overflow-wrap: anywhere; background: #f4f4f4; padding: 8px; }
-@media print { body { font-size: 11pt; max-width: none; } .pictures { grid-template-columns: 1fr 1fr; } details { display: none; } }
+@media print {
+    body { font-size: 11pt; max-width: none; }
+    .pictures { grid-template-columns: 1fr 1fr; }
+    details { display: none; }
+}
 """
 
 
@@ -43,7 +50,8 @@ def cards(decision, healing):
     for stage, name in answer.HEALED.items():
         words, _, time = healing.in_words(stage, decision.budget).partition(", ")
         rows.append((f"{name} heals in", words, time, ""))
-    return "".join(f'<div class="{kind}">{told(name)}<b>{told(words)}</b>{told(more)}</div>' for name, words, more, kind in rows)
+    return "".join(f'<div class="{kind}">{told(name)}<b>{told(words)}</b>{told(more)}</div>'
+                   for name, words, more, kind in rows)
 
 
 def captions(decision, healing):
@@ -56,13 +64,14 @@ def captions(decision, healing):
     band = f"The line has the middle of {many} seeds, the band their least and most"
     each, _ = it.restarting()
     return {
-        "worst": f"The knee: worst staleness in rounds {first} to {last}. Bars go from the least to the most of {many} seeds, "
-                 f"points are the seed in the middle. {above}{same}",
+        "worst": f"The knee: worst staleness in rounds {first} to {last}. Bars go from the least to the most of {many} "
+                 f"seeds, points are the seed in the middle. {above}{same}",
         "cut": f"The share of lacking entries that the budget cut, in the same rounds.",
         "greatest": "The age of the oldest write that some copy lacks, round by round, under seed 1. Each mode has the "
                     "budget that it would take, as the key says. Wide curves lie below narrow ones.",
         "stale": "The share of copies that are behind their owner, in the same runs.",
-        "split": f"After a split of half of the nodes for {it.split} rounds, which ends at 0, in {healing.mode}. {band}.",
+        "split": f"After a split of half of the nodes for {it.split} rounds, which ends at 0, in {healing.mode}. "
+                 f"{band}.",
         "restart": f"After {each if it.restarts else 'one'} node{'s' if each > 1 else ''} restarted"
                    f"{' in each of some rounds' if it.restarts else ''}, the last in round 0. {band}.",
         "forgotten": "What others still hold of the forgotten states, counted in states that all others hold whole. "
@@ -112,8 +121,8 @@ def made_of(folder, decision, check_sum):
                  f"{told(words)} &lt; {stage}/scenario\n\n{told(scene)}</pre></details>")
     call = " ".join(f"{name}={value}" for name, value in read.settings((folder / "cluster.toml").read_text()).items()
                     if name != "program")
-    return (f"<p>The program's SHA-256 is <code style='overflow-wrap:anywhere'>{check_sum}</code>. The folder of this page "
-            "has each scenario and report, and in <code>pictures</code> a script for each picture, drawn again by "
+    return (f"<p>The program's SHA-256 is <code style='overflow-wrap:anywhere'>{check_sum}</code>. The folder of this "
+            "page has each scenario and report, and in <code>pictures</code> a script for each picture, drawn again by "
             f"<code>gnuplot NAME.gnuplot</code>.</p><pre>gossip_advise {told(call)}</pre>{text}")
 
 
@@ -128,7 +137,8 @@ def make(folder, decision, healing, check_sum):
 <title>{told(title)}</title><style>{STYLE}</style></head><body>
 <h1>{told(title)}</h1>
 <p>{it.told['nodes']} nodes{tenth}. Keys of each: {it.keys}; writes in a round of {float(it.told['interval']):g} s:
-{it.writes}; messages lost: {float(it.told['loss']):g} %. All figures go from the least to the most of {len(rules.SEEDS)} seeds.</p>
+{it.writes}; messages lost: {float(it.told['loss']):g} %. All figures go from the least to the most of
+{len(rules.SEEDS)} seeds.</p>
 <div class="cards">{cards(decision, healing)}</div>
 {listed("Mind", answer.warnings(decision), "mind")}
 {pictures(folder, decision, healing)}

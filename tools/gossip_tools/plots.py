@@ -8,8 +8,8 @@ import subprocess
 from gossip_tools import read, rules, scenario
 
 # Colours that the colour-blind tell apart; widths and points also tell them apart in black and white.
-MODES = {"scuttle-breadth": ("#e69f00", 9, 5), "precise-newest": ("#cc79a7", 6, 13), "precise-oldest": ("#009e73", 3.5, 9),
-         "scuttle-depth": ("#00407a", 1.5, 7)}
+MODES = {"scuttle-breadth": ("#e69f00", 9, 5), "precise-newest": ("#cc79a7", 6, 13),
+         "precise-oldest": ("#009e73", 3.5, 9), "scuttle-depth": ("#00407a", 1.5, 7)}
 BUDGETS = (("#e69f00", 8, 5), ("#56b4e9", 5.5, 9), ("#009e73", 3.5, 13), ("#00407a", 1.5, 7))
 HEAD = """set terminal svg size 480, 380 dynamic font "sans-serif,14" background "white"
 set output "{name}.svg"
@@ -43,8 +43,8 @@ def block(name, rows):
 
 
 def knee(decision, name, y, figure, capped):
-    """A figure against the budget, by mode: the seed in the middle and the band of the seeds. A capped one shows no more
-    than six times what the decision has, so that the knee is seen."""
+    """A figure against the budget, by mode: the seed in the middle and the band of the seeds. A capped one shows no
+    more than six times what the decision has, so that the knee is seen."""
     study, found = decision.study, decision.found
     text, plots, most = HEAD.format(name=name, x="budget, in entries", y=y), [], 0
     fits = study.fits[decision.mode]
@@ -107,9 +107,10 @@ def healing(healed, stage, name, y, value):
             values = [value(row) for row in of_round]
             rows.append((of_round[0]["round"] - ends, rules.middle(values), *rules.band(values)))
         text += block(f"budget{at}", rows)
-        plots.insert(at, f'$budget{at} using 1:3:4 with filledcurves fillcolor "{colour}" fillstyle transparent solid 0.25 '
-                     "notitle")
-        plots.append(f'$budget{at} using 1:2 with lines linewidth {width} linecolor "{colour}" title "{budget} entries"')
+        plots.insert(at, f'$budget{at} using 1:3:4 with filledcurves fillcolor "{colour}" '
+                     "fillstyle transparent solid 0.25 notitle")
+        plots.append(f'$budget{at} using 1:2 with lines linewidth {width} linecolor "{colour}" '
+                     f'title "{budget} entries"')
     return text + f"set xrange [-5:{shown}]\nset yrange [0:*]\nplot " + ", \\\n  ".join(plots) + "\n"
 
 
@@ -124,7 +125,8 @@ def all_of(decision, healed):
         "cut": knee(decision, "cut", "share cut, in per cent",
                     lambda budget, mode: decision.found.cut(budget, mode, window), capped=False),
         "greatest": rounds(decision, "greatest", "greatest, in rounds", lambda row: row["greatest"]),
-        "stale": rounds(decision, "stale", "stale copies, in per cent", lambda row: round(100 * row["stale"] / copies, 3)),
+        "stale": rounds(decision, "stale", "stale copies, in per cent",
+                        lambda row: round(100 * row["stale"] / copies, 3)),
         "split": healing(healed, "split", "split", "greatest, in rounds", lambda row: row["greatest"]),
         "restart": healing(healed, "restart", "restart", "greatest, in rounds", lambda row: row["greatest"]),
         "forgotten": healing(healed, "forgotten", "forgotten", "leftover, in states of a node",

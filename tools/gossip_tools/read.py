@@ -44,10 +44,10 @@ def rows_of(text, form, rounds):
     if first.split(",") != header:
         raise NotWhole("its header is another")
     lines = rest.split("\n")
-    if lines[-1] or len(lines) - 1 < rounds:
+    if len(lines) - 1 < rounds:
         raise NotWhole(f"it is cut short after {len(lines) - 1} of {rounds} rounds")
-    if len(lines) - 1 > rounds:
-        raise NotWhole(f"it has {len(lines) - 1} rounds, and the scenario {rounds}")
+    if len(lines) - 1 > rounds or lines[-1]:
+        raise NotWhole(f"it goes on after its {rounds} rounds")
     line = re.compile(",".join(["[0-9]{1,18}"] * len(header)))
     for at, it in enumerate(lines[:-1], 1):
         if not line.fullmatch(it) or int(it.partition(",")[0]) != at:
@@ -94,7 +94,8 @@ class Runs:
         """A sentence on the runs that have no whole report."""
         some = [f"{name} ({why})" for name, why in list(self.missing.items())[:5]]
         more = [f"{len(self.missing) - 5} more"] if len(self.missing) > 5 else []
-        return f"{len(self.missing)} of {len(self.missing) + len(self.rows)} runs are missing: {', '.join(some + more)}."
+        runs = len(self.missing) + len(self.rows)
+        return f"{len(self.missing)} of {runs} runs are missing: {', '.join(some + more)}."
 
 
 def place(values):

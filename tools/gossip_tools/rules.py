@@ -14,9 +14,9 @@ USUAL_MODE = "scuttle-depth"
 CHEAPEST_FIRST = (USUAL_MODE, "scuttle-breadth", "precise-oldest", "precise-newest")
 FEW_ENTRIES = 50
 # How far a tenth was seen to hold in scuttle-depth.
-TENTH = ("A tenth of the nodes stands for the whole in scuttle-depth: 1000 nodes had 2 to 5 rounds more in `greatest` than "
-         "100, with a budget of a half to twice `nodes * writes`. At 0.14 of it 100, 1000 and 4000 nodes had 24, 30 "
-         "and 36 rounds.")
+TENTH = ("A tenth of the nodes stands for the whole in scuttle-depth: 1000 nodes had 2 to 5 rounds more in `greatest` "
+         "than 100, with a budget of a half to twice `nodes * writes`. At 0.14 of it 100, 1000 and 4000 nodes had 24, "
+         "30 and 36 rounds.")
 
 
 def band(figure):
@@ -46,8 +46,8 @@ def halves(window):
 
 
 def suffices(in_first_half, in_second_half):
-    """"A budget suffices where `greatest` is level in both halves of the window." It isn't level where the first half is
-    better than the second: what is higher there under all seeds, and by more than they differ, still rises."""
+    """"A budget suffices where `greatest` is level in both halves of the window." It isn't level where the first half
+    is better than the second: what is higher there under all seeds, and by more than they differ, still rises."""
     return not is_better(in_first_half, in_second_half)
 
 

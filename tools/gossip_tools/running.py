@@ -79,9 +79,10 @@ def here(folder, names, program, jobs, done):
         while running or waiting and not failed:
             while waiting and not failed and len(running) < jobs:
                 name = waiting.pop(0)
-                with Signals.hold(), open(folder.path / f"{name}.toml") as scenario, open(folder.part(name), "wb") as part:
+                given, part = folder.path / f"{name}.toml", folder.part(name)
+                with Signals.hold(), open(given) as scenario, open(part, "wb") as report:
                     # (a group of its own, so that Ctrl-C comes to the sweep alone, which ends its runs)
-                    running[name] = subprocess.Popen([program, "run"], stdin=scenario, stdout=part,
+                    running[name] = subprocess.Popen([program, "run"], stdin=scenario, stdout=report,
                                                      stderr=subprocess.PIPE, process_group=0)
             for name in ended(running):
                 with Signals.hold():
@@ -91,7 +92,9 @@ def here(folder, names, program, jobs, done):
                         done(name)
     finally:
         for name, process in running.items():
-            process.kill()
+            # (with what it has started, where GOSSIP_BENCH names a script)
+            with contextlib.suppress(ProcessLookupError):
+                os.killpg(process.pid, signal.SIGKILL)
             process.wait()
             process.stderr.close()
             folder.part(name).unlink(missing_ok=True)
@@ -128,8 +131,8 @@ def end(process):
 
 
 def far(folder, names, program, hosts, jobs, done):
-    """Carries out the runs on the hosts, where `:` is this machine. Scenarios go there and reports come back by standard
-    input and output, so no file is made or removed on another machine, and the folder may be shared with it."""
+    """Carries out the runs on the hosts, where `:` is this machine. Scenarios go there and reports come back by
+    standard input and output, so no file is made or removed on another machine, which may share the folder."""
     command = f'echo "begin $PARALLEL_SEQ"; {shlex.quote(program)} run 2>&1; status=$?; echo; ' \
               'echo "end $PARALLEL_SEQ $status"; exit $status'
     words = ["parallel", "--pipe", "-N1", "--recend", "\\0", "--rrs", "--block", "4M", "--halt", "now,fail=1",

@@ -25,7 +25,8 @@ def restarts(words):
     if len(numbers) != 5 or len(set(names)) != len(names) or set(names) - {"first", "every", "forget"}:
         raise Refused("usage: " + RESTARTS.partition("\n")[0])
     placed = {name: number(text, name) for name, text in named}
-    print(scenario.restarts(*(number(*it) for it in zip(numbers, ("NODES", "EACH", "FROM", "TO", "DOWN"))), forget="forget" in names, **placed), end="")
+    told = [number(*it) for it in zip(numbers, ("NODES", "EACH", "FROM", "TO", "DOWN"))]
+    print(scenario.restarts(*told, forget="forget" in names, **placed), end="")
 
 
 def apart(words):

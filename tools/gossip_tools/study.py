@@ -8,8 +8,8 @@
 """
 from gossip_tools import cluster, read, rules, scenario
 
-# What is to be healed begins once the tables have filled and `greatest` is level: after so many rounds, of which the last
-# ones tell the level, and later with a budget below the knee.
+# What is to be healed begins once the tables have filled and `greatest` is level: after so many rounds, of which the
+# last ones tell the level, and later with a budget below the knee.
 FILLING, LEVEL = 30, 20
 RESTARTING = 10
 
@@ -25,8 +25,8 @@ class Study:
             it["digest"] = 0
         it["nodes"], it["delta"] = int(told["nodes"]) // self.parts, told["delta"] / self.parts
         if cluster.is_too_large(it["nodes"], it["keys"]):
-            raise cluster.Refused("a tenth of these nodes is still too large for a scenario, which takes 4096 nodes and "
-                                  f"{scenario.MOST_TRIPLES} of nodes * nodes * keys.")
+            raise cluster.Refused("a tenth of these nodes is still too large for a scenario, which takes 4096 nodes "
+                                  f"and {scenario.MOST_TRIPLES} of nodes * nodes * keys.")
         scenario.limited("nodes", it["nodes"])
         self.nodes, self.keys, self.writes = it["nodes"], int(it["keys"]), int(it["writes"])
         self.knee = rules.knee(self.nodes, self.keys, self.writes)
@@ -39,9 +39,11 @@ class Study:
         self.fits = {mode: min(int(self.rooms[mode]), most) for mode in modes if self.rooms[mode] >= least}
         if rules.USUAL_MODE not in self.fits:
             taken = it["delta"] - self.rooms[rules.USUAL_MODE] * it["entry"]
-            raise cluster.Refused(f"the digest takes {int(taken * self.parts)} of the {told['delta']} bytes, which leaves no room "
-                                  f"for {least} entries of {it['entry']} bytes: give the delta a packet of its own.")
-        self.budgets = [it for it in rules.budgets_of(self.fits.values(), self.nodes, self.keys, self.writes) if it >= least]
+            raise cluster.Refused(f"the digest takes {int(taken * self.parts)} of the {told['delta']} bytes, which "
+                                  f"leaves no room for {least} entries of {it['entry']} bytes: give the delta a "
+                                  "packet of its own.")
+        budgets = rules.budgets_of(self.fits.values(), self.nodes, self.keys, self.writes)
+        self.budgets = [it for it in budgets if it >= least]
         slowness = -(-self.knee // self.budget(rules.USUAL_MODE))
         self.before = FILLING * slowness + 1, (FILLING + LEVEL) * slowness
         self.begins = self.before[1] + 1
@@ -50,8 +52,8 @@ class Study:
         self.loss = int(told["loss"] * 10000)
 
     def split_of(self, rounds):
-        """How long a split is run: no longer than it takes until each key was written four times, which leaves no more to
-        catch up with, or a hundred rounds."""
+        """How long a split is run: no longer than it takes until each key was written four times, which leaves no more
+        to catch up with, or a hundred rounds."""
         rewritten = -(-self.keys // self.writes) if self.writes else 0
         return min(rounds, max(100, 4 * rewritten))
 
@@ -65,7 +67,8 @@ class Study:
 
     def choices(self, budgets, modes, in_bytes):
         values = [scenario.budget_field(it, in_bytes) for it in budgets]
-        return {values[0][0]: [str(it) for _, it in values], "seed": [str(it) for it in rules.SEEDS], "mode": list(modes)}
+        seeds = [str(it) for it in rules.SEEDS]
+        return {values[0][0]: [str(it) for _, it in values], "seed": seeds, "mode": list(modes)}
 
     def healing_rounds(self):
         return self.begins + max(self.split, RESTARTING) + self.tail

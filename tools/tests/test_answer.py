@@ -33,11 +33,12 @@ def decided(worst, rising=(), more=""):
 
 class Decided(unittest.TestCase):
     def test_usual(self):
-        found = decided({(1000, "scuttle-depth"): [7, 8], (600, "scuttle-depth"): [8, 9], (300, "scuttle-depth"): [9, 12]})
+        depth = {1000: [7, 8], 600: [8, 9], 300: [9, 12]}
+        found = decided({(budget, "scuttle-depth"): worst for budget, worst in depth.items()})
         self.assertEqual(("scuttle-depth", 1000, 600), (found.mode, found.budget, found.smaller()))
         self.assertEqual(["precise-oldest", "precise-newest"], found.close)
-        self.assertEqual("scuttle-depth with room for 1000 entries in a delta, 40000 bytes (what fits; 1.7 times nodes * "
-                         "writes)", found.takes())
+        self.assertEqual("scuttle-depth with room for 1000 entries in a delta, 40000 bytes (what fits; 1.7 times nodes "
+                         "* writes)", found.takes())
 
     def test_another_mode_is_better(self):
         found = decided({(1000, "scuttle-depth"): [10, 11]})
@@ -57,7 +58,8 @@ class Words(unittest.TestCase):
 
     def test_times(self):
         """8 rounds of half a second are 4 seconds, 30 to 45 rounds of a minute as many minutes."""
-        cases = {((8, 8), 0.5): "4 s", ((7, 8), 0.5): "3.5 to 4.0 s", ((30, 45), 60): "30 to 45 min", ((5, 6), 1): "5 to 6 s"}
+        cases = {((8, 8), 0.5): "4 s", ((7, 8), 0.5): "3.5 to 4.0 s", ((30, 45), 60): "30 to 45 min",
+                 ((5, 6), 1): "5 to 6 s"}
         self.assertEqual(cases, {it: answer.in_time(*it) for it in cases})
 
     def test_what_is_left(self):

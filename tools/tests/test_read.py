@@ -15,8 +15,10 @@ class Reports(unittest.TestCase):
 
     def test_not_whole(self):
         cases = {
-            "": "it is empty", HEADER: "it is cut short after 0 of 3 rounds", TEXT[:-1]: "it is cut short after 2 of 3 rounds",
-            TEXT + "4,4,0,0,1,0,0,0\n": "it has 4 rounds, and the scenario 3", TEXT[1:]: "its header is another",
+            "": "it is empty", HEADER: "it is cut short after 0 of 3 rounds",
+            TEXT[:-1]: "it is cut short after 2 of 3 rounds",
+            TEXT + "4,4,0,0,1,0,0,0\n": "it goes on after its 3 rounds", TEXT + "4,4": "it goes on after its 3 rounds",
+            TEXT[1:]: "its header is another",
             TEXT.replace("2,4,0,0,30", "2,4,0,0,\0\0"): "its line of round 2 is another",
             TEXT.replace("\n3,", "\n4,"): "its line of round 3 is another",
         }
@@ -38,7 +40,8 @@ class Figures(unittest.TestCase):
 
     def test_first_at_most(self):
         rows = read.rows_of(TEXT, 1, 3)
-        cases = {("greatest", 1, 1): 1, ("greatest", 2, 1): 3, ("stale", 1, 6): 3, ("stale", 1, 8): 1, ("stale", 2, 8): 3}
+        cases = {("greatest", 1, 1): 1, ("greatest", 2, 1): 3, ("stale", 1, 6): 3, ("stale", 1, 8): 1,
+                 ("stale", 2, 8): 3}
         self.assertEqual(cases, {it: read.first_at_most(it[0], rows, *it[1:]) for it in cases})
         self.assertIsNone(read.first_at_most("greatest", rows[:2], 2, 1))
 

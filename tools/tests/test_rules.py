@@ -36,7 +36,8 @@ class Enough(unittest.TestCase):
 
     def test_suffices(self):
         """Where some write of round 1 is missing throughout, the halves end with 150 and 200."""
-        cases = {((150, 150), (200, 200)): False, ((8, 7), (7, 8)): True, ((7, 7), (8, 8)): False, ((7, 8), (8, 9)): True}
+        cases = {((150, 150), (200, 200)): False, ((8, 7), (7, 8)): True, ((7, 7), (8, 8)): False,
+                 ((7, 8), (8, 9)): True}
         self.assertEqual(cases, {it: rules.suffices(*it) for it in cases})
 
     def test_healed(self):

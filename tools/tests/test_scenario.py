@@ -22,8 +22,8 @@ class Budgets(unittest.TestCase):
 class Advice(unittest.TestCase):
     def test_instead(self):
         cases = {
-            ("writes", "2.5"): "take writes=2 and give 1 of 2 rounds writes = 3 by [[load]], or take writes=3, which is on "
-                               "the safe side",
+            ("writes", "2.5"): "take writes=2 and give 1 of 2 rounds writes = 3 by [[load]], or take writes=3, which "
+                               "is on the safe side",
             ("delta", "2m"): "write delta=2000000, or delta=2097152 where K is 1024",
             ("nodes", "1'000"): "write nodes=1000", ("nodes", "many"): "", ("entry", "4.5"): "",
         }
@@ -38,7 +38,8 @@ class Advice(unittest.TestCase):
 class Texts(unittest.TestCase):
     def test_set_field(self):
         cases = {
-            ("a = 1\nb = 'x' # of b\n", "b", "y"): 'a = 1\nb = "y"\n', ("a=1\n[[a]]\na = 2\n", "a", "3"): "a = 3\n[[a]]\na = 2\n",
+            ("a = 1\nb = 'x' # of b\n", "b", "y"): 'a = 1\nb = "y"\n',
+            ("a=1\n[[a]]\na = 2\n", "a", "3"): "a = 3\n[[a]]\na = 2\n",
             ("aa = 1\n a = 2", "a", "3"): "aa = 1\na = 3\n",
         }
         self.assertEqual(cases, {it: scenario.set_field(*it) for it in cases})

@@ -16,7 +16,8 @@ def of(words):
 class Numbers(unittest.TestCase):
     def test_what_fits(self):
         """6000 bytes less 100 numbers of 10 have room for 125 entries of 40; less 400 numbers, as precise, for 50."""
-        cases = {ROOMY: [1000] * 4, SHARED: [125, 125, 50, 50], SHARED + " shared=no": [150] * 4, LARGE: [1100], FEW: [5] * 4}
+        cases = {ROOMY: [1000] * 4, SHARED: [125, 125, 50, 50], SHARED + " shared=no": [150] * 4, LARGE: [1100],
+                 FEW: [5] * 4}
         self.assertEqual(cases, {words: list(of(words).fits.values()) for words in cases})
 
     def test_budgets(self):
@@ -57,7 +58,8 @@ class Healing(unittest.TestCase):
 
 
 def rows(*greatest):
-    return [{"round": at, "greatest": it, "cut": it, "entries": 10 - it, "leftover": 0} for at, it in enumerate(greatest, 1)]
+    return [{"round": at, "greatest": it, "cut": it, "entries": 10 - it, "leftover": 0}
+            for at, it in enumerate(greatest, 1)]
 
 
 class Reading(unittest.TestCase):
@@ -73,11 +75,13 @@ class Reading(unittest.TestCase):
         self.assertEqual([85.0, 60.0], found.cut(9, "scuttle-depth", (3, 4)))
 
     def test_healed(self):
-        """After round 3 the first seed is back in round 6, the third, and the other in round 4; after round 4 it never is."""
+        """After round 3 the first seed is back in round 6, the third, and the other in round 4; after round 4 it never
+        is."""
         cases = {3: [3, 1], 4: [2, None], 5: [1, None]}
         self.assertEqual(cases, {ends: self.found.healed_after(9, "scuttle-depth", ends) for ends in cases})
 
     def test_level(self):
-        """The first half of the rounds 1 to 4 has 3 and 4, the second 9 and 7; that of 3 to 6 has 9 and 7, then 5 and 6."""
+        """The first half of the rounds 1 to 4 has 3 and 4, the second 9 and 7; that of 3 to 6 has 9 and 7, then 5 and
+        6."""
         cases = {(1, 4): False, (3, 6): True}
         self.assertEqual(cases, {it: self.found.suffices(9, "scuttle-depth", it) for it in cases})

@@ -55,8 +55,7 @@ class Decision:
         return "nodes * writes" if self.budget == self.study.knee else f"{self.of_knee():.2g} times nodes * writes"
 
     def whole_budget(self):
-        """The budget of the whole cluster, where a tenth was run."""
-        return self.budget * self.study.parts
+        return self.study.whole(self.budget)
 
     def takes(self):
         """The decision, in words."""
@@ -96,11 +95,12 @@ def first_words(decision):
 
 def too_close(decision):
     """Which figures are too close to call."""
-    said = [f"{mode} with {decision.study.budget(mode)} entries, {in_rounds(decision.figures[mode])} against "
+    whole = decision.study.whole
+    said = [f"{mode} with {whole(decision.study.budget(mode))} entries, {in_rounds(decision.figures[mode])} against "
             f"{span(decision.worst)}" for mode in decision.close]
     if smaller := decision.smaller():
         worst = in_rounds(decision.found.worst(smaller, decision.mode, decision.window))
-        said.append(f"{decision.mode} with a budget from {smaller} entries on, {worst} with that")
+        said.append(f"{decision.mode} with a budget from {whole(smaller)} entries on, {worst} with that")
     return said or ["none: each other mode and smaller budget that was run is worse under all seeds by more than they "
                     "differ"]
 
@@ -110,11 +110,11 @@ def warnings(decision):
     it, said = decision.study, []
     if not decision.suffices:
         enough = decision.enough()
-        more = f"{enough * it.parts} entries were enough" if enough else "no budget that was tried was enough"
+        more = f"{it.whole(enough)} entries were enough" if enough else "no budget that was tried was enough"
         said.append(f"This budget isn't enough: `greatest` still rises in the second half of the window. {more}. A "
                     "delta in a packet of its own, a shorter entry, a larger packet or fewer writes would help.")
     elif decision.budget < it.knee:
-        said.append(f"The budget is below nodes * writes = {it.knee * it.parts}, the knee, so copies lag more than "
+        said.append(f"The budget is below nodes * writes = {it.whole(it.knee)}, the knee, so copies lag more than "
                     "they have to: a delta in a packet of its own, a shorter entry or a larger packet would help.")
     if it.in_bytes:
         said.append("With room for so few entries a large one holds up smaller ones behind it: give the delta room for "

@@ -60,7 +60,7 @@ def captions(decision, healing):
     first, last = decision.window
     above = "What is higher than the picture is in the table. "
     same = plots.lie_on_each_other(decision, lambda *at: decision.found.worst(*at, decision.window))
-    same = f"All modes have the same figures from {same} entries on. " if same else ""
+    same = f"All modes have the same figures from {it.whole(same)} entries on. " if same else ""
     band = f"The line has the middle of {many} seeds, the band their least and most"
     each, _ = it.restarting()
     return {
@@ -101,7 +101,7 @@ def table(decision):
     it, window = decision.study, decision.window
     text = "<tr><th>budget</th>" + "".join(f"<th>{mode}</th>" for mode in it.fits) + "</tr>"
     for budget in it.budgets:
-        text += f"<tr><th>{budget}</th>"
+        text += f"<tr><th>{it.whole(budget)}</th>"
         for mode in it.fits:
             rising = "" if decision.found.suffices(budget, mode, window) else " rising"
             chosen = "chosen" if (budget, mode) == (decision.budget, decision.mode) else ""
@@ -130,7 +130,7 @@ def make(folder, decision, healing, check_sum):
     """Writes the page, and says where it is."""
     it = decision.study
     first, last = decision.window
-    tenth = f", by {it.nodes} of them" if it.parts > 1 else ""
+    tenth = f", of which {it.nodes} were run; budgets are those of all" if it.parts > 1 else ""
     title = f"{int(it.told['nodes'])} nodes: {decision.mode} with {decision.whole_budget()} entries"
     text = f"""<!DOCTYPE html>
 <html lang="en"><head><meta charset="utf-8"><meta name="viewport" content="width=device-width, initial-scale=1">

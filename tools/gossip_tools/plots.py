@@ -47,25 +47,26 @@ def knee(decision, name, y, figure, capped):
     more than six times what the decision has, so that the knee is seen."""
     study, found = decision.study, decision.found
     text, plots, most = HEAD.format(name=name, x="budget, in entries", y=y), [], 0
-    fits = study.fits[decision.mode]
-    for at, (mode, (colour, width, point)) in enumerate(MODES.items()):
-        if mode not in study.fits:
-            continue
-        rows = []
+    fits = study.whole(study.fits[decision.mode])
+    modes = [it for it in MODES if it in study.fits]
+    for at, mode in enumerate(modes):
+        (colour, width, point), rows = MODES[mode], []
         for budget in study.budgets:
             values = figure(budget, mode)
             # (a little beside each other, so that all bands are seen)
-            rows.append((round(budget * 1.025**(at - 1.5), 2), rules.middle(values), *rules.band(values)))
+            beside = study.whole(budget) * 1.025**(at - (len(modes) - 1) / 2)
+            rows.append((round(beside, 2), rules.middle(values), *rules.band(values)))
         most = max(most, *(row[3] for row in rows))
         text += block(f"mode{at}", rows)
         plots += [f'$mode{at} using 1:2 with lines linewidth {min(width, 2)} linecolor "{colour}" notitle',
                   f'$mode{at} using 1:2:3:4 with yerrorbars linewidth 2 pointtype {point} pointsize 0.7 '
                   f'linecolor "{colour}" title "{mode}"']
     top = (min(most, 6 * max(figure(decision.budget, decision.mode))) if capped else most) or 1
-    tics = ", ".join(str(it) for it in spaced(study.budgets))
+    budgets = [study.whole(it) for it in study.budgets]
+    tics = ", ".join(str(it) for it in spaced(budgets))
     text += f"set logscale x 2\nset xtics ({tics}) rotate by -45\nset yrange [0:{1.08 * top:.4g}]\n"
-    text += f"set xrange [{0.85 * study.budgets[0]:.4g}:{1.18 * study.budgets[-1]:.4g}]\n"
-    at, label = (fits, f"fits: {fits}") if fits <= study.budgets[-1] else (study.budgets[-1], "all fit")
+    text += f"set xrange [{0.85 * budgets[0]:.6g}:{1.18 * budgets[-1]:.6g}]\n"
+    at, label = (fits, f"fits: {fits}") if fits <= budgets[-1] else (budgets[-1], "all fit")
     text += (f'set arrow from {at}, graph 0 to {at}, graph 1 nohead dashtype 2 linewidth 1.5 linecolor "#555555"\n'
              f'set label "{label}" at {at}, graph 1.03 center\n')
     return text + "set clip two\nplot " + ", \\\n  ".join(plots) + "\n"
@@ -88,7 +89,7 @@ def rounds(decision, name, y, value):
         if mode in study.fits:
             budget = study.budget(mode)
             text += block(f"mode{at}", [(row["round"], value(row)) for row in found.rows[(budget, mode)][0]])
-            plots.append(f'$mode{at} with lines linewidth {width} linecolor "{colour}" title "{mode}, {budget}"')
+            plots.append(f'$mode{at} with lines linewidth {width} linecolor "{colour}" title "{mode}, {study.whole(budget)}"')
     return text + "set xrange [0:*]\nset yrange [0:*]\nplot " + ", \\\n  ".join(plots) + "\n"
 
 
@@ -110,7 +111,7 @@ def healing(healed, stage, name, y, value):
         plots.insert(at, f'$budget{at} using 1:3:4 with filledcurves fillcolor "{colour}" '
                      "fillstyle transparent solid 0.25 notitle")
         plots.append(f'$budget{at} using 1:2 with lines linewidth {width} linecolor "{colour}" '
-                     f'title "{budget} entries"')
+                     f'title "{study.whole(budget)} entries"')
     return text + f"set xrange [-5:{shown}]\nset yrange [0:*]\nplot " + ", \\\n  ".join(plots) + "\n"
 
 

@@ -57,6 +57,10 @@ class Study:
         rewritten = -(-self.keys // self.writes) if self.writes else 0
         return min(rounds, max(100, 4 * rewritten))
 
+    def whole(self, budget):
+        """A budget of what is run as one of the whole cluster."""
+        return budget * self.parts
+
     def budget(self, mode):
         return rules.budget_of(self.fits[mode], self.nodes, self.keys, self.writes)
 

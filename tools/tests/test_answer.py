@@ -51,6 +51,18 @@ class Decided(unittest.TestCase):
         self.assertIn("1200 entries were enough", answer.warnings(found)[0])
 
 
+    def test_a_tenth(self):
+        """1000 of 10000 nodes are run, with a tenth of the 11000 entries that fit. Budgets are told for all."""
+        words = "nodes=10000 keys=4 writes=1 entry=40 delta=640000 digest=20".split()
+        it = study.Study(cluster.told(words, advise.USUAL, advise.CALL))
+        figures = {(750, "scuttle-depth"): [8, 9], (1100, "scuttle-depth"): [8, 8], (500, "scuttle-depth"): [20, 21]}
+        found = answer.Decision(it, Figures(figures), WINDOW)
+        self.assertEqual("scuttle-depth with room for 11000 entries in a delta, 440000 bytes (what fits; 1.1 times nodes "
+                         "* writes)", found.takes())
+        self.assertEqual(["scuttle-depth with a budget from 7500 entries on, 8 to 9 rounds with that"],
+                         answer.too_close(found))
+
+
 class Words(unittest.TestCase):
     def test_spans(self):
         cases = {(7, 7): "7 rounds", (1, 1): "1 round", (3, 1): "1 to 3 rounds", (0, 1): "0 to 1 round"}

@@ -89,7 +89,8 @@ def rounds(decision, name, y, value):
         if mode in study.fits:
             budget = study.budget(mode)
             text += block(f"mode{at}", [(row["round"], value(row)) for row in found.rows[(budget, mode)][0]])
-            plots.append(f'$mode{at} with lines linewidth {width} linecolor "{colour}" title "{mode}, {study.whole(budget)}"')
+            plots.append(f'$mode{at} with lines linewidth {width} linecolor "{colour}" '
+                         f'title "{mode}, {study.whole(budget)}"')
     return text + "set xrange [0:*]\nset yrange [0:*]\nplot " + ", \\\n  ".join(plots) + "\n"
 
 

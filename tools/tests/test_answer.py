@@ -57,8 +57,8 @@ class Decided(unittest.TestCase):
         it = study.Study(cluster.told(words, advise.USUAL, advise.CALL))
         figures = {(750, "scuttle-depth"): [8, 9], (1100, "scuttle-depth"): [8, 8], (500, "scuttle-depth"): [20, 21]}
         found = answer.Decision(it, Figures(figures), WINDOW)
-        self.assertEqual("scuttle-depth with room for 11000 entries in a delta, 440000 bytes (what fits; 1.1 times nodes "
-                         "* writes)", found.takes())
+        self.assertEqual("scuttle-depth with room for 11000 entries in a delta, 440000 bytes (what fits; 1.1 times "
+                         "nodes * writes)", found.takes())
         self.assertEqual(["scuttle-depth with a budget from 7500 entries on, 8 to 9 rounds with that"],
                          answer.too_close(found))
 

@@ -7,8 +7,9 @@ of the same fields in the same order, so that gossip_read can read them, and one
 
   GOSSIP_BENCH   the program, where it isn't the one beside this tool or the one that is built
   JOBS           how many runs go at once, where it isn't one for each core
-  HOSTS          the machines, as in HOSTS=:,alpha,beta, where `:` is this one: by GNU parallel over ssh. Each has the
-                 program under the same path, and gets no file
+  HOSTS          the machines, as in HOSTS=:,alpha,8/beta, where `:` is this one: by GNU parallel over ssh. Each has the
+                 program under the same path, and perl, and gets no file. One without GNU parallel of its own makes one
+                 run at a time, unless its cores are told, as 8 of beta
 """
 import os
 import pathlib

@@ -6,6 +6,7 @@ trace. Prints how many rounds agree, or the first that doesn't, with status 1. A
 bench in the same way, by lines of its own in place of one of the two.
 """
 import csv
+import os
 import sys
 
 COLUMNS = ["exchanges", "lost", "entries", "cut"]
@@ -46,6 +47,15 @@ def main(report, trace):
     return 0
 
 
+if "--help" in sys.argv:
+    print(__doc__)
+    sys.exit()
 if len(sys.argv) != 3:
     refuse("usage: check_trace.py REPORT TRACE")
-sys.exit(main(rows(sys.argv[1], "greatest"), rows(sys.argv[2], "forth_cut")))
+try:
+    status = main(rows(sys.argv[1], "greatest"), rows(sys.argv[2], "forth_cut"))
+    sys.stdout.flush()
+except OSError as error:
+    os.dup2(os.open(os.devnull, os.O_WRONLY), 1)
+    refuse(f"the output can't be written: {error.strerror}.")
+sys.exit(status)

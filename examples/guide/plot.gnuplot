@@ -1,6 +1,10 @@
 # gnuplot -c plot.gnuplot COMPARISON PICTURE FROM
 # Draws `greatest` and `stale` of the four modes over the rounds from FROM on, as an SVG picture. The lower bound of an
 # axis is the least value there, so that differences show.
+if (ARGC == 1 && ARG1 eq "--help") {
+    print "gnuplot -c plot.gnuplot COMPARISON PICTURE FROM: greatest and stale of four modes from round FROM on"
+    exit
+}
 if (ARGC != 3) {
     print "plot.gnuplot: usage: gnuplot -c plot.gnuplot COMPARISON PICTURE FROM"
     exit status 2

@@ -1,0 +1,18 @@
+"""What the tools beside the program share: from the numbers of a cluster to scenarios, sweeps, figures and a page.
+
+Python 3.11 is the oldest that they run on, and the one that they were tried with. They need its standard library alone.
+Pictures need gnuplot, and a sweep over several machines GNU parallel.
+
+  commands   how a tool answers its caller: help, refusals, faults, the program
+  scenario   scenarios and their sections; `cluster` has the numbers that they are made of, `sections` two tools
+  sweep      runs of one scenario with other values of its fields, over `files`, `folders`, `running` and `progress`
+  read       reports and what they say of some rounds
+  rules      what counts as better, as enough and as healed
+  advise     from a cluster to a mode and a budget, over `study`, what is run, and `answer`, what it says
+  page       the page that has it all, over `plots`, its pictures
+"""
+import sys
+
+if sys.version_info < (3, 11):
+    print("gossip_tools: Python 3.11 or later is needed, and this one is", sys.version.split()[0], file=sys.stderr)
+    sys.exit(2)

@@ -1,0 +1,153 @@
+"""gossip_advise [-o FOLDER] nodes=N keys=N writes=N entry=BYTES delta=BYTES [NAME=VALUE ..]
+gossip_advise -o FOLDER
+
+Says which mode and which budget to take for a cluster, how stale its copies get, and how long it takes to heal. It runs
+all modes with budgets around nodes * writes and what fits, under five seeds, on all cores: first few rounds, for a
+first answer, then many. The folder, `advice` where none is named, gets the scenarios, the reports, `answer.txt` and the
+page `report.html`. It can be stopped: the same call goes on. Without numbers it takes those that the folder has.
+
+  nodes, keys, writes    how many nodes; the things that each tells of itself; how many of these change in an interval
+  entry     the bytes of a mean entry: key, version and value
+  delta     the bytes of a packet, less what else is in it, such as headers
+  digest    the bytes of one number of a digest, 0 where it isn't given
+  shared    `yes`, digest and delta share the packet; `no`, the digest has one of its own
+  loss      how many messages of a hundred are lost, 0 where it isn't given
+  interval  the seconds between two exchanges that a node begins, 1 where it isn't given
+  restarts  how many nodes restart in an interval, for the time that it takes to heal; 0 looks at a single one
+  forget    `yes`, a node that restarts loses its own state too, as in Cassandra
+  split     the longest split, in intervals, 30 where it isn't given
+  count     `bytes` or `entries`; where it isn't given entries, and bytes where a delta has room for fewer than fifty
+
+  GOSSIP_BENCH, JOBS and HOSTS are as for gossip_sweep. The page has pictures where gnuplot is there.
+"""
+import hashlib
+import os
+import pathlib
+import sys
+import tomllib
+from fractions import Fraction
+
+from gossip_tools import answer, cluster, files, page, rules, running, scenario, study, sweep
+from gossip_tools.commands import Refused, the_program, workers
+from gossip_tools.progress import Progress, in_words
+
+USUAL = {"digest": "0", "shared": "yes", "loss": "0", "interval": "1", "restarts": "0", "forget": "no", "split": "30",
+         "count": None}
+CALL = "gossip_advise nodes=1000 keys=4 writes=1 entry=40 delta=64000 digest=20 loss=1"
+
+
+def numbers_of(words, file):
+    """The numbers of the cluster: those of the words, and of the file where there are no words."""
+    kept = None
+    if file.exists():
+        try:
+            kept = tomllib.loads(file.read_text())
+        except (tomllib.TOMLDecodeError, UnicodeDecodeError):
+            raise Refused(f"{file} can't be read: name a new folder.") from None
+    if not words:
+        if kept is None:
+            raise Refused(f"nodes= is missing; {CALL} is a whole call.")
+        words = [f"{name}={value}" for name, value in kept.items() if name != "program"]
+    told = cluster.told(words, USUAL, CALL)
+    cluster.check_limits(told)
+    if not told["writes"]:
+        raise Refused("writes would be 0, and then nothing has to be sent: count what changes in each interval alone, "
+                      "a heartbeat for one as keys=1 and writes=1.")
+    if not told["interval"]:
+        raise Refused("an interval has seconds.")
+    if not told["split"] or told["split"] > 100000:
+        raise Refused("split is a number of intervals from 1 to 100000.")
+    return told, kept
+
+
+def as_text(value):
+    """A number or a name as it stands in cluster.toml."""
+    if not isinstance(value, Fraction):
+        return value
+    return int(value) if value.denominator == 1 else f"{float(value):.9f}".rstrip("0")
+
+
+def keep(folder, told, kept, program):
+    """Writes down the numbers and the program's check sum, or refuses where others are there."""
+    with open(program, "rb") as file:
+        check_sum = hashlib.file_digest(file, "sha256").hexdigest()
+    fields = {name: as_text(it) for name, it in told.items() if it is not None} | {"program": check_sum}
+    if kept is not None:
+        if differ := [it for it in fields.keys() | kept.keys() if fields.get(it) != kept.get(it)]:
+            raise Refused(f"{folder} has the answer for another {', '.join(sorted(differ))}: name a new folder.")
+        return check_sum
+    files.put(folder / "cluster.toml", scenario.written(fields))
+    return check_sum
+
+
+class Stages:
+    """The stages of a study, carried out one after another."""
+
+    def __init__(self, it, folder, program):
+        self.study, self.folder, self.program = it, folder, program
+        self.progress = Progress({f"{stage}/{name}": self.rounds(stage) for stage in study.STAGES
+                                  for name in self.runs(stage)[1]})
+
+    def rounds(self, stage):
+        return {"few": rules.FEW_ROUNDS, "knee": rules.MANY_ROUNDS}.get(stage) or self.study.healing_rounds()
+
+    def runs(self, stage, mode=rules.USUAL_MODE):
+        text, choices = self.study.stage(stage, mode)
+        return text, sweep.spread(text, choices), choices
+
+    def carry_out(self, stage, mode=rules.USUAL_MODE):
+        text, runs, choices = self.runs(stage, mode)
+        at = study.STAGES.index(stage) + 1
+        left = f", {in_words(self.progress.left())} in all" if self.progress.left() else ""
+        print(f"{stage}, {at} of {len(study.STAGES)}: {len(runs)} runs of {self.rounds(stage)} rounds{left}",
+              file=sys.stderr, flush=True)
+        sweep.carry_out(self.folder / stage, text, runs, self.program, self.progress, os.environ.get("HOSTS"),
+                        "gossip_advise")
+        return study.Found(self.study, self.folder / stage, choices)
+
+
+def look(folder):
+    """Refuses a folder with other things in it."""
+    if folder.exists() and not (folder / "cluster.toml").exists() and {it.name for it in folder.iterdir()} - {"lock"}:
+        raise Refused(f"{folder} isn't empty and has no answer: name a new folder.")
+
+
+def study_of(it, folder, program, check_sum):
+    """Carries out the stages, and prints the answers."""
+    stages = Stages(it, folder, program)
+    few = answer.Decision(it, stages.carry_out("few"), rules.FEW_WINDOW)
+    print(*answer.first_words(few), "", sep="\n", flush=True)
+    decision = answer.Decision(it, stages.carry_out("knee"), rules.MANY_WINDOW)
+    healed = {stage: stages.carry_out(stage, decision.mode) for stage in answer.HEALED}
+    healing = answer.Healing(it, decision.mode, healed)
+    lines = answer.in_words(decision, healing)
+    files.put(folder / "answer.txt", "\n".join(lines) + "\n")
+    said = page.make(folder, decision, healing, check_sum)
+    print(*lines, "", said, sep="\n")
+
+
+def main(words):
+    folder = pathlib.Path("advice")
+    if words[:1] == ["-o"]:
+        if not words[1:2] or not words[1]:
+            raise Refused("-o needs a folder.")
+        folder, words = pathlib.Path(words[1]), words[2:]
+    hosts = os.environ.get("HOSTS")
+    if hosts and not running.is_gnu_parallel():
+        raise Refused("other machines need GNU parallel, which isn't there.")
+    look(folder)
+    it = study.Study(numbers_of(words, folder / "cluster.toml")[0])
+    program = the_program()
+    workers()
+    sweep.check({"the first scenario": it.stage("few")[0]}, program)
+    running.Signals.listen()
+    try:
+        with files.locked(folder):
+            # (another call may have come first)
+            told, kept = numbers_of(words, folder / "cluster.toml")
+            # (before its check sum is kept, as the machines may need another program)
+            if hosts and kept is None:
+                running.start(program, hosts)
+            study_of(study.Study(told), folder, program, keep(folder, told, kept, program))
+    except running.Stopped as stopped:
+        raise Refused(f"stopped by {stopped}; the same command goes on.", stopped.status) from None

@@ -1,0 +1,148 @@
+"""gossip_scenario nodes=N keys=N writes=N entry=BYTES delta=BYTES [NAME=VALUE ..] > mine.toml
+
+Prints a scenario from the numbers of a cluster, with what it leaves out in front.
+
+  nodes    from 2 to 4096; of a larger cluster take a tenth of the nodes and of delta
+  keys     the things that a node tells of itself, from 1 to 64
+  writes   how many of them change in an interval, from 0 to 8
+  entry    the bytes of a mean entry: key, version and value
+  delta    the bytes that a delta may take: those of a packet, less what else is in it, such as headers. Where digest
+           and delta share the packet, it is what both may take together
+  digest   the bytes of one number of the digest, where it shares the packet with the delta; 0 where it doesn't
+  loss     how many messages of a hundred are lost, 0 where it isn't given
+  count    `bytes`, a scenario of format 2, or `entries`, one of format 1 for entries of about one size
+  mode, rounds, seed    `scuttle-depth`, 60 and 1 where they aren't given
+"""
+import re
+from fractions import Fraction
+
+from gossip_tools import scenario
+from gossip_tools.commands import Refused
+from gossip_tools.scenario import limited
+
+TEXTS = {"mode": ("scuttle-depth", "scuttle-breadth", "precise-oldest", "precise-newest"),
+         "count": ("bytes", "entries"), "shared": ("yes", "no"), "forget": ("yes", "no")}
+DECIMALS = ("loss", "interval")
+BYTES = ("entry", "delta", "digest")
+USUAL = {"digest": "0", "loss": "0", "rounds": "60", "seed": "1", "mode": TEXTS["mode"][0], "count": "bytes"}
+NEEDED = ("nodes", "keys", "writes", "entry", "delta")
+
+
+def parts_of_writes(writes):
+    """What to do where a node doesn't write a whole number of times in an interval."""
+    whole = int(writes)
+    part = (writes - whole).limit_denominator(20)
+    return (f"take writes={whole} and give {part.numerator} of {part.denominator} rounds writes = {whole + 1} by "
+            f"[[load]], or take writes={whole + 1}, which is on the safe side")
+
+
+def instead(name, text):
+    """What to write instead of a text that isn't the number it should be; empty where nothing is known."""
+    decimal = re.fullmatch(r"[0-9]+\.[0-9]+", text)
+    unit = re.fullmatch(r"([0-9]+) ?([kKmM])i?[bB]?", text)
+    if name == "writes" and decimal and Fraction(text).denominator > 1:
+        return parts_of_writes(Fraction(text))
+    if name in BYTES and unit:
+        power = 1 if unit[2] in "kK" else 2
+        return f"write {name}={int(unit[1]) * 1000**power}, or {name}={int(unit[1]) * 1024**power} where K is 1024"
+    if text.endswith("%"):
+        return f"it is in per cent already, so write {name}={text[:-1]}"
+    if re.fullmatch("[0-9]{1,3}([,_' ][0-9]{3})+", text):
+        return f"write {name}={re.sub('[^0-9]', '', text)}"
+    return ""
+
+
+def number_of(name, text):
+    """The number that is given for a name."""
+    allowed = r"[0-9]{1,18}(\.[0-9]{1,9})?" if name in DECIMALS else "[0-9]{1,19}"
+    if not re.fullmatch(allowed, text):
+        kind = "number" if name in DECIMALS else "whole number of bytes" if name in BYTES else "whole number"
+        advice = instead(name, text)
+        raise Refused(f"{name} is a {kind}, which '{text}' isn't{': ' if advice else ''}{advice}.")
+    return Fraction(text)
+
+
+def told(words, usual, call):
+    """The values of the words by their names, numbers as such. A whole call is shown where a name is missing."""
+    names, values = (*NEEDED, *usual), {}
+    for word in words:
+        name, given, text = word.partition("=")
+        if not given or name not in names or name in values:
+            raise Refused(f"'{word}' isn't one of {', '.join(names)}, each once with = and its value.")
+        values[name] = text
+    for name in NEEDED:
+        if name not in values:
+            raise Refused(f"{name}= is missing; {call} is a whole call.")
+    values = {**usual, **values}
+    for name, text in values.items():
+        if text is None:
+            continue
+        if name not in TEXTS:
+            values[name] = number_of(name, text)
+        elif text not in TEXTS[name]:
+            raise Refused(f"{name} is one of {', '.join(TEXTS[name])}.")
+    return values
+
+
+def check_limits(it):
+    """Refuses numbers of which no scenario can be made, and says what to do instead. The size is no part of it."""
+    if (it["loss"] * 10000).denominator != 1:
+        raise Refused("loss has at most four decimals.")
+    if not it["entry"]:
+        raise Refused("an entry has bytes.")
+    for name in ("keys", "writes"):
+        least, most = scenario.LIMITS[name]
+        if it[name] > most:
+            raise Refused(f"{name} would be {it[name]}, and a scenario takes {least} to {most}: take those that are "
+                          "written together as one key, with a larger entry.")
+        limited(name, it[name])
+    limited("loss_ppm", it["loss"] * 10000)
+
+
+def is_too_large(nodes, keys):
+    """Whether a scenario doesn't take so many nodes with so many keys."""
+    return nodes > scenario.LIMITS["nodes"][1] or nodes**2 * keys > scenario.MOST_TRIPLES
+
+
+def check_size(it):
+    if not is_too_large(it["nodes"], it["keys"]):
+        limited("nodes", it["nodes"])
+        return
+    why = f"nodes would be {it['nodes']}, and a scenario takes 2 to 4096"
+    if it["nodes"] <= scenario.LIMITS["nodes"][1]:
+        why = f"nodes * nodes * keys is above {scenario.MOST_TRIPLES}, the most that a scenario takes"
+    raise Refused(f"{why}: take nodes={it['nodes'] // 10} and delta={it['delta'] // 10}, a tenth of each, in "
+                  "scuttle-depth.")
+
+
+def room_for_delta(it, mode):
+    """The bytes that a digest of this mode leaves for a delta, which may be none or less."""
+    return it["delta"] - it["digest"] * scenario.digest_numbers(it["nodes"], it["keys"], mode)
+
+
+def main(words):
+    it = told(words, USUAL, "gossip_scenario nodes=300 keys=4 writes=1 entry=40 delta=60000")
+    check_limits(it)
+    check_size(it)
+    rounds, seed = limited("rounds", it["rounds"]), limited("seed", it["seed"])
+    room = room_for_delta(it, it["mode"])
+    taken = it["delta"] - room
+    if room < it["entry"]:
+        raise Refused(f"the digest takes {taken} of the {it['delta']} bytes, which leaves no entry.")
+    in_bytes = it["count"] == "bytes"
+    fields = scenario.top(it["nodes"], it["keys"], rounds, it["writes"], it["loss"] * 10000, room / it["entry"],
+                          in_bytes, it["mode"], seed)
+    print(f"# {room} bytes for a delta are {float(room / it['entry']):.6g} entries of {it['entry']} bytes.")
+    if it["digest"]:
+        print(f"# {taken} more are for a digest of {it['mode']}; for another mode, ask for it.")
+        print("# The last message of an exchange has no digest; the room for one is lost there.")
+    if in_bytes:
+        print("# Entries of format 2 have 24 to 1023 bytes, all as often, 523.5 on average. So the packet is scaled:")
+        print(f"# budget_bytes = {room} / {it['entry']} * 523.5. That your sizes may be spread otherwise is left out.")
+        print("# Which key is written is left to chance; keys in turn give entries of nearly one size.")
+    else:
+        print("# All entries count alike: that sizes differ is left out.")
+    generations = "" if in_bytes else " generations,"
+    print(f"# Left out: latency, more than one peer a round,{generations} failure detectors, nodes that join or leave.")
+    print("# Not asked for: restarts (gossip_restarts), partitions (gossip_apart), rounds with other writes.")
+    print(scenario.written(fields), end="")

@@ -1,0 +1,76 @@
+"""How a tool answers its caller: help, refusals in one sentence, faults of files, and where the program is."""
+import os
+import pathlib
+import re
+import shutil
+import sys
+
+
+class Refused(Exception):
+    """What a tool can't do, in a sentence for its caller."""
+
+    def __init__(self, why, status=2):
+        super().__init__(why)
+        self.status = status
+
+
+def number(text, what):
+    """The whole number that a word has."""
+    if not re.fullmatch("[0-9]{1,18}", text):
+        raise Refused(f"{what} is a whole number, which '{text}' isn't.")
+    return int(text)
+
+
+def the_program():
+    """The path of gossip_bench: what GOSSIP_BENCH names, else the one beside the tools, else the built one."""
+    beside = pathlib.Path(__file__).resolve().parent.parent
+    named = os.environ.get("GOSSIP_BENCH")
+    choices = [named] if named else [beside / "gossip_bench", beside.parent / "crates/gossip_bench/out/gossip_bench"]
+    for choice in choices:
+        if found := shutil.which(choice):
+            return os.path.abspath(found)
+    raise Refused("the program isn't built: run ./gossip_bench --help, or name one in GOSSIP_BENCH.")
+
+
+def workers():
+    """How many runs may go at once: JOBS, else as many as there are cores for this process."""
+    told = os.environ.get("JOBS", "")
+    if told and not re.fullmatch("[1-9][0-9]{0,3}", told):
+        raise Refused("JOBS isn't a number from 1 on.")
+    if told:
+        return int(told)
+    return len(os.sched_getaffinity(0)) if hasattr(os, "sched_getaffinity") else os.cpu_count() or 1
+
+
+def drop_output():
+    """Lets what is still to be printed go nowhere, so that the end of the process can't fail on it."""
+    nowhere = os.open(os.devnull, os.O_WRONLY)
+    os.dup2(nowhere, 1)
+
+
+def run(name, main, text):
+    """Carries out a tool by the words of the command line. Its status: what `main` returns, or of what was refused."""
+    words = sys.argv[1:]
+    try:
+        if "--help" in words or "-h" in words:
+            print(text.strip())
+            status = 0
+        else:
+            status = main(words) or 0
+        sys.stdout.flush()
+        return status
+    except Refused as refused:
+        why, status = str(refused), refused.status
+    except BrokenPipeError:
+        drop_output()
+        return 1
+    except OSError as error:
+        why, status = f"{error.filename or 'the output'}: {error.strerror}.", 1
+    except MemoryError:
+        why, status = "out of memory.", 1
+    try:
+        sys.stdout.flush()
+    except OSError:
+        drop_output()
+    print(f"{name}: {why}", file=sys.stderr)
+    return status

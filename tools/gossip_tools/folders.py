@@ -1,0 +1,90 @@
+"""A folder of runs of one scenario: locked while a sweep works in it, and never with a report that isn't whole.
+
+It has the `scenario`, the `lock`, and for each run its scenario and, once that is whole, its report, as
+budget-600.mode-precise-oldest.toml and .csv. A run writes to a name of its own, `.NAME.PROCESS.part`, and the one who
+holds the lock renames that. So nobody writes to a name that counts.
+"""
+import contextlib
+import os
+
+from gossip_tools import files, read
+from gossip_tools.commands import Refused
+
+
+def fields_of(name):
+    """The fields in a run's name, as budget and mode in budget-600.mode-precise-oldest."""
+    return tuple(part.partition("-")[0] for part in name.split("."))
+
+
+class Folder:
+    """A folder with the runs of a scenario, which are scenarios by name."""
+
+    def __init__(self, path, scenario, runs):
+        self.path, self.scenario, self.runs = path, scenario, runs
+        self.lengths = {}
+        for name, text in runs.items():
+            top = read.settings(text)
+            self.lengths[name] = top["format"], top["rounds"]
+
+    @contextlib.contextmanager
+    def held(self):
+        """The folder, made ready for the runs, while no other process works in it."""
+        self.look()
+        with files.locked(self.path):
+            # (another sweep may have come first)
+            self.look()
+            self.fill()
+            yield self
+
+    def look(self):
+        """Refuses a folder with other things in it, with runs of another scenario or of other fields."""
+        if not self.path.exists():
+            return
+        names = {it.name for it in self.path.iterdir()}
+        if "scenario" in names:
+            if (self.path / "scenario").read_text() != self.scenario:
+                raise Refused(f"{self.path} has runs of another scenario: name a new folder.")
+        elif {it for it in names if not it.startswith(".scenario.")} - {"lock"}:
+            raise Refused(f"{self.path} isn't empty and has no runs: name a new folder.")
+        wanted = {fields_of(name) for name in self.runs}
+        for it in sorted(names):
+            name, dot, ending = it.rpartition(".")
+            if dot and ending in ("toml", "csv") and "-" in name and fields_of(name) not in wanted:
+                others = ", ".join(fields_of(name))
+                raise Refused(f"{self.path} has runs of the fields {others}: take these, in this order, or a new "
+                              "folder.")
+
+    def fill(self):
+        """Fixes the scenario and those of the runs, and drops what ended sweeps have left half-written."""
+        for it in self.path.glob(".*.part"):
+            it.unlink()
+        if not (self.path / "scenario").exists():
+            files.put(self.path / "scenario", self.scenario)
+        for name, text in self.runs.items():
+            it = self.path / f"{name}.toml"
+            if not it.exists() or it.read_text() != text:
+                (self.path / f"{name}.csv").unlink(missing_ok=True)
+                files.put(it, text)
+
+    def lacks(self, name):
+        """What the report of a run lacks, or nothing."""
+        try:
+            read.report(self.path / f"{name}.csv", *self.lengths[name])
+        except read.NotWhole as why:
+            return str(why)
+        return ""
+
+    def part(self, name):
+        """Where a run of this process writes."""
+        return files.part_of(self.path / f"{name}.csv")
+
+    def keep(self, name):
+        """Gives the report of a run its name. Answers what it lacks, and drops it, where it isn't whole."""
+        part = self.part(name)
+        try:
+            read.report(part, *self.lengths[name])
+        except read.NotWhole as why:
+            part.unlink(missing_ok=True)
+            return str(why)
+        os.replace(part, self.path / f"{name}.csv")
+        return ""

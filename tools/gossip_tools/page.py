@@ -1,0 +1,156 @@
+"""The page of an answer, report.html: one file that needs no network, to be looked at before it is read."""
+import base64
+import html
+import re
+import shlex
+
+from gossip_tools import answer, files, plots, read, rules, study
+
+STYLE = """
+body { font: 16px/1.45 sans-serif; color: #222; max-width: 1080px; margin: 0 auto; padding: 0 16px 32px; }
+h1 { font-size: 1.5em; line-height: 1.2; } h2 { font-size: 1.2em; margin: 1.6em 0 .4em; break-after: avoid; }
+.cards { display: grid; grid-template-columns: repeat(auto-fit, minmax(128px, 1fr)); gap: 10px; }
+.cards div { border: 1px solid #ccc; border-radius: 6px; padding: 8px 10px; }
+.cards b { display: block; font-size: 1.25em; }
+.cards .first { background: #00407a; color: #fff; border-color: #00407a; }
+.pictures { display: grid; grid-template-columns: repeat(auto-fit, minmax(min(100%, 440px), 1fr)); gap: 16px; }
+figure { margin: 0; break-inside: avoid; } figure img { width: 100%; max-width: 600px; display: block; }
+figcaption { font-size: .9em; color: #444; } .wide { overflow-x: auto; }
+.mind { border-left: 4px solid #c60; } ul { padding-left: 28px; }
+table { border-collapse: collapse; font-size: .9em; }
+td, th { border: 1px solid #ccc; padding: 3px 8px; text-align: right; }
+td.chosen { background: #dbe9f6; font-weight: bold; }
+pre { font-size: .8em; white-space: pre-wrap; overflow-wrap: anywhere; background: #f4f4f4; padding: 8px; }
+@media print {
+    body { font-size: 11pt; max-width: none; }
+    .pictures { grid-template-columns: 1fr 1fr; }
+    details { display: none; }
+}
+"""
+
+
+def told(it):
+    """A text in the page, where what stands in backquotes is code."""
+    return re.sub("`([^`]*)`", r"<code>\1</code>", html.escape(str(it)))
+
+
+def listed(head, said, kind=""):
+    lines = "".join(f"<li>{told(one)}</li>" for one in said)
+    return f'<h2>{head}</h2><ul class="{kind}">{lines}</ul>' if said else ""
+
+
+def cards(decision, healing):
+    """The decision in a few large words."""
+    it, interval = decision.study, decision.study.told["interval"]
+    budget = decision.whole_budget()
+    rows = [("mode", decision.mode, "", "first"),
+            ("budget", f"{budget} entries", f"{int(budget * it.told['entry'])} bytes, {decision.times()}", "first"),
+            ("worst staleness", answer.in_rounds(decision.worst), answer.in_time(decision.worst, interval), ""),
+            ("share cut", f"{answer.span(decision.cut, 2)}\u00a0%", "of what was lacking", "")]
+    for stage, name in answer.HEALED.items():
+        words, _, time = healing.in_words(stage, decision.budget).partition(", ")
+        rows.append((f"{name} heals in", words, time, ""))
+    return "".join(f'<div class="{kind}">{told(name)}<b>{told(words)}</b>{told(more)}</div>'
+                   for name, words, more, kind in rows)
+
+
+def captions(decision, healing):
+    """What each picture shows."""
+    it, many = decision.study, len(rules.SEEDS)
+    first, last = decision.window
+    above = "What is higher than the picture is in the table. "
+    same = plots.lie_on_each_other(decision, lambda *at: decision.found.worst(*at, decision.window))
+    same = f"All modes have the same figures from {it.whole(same)} entries on. " if same else ""
+    band = f"The line has the middle of {many} seeds, the band their least and most"
+    each, _ = it.restarting()
+    return {
+        "worst": f"The knee: worst staleness in rounds {first} to {last}. Bars go from the least to the most of {many} "
+                 f"seeds, points are the seed in the middle. {above}{same}",
+        "cut": f"The share of lacking entries that the budget cut, in the same rounds.",
+        "greatest": "The age of the oldest write that some copy lacks, round by round, under seed 1. Each mode has the "
+                    "budget that it would take, as the key says. Wide curves lie below narrow ones.",
+        "stale": "The share of copies that are behind their owner, in the same runs.",
+        "split": f"After a split of half of the nodes for {it.split} rounds, which ends at 0, in {healing.mode}. "
+                 f"{band}.",
+        "restart": f"After {each if it.restarts else 'one'} node{'s' if each > 1 else ''} restarted"
+                   f"{' in each of some rounds' if it.restarts else ''}, the last in round 0. {band}.",
+        "forgotten": "What others still hold of the forgotten states, counted in states that all others hold whole. "
+                     f"{band}.",
+    }
+
+
+def pictures(folder, decision, healing):
+    """The figures of the page; none where gnuplot isn't there."""
+    if not plots.is_there():
+        return "<p class='mind'>gnuplot isn't there, so there are no pictures. With it the same call draws them.</p>"
+    room = folder / "pictures"
+    room.mkdir(exist_ok=True)
+    text, said = "", captions(decision, healing)
+    heads = {"worst": "The knee", "greatest": "Round by round", "split": "Healing"}
+    for name, script in plots.all_of(decision, healing).items():
+        svg = base64.b64encode(plots.draw(room, name, script).encode()).decode()
+        if name in heads:
+            text += ("</div>" if text else "") + f'<h2>{heads[name]}</h2><div class="pictures">'
+        text += (f'<figure><img src="data:image/svg+xml;base64,{svg}" alt="{html.escape(said[name])}">'
+                 f"<figcaption>{told(said[name])} <small>pictures/{name}.gnuplot</small></figcaption></figure>")
+    return text + "</div>"
+
+
+def table(decision):
+    """Worst staleness and share cut, by budget and mode."""
+    it, window = decision.study, decision.window
+    text = "<tr><th>budget</th>" + "".join(f"<th>{mode}</th>" for mode in it.fits) + "</tr>"
+    for budget in it.budgets:
+        text += f"<tr><th>{it.whole(budget)}</th>"
+        for mode in it.fits:
+            rising = "" if decision.found.suffices(budget, mode, window) else " rising"
+            chosen = "chosen" if (budget, mode) == (decision.budget, decision.mode) else ""
+            text += (f'<td class="{chosen}">{answer.span(decision.found.worst(budget, mode, window))}{rising}<br>'
+                     f"<small>{answer.span(decision.found.cut(budget, mode, window), 2)} %</small></td>")
+        text += "</tr>"
+    return f'<div class="wide"><table>{text}</table></div>'
+
+
+def made_of(folder, decision, check_sum):
+    """The scenarios and the commands that make everything again."""
+    it, text = decision.study, ""
+    for stage in study.STAGES:
+        scene, choices = it.stage(stage, decision.mode)
+        words = " ".join(f"{field}={','.join(values)}" for field, values in choices.items())
+        text += (f"<details><summary>{stage}: {told(words)}</summary><pre>gossip_sweep -o {told(shlex.quote(stage))} "
+                 f"{told(words)} &lt; {stage}/scenario\n\n{told(scene)}</pre></details>")
+    call = " ".join(f"{name}={value}" for name, value in read.settings((folder / "cluster.toml").read_text()).items()
+                    if name != "program")
+    return (f"<p>The program's SHA-256 is <code style='overflow-wrap:anywhere'>{check_sum}</code>. The folder of this "
+            "page has each scenario and report, and in <code>pictures</code> a script for each picture, drawn again by "
+            f"<code>gnuplot NAME.gnuplot</code>.</p><pre>gossip_advise {told(call)}</pre>{text}")
+
+
+def make(folder, decision, healing, check_sum):
+    """Writes the page, and says where it is."""
+    it = decision.study
+    first, last = decision.window
+    tenth = f", of which {it.nodes} were run; budgets are those of all" if it.parts > 1 else ""
+    title = f"{int(it.told['nodes'])} nodes: {decision.mode} with {decision.whole_budget()} entries"
+    text = f"""<!DOCTYPE html>
+<html lang="en"><head><meta charset="utf-8"><meta name="viewport" content="width=device-width, initial-scale=1">
+<title>{told(title)}</title><style>{STYLE}</style></head><body>
+<h1>{told(title)}</h1>
+<p>{it.told['nodes']} nodes{tenth}. Keys of each: {it.keys}; writes in a round of {float(it.told['interval']):g} s:
+{it.writes}; messages lost: {float(it.told['loss']):g} %. All figures go from the least to the most of
+{len(rules.SEEDS)} seeds.</p>
+<div class="cards">{cards(decision, healing)}</div>
+{listed("Mind", answer.warnings(decision), "mind")}
+{pictures(folder, decision, healing)}
+<h2>Worst staleness and share cut</h2>
+<p>In rounds {first} to {last}, by budget in entries and mode. Rising: this budget isn't enough.</p>
+{table(decision)}
+{listed("Too close to call", answer.too_close(decision))}
+{listed("Left out for this cluster", answer.left_out(decision))}
+<h2>To make it again</h2>
+{made_of(folder, decision, check_sum)}
+</body></html>
+"""
+    files.put(folder / "report.html", text)
+    missing = "" if plots.is_there() else " without pictures, as gnuplot isn't there"
+    return f"The page is {folder / 'report.html'}{missing}."

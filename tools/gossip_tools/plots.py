@@ -1,0 +1,147 @@
+"""Pictures of a study, by gnuplot. Each has a script with its data, from which it can be drawn again.
+
+Where curves lie on each other each is still seen: the first are drawn wide, and the later ones narrower on top of them.
+"""
+import shutil
+import subprocess
+
+from gossip_tools import read, rules, scenario
+
+# Colours that the colour-blind tell apart; widths and points also tell them apart in black and white.
+MODES = {"scuttle-breadth": ("#e69f00", 9, 5), "precise-newest": ("#cc79a7", 6, 13),
+         "precise-oldest": ("#009e73", 3.5, 9), "scuttle-depth": ("#00407a", 1.5, 7)}
+BUDGETS = (("#e69f00", 8, 5), ("#56b4e9", 5.5, 9), ("#009e73", 3.5, 13), ("#00407a", 1.5, 7))
+HEAD = """set terminal svg size 480, 380 dynamic font "sans-serif,14" background "white"
+set output "{name}.svg"
+set key outside bottom center horizontal maxcols 2 width -2 samplen 2 font ",12" title " "
+set grid ytics linecolor "#dddddd"
+set border 3
+set tics nomirror
+set xlabel "{x}" offset 0, 0.4
+set ylabel "{y}"
+"""
+LEAST_SHOWN = 20
+
+
+def is_there():
+    return shutil.which("gnuplot") is not None
+
+
+def draw(folder, name, script):
+    """The picture, as SVG, which the folder gets with its script."""
+    (folder / f"{name}.gnuplot").write_text(script)
+    done = subprocess.run(["gnuplot", f"{name}.gnuplot"], cwd=folder, capture_output=True, text=True)
+    if done.returncode:
+        raise OSError(0, f"gnuplot fails: {done.stderr.strip().splitlines()[-1:]}", str(folder / f"{name}.gnuplot"))
+    return (folder / f"{name}.svg").read_text()
+
+
+def block(name, rows):
+    """Data in a script, under a name. An empty list of rows has one that isn't drawn."""
+    lines = "\n".join(" ".join(str(it) for it in row) for row in rows or [("NaN",) * 4])
+    return f"${name} << END\n{lines}\nEND\n"
+
+
+def knee(decision, name, y, figure, capped):
+    """A figure against the budget, by mode: the seed in the middle and the band of the seeds. A capped one shows no
+    more than six times what the decision has, so that the knee is seen."""
+    study, found = decision.study, decision.found
+    text, plots, most = HEAD.format(name=name, x="budget, in entries", y=y), [], 0
+    fits = study.whole(study.fits[decision.mode])
+    modes = [it for it in MODES if it in study.fits]
+    for at, mode in enumerate(modes):
+        (colour, width, point), rows = MODES[mode], []
+        for budget in study.budgets:
+            values = figure(budget, mode)
+            # (a little beside each other, so that all bands are seen)
+            beside = study.whole(budget) * 1.025**(at - (len(modes) - 1) / 2)
+            rows.append((round(beside, 2), rules.middle(values), *rules.band(values)))
+        most = max(most, *(row[3] for row in rows))
+        text += block(f"mode{at}", rows)
+        plots += [f'$mode{at} using 1:2 with lines linewidth {min(width, 2)} linecolor "{colour}" notitle',
+                  f'$mode{at} using 1:2:3:4 with yerrorbars linewidth 2 pointtype {point} pointsize 0.7 '
+                  f'linecolor "{colour}" title "{mode}"']
+    top = (min(most, 6 * max(figure(decision.budget, decision.mode))) if capped else most) or 1
+    budgets = [study.whole(it) for it in study.budgets]
+    tics = ", ".join(str(it) for it in spaced(budgets))
+    text += f"set logscale x 2\nset xtics ({tics}) rotate by -45\nset yrange [0:{1.08 * top:.4g}]\n"
+    text += f"set xrange [{0.85 * budgets[0]:.6g}:{1.18 * budgets[-1]:.6g}]\n"
+    at, label = (fits, f"fits: {fits}") if fits <= budgets[-1] else (budgets[-1], "all fit")
+    text += (f'set arrow from {at}, graph 0 to {at}, graph 1 nohead dashtype 2 linewidth 1.5 linecolor "#555555"\n'
+             f'set label "{label}" at {at}, graph 1.03 center\n')
+    return text + "set clip two\nplot " + ", \\\n  ".join(plots) + "\n"
+
+
+def spaced(budgets):
+    """Those of the budgets whose labels have room beside each other."""
+    kept = []
+    for it in budgets:
+        if not kept or it > 1.13 * kept[-1]:
+            kept.append(it)
+    return kept
+
+
+def rounds(decision, name, y, value):
+    """A column over the rounds, by mode, under the first seed; each mode with the budget that it would take."""
+    study, found = decision.study, decision.found
+    text, plots = HEAD.format(name=name, x="round", y=y), []
+    for at, (mode, (colour, width, _)) in enumerate(MODES.items()):
+        if mode in study.fits:
+            budget = study.budget(mode)
+            text += block(f"mode{at}", [(row["round"], value(row)) for row in found.rows[(budget, mode)][0]])
+            plots.append(f'$mode{at} with lines linewidth {width} linecolor "{colour}" '
+                         f'title "{mode}, {study.whole(budget)}"')
+    return text + "set xrange [0:*]\nset yrange [0:*]\nplot " + ", \\\n  ".join(plots) + "\n"
+
+
+def healing(healed, stage, name, y, value):
+    """A column over the rounds since the end of what is to be healed, by budget: the seeds' middle and band."""
+    study, found = healed.study, healed.stages[stage]
+    ends, budgets = study.ends(stage), [it for it, _ in found.rows][-len(BUDGETS):]
+    taken = [it for budget in budgets for it in healed.taken(stage, budget) if it]
+    shown = max(LEAST_SHOWN, min(max(taken, default=0) + 5, study.healing_rounds() - ends))
+    text, plots = HEAD.format(name=name, x="rounds since its end", y=y), []
+    for at, budget in enumerate(budgets):
+        colour, width, _ = BUDGETS[at + len(BUDGETS) - len(budgets)]
+        seeds = [read.between(rows, ends - 5, ends + shown) for rows in found.rows[(budget, healed.mode)]]
+        rows = []
+        for of_round in zip(*seeds):
+            values = [value(row) for row in of_round]
+            rows.append((of_round[0]["round"] - ends, rules.middle(values), *rules.band(values)))
+        text += block(f"budget{at}", rows)
+        plots.insert(at, f'$budget{at} using 1:3:4 with filledcurves fillcolor "{colour}" '
+                     "fillstyle transparent solid 0.25 notitle")
+        plots.append(f'$budget{at} using 1:2 with lines linewidth {width} linecolor "{colour}" '
+                     f'title "{study.whole(budget)} entries"')
+    return text + f"set xrange [-5:{shown}]\nset yrange [0:*]\nplot " + ", \\\n  ".join(plots) + "\n"
+
+
+def all_of(decision, healed):
+    """The scripts of all pictures, by name."""
+    study, window = decision.study, decision.window
+    copies = study.nodes * (study.nodes - 1) * study.keys
+    of_node = (study.nodes - 1) * study.keys
+    return {
+        "worst": knee(decision, "worst", "worst staleness, in rounds",
+                      lambda budget, mode: decision.found.worst(budget, mode, window), capped=True),
+        "cut": knee(decision, "cut", "share cut, in per cent",
+                    lambda budget, mode: decision.found.cut(budget, mode, window), capped=False),
+        "greatest": rounds(decision, "greatest", "greatest, in rounds", lambda row: row["greatest"]),
+        "stale": rounds(decision, "stale", "stale copies, in per cent",
+                        lambda row: round(100 * row["stale"] / copies, 3)),
+        "split": healing(healed, "split", "split", "greatest, in rounds", lambda row: row["greatest"]),
+        "restart": healing(healed, "restart", "restart", "greatest, in rounds", lambda row: row["greatest"]),
+        "forgotten": healing(healed, "forgotten", "forgotten", "leftover, in states of a node",
+                             lambda row: round(row["leftover"] / of_node, 4)),
+    }
+
+
+def lie_on_each_other(decision, figure):
+    """The modes that have the same figures with every budget from some one on, and that budget; or None."""
+    modes = [it for it in scenario.MODES if it in decision.study.fits]
+    from_here = None
+    for budget in reversed(decision.study.budgets):
+        if any(figure(budget, mode) != figure(budget, modes[0]) for mode in modes):
+            break
+        from_here = budget
+    return from_here if len(modes) > 1 else None

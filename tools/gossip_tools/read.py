@@ -1,0 +1,162 @@
+"""gossip_read window FROM TO [FOLDER] [--partial]
+gossip_read level FROM LEVEL [FOLDER] [--partial]
+gossip_read leftover FROM LEVEL [FOLDER] [--partial]
+
+Prints a line for each run of the folder that gossip_sweep filled, `runs` where none is named. Where a run has no whole
+report, it says which and ends with status 2; with --partial it says so and goes on with the others.
+
+  window     what was cut in the rounds FROM to TO, in per cent of all that was lacking, and the least and the most of
+             `greatest` and of `stale` there, and of `leftover` in format 2
+  level      the first round from FROM on in which `greatest` is at most LEVEL, and how many rounds it took, FROM among
+             them; or `never`
+  leftover   the same of `leftover`, which format 2 alone has
+"""
+import pathlib
+import re
+import sys
+import tomllib
+
+from gossip_tools.commands import Refused, number
+from gossip_tools.scenario import MODES
+
+COLUMNS = ["round", "exchanges", "unreached", "lost", "entries", "cut", "stale", "greatest"]
+OF_FORMAT_2 = [*COLUMNS, "leftover"]
+
+
+class NotWhole(Exception):
+    """What a report lacks."""
+
+
+def settings(text):
+    """The fields of a scenario that the program takes."""
+    try:
+        return tomllib.loads(text.removeprefix("\ufeff"))
+    except tomllib.TOMLDecodeError as error:
+        raise Refused(f"the tools read TOML 1.0 alone, and the scenario isn't that: {error}.") from None
+
+
+def rows_of(text, form, rounds):
+    """The rows of a report, in numbers, where it is that of a scenario of this format with so many rounds."""
+    header = COLUMNS if form == 1 else OF_FORMAT_2
+    first, _, rest = text.partition("\n")
+    if not text:
+        raise NotWhole("it is empty")
+    if first.split(",") != header:
+        raise NotWhole("its header is another")
+    lines = rest.split("\n")
+    if len(lines) - 1 < rounds:
+        raise NotWhole(f"it is cut short after {len(lines) - 1} of {rounds} rounds")
+    if len(lines) - 1 > rounds or lines[-1]:
+        raise NotWhole(f"it goes on after its {rounds} rounds")
+    line = re.compile(",".join(["[0-9]{1,18}"] * len(header)))
+    for at, it in enumerate(lines[:-1], 1):
+        if not line.fullmatch(it) or int(it.partition(",")[0]) != at:
+            raise NotWhole(f"its line of round {at} is another")
+    return [dict(zip(header, map(int, it.split(",")))) for it in lines[:-1]]
+
+
+def report(path, form, rounds):
+    """The rows of a report in a file."""
+    try:
+        return rows_of(path.read_bytes().decode("ascii"), form, rounds)
+    except FileNotFoundError:
+        raise NotWhole("it isn't there") from None
+    except UnicodeDecodeError:
+        raise NotWhole("it has other bytes than those of a report") from None
+
+
+class Runs:
+    """The runs of a folder: their fields, the rows of each by the values of its fields, and what others lack."""
+
+    def __init__(self, folder):
+        self.fields, self.rows, self.missing = None, {}, {}
+        form = None
+        for file in sorted(folder.glob("*-*.toml")):
+            names, _, values = zip(*(part.partition("-") for part in file.stem.split(".")))
+            self.fields = self.fields or names
+            if names != self.fields:
+                raise Refused(f"the runs in {folder} differ in their fields.")
+            top = settings(file.read_text())
+            if top["format"] != (form := form or top["format"]):
+                raise Refused(f"the runs in {folder} are of two formats.")
+            try:
+                self.rows[values] = report(file.with_suffix(".csv"), form, top["rounds"])
+            except NotWhole as why:
+                self.missing[file.stem] = str(why)
+        if not self.fields:
+            raise Refused(f"there are no runs in {folder}.")
+
+    def in_order(self):
+        """The runs, numbers by size and modes in their usual order."""
+        return sorted(self.rows, key=place)
+
+    def what_is_missing(self):
+        """A sentence on the runs that have no whole report."""
+        some = [f"{name} ({why})" for name, why in list(self.missing.items())[:5]]
+        more = [f"{len(self.missing) - 5} more"] if len(self.missing) > 5 else []
+        runs = len(self.missing) + len(self.rows)
+        return f"{len(self.missing)} of {runs} runs are missing: {', '.join(some + more)}."
+
+
+def place(values):
+    return [(MODES.index(it),) if it in MODES else (int(it), "") if it.isdigit() else (0, it) for it in values]
+
+
+def percent_cut(rows):
+    """What was cut, in per cent of all that was lacking: that is what was cut and what was sent."""
+    cut, sent = (sum(row[name] for row in rows) for name in ("cut", "entries"))
+    return 100 * cut / (cut + sent or 1)
+
+
+def between(rows, first, last):
+    return rows[first - 1:last]
+
+
+def window(rows, first, last):
+    """What the rounds have, by the name of its column."""
+    rows = between(rows, first, last)
+    found = {"percent_cut": f"{percent_cut(rows):.2f}"}
+    for name in ("greatest", "stale", "leftover"):
+        if name in rows[0]:
+            found[f"{name}_least"] = min(row[name] for row in rows)
+            found[f"{name}_most"] = max(row[name] for row in rows)
+    return found
+
+
+def first_at_most(name, rows, first, most):
+    """The first round from `first` on in which a column is at most that, or None."""
+    return next((row["round"] for row in rows[first - 1:] if row[name] <= most), None)
+
+
+def level(name, rows, first, most):
+    found = first_at_most(name, rows, first, most)
+    return {"round": found or "never", "took": found - first + 1 if found else "never"}
+
+
+def main(words):
+    partial = "--partial" in words
+    words = [word for word in words if word != "--partial"]
+    if len(words) not in (3, 4) or words[0] not in ("window", "level", "leftover"):
+        raise Refused("usage: gossip_read window FROM TO [FOLDER], or level FROM LEVEL [FOLDER], or leftover likewise")
+    first, second = number(words[1], "FROM"), number(words[2], "TO" if words[0] == "window" else "LEVEL")
+    last = second if words[0] == "window" else first
+    folder = pathlib.Path(words[3] if len(words) == 4 else "runs")
+    runs = Runs(folder)
+    if runs.missing:
+        if not partial or not runs.rows:
+            raise Refused(f"{runs.what_is_missing()} The same sweep makes them; --partial goes on without them.")
+        print(f"gossip_read: {runs.what_is_missing()}", file=sys.stderr)
+    found = {}
+    for values in runs.in_order():
+        rows = runs.rows[values]
+        if not 1 <= first <= last <= len(rows):
+            raise Refused(f"the rounds {first} to {last} aren't in all runs: one has {len(rows)}.")
+        if words[0] == "window":
+            found[values] = window(rows, first, last)
+        elif words[0] == "leftover" and "leftover" not in rows[0]:
+            raise Refused(f"the runs in {folder} are of format 1, which has no column leftover.")
+        else:
+            found[values] = level("greatest" if words[0] == "level" else "leftover", rows, first, second)
+    print(*runs.fields, *next(iter(found.values())), sep=",")
+    for values, columns in found.items():
+        print(*values, *columns.values(), sep=",")

@@ -1,0 +1,89 @@
+"""What counts as better, as enough and as healed: the rules of docs/guide.md, each stated here alone.
+
+A run's worst staleness is the most of `greatest` in the rounds of a window. A figure is a list of them, one for each
+seed, and its band goes from the least to the most.
+"""
+SEEDS = (1, 2, 3, 4, 5)
+# The rounds of a run and its window. In the first rounds the tables fill, so they are left out.
+FEW_ROUNDS, FEW_WINDOW = 60, (31, 60)
+MANY_ROUNDS, MANY_WINDOW = 200, (101, 200)
+# Parts of `nodes * writes` at which the knee is looked for, as numerator and denominator.
+KNEE = ((1, 4), (1, 2), (3, 4), (1, 1), (3, 2), (2, 1))
+USUAL_MODE = "scuttle-depth"
+# By the size of their digests, and scuttle-depth before scuttle-breadth, which lags longer below the knee.
+CHEAPEST_FIRST = (USUAL_MODE, "scuttle-breadth", "precise-oldest", "precise-newest")
+FEW_ENTRIES = 50
+# How far a tenth was seen to hold in scuttle-depth.
+TENTH = ("A tenth of the nodes stands for the whole in scuttle-depth: 1000 nodes had 2 to 5 rounds more in `greatest` "
+         "than 100, with a budget of a half to twice `nodes * writes`. At 0.14 of it 100, 1000 and 4000 nodes had 24, "
+         "30 and 36 rounds.")
+
+
+def band(figure):
+    return min(figure), max(figure)
+
+
+def middle(figure):
+    """The figure of the seed in the middle."""
+    return sorted(figure)[len(figure) // 2]
+
+
+def is_better(one, other):
+    """"A mode, or a budget, is better where it is so under all of five seeds, and by more than the seeds differ among
+    themselves." So the bands don't touch: the worst seed of the one is better than the best of the other."""
+    return max(one) < min(other)
+
+
+def are_close(one, other):
+    """Whether two figures are too close to call: neither is better."""
+    return not is_better(one, other) and not is_better(other, one)
+
+
+def halves(window):
+    first, last = window
+    half = (last - first + 1) // 2
+    return (first, first + half - 1), (first + half, last)
+
+
+def suffices(in_first_half, in_second_half):
+    """"A budget suffices where `greatest` is level in both halves of the window." It isn't level where the first half
+    is better than the second: what is higher there under all seeds, and by more than they differ, still rises."""
+    return not is_better(in_first_half, in_second_half)
+
+
+def knee(nodes, keys, writes):
+    """"Begin with a budget of `nodes * writes`." A node never lacks more than `nodes * keys` entries."""
+    return nodes * max(1, min(writes, keys))
+
+
+def budget_of(fits, nodes, keys, writes):
+    """"Room for `nodes * writes` entries, and for twice that if it fits", else what fits. More than `nodes * keys`
+    changes nothing."""
+    return min(fits, 2 * knee(nodes, keys, writes), nodes * keys)
+
+
+def budgets_of(fits, nodes, keys, writes):
+    """The budgets to look at: around the knee, what fits, and none above `nodes * keys`, which cuts nothing."""
+    most = nodes * keys
+    wanted = [knee(nodes, keys, writes) * over // under for over, under in KNEE]
+    return sorted({max(1, min(it, most)) for it in (*wanted, *fits)})
+
+
+def mode_of(figures):
+    """"`scuttle-depth`", unless another mode is better; "else take the cheaper one". The figures are by mode."""
+    modes = [it for it in CHEAPEST_FIRST if it in figures]
+    chosen = modes[0]
+    for mode in modes[1:]:
+        if is_better(figures[mode], figures[chosen]):
+            chosen = mode
+    return chosen
+
+
+def counts_bytes(room):
+    """"Entries, where a packet has room for fifty or more. Bytes, where it has room for a few.\""""
+    return room < FEW_ENTRIES
+
+
+def healed_level(most_before):
+    """"Caught up means back at its level": `greatest` is at most a round more than its most before."""
+    return most_before + 1

@@ -1,0 +1,103 @@
+"""Scenarios from the numbers of a cluster, and their sections."""
+import re
+from fractions import Fraction
+
+from gossip_tools.commands import Refused
+
+MODES = ("scuttle-breadth", "scuttle-depth", "precise-oldest", "precise-newest")
+LIMITS = {
+    "nodes": (2, 4096), "keys": (1, 64), "writes": (0, 8), "rounds": (1, 100000), "seed": (0, 2**63 - 1),
+    "loss_ppm": (0, 1000000), "budget": (1, 65535), "budget_bytes": (1023, 67108864),
+}
+MOST_TRIPLES = 268435456  # of nodes * nodes * keys
+MOST_SECTIONS = 1000
+MEAN = Fraction("523.5")  # bytes of an entry of format 2, which has 24 + value mod 1000
+
+
+def is_scenario_of(name, number):
+    least, most = LIMITS[name]
+    return least <= number <= most
+
+
+def limited(name, number):
+    if not is_scenario_of(name, number):
+        least, most = LIMITS[name]
+        raise Refused(f"{name} would be {number}, and a scenario takes {least} to {most}.")
+    return number
+
+
+def digest_numbers(nodes, keys, mode):
+    """How many numbers a digest has at most."""
+    return nodes * (keys if mode.startswith("precise") else 1)
+
+
+def budget_field(entries, in_bytes):
+    """The field of a budget with room for so many entries, and its value."""
+    return ("budget_bytes", int(entries * MEAN)) if in_bytes else ("budget", int(entries))
+
+
+def written(fields):
+    """The top of a scenario. Texts are put in quotes, and fields stand in the order in which they are given."""
+    return "".join(f'{name} = "{it}"\n' if isinstance(it, str) else f"{name} = {it}\n" for name, it in fields.items())
+
+
+def top(nodes, keys, rounds, writes, loss_ppm, entries, in_bytes, mode="scuttle-depth", seed=1):
+    """The fields of a scenario with random peers, whose budget has room for so many mean entries."""
+    field, budget = budget_field(entries, in_bytes)
+    # (sizes of format 2 are spread evenly over 24 to 1023 bytes with choice = "random" alone)
+    return {
+        "format": 2 if in_bytes else 1, "nodes": nodes, "keys": keys, "rounds": rounds, "seed": seed, "mode": mode,
+        field: limited(field, budget), "peers": "random", "rotation": "random",
+        "choice": "random" if in_bytes else "cycle", "loss_ppm": loss_ppm, "writes": writes,
+    }
+
+
+def set_field(text, field, value):
+    """The scenario with another value in the one line that the field has above all sections."""
+    lines, found = text.splitlines(keepends=True), []
+    for at, line in enumerate(lines):
+        if re.match(r"[ \t]*\[", line):
+            break
+        if given := re.match(rf"[ \t]*{re.escape(field)}[ \t]*=[ \t]*([\"']?)", line):
+            found.append((at, '"' if given[1] else ""))
+    if len(found) != 1:
+        raise Refused(f"not one line above all sections, but none or several, has the field {field}.")
+    (at, quote), = found
+    lines[at] = f"{field} = {quote}{value}{quote}\n"
+    return "".join(lines)
+
+
+def restarts(nodes, each, first_round, last_round, down, forget=False, first=0, every=1):
+    """Restarts: in every `every`-th of these rounds the next `each` nodes, by ascending number from `first` on."""
+    if not 1 <= first_round <= last_round:
+        raise Refused(f"{first_round} to {last_round} aren't rounds.")
+    if each > nodes:
+        raise Refused(f"{each} nodes can't restart in a round, of {nodes}.")
+    if first >= nodes:
+        raise Refused(f"{first} can't be the first node, of {nodes} that are numbered from 0.")
+    if every < 1:
+        raise Refused("every=1 is each round, and the least.")
+    rounds = range(first_round, last_round + 1, every)
+    if each * len(rounds) > MOST_SECTIONS:
+        raise Refused(f"that makes {each * len(rounds)} restarts, where a scenario takes {MOST_SECTIONS}: "
+                      "run half of it.")
+    tail = "forget = true\n" if forget else ""
+    restarted = [(first + at * each + i, number) for at, number in enumerate(rounds) for i in range(each)]
+    return "".join(f"[[restart]]\nnode = {node % nodes}\nround = {number}\ndown = {down}\n{tail}"
+                   for node, number in restarted)
+
+
+def partition(first, last, first_round, last_round):
+    """A partition that sets the nodes `first` to `last` apart in these rounds."""
+    if not first <= last <= 4095:
+        raise Refused(f"{first} to {last} aren't nodes, which are 0 to 4095.")
+    if not 1 <= first_round <= last_round:
+        raise Refused(f"{first_round} to {last_round} aren't rounds.")
+    nodes = [str(it) for it in range(first, last + 1)]
+    lines = "".join("    " + ", ".join(nodes[at:at + 20]) + ",\n" for at in range(0, len(nodes), 20))
+    return f"[[partition]]\nfrom = {first_round}\nto = {last_round}\napart = [\n{lines}]\n"
+
+
+def load(first_round, last_round, writes):
+    """Another number of writes in these rounds."""
+    return f"[[load]]\nfrom = {first_round}\nto = {last_round}\nwrites = {writes}\n"

@@ -1,0 +1,35 @@
+"""The tools gossip_restarts and gossip_apart, which print sections of a scenario."""
+from gossip_tools import scenario
+from gossip_tools.commands import Refused, number
+
+RESTARTS = """gossip_restarts NODES EACH FROM TO DOWN [forget] [first=NODE] [every=ROUNDS]
+
+Prints a scenario's restarts: in each of the rounds FROM to TO the next EACH of NODES nodes restart, by ascending
+number, and are down for DOWN rounds. A scenario takes at most 1000.
+
+  forget   they lose their own state too, which needs format 2
+  first    the node that restarts first, 0 where it isn't given. To go on where an earlier call ended, give the number
+           of restarts that it made: after `gossip_restarts 300 2 11 20 1`, which makes 20, take first=20
+  every    1 restarts nodes in each of the rounds, 5 in FROM, FROM + 5 and so on
+"""
+APART = """gossip_apart FIRST LAST FROM TO
+
+Prints a scenario's partition: the nodes FIRST to LAST, the first of all is 0, are apart in the rounds FROM to TO.
+"""
+
+
+def restarts(words):
+    numbers = [word for word in words if word != "forget" and "=" not in word]
+    named = [word.partition("=")[::2] for word in words if "=" in word]
+    names = [name for name, _ in named] + [word for word in words if word == "forget"]
+    if len(numbers) != 5 or len(set(names)) != len(names) or set(names) - {"first", "every", "forget"}:
+        raise Refused("usage: " + RESTARTS.partition("\n")[0])
+    placed = {name: number(text, name) for name, text in named}
+    told = [number(*it) for it in zip(numbers, ("NODES", "EACH", "FROM", "TO", "DOWN"))]
+    print(scenario.restarts(*told, forget="forget" in names, **placed), end="")
+
+
+def apart(words):
+    if len(words) != 4:
+        raise Refused("usage: " + APART.partition("\n")[0])
+    print(scenario.partition(*(number(*it) for it in zip(words, ("FIRST", "LAST", "FROM", "TO")))), end="")

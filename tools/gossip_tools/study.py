@@ -1,0 +1,156 @@
+"""The runs that an answer for a cluster rests on: five stages, each a sweep in a folder of its own.
+
+  few         few rounds, for a first answer: all modes, with a half of nodes * writes, that, and what fits
+  knee        many rounds: all modes, budgets around nodes * writes and what fits
+  split       half of the nodes are set apart for some rounds; under the mode that was chosen
+  restart     nodes restart, by ascending number, and keep their own state
+  forgotten   the same, in bytes, and they lose their own state too
+"""
+from gossip_tools import cluster, read, rules, scenario
+
+# What is to be healed begins once the tables have filled and `greatest` is level: after so many rounds, of which the
+# last ones tell the level, and later with a budget below the knee.
+FILLING, LEVEL = 30, 20
+RESTARTING = 10
+
+
+class Study:
+    """A cluster, as advise is told it, and the numbers that follow. What is run may be a tenth of it."""
+
+    def __init__(self, told):
+        self.told = told
+        self.parts = 10 if cluster.is_too_large(told["nodes"], told["keys"]) else 1
+        it = dict(told)
+        if told["shared"] == "no":
+            it["digest"] = 0
+        it["nodes"], it["delta"] = int(told["nodes"]) // self.parts, told["delta"] / self.parts
+        if cluster.is_too_large(it["nodes"], it["keys"]):
+            raise cluster.Refused("a tenth of these nodes is still too large for a scenario, which takes 4096 nodes "
+                                  f"and {scenario.MOST_TRIPLES} of nodes * nodes * keys.")
+        scenario.limited("nodes", it["nodes"])
+        self.nodes, self.keys, self.writes = it["nodes"], int(it["keys"]), int(it["writes"])
+        self.knee = rules.knee(self.nodes, self.keys, self.writes)
+        self.rooms = {mode: cluster.room_for_delta(it, mode) / it["entry"] for mode in scenario.MODES}
+        modes = scenario.MODES if self.parts == 1 else (rules.USUAL_MODE,)
+        most = scenario.LIMITS["budget"][1]
+        count = told["count"] or ("bytes" if rules.counts_bytes(max(self.rooms.values())) else "entries")
+        self.in_bytes = count == "bytes"
+        least = 2 if self.in_bytes else 1
+        self.fits = {mode: min(int(self.rooms[mode]), most) for mode in modes if self.rooms[mode] >= least}
+        if rules.USUAL_MODE not in self.fits:
+            taken = it["delta"] - self.rooms[rules.USUAL_MODE] * it["entry"]
+            raise cluster.Refused(f"the digest takes {int(taken * self.parts)} of the {told['delta']} bytes, which "
+                                  f"leaves no room for {least} entries of {it['entry']} bytes: give the delta a "
+                                  "packet of its own.")
+        budgets = rules.budgets_of(self.fits.values(), self.nodes, self.keys, self.writes)
+        self.budgets = [it for it in budgets if it >= least]
+        slowness = -(-self.knee // self.budget(rules.USUAL_MODE))
+        self.before = FILLING * slowness + 1, (FILLING + LEVEL) * slowness
+        self.begins = self.before[1] + 1
+        self.tail = 40 + min(3 * self.keys * slowness, 400)
+        self.split, self.restarts = self.split_of(int(told["split"])), int(told["restarts"]) // self.parts
+        self.loss = int(told["loss"] * 10000)
+
+    def split_of(self, rounds):
+        """How long a split is run: no longer than it takes until each key was written four times, which leaves no more
+        to catch up with, or a hundred rounds."""
+        rewritten = -(-self.keys // self.writes) if self.writes else 0
+        return min(rounds, max(100, 4 * rewritten))
+
+    def whole(self, budget):
+        """A budget of what is run as one of the whole cluster."""
+        return budget * self.parts
+
+    def budget(self, mode):
+        return rules.budget_of(self.fits[mode], self.nodes, self.keys, self.writes)
+
+    def top(self, rounds, in_bytes):
+        # (the budget is another one in each run)
+        fields = scenario.top(self.nodes, self.keys, rounds, self.writes, self.loss, self.knee + 1, in_bytes)
+        return scenario.written(fields)
+
+    def choices(self, budgets, modes, in_bytes):
+        values = [scenario.budget_field(it, in_bytes) for it in budgets]
+        seeds = [str(it) for it in rules.SEEDS]
+        return {values[0][0]: [str(it) for _, it in values], "seed": seeds, "mode": list(modes)}
+
+    def healing_rounds(self):
+        return self.begins + max(self.split, RESTARTING) + self.tail
+
+    def restarting(self):
+        """The nodes that restart in a round, at least one, and the last of the rounds in which they do."""
+        each = max(1, min(self.restarts, self.nodes // 2, scenario.MOST_SECTIONS))
+        count = min(RESTARTING, self.nodes // each, scenario.MOST_SECTIONS // each) if self.restarts else 1
+        return each, self.begins + count - 1
+
+    def ends(self, stage):
+        """The last round of what is to be healed."""
+        return self.begins + self.split - 1 if stage == "split" else self.restarting()[1]
+
+    def healing_budgets(self, mode):
+        """A half of the knee, the knee, twice that, and the one that the mode would take."""
+        wanted = {self.knee // 2, self.knee, self.budget(mode), 2 * self.knee}
+        return sorted(it for it in {min(it, self.nodes * self.keys) for it in wanted} if it >= 1)
+
+    def stage(self, name, mode=rules.USUAL_MODE):
+        """The scenario of a stage and the choices of values of its fields."""
+        if name in ("few", "knee"):
+            rounds = rules.FEW_ROUNDS if name == "few" else rules.MANY_ROUNDS
+            few = {self.budget(it) for it in self.fits} | {self.knee, max(self.knee // 2, self.budgets[0])}
+            budgets = sorted(few) if name == "few" else self.budgets
+            return self.top(rounds, self.in_bytes), self.choices(budgets, self.fits, self.in_bytes)
+        in_bytes = self.in_bytes or name == "forgotten"
+        text = self.top(self.healing_rounds(), in_bytes)
+        if name == "split":
+            text += scenario.partition(0, self.nodes // 2 - 1, self.begins, self.ends(name))
+        else:
+            each, last = self.restarting()
+            text += scenario.restarts(self.nodes, each, self.begins, last, 1, forget=name == "forgotten")
+        return text, self.choices([it for it in self.healing_budgets(mode) if it >= 2], [mode], in_bytes)
+
+
+STAGES = ("few", "knee", "split", "restart", "forgotten")
+
+
+class Found:
+    """The runs of a stage that are there: the rows of each seed, by budget in entries and mode."""
+
+    def __init__(self, study, folder, choices):
+        self.before = study.before
+        runs = read.Runs(folder)
+        field, values = next(iter(choices.items()))
+        self.rows = {}
+        known = {*study.budgets, *study.healing_budgets(choices["mode"][0]), study.knee, study.knee // 2, 1}
+        entries = {str(scenario.budget_field(it, field == "budget_bytes")[1]): it for it in known}
+        for value in values:
+            for mode in choices["mode"]:
+                seeds = [runs.rows[(value, seed, mode)] for seed in choices["seed"]]
+                self.rows[(entries[value], mode)] = seeds
+
+    def worst(self, budget, mode, window):
+        """The worst staleness in a window, for each seed."""
+        return [max(row["greatest"] for row in read.between(rows, *window)) for rows in self.rows[(budget, mode)]]
+
+    def cut(self, budget, mode, window):
+        """The share that was cut, in per cent, for each seed."""
+        return [read.percent_cut(read.between(rows, *window)) for rows in self.rows[(budget, mode)]]
+
+    def suffices(self, budget, mode, window):
+        return rules.suffices(*(self.worst(budget, mode, half) for half in rules.halves(window)))
+
+    def healed_after(self, budget, mode, ends):
+        """The rounds after `ends` until `greatest` was back at its level, for each seed; None where it never was."""
+        taken = []
+        for rows in self.rows[(budget, mode)]:
+            level = rules.healed_level(max(row["greatest"] for row in read.between(rows, *self.before)))
+            taken.append(rounds_until("greatest", rows, ends, level))
+        return taken
+
+    def forgotten_after(self, budget, mode, ends):
+        """The rounds after `ends` until nothing was left over, for each seed."""
+        return [rounds_until("leftover", rows, ends, 0) for rows in self.rows[(budget, mode)]]
+
+
+def rounds_until(name, rows, ends, level):
+    found = read.first_at_most(name, rows, ends + 1, level)
+    return found - ends if found else None

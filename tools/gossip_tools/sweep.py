@@ -1,0 +1,124 @@
+"""gossip_sweep [-o FOLDER] FIELD=VALUE,VALUE.. .. < SCENARIO
+
+Runs the scenario with each choice of values, in all four modes where `mode` isn't among the fields. The folder, `runs`
+where none is named, gets the scenario and the report of each run, as budget-600.mode-precise-oldest.csv. A whole report
+that is there isn't made again, so a sweep that was ended goes on where it was. A folder takes runs of one scenario and
+of the same fields in the same order, so that gossip_read can read them, and one sweep at a time.
+
+  GOSSIP_BENCH   the program, where it isn't the one beside this tool or the one that is built
+  JOBS           how many runs go at once, where it isn't one for each core
+  HOSTS          the machines, as in HOSTS=:,alpha,8/beta, where `:` is this one: by GNU parallel over ssh. Each has the
+                 program under the same path, and perl, and gets no file. One without GNU parallel of its own makes one
+                 run at a time, unless its cores are told, as 8 of beta. Nothing is run where the program doesn't start
+                 on one of them
+"""
+import os
+import pathlib
+import re
+import subprocess
+import sys
+
+from gossip_tools import folders, running, scenario
+from gossip_tools.commands import Refused, the_program, workers
+from gossip_tools.progress import Progress
+
+
+def choices_of(words):
+    """The fields with their values, in order."""
+    choices = {}
+    for word in words:
+        if not re.fullmatch("[a-z_]+=[A-Za-z0-9_-]+(,[A-Za-z0-9_-]+)*", word):
+            raise Refused(f"'{word}' isn't FIELD=VALUE,VALUE.., with letters, digits, - and _ in the values.")
+        field, _, values = word.partition("=")
+        if field in choices:
+            raise Refused(f"the field {field} comes twice.")
+        choices[field] = values.split(",")
+    return choices if "mode" in choices else {**choices, "mode": list(scenario.MODES)}
+
+
+def spread(text, choices, name=""):
+    """The scenarios of all choices of values, by the names of their runs."""
+    if not choices:
+        return {name: text}
+    (field, values), *rest = choices.items()
+    runs = {}
+    for value in values:
+        more = spread(scenario.set_field(text, field, value), dict(rest), f"{name}{'.' if name else ''}{field}-{value}")
+        if twice := runs.keys() & more.keys():
+            raise Refused(f"{min(twice)} comes twice.")
+        runs |= more
+    return runs
+
+
+def check(runs, program):
+    """Refuses, as the program does, where it accepts one of the scenarios not."""
+    for name, text in runs.items():
+        try:
+            answer = subprocess.run([program, "check"], input=text.encode(), capture_output=True)
+        except OSError as error:
+            raise Refused(f"{program} can't be started: {error.strerror}.") from None
+        if answer.returncode:
+            sys.stderr.write(answer.stderr.decode(errors="replace"))
+            raise Refused(f"that is the answer to {name}.", max(answer.returncode, 1))
+        if answer.stdout != b"ok\n":
+            raise Refused(f"{program} doesn't answer as gossip_bench does: what does GOSSIP_BENCH name?")
+
+
+def carry_out(path, text, runs, program, progress, hosts=None, what="gossip_sweep"):
+    """Makes the reports of the runs that have none in the folder."""
+    stand = 0
+    try:
+        with folders.Folder(path, text, runs).held() as folder:
+            lacking = {name: lacks for name in runs if (lacks := folder.lacks(name))}
+            for name, lacks in lacking.items():
+                if (path / f"{name}.csv").exists():
+                    print(f"{what}: {name} is run again, as its report isn't whole: {lacks}.", file=sys.stderr)
+            progress.begin(path.name, list(lacking), runs.keys() - lacking.keys())
+            try:
+                if not lacking:
+                    return
+                if hosts:
+                    running.start(program, hosts)
+                    jobs = workers() if os.environ.get("JOBS") else None
+                    running.far(folder, list(lacking), program, hosts, jobs, progress.done)
+                else:
+                    running.here(folder, list(lacking), program, workers(), progress.done)
+            finally:
+                progress.end()
+                stand = sum(not folder.lacks(name) for name in runs)
+    except running.Stopped as stopped:
+        why, status = f"stopped by {stopped}", stopped.status
+    except running.Failed as failed:
+        why, status = f"a run failed: {failed}", 1
+    except OSError as error:
+        why, status = f"{error.filename or path}: {error.strerror}", 1
+    else:
+        return
+    why = f"{why.rstrip('.')}. {stand} of {len(runs)} runs stand in {path}; the same command goes on from there."
+    raise Refused(why, status)
+
+
+def main(words):
+    folder = "runs"
+    if words[:1] == ["-o"]:
+        if not words[1:2] or not words[1]:
+            raise Refused("-o needs a folder.")
+        folder, words = words[1], words[2:]
+    if not words:
+        raise Refused("usage: gossip_sweep [-o FOLDER] FIELD=VALUE,VALUE.. .. < SCENARIO")
+    choices = choices_of(words)
+    hosts = os.environ.get("HOSTS")
+    if hosts and not running.is_gnu_parallel():
+        raise Refused("other machines need GNU parallel, which isn't there.")
+    workers()
+    program = the_program()
+    running.Signals.listen()
+    try:
+        text = sys.stdin.buffer.read().decode()
+    except UnicodeDecodeError:
+        raise Refused("the scenario isn't UTF-8.") from None
+    runs = spread(text, choices)
+    check(runs, program)
+    path = pathlib.Path(folder)
+    carry_out(path, text, runs, program, Progress({f"{path.name}/{name}": 1 for name in runs}), hosts)
+    print(f"{len(runs)} runs in {folder}")

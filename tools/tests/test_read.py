@@ -1,0 +1,52 @@
+"""Reports, with figures worked out by hand."""
+import unittest
+
+from gossip_tools import read
+
+HEADER = "round,exchanges,unreached,lost,entries,cut,stale,greatest\n"
+# What was sent and cut is 40 and 10 in round 1, 30 and 20 in round 2, 100 and 0 in round 3.
+TEXT = HEADER + "1,4,0,0,40,10,7,1\n2,4,0,0,30,20,9,2\n3,4,0,0,100,0,0,0\n"
+
+
+class Reports(unittest.TestCase):
+    def test_rows(self):
+        rows = read.rows_of(TEXT, 1, 3)
+        self.assertEqual([(1, 7), (2, 9), (3, 0)], [(row["round"], row["stale"]) for row in rows])
+
+    def test_not_whole(self):
+        cases = {
+            "": "it is empty", HEADER: "it is cut short after 0 of 3 rounds",
+            TEXT[:-1]: "it is cut short after 2 of 3 rounds",
+            TEXT + "4,4,0,0,1,0,0,0\n": "it goes on after its 3 rounds", TEXT + "4,4": "it goes on after its 3 rounds",
+            TEXT[1:]: "its header is another",
+            TEXT.replace("2,4,0,0,30", "2,4,0,0,\0\0"): "its line of round 2 is another",
+            TEXT.replace("\n3,", "\n4,"): "its line of round 3 is another",
+        }
+        found = {}
+        for text in cases:
+            try:
+                read.rows_of(text, 1, 3)
+            except read.NotWhole as why:
+                found[text] = str(why)
+        self.assertEqual(cases, found)
+
+
+class Figures(unittest.TestCase):
+    def test_share_cut(self):
+        """30 of 100 were cut in the rounds 1 and 2, 30 of 200 in all, nothing in round 3."""
+        rows = read.rows_of(TEXT, 1, 3)
+        cases = {(1, 2): 30.0, (1, 3): 15.0, (3, 3): 0.0}
+        self.assertEqual(cases, {it: read.percent_cut(read.between(rows, *it)) for it in cases})
+
+    def test_first_at_most(self):
+        rows = read.rows_of(TEXT, 1, 3)
+        cases = {("greatest", 1, 1): 1, ("greatest", 2, 1): 3, ("stale", 1, 6): 3, ("stale", 1, 8): 1,
+                 ("stale", 2, 8): 3}
+        self.assertEqual(cases, {it: read.first_at_most(it[0], rows, *it[1:]) for it in cases})
+        self.assertIsNone(read.first_at_most("greatest", rows[:2], 2, 1))
+
+    def test_what_it_took(self):
+        """From round 2 to round 3 are two rounds."""
+        rows = read.rows_of(TEXT, 1, 3)
+        self.assertEqual({"round": 3, "took": 2}, read.level("greatest", rows, 2, 0))
+        self.assertEqual({"round": "never", "took": "never"}, read.level("greatest", rows[:2], 1, 0))

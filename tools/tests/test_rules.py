@@ -1,0 +1,62 @@
+"""The rules, on figures of docs/guide.md and on some worked out by hand."""
+import unittest
+
+from gossip_tools import rules
+
+# What docs/guide.md has of five seeds, in "The mode, or the seed's accident?", as the most of `greatest`.
+DEPTH_AT_50, OLDEST_AT_50 = [20, 18, 19, 18, 21], [35, 59, 43, 47, 50]
+DEPTH_AT_100, OLDEST_AT_100 = [8, 7, 7, 7, 8], [9, 7, 8, 8, 9]
+
+
+class Better(unittest.TestCase):
+    def test_five_seeds(self):
+        """With 50 depth is ahead under every seed by more than they differ, with 100 it is no reason to choose."""
+        self.assertTrue(rules.is_better(DEPTH_AT_50, OLDEST_AT_50))
+        self.assertFalse(rules.is_better(OLDEST_AT_50, DEPTH_AT_50))
+        self.assertTrue(rules.are_close(DEPTH_AT_100, OLDEST_AT_100))
+
+    def test_bands_that_touch(self):
+        cases = {((7, 8), (8, 9)): False, ((7, 7), (8, 8)): True, ((7, 8), (9, 9)): True, ((7, 9), (8, 10)): False}
+        self.assertEqual(cases, {it: rules.is_better(*it) for it in cases})
+
+    def test_mode(self):
+        depth, oldest, newest = "scuttle-depth", "precise-oldest", "precise-newest"
+        cases = (
+            ({oldest: [9, 9], depth: [9, 10]}, depth), ({oldest: [7, 8], depth: [9, 10]}, oldest),
+            ({oldest: [7, 8], newest: [5, 6], depth: [9, 10]}, newest), ({newest: [7, 8], oldest: [7, 9]}, oldest),
+            ({depth: DEPTH_AT_100, oldest: OLDEST_AT_100}, depth),
+        )
+        self.assertEqual([wanted for _, wanted in cases], [rules.mode_of(figures) for figures, _ in cases])
+
+
+class Enough(unittest.TestCase):
+    def test_halves(self):
+        cases = {(31, 60): ((31, 45), (46, 60)), (101, 200): ((101, 150), (151, 200)), (1, 3): ((1, 1), (2, 3))}
+        self.assertEqual(cases, {it: rules.halves(it) for it in cases})
+
+    def test_suffices(self):
+        """Where some write of round 1 is missing throughout, the halves end with 150 and 200."""
+        cases = {((150, 150), (200, 200)): False, ((8, 7), (7, 8)): True, ((7, 7), (8, 8)): False,
+                 ((7, 8), (8, 9)): True}
+        self.assertEqual(cases, {it: rules.suffices(*it) for it in cases})
+
+    def test_healed(self):
+        """Half of the nodes are set apart where `greatest` was 5 to 7: it is healed at 8."""
+        self.assertEqual(8, rules.healed_level(7))
+
+
+class Budgets(unittest.TestCase):
+    def test_first_answer(self):
+        """300 nodes with 4 keys write 2 of them, and 1000 entries fit: "take the 1000"; twice 600 would be 1200."""
+        cases = {(1000, 300, 4, 2): 1000, (1300, 300, 4, 2): 1200, (500, 300, 4, 2): 500, (9999, 100, 4, 8): 400,
+                 (9999, 100, 64, 2): 400, (9999, 100, 4, 0): 200}
+        self.assertEqual(cases, {it: rules.budget_of(*it) for it in cases})
+
+    def test_around_the_knee(self):
+        """A quarter of 600 is 150, and above 300 * 4 = 1200 nothing changes. Of 10 a quarter is 2 and a half."""
+        cases = {((1000, 70), 300, 4, 2): [70, 150, 300, 450, 600, 900, 1000, 1200], ((5000,), 300, 4, 2):
+                 [150, 300, 450, 600, 900, 1200], ((12,), 10, 1, 1): [2, 5, 7, 10]}
+        self.assertEqual(list(cases.values()), [rules.budgets_of(*it) for it in cases])
+
+    def test_what_is_counted(self):
+        self.assertEqual([True, True, False], [rules.counts_bytes(room) for room in (5, 49.9, 50)])

@@ -104,8 +104,10 @@ fn holder_table<R: Eprint + AllocGlobal>(rt: &R) -> Result<NodeTable, Failure> {
 
 // The tables of both.
 fn both_tables<R: Eprint + AllocGlobal>(rt: &R) -> Result<(NodeTable, NodeTable), Failure>
-    ensures owner { IfOk result (λ both. (both.0.table.node ≡ 0) × (both.0.table.nodes ≡ 2) × (both.0.table.keys ≡ 1)) }
-    ensures holder { IfOk result (λ both. (both.1.table.node ≡ 1) × (both.1.table.nodes ≡ 2) × (both.1.table.keys ≡ 1)) }
+    ensures owner { IfOk result (λ both.
+        (both.0.table.node ≡ 0) × (both.0.table.nodes ≡ 2) × (both.0.table.keys ≡ 1)) }
+    ensures holder { IfOk result (λ both.
+        (both.1.table.node ≡ 1) × (both.1.table.nodes ≡ 2) × (both.1.table.keys ≡ 1)) }
 {
     let (owner, holder) = (owner_table(rt)?, holder_table(rt)?);
     check_node(&owner, 0)?;

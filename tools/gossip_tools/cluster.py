@@ -11,7 +11,9 @@ Prints a scenario from the numbers of a cluster, with what it leaves out in fron
   digest   the bytes of one number of the digest, where it shares the packet with the delta; 0 where it doesn't
   loss     how many messages of a hundred are lost, 0 where it isn't given
   count    `bytes`, a scenario of format 2, or `entries`, one of format 1 for entries of about one size
-  mode, rounds, seed    `scuttle-depth`, 60 and 1 where they aren't given
+  fanout   how many peers a node calls in an interval, 1 where it isn't given. Each call is a round of its own then, so
+           divide `greatest` by it; only the first round of an interval has writes
+  mode, rounds, seed    `scuttle-depth`, 60 for each call of an interval, and 1 where they aren't given
 """
 import re
 from fractions import Fraction
@@ -24,7 +26,9 @@ TEXTS = {"mode": ("scuttle-depth", "scuttle-breadth", "precise-oldest", "precise
          "count": ("bytes", "entries"), "shared": ("yes", "no"), "forget": ("yes", "no")}
 DECIMALS = ("loss", "interval")
 BYTES = ("entry", "delta", "digest")
-USUAL = {"digest": "0", "loss": "0", "rounds": "60", "seed": "1", "mode": TEXTS["mode"][0], "count": "bytes"}
+USUAL = {"digest": "0", "loss": "0", "fanout": "1", "rounds": None, "seed": "1", "mode": TEXTS["mode"][0],
+         "count": "bytes"}
+USUAL_ROUNDS = 60
 NEEDED = ("nodes", "keys", "writes", "entry", "delta")
 
 
@@ -120,11 +124,24 @@ def room_for_delta(it, mode):
     return it["delta"] - it["digest"] * scenario.digest_numbers(it["nodes"], it["keys"], mode)
 
 
+def without_writes(rounds, fanout):
+    """The sections that leave the writes to the first of the rounds that an interval has."""
+    firsts = range(2, rounds + 1, fanout) if fanout > 1 else ()
+    if len(firsts) > scenario.MOST_SECTIONS:
+        raise Refused(f"{rounds} rounds have {len(firsts)} intervals of {fanout} calls, and a scenario takes "
+                      f"{scenario.MOST_SECTIONS}: take fewer rounds.")
+    return "".join(scenario.load(it, min(it + fanout - 2, rounds), 0) for it in firsts)
+
+
 def main(words):
     it = told(words, USUAL, "gossip_scenario nodes=300 keys=4 writes=1 entry=40 delta=60000")
     check_limits(it)
     check_size(it)
-    rounds, seed = limited("rounds", it["rounds"]), limited("seed", it["seed"])
+    fanout = int(it["fanout"])
+    if not 1 <= fanout <= 16:
+        raise Refused(f"a node calls 1 to 16 peers in an interval, not {fanout}.")
+    rounds = limited("rounds", USUAL_ROUNDS * fanout if it["rounds"] is None else int(it["rounds"]))
+    seed, loads = limited("seed", it["seed"]), without_writes(rounds, fanout)
     room = room_for_delta(it, it["mode"])
     taken = it["delta"] - room
     if room < it["entry"]:
@@ -142,7 +159,9 @@ def main(words):
         print("# Which key is written is left to chance; keys in turn give entries of nearly one size.")
     else:
         print("# All entries count alike: that sizes differ is left out.")
-    generations = "" if in_bytes else " generations,"
-    print(f"# Left out: latency, more than one peer a round,{generations} failure detectors, nodes that join or leave.")
+    if loads:
+        print(f"# An interval is {fanout} rounds, one for each call. `greatest` is in rounds: divide it by {fanout}.")
+    left = ["latency"] + ["more than one peer a round"] * (fanout == 1) + ["generations"] * (not in_bytes)
+    print(f"# Left out: {', '.join(left)}, failure detectors, nodes that join or leave.")
     print("# Not asked for: restarts (gossip_restarts), partitions (gossip_apart), rounds with other writes.")
-    print(scenario.written(fields), end="")
+    print(scenario.written(fields) + loads, end="")

@@ -1,9 +1,10 @@
-"""gossip_read window FROM TO [FOLDER] [--partial]
-gossip_read level FROM LEVEL [FOLDER] [--partial]
-gossip_read leftover FROM LEVEL [FOLDER] [--partial]
+"""gossip_read window FROM TO [FOLDER] [--seeds] [--partial]
+gossip_read level FROM LEVEL [FOLDER] [--seeds] [--partial]
+gossip_read leftover FROM LEVEL [FOLDER] [--seeds] [--partial]
 
-Prints a line for each run of the folder that gossip_sweep filled, `runs` where none is named. Where a run has no whole
-report, it says which and ends with status 2; with --partial it says so and goes on with the others.
+Prints a line for each run of the folder that gossip_sweep filled, `runs` where none is named. With --seeds the runs
+that differ in their seed alone have one line, and each column goes from its least to its most over the seeds. Where a
+run has no whole report, it says which and ends with status 2; with --partial it says so and goes on with the others.
 
   window     what was cut in the rounds FROM to TO, in per cent of all that was lacking, and the least and the most of
              `greatest` and of `stale` there, and of `leftover` in format 2
@@ -133,15 +134,32 @@ def level(name, rows, first, most):
     return {"round": found or "never", "took": found - first + 1 if found else "never"}
 
 
+def span(values):
+    """From the least to the most, where `never` is more than all numbers."""
+    least, *_, most = sorted([*values, *values], key=lambda it: (it == "never", it == "never" or float(it)))
+    return least if least == most else f"{least} to {most}"
+
+
+def over_seeds(fields, found):
+    """The runs that differ in their seed alone as one, by the values of the other fields."""
+    at, alike = fields.index("seed"), {}
+    for values, columns in found.items():
+        alike.setdefault(values[:at] + values[at + 1:], []).append(columns)
+    spans = {values: {name: span([it[name] for it in each]) for name in each[0]} for values, each in alike.items()}
+    return fields[:at] + fields[at + 1:], spans
+
+
 def main(words):
-    partial = "--partial" in words
-    words = [word for word in words if word != "--partial"]
+    partial, seeds = "--partial" in words, "--seeds" in words
+    words = [word for word in words if word not in ("--partial", "--seeds")]
     if len(words) not in (3, 4) or words[0] not in ("window", "level", "leftover"):
         raise Refused("usage: gossip_read window FROM TO [FOLDER], or level FROM LEVEL [FOLDER], or leftover likewise")
     first, second = number(words[1], "FROM"), number(words[2], "TO" if words[0] == "window" else "LEVEL")
     last = second if words[0] == "window" else first
     folder = pathlib.Path(words[3] if len(words) == 4 else "runs")
     runs = Runs(folder)
+    if seeds and "seed" not in runs.fields:
+        raise Refused(f"the runs in {folder} have no field seed of their own.")
     if runs.missing:
         if not partial or not runs.rows:
             raise Refused(f"{runs.what_is_missing()} The same sweep makes them; --partial goes on without them.")
@@ -157,6 +175,7 @@ def main(words):
             raise Refused(f"the runs in {folder} are of format 1, which has no column leftover.")
         else:
             found[values] = level("greatest" if words[0] == "level" else "leftover", rows, first, second)
-    print(*runs.fields, *next(iter(found.values())), sep=",")
+    fields, found = over_seeds(runs.fields, found) if seeds else (runs.fields, found)
+    print(*fields, *next(iter(found.values())), sep=",")
     for values, columns in found.items():
         print(*values, *columns.values(), sep=",")

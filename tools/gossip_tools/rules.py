@@ -15,8 +15,8 @@ CHEAPEST_FIRST = (USUAL_MODE, "scuttle-breadth", "precise-oldest", "precise-newe
 FEW_ENTRIES = 50
 # How far a tenth was seen to hold in scuttle-depth.
 TENTH = ("A tenth of the nodes stands for the whole in scuttle-depth: 1000 nodes had 2 to 5 rounds more in `greatest` "
-         "than 100, with a budget of a half to twice `nodes * writes`. At 0.14 of it 100, 1000 and 4000 nodes had 24, "
-         "30 and 36 rounds.")
+         "than 100, with a budget of a half to twice `nodes * writes`. At 0.14 of it, with one key, 100, 1000 and 4000 "
+         "nodes had 25 to 28, 33 to 36 and 39 to 41 rounds.")
 
 
 def band(figure):

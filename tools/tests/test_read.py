@@ -50,3 +50,10 @@ class Figures(unittest.TestCase):
         rows = read.rows_of(TEXT, 1, 3)
         self.assertEqual({"round": 3, "took": 2}, read.level("greatest", rows, 2, 0))
         self.assertEqual({"round": "never", "took": "never"}, read.level("greatest", rows[:2], 1, 0))
+
+    def test_over_seeds(self):
+        """Runs are alike where all but their seed is, and `never` is more than all numbers."""
+        found = {("5", "1"): {"took": 9}, ("5", "2"): {"took": 11}, ("7", "1"): {"took": "never"},
+                 ("7", "2"): {"took": 3}, ("9", "1"): {"took": 4}, ("9", "2"): {"took": 4}}
+        wanted = {("5",): {"took": "9 to 11"}, ("7",): {"took": "3 to never"}, ("9",): {"took": 4}}
+        self.assertEqual((("budget",), wanted), read.over_seeds(("budget", "seed"), found))

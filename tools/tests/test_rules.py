@@ -3,7 +3,7 @@ import unittest
 
 from gossip_tools import rules
 
-# What docs/guide.md has of five seeds, in "The mode, or the seed's accident?", as the most of `greatest`.
+# What docs/study.md has of five seeds, in "The mode, or the seed's accident?", as the most of `greatest`.
 DEPTH_AT_50, OLDEST_AT_50 = [20, 18, 19, 18, 21], [35, 59, 43, 47, 50]
 DEPTH_AT_100, OLDEST_AT_100 = [8, 7, 7, 7, 8], [9, 7, 8, 8, 9]
 

@@ -19,6 +19,14 @@ class Budgets(unittest.TestCase):
         self.assertEqual(cases, {it: scenario.budget_field(*it) for it in cases})
 
 
+class Fanout(unittest.TestCase):
+    def test_rounds_without_writes(self):
+        """Of three rounds to an interval the second and third have no writes; the last interval may be cut short."""
+        cases = {(9, 1): "", (2, 3): scenario.load(2, 2, 0),
+                 (8, 3): scenario.load(2, 3, 0) + scenario.load(5, 6, 0) + scenario.load(8, 8, 0)}
+        self.assertEqual(cases, {it: cluster.without_writes(*it) for it in cases})
+
+
 class Advice(unittest.TestCase):
     def test_instead(self):
         cases = {

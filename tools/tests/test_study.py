@@ -29,7 +29,7 @@ class Numbers(unittest.TestCase):
         self.assertEqual(cases, {words: (of(words).budgets, of(words).budget("scuttle-depth")) for words in cases})
 
     def test_bytes(self):
-        """Room for 5 entries is counted in bytes, 523.5 each: 5 are 2617, as docs/guide.md has them."""
+        """Room for 5 entries is counted in bytes, 523.5 each: 5 are 2617, as docs/study.md has them."""
         text, choices = of(FEW).stage("knee")
         self.assertEqual(["1047", "2617", "3664", "5235", "7852", "10470"], choices["budget_bytes"])
         self.assertIn('format = 2\nnodes = 10\nkeys = 4\nrounds = 200\nseed = 1\n', text)

@@ -1,0 +1,59 @@
+"""What is installed beside the program: the one list that scripts/install and scripts/package go by."""
+import os
+import subprocess
+import sys
+from pathlib import Path
+
+sys.dont_write_bytecode = True
+TOP = Path(__file__).resolve().parent.parent
+TOOLS = TOP / "tools"
+PROGRAM = "gossip_bench"
+# The loader hides AVX2 by this, and a program that needs it doesn't start.
+OLDER = {"GLIBC_TUNABLES": "glibc.cpu.hwcaps=-AVX2"}
+
+
+class Missing(Exception):
+    """What isn't there to be installed, in a sentence."""
+
+
+def commands():
+    """The tools by the names under which they are called."""
+    named = {it.name: it for it in sorted(TOOLS.glob("gossip_*")) if it.is_file()}
+    return {**named, "gossip_replay": TOOLS / "replay.py"}
+
+
+def modules():
+    """The Python package of the tools, by where its files stand beside them."""
+    return {it.relative_to(TOOLS).as_posix(): it for it in sorted(TOOLS.glob("gossip_tools/*.py"))}
+
+
+def beside(program):
+    """All that stands in the program's folder, by its place there."""
+    return {PROGRAM: program, **commands(), **modules()}
+
+
+def starts(program, **variables):
+    """What the program says of itself, or why it doesn't start."""
+    done = subprocess.run([program, "--help"], capture_output=True, text=True, env={**os.environ, **variables})
+    return done.stdout if done.returncode == 0 else None, done.stderr.strip()
+
+
+def the_program():
+    """The program of GOSSIP_BENCH, else the built one, which is built first where it has to be."""
+    program = os.environ.get("GOSSIP_BENCH")
+    if not program:
+        if subprocess.run([TOP / PROGRAM, "--help"], stdout=subprocess.DEVNULL).returncode:
+            raise Missing("the program isn't built.")
+        program = TOP / "crates" / PROGRAM / "out" / PROGRAM
+    program = Path(program).absolute()
+    if not os.access(program, os.X_OK) or program.is_dir():
+        raise Missing(f"there is no program at {program}.")
+    said, why = starts(program)
+    if said is None:
+        raise Missing(f"{program} doesn't run here: {why}")
+    return program
+
+
+def needs_newer(program):
+    """Whether it needs an x86-64-v3 processor."""
+    return starts(program, **OLDER)[0] is None

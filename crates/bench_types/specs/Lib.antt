@@ -1,6 +1,7 @@
 pub mod Budget
 pub mod Entry
 pub mod Exchange
+pub mod FaultLine
 pub mod Field
 pub mod Mark
 pub mod Mode

@@ -1,7 +1,7 @@
 //! The names of a scenario's fields and tables.
 
-ghost use Rattle.std.specs.Prelude.{◌≡◌};
-ghost use Rattle.bench_types.specs.Field.{field_name};
+ghost use Rattle.std.specs.Prelude.{◌≡◌, ◌≤◌, length, Some};
+ghost use Rattle.bench_types.specs.Field.{field_name, field_text, table_name, table_of};
 
 use std::fmt;
 
@@ -69,7 +69,9 @@ impl Field {
     }
 
     // The table that has it.
-    fn table(self) -> TableName {
+    pub(crate) fn table(self) -> TableName
+        ensures { result ≡ table_of self }
+    {
         match self {
             Field::PartitionFrom | Field::PartitionTo | Field::PartitionApart => {
                 TableName::Partition
@@ -84,6 +86,8 @@ impl Field {
 
 /// The field's name, behind that of its table and a point where it is a field of an element.
 impl fmt::Display for Field {
+    ghost output = { λ field. Some (field_text field) };
+
     fn fmt<W: fmt::Write>(&self, f: &mut fmt::Formatter<W>) -> fmt::Result {
         let name = self.name();
         match self.table() {
@@ -102,13 +106,24 @@ pub enum TableName {
     Load,
 }
 
-impl fmt::Display for TableName {
-    fn fmt<W: fmt::Write>(&self, f: &mut fmt::Formatter<W>) -> fmt::Result {
-        f.write_str(match self {
+impl TableName {
+    // What it is called in a fault's line.
+    pub(crate) fn name(self) -> &'static str
+        ensures { result.now ≡ table_name self }
+    {
+        match self {
             TableName::Top => "top",
             TableName::Partition => "partition",
             TableName::Restart => "restart",
             TableName::Load => "load",
-        })
+        }
+    }
+}
+
+impl fmt::Display for TableName {
+    ghost output = { λ table. Some (table_name table) };
+
+    fn fmt<W: fmt::Write>(&self, f: &mut fmt::Formatter<W>) -> fmt::Result {
+        f.write_str(self.name())
     }
 }

@@ -186,7 +186,7 @@ module _ (plan blank : BoardPlan) (id other : ℕ) (v w : SeatView) (some_parts 
     };
     seats = record {
       parts = omega (arith, weighed (λ u. u.seat.parts), o.seats.parts);
-      spent = each_joined (λ u. u.seat.parts ≡ 0 → IsSpent u) o.seats.spent (λ no_parts. absurd (omega (arith, no_parts, some_parts))) (λ _. record { made = refl; held = refl; told = refl; known = refl; moving = refl; owes = refl; halted = refl });
+      spent = each_joined (λ u. u.seat.parts ≡ 0 → IsSpent u) o.seats.spent (λ no_parts. absurd (omega (arith, no_parts, some_parts))) (λ _. record { made = refl; held = refl; freed = refl; told = refl; known = refl; moving = refl; owes = refl; halted = refl });
       owes = each_joined (OwesForMade plan.list.exchanges) o.seats.owes (λ i j owed. absurd (omega (arith, owed))) (λ i j owed. absurd (omega (arith, owed)));
     };
   }

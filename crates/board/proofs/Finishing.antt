@@ -29,7 +29,7 @@ use Rattle.board.proofs.Parts.{order_kept, words_kept, freed_kept, tables_finish
 use Rattle.board.proofs.Keeps.{calls-set, flag_yes, steps_aside, made-set, held-set, moving-set, freed-set, told-set, known-set, from-set, to-set, finished-set, sound_set, seats_set}
 use Rattle.board.proofs.Moving.{runs, unfinished, in_list, none_held}
 use Rattle.board.proofs.Claims.{St, Goes, ends_else, ends_here}
-use Rattle.board.proofs.Telling.{planned_at, was_claimed, look_tells, is_apart, finished_upto, pending_most, whole_owed, whole_made}
+use Rattle.board.proofs.Telling.{planned_at, was_claimed, look_tells, is_apart, finished_upto, pending_most, whole_owed, whole_made, is_informed, looks_informed}
 
 -- the releases that one exchange owes
 releases-to : (i j : ℕ) (xs : List ℕ) → total (to_only j) (releases_by i xs) ≡ times j xs
@@ -329,7 +329,7 @@ module _ (plan : BoardPlan) (id : ℕ) (v : SeatView) (some_parts : 0 < v.parts)
           tt,
           steps_aside plan s o id (resting plan v) w me (record { made = refl; held = refl; freed = refl; known = refl; halted = refl; parts = refl; moving = refl; owes = refl }) (set s.words 0 r) s.homes (set-get_or s.words 0 0) refl some_parts (λ j now. inl now)
               (omega (arith, half plan id v some_parts s o)) (odd_stop plan id v some_parts s o),
-          (refl, look_tells plan s o id (resting plan v) me refl refl),
+          (refl, look_tells plan s o id (resting plan v) me refl refl, looks_informed plan s o id (resting plan v) me refl refl),
         )
 
     goes_shown : (n : ℕ) → Goes plan s 0 id (resting plan v, []) (shown (step n 0 0 0 none) (resting plan v, [])) (get_or s.words 0 0)
@@ -339,7 +339,7 @@ module _ (plan : BoardPlan) (id : ℕ) (v : SeatView) (some_parts : 0 < v.parts)
       tt,
       steps_aside plan s o id (resting plan v) (resting plan v) me (record { made = refl; held = refl; freed = refl; known = refl; halted = refl; parts = refl; moving = refl; owes = refl }) (set s.words 0 (get_or s.words 0 0)) s.homes (set-get_or s.words 0 0) refl some_parts (λ j now. inl now)
           (o.sound.seen id (resting plan v) me) (λ knows. o.sound.stopped (omega (arith, flag_yes v.is_stopped knows, term_le (λ u. flag u.seat.is_stopped) s.views id (resting plan v) me))),
-      (refl, is_apart plan s o id (resting plan v) me refl refl),
+      (refl, is_apart plan s o id (resting plan v) me refl refl, is_informed plan s o id (resting plan v) me refl refl),
     )
 
     goes_halted : (n : ℕ) → Goes plan s 0 id (resting plan v, []) (halted (step n 0 1 0 none) (resting plan v, [])) (bit_or (get_or s.words 0 0) 1)

@@ -1,5 +1,5 @@
 -- The frame of each step: what one seat's change makes of the counts over all seats, and the steps that change no count.
--- Serves `Claims`, `Finishing`, `Knowing`, `Moving` and `Telling`.
+-- Serves `Claims`, `Finishing`, `Moving` and `Telling`.
 use Rattle.std.proofs.Common.{◌≡◌, ℕ, ◌+◌, ◌*◌, ◌<◌, ◌≤◌, ◌⊎◌, Bool, true, false, List, length, get_or, set, inl, inr, ap, ◌∙◌, subst, arith}
 use Rattle.std.proofs.lemmas.Bool.{cases_Bool, cases_lt}
 use mathlib.Core.Option.{some}

@@ -1,6 +1,6 @@
 -- What a seat may conclude from the rule.
 -- Serves `Claims`, `Ends`, `Finishing`, `Knowing` and `Moving`.
-use Rattle.std.proofs.Common.{◌≡◌, ◌≢◌, ℕ, ◌+◌, ◌*◌, ◌/◌, ◌%◌, ◌<◌, ◌≤◌, true, List, [], length, get_or, Option, None, Some, inl, inr, sym, ap, ◌∙◌, subst, arith, All}
+use Rattle.std.proofs.Common.{◌≡◌, ◌≢◌, ℕ, ◌+◌, ◌*◌, ◌/◌, ◌%◌, ◌<◌, ◌≤◌, true, List, [], length, get_or, Option, None, Some, inl, inr, sym, ap, ◌∙◌, subst, arith, All, ◌↔◌, ◌⊎◌}
 use Rattle.std.proofs.lemmas.Bool.{cases_Bool, cases_eq, cases_lt, eq-eqb, eqb-true}
 use Rattle.std.proofs.lemmas.List.{length-append}
 use Rattle.std.proofs.lemmas.List.Elements.{All-get_or}
@@ -11,16 +11,16 @@ use Rattle.bench_types.specs.declared.exchanges.Exchange.{Exchange}
 use Rattle.bench_types.specs.Exchange.{IsPlanned}
 use Rattle.dependencies.specs.Sharing.{no_exchange, exchange_at, takes_part, share_node}
 use Rattle.dependencies.specs.Neighbours.{predecessors, pending_of, as_list, predecessors_of}
-use Rattle.dependencies.proofs.Predecessors.{earlier_from_predecessors, share_from}
+use Rattle.dependencies.proofs.Predecessors.{earlier_from_predecessors, predecessors_earlier, share_from}
 use Rattle.dependencies.proofs.Sharers.{share_common}
-use Rattle.board.specs.Weights.{total, only, times, flag}
-use Rattle.board.specs.SeatView.{IsWhole}
+use Rattle.board.specs.Weights.{total, only, times, flag, Has}
+use Rattle.board.specs.SeatView.{IsWhole, having_seen}
 use Rattle.board.specs.Plan.{BoardPlan, IsBoardPlan, table_at}
-use Rattle.board.specs.Rule.{Slot, TAKEN, exchange_word, made_in, held_in, moving_in, running_in, owed_from, owed_to, from_only, to_only, finished_in, stops_called, HasTable, IsSpent, Orderly}
+use Rattle.board.specs.Rule.{Slot, TAKEN, exchange_word, made_in, held_in, freed_in, moving_in, running_in, owed_from, owed_to, from_only, to_only, finished_in, stops_called, HasTable, IsSpent, Orderly}
 use Rattle.board.specs.inner.Plays.{is_odd, ClaimTells}
-use Rattle.board.specs.Seats.{LookTells, IsApart}
+use Rattle.board.specs.Seats.{LookTells, IsApart, IsInformed, KnowsItsOwn}
 use Rattle.board.specs.declared.views.View.{View}
-use Rattle.board.proofs.Sums.{term_le, terms_le, positive_term, total_most, full_each, each_full, all_times, times_all, total_whole, only-same, only_at, lengths-upto, upto_most, upto_full}
+use Rattle.board.proofs.Sums.{total-append, term_le, terms_le, positive_term, total_most, full_each, each_full, all_times, times_all, total_whole, only-same, only_at, lengths-upto, upto_most, upto_full}
 use Rattle.board.proofs.Parts.{apart}
 use Rattle.board.proofs.Keeps.{flag_yes}
 
@@ -84,6 +84,49 @@ module _ (plan : BoardPlan) (s : State Slot View) (o : Orderly plan s) where
           ]
         ])
 
+  -- the word of an exchange is at most TAKEN, and below that it wasn't claimed
+  word_cases : (i : ℕ) → i < length es → (exchange_word s.words i ≡ TAKEN) ⊎ (exchange_word s.words i < TAKEN)
+  word_cases i within = elim (cases_eq (exchange_word s.words i) TAKEN) [
+    | inl is ↦ inl is
+    | inr other ↦ inr (omega (arith, o.words.bounded i within (unclaimed i other), pending_most es i))
+  ]
+
+  -- what is freed waits for others, and each of these is finished
+  pub freed_within : (i : ℕ) → 0 < freed_in s.views i → i < length es
+  freed_within i some_freed = elim (cases_lt i (length es)) [
+    | inl within ↦ within
+    | inr past ↦ absurd (omega (arith, some_freed, o.freed.first i (inl (omega (arith, past)))))
+  ]
+
+  pub freed_pending : (i : ℕ) → 0 < freed_in s.views i → pending_of es i ≢ 0
+  freed_pending i some_freed none_pending = omega (arith, some_freed, o.freed.first i (inr none_pending))
+
+  pub freed_after : (i : ℕ) → 0 < freed_in s.views i → All (λ j. made_in s.views j ≡ 1) (predecessors es i)
+  freed_after i some_freed =
+      let within = freed_within i some_freed in
+      elim (word_cases i within) [
+        | inl taken ↦ predecessors_earlier es (λ j. made_in s.views j ≡ 1) i (λ j less shared. o.in_order.free i j (was_claimed i within taken) less shared)
+        | inr below ↦ elim (cases_eq (exchange_word s.words i) 0) [
+          | inl is ↦ predecessors_made i within is
+          | inr not_zero ↦ absurd (omega (arith, some_freed, o.freed.waiting i within (omega (arith, not_zero)) below))
+        ]
+      ]
+
+  pub freed_most : (i : ℕ) → freed_in s.views i ≤ 1
+  freed_most i = elim (cases_lt 0 (freed_in s.views i)) [
+    | inr nothing ↦ omega (arith, nothing)
+    | inl some_freed ↦
+        let within = freed_within i some_freed in
+        let pending : 0 < pending_of es i = omega (arith, freed_pending i some_freed) in
+        elim (word_cases i within) [
+          | inl taken ↦ omega (arith, o.freed.ready i within pending (inr taken))
+          | inr below ↦ elim (cases_eq (exchange_word s.words i) 0) [
+            | inl is ↦ omega (arith, o.freed.ready i within pending (inl is))
+            | inr not_zero ↦ absurd (omega (arith, some_freed, o.freed.waiting i within (omega (arith, not_zero)) below))
+          ]
+        ]
+  ]
+
   -- a whole seat's lists are all there are
   module _ (id : ℕ) (v : View) (me : get_elem? s.views id ≡ some v) (whole : IsWhole v.seat) where
     whole_of : (g : View → ℕ) → ((u : View) → IsSpent u → g u ≡ 0) → total g s.views ≡ g v
@@ -94,6 +137,9 @@ module _ (plan : BoardPlan) (s : State Slot View) (o : Orderly plan s) where
 
     pub whole_held : (i : ℕ) → held_in s.views i ≡ times i v.seat.held
     whole_held i = whole_of (λ u. times i u.seat.held) (λ u spent. ap (times i) spent.held)
+
+    pub whole_freed : (i : ℕ) → freed_in s.views i ≡ times i v.seat.freed
+    whole_freed i = whole_of (λ u. times i u.seat.freed) (λ u spent. ap (times i) spent.freed)
 
     pub whole_moving : (i : ℕ) → moving_in s.views i ≡ times i v.moving
     whole_moving i = whole_of (λ u. times i u.moving) (λ u spent. ap (times i) spent.moving)
@@ -213,3 +259,79 @@ module _ (plan : BoardPlan) (s : State Slot View) (o : Orderly plan s) where
             ]
           ];
         }
+
+    freed_here : (i : ℕ) → times i v.seat.freed ≤ freed_in s.views i
+    freed_here i = term_le (λ u. times i u.seat.freed) s.views id v me
+
+    -- an exchange that is finished the seat doesn't hold
+    finished_not_held : (i : ℕ) → made_in s.views i ≡ 1 → times i v.seat.held ≡ 0
+    finished_not_held i made = omega (arith, made, o.in_order.once i, held_here i)
+
+    claimed_within : (i : ℕ) → 0 < made_in s.views i + running_in s.views i → i < length es
+    claimed_within i claimed = elim (cases_lt i (length es)) [
+      | inl within ↦ within
+      | inr past ↦ absurd (omega (arith, claimed, o.in_order.within i (omega (arith, past))))
+    ]
+
+    -- a stop that a whole seat knows of was called, and by no other seat
+    called_it : IsWhole v.seat → v.seat.is_stopped ≡ true → v.seat.is_halted ≡ true
+    called_it whole knows = elim (cases_Bool v.seat.is_halted) [
+      | inl called ↦ called
+      | inr never ↦
+          let stopped = o.sound.stopped (omega (arith, flag_yes v.seat.is_stopped knows, term_le (λ u. flag u.seat.is_stopped) s.views id v me)) in
+          absurd (omega (arith, o.sound.called stopped, whole_calls id v me whole, ap flag never))
+    ]
+
+    -- a whole seat has freed what waits for others that it has made, all of them
+    own_freed : IsWhole v.seat → (i : ℕ) → i < length es → pending_of es i ≢ 0 → Has v.seat.freed i ↔ All (Has v.seat.made) (predecessors es i)
+    own_freed whole i within pending = (
+      λ has.
+          let each = freed_after i (omega (arith, has, freed_here i)) in
+          times_all (Has v.seat.made) (predecessors es i) (λ j there. omega (arith, all_times (λ k. made_in s.views k ≡ 1) (predecessors es i) j each there, whole_made id v me whole j)),
+      λ all. elim (word_cases i within) [
+        | inl taken ↦ omega (arith, o.freed.ready i within (omega (arith, pending)) (inr taken), whole_freed id v me whole i)
+        | inr below ↦ elim (cases_eq (exchange_word s.words i) 0) [
+          | inl is ↦ omega (arith, o.freed.ready i within (omega (arith, pending)) (inl is), whole_freed id v me whole i)
+          | inr not_zero ↦ absurd (not_waiting i within not_zero (λ taken. omega (arith, below, taken)) (times_all (λ j. 0 < times j v.seat.made + times j v.seat.known) (predecessors es i) (λ j there. omega (arith, all_times (Has v.seat.made) (predecessors es i) j all there))))
+        ]
+      ],
+    )
+
+    pub its_own : IsWhole v.seat → KnowsItsOwn es v.seat
+    its_own whole = record {
+      told = λ i has. omega (arith, o.sound.told i (omega (arith, has, term_le (λ u. times i u.seat.told) s.views id v me)), whole_made id v me whole i, whole_held id v me whole i, whole_moving id v me whole i, ap (times i) no_moving, total-append (only i) v.seat.made v.seat.held);
+      known = λ i has. omega (arith, (o.sound.known i (omega (arith, has, term_le (λ u. times i u.seat.known) s.views id v me))).0, whole_made id v me whole i);
+      halted = called_it whole;
+      freed = own_freed whole;
+    }
+
+    pub is_informed : IsInformed es v.seat
+    is_informed = record {
+      told = λ i has. claimed_within i (o.sound.told i (omega (arith, has, term_le (λ u. times i u.seat.told) s.views id v me)));
+      known = λ i has.
+          let made = (o.sound.known i (omega (arith, has, term_le (λ u. times i u.seat.known) s.views id v me))).0 in
+          (claimed_within i (omega (arith, made)), finished_not_held i made);
+      once = λ i. omega (arith, freed_here i, freed_most i);
+      freed = λ i has.
+          let some_freed : 0 < freed_in s.views i = omega (arith, has, freed_here i) in (
+            freed_within i some_freed,
+            freed_pending i some_freed,
+            times_all (λ j. times j v.seat.held ≡ 0) (predecessors es i) (λ j there. finished_not_held j (all_times (λ k. made_in s.views k ≡ 1) (predecessors es i) j (freed_after i some_freed) there)),
+          );
+      whole = its_own;
+    }
+
+    -- and after a look
+    pub looks_informed : IsInformed es (having_seen v.seat (get_or s.words 0 0 / 2) (is_odd (get_or s.words 0 0)))
+    looks_informed = record {
+      told = is_informed.told;
+      known = is_informed.known;
+      once = is_informed.once;
+      freed = is_informed.freed;
+      whole = λ whole. record {
+        told = (its_own whole).told;
+        known = (its_own whole).known;
+        halted = λ knows. sym (look_tells.whole_stop whole) ∙ knows;
+        freed = (its_own whole).freed;
+      };
+    }

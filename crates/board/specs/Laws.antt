@@ -1,6 +1,6 @@
 -- What the board's rule comes to: at each moment the board stands where a lawful schedule leads. And what a caller does
 -- with a hold: it may carry out the exchange, and puts back what that leaves. Source: this project.
-use Rattle.std.specs.Prelude.{◌≡◌, ℕ, ◌<◌, true, false, nat_lt, List, ◌++◌, length, Some}
+use Rattle.std.specs.Prelude.{◌≡◌, ℕ, ◌<◌, true, false, nat_lt, List, length, Some}
 use mathlib.Core.Option.{some}
 use lib.ListN.{get_elem?}
 use Rattle.bench_types.specs.declared.exchanges.Record.{Record}
@@ -15,7 +15,7 @@ use Rattle.dependencies.specs.States.{state_of}
 use Rattle.atomic_table.specs.Table.{State}
 use Rattle.board.specs.Weights.{Has}
 use Rattle.board.specs.SeatView.{SeatView, IsWhole}
-use Rattle.board.specs.Seats.{resting}
+use Rattle.board.specs.Seats.{resting, KnowsItsOwn}
 use Rattle.board.specs.Plan.{BoardPlan}
 use Rattle.board.specs.Rule.{Slot, made_in, running_in, Orderly}
 use Rattle.board.specs.Boards.{IsHoldOf, MayPutBack}
@@ -37,16 +37,9 @@ pub record IsScheduled (plan : BoardPlan) (s : State Slot View) : Type 0 where
 abbrev pub EachKeepsASchedule : Type 0
 EachKeepsASchedule = (plan : BoardPlan) (s : State Slot View) → Orderly plan s → IsScheduled plan s
 
--- a whole seat was told of nothing but what it has made or holds, knows of nothing but what it has made, and knows of
--- no stop but one that it has called for
-pub record KnowsItsOwn (v : SeatView) : Type 0 where
-  pub told : (i : ℕ) → Has v.told i → Has (v.made ++ v.held) i
-  pub known : (i : ℕ) → Has v.known i → Has v.made i
-  pub halted : v.is_stopped ≡ true → v.is_halted ≡ true
-
 abbrev pub EachWholeSeatKnowsItsOwn : Type 0
 EachWholeSeatKnowsItsOwn = (plan : BoardPlan) (s : State Slot View) (k : ℕ) (v : SeatView) → Orderly plan s
-    → get_elem? s.views k ≡ some (resting plan v) → IsWhole v → KnowsItsOwn v
+    → get_elem? s.views k ≡ some (resting plan v) → IsWhole v → KnowsItsOwn plan.list.exchanges v
 
 module _ {T : Type 0} (table : T → Table) where
   -- the exchange of each hold may be carried out on its tables, where a board was made of a round's list and the tables

@@ -137,6 +137,7 @@ OwesForMade es v =
 pub record IsSpent (v : View) : Type 0 where
   pub made : v.seat.made ≡ []
   pub held : v.seat.held ≡ []
+  pub freed : v.seat.freed ≡ []
   pub told : v.seat.told ≡ []
   pub known : v.seat.known ≡ []
   pub moving : v.moving ≡ []

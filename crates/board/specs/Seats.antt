@@ -1,7 +1,8 @@
 -- A seat between two calls, and what a look tells it. Source: this project.
-use Rattle.std.specs.Prelude.{◌≡◌, ◌≢◌, ℕ, ◌+◌, ◌<◌, ◌≤◌, Bool, true, false, List, [], length}
+use Rattle.std.specs.Prelude.{◌≡◌, ◌≢◌, ℕ, ◌+◌, ◌<◌, ◌≤◌, ◌↔◌, Bool, true, false, List, [], ◌++◌, length, All}
 use Rattle.bench_types.specs.declared.exchanges.Exchange.{Exchange}
 use Rattle.dependencies.specs.Sharing.{share_node}
+use Rattle.dependencies.specs.Neighbours.{pending_of, predecessors}
 use Rattle.atomic_table.specs.Table.{Me}
 use Rattle.board.specs.Weights.{times, Has}
 use Rattle.board.specs.SeatView.{SeatView, IsWhole}
@@ -39,3 +40,22 @@ pub record LookTells (es : List Exchange) (v : SeatView) (count : ℕ) (is_stopp
 pub record IsApart (es : List Exchange) (v : SeatView) : Type 0 where
   pub once : (i : ℕ) → times i v.made + times i v.held ≤ 1
   pub apart : (i j : ℕ) → i ≢ j → Has v.held i → Has v.held j → share_node es i j ≡ false
+
+-- what a whole seat was told, knows and has freed is its own: it was told of nothing but what it has made or holds,
+-- knows of nothing but what it has made, and of no stop but one that it has called for, and of what waits for others
+-- it has freed what has all of these made
+pub record KnowsItsOwn (es : List Exchange) (v : SeatView) : Type 0 where
+  pub told : (i : ℕ) → Has v.told i → Has (v.made ++ v.held) i
+  pub known : (i : ℕ) → Has v.known i → Has v.made i
+  pub halted : v.is_stopped ≡ true → v.is_halted ≡ true
+  pub freed : (i : ℕ) → i < length es → pending_of es i ≢ 0 → Has v.freed i ↔ All (Has v.made) (predecessors es i)
+
+-- what is so of each seat's lists, and more of those of a whole one: it was told of exchanges of the list, holds none
+-- that it knows to be put back, and has freed each once, one that waits for others, of which it holds none
+pub record IsInformed (es : List Exchange) (v : SeatView) : Type 0 where
+  pub told : (i : ℕ) → Has v.told i → i < length es
+  pub known : (i : ℕ) → Has v.known i → (i < length es) × (times i v.held ≡ 0)
+  pub once : (i : ℕ) → times i v.freed ≤ 1
+  pub freed : (i : ℕ) → Has v.freed i
+      → (i < length es) × (pending_of es i ≢ 0) × All (λ j. times j v.held ≡ 0) (predecessors es i)
+  pub whole : IsWhole v → KnowsItsOwn es v

@@ -8,7 +8,7 @@ ghost use Rattle.bench_types.specs.declared.faults.Fault.TheVariants.{Unfinished
 ghost use Rattle.model.specs.Tables.{IsCluster};
 ghost use Rattle.board.specs.SeatView.{IsWhole, first_seat, split_left, split_right, joined, with_held};
 ghost use Rattle.board.specs.Keys.{IsBoardKey};
-ghost use Rattle.board.specs.Seats.{resting, IsApart};
+ghost use Rattle.board.specs.Seats.{resting, IsApart, IsInformed};
 ghost use Rattle.board.specs.inner.Plays.{HasOut, OwesNext, IsReleased, HasFinished, first_words_of};
 
 use crate::plays::{
@@ -226,6 +226,7 @@ impl<T: MemoryTable> Board<T> {
         requires seat { IsSeatOf T.table seat.old self.now }
         ensures seat { IsSeatOf T.table seat.new self.now }
         ensures progress { Looks (plan_of T.table self.now) (seat_view seat.old) result (seat_view seat.new) }
+        ensures informed { IsInformed (exchanges_of self.now) (seat_view seat.new) }
     {
         let word = self.table.shared.load::<Look>(&mut seat.raw, 0);
         Progress {
@@ -262,6 +263,7 @@ impl<T: MemoryTable> Board<T> {
         ensures seat { IsSeatOf T.table seat.new self.now }
         ensures joined { seat_view seat.new ≡ joined (seat_view seat.old) (seat_view other) }
         ensures apart { IsApart (exchanges_of self.now) (seat_view seat.new) }
+        ensures informed { IsInformed (exchanges_of self.now) (seat_view seat.new) }
     {
         self.table
             .shared

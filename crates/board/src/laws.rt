@@ -11,7 +11,8 @@ pub fn every_board_keeps_a_schedule()
 {}
 
 /// A seat that has all parts was told that exchanges are taken only of such as it has put back or holds. What
-/// it knows to be put back it has put back itself, and a stop that it knows of it has called for itself.
+/// it knows to be put back it has put back itself, and a stop that it knows of it has called for itself. What
+/// waits for others it has freed exactly where it has put back all of these.
 pub fn every_whole_seat_knows_its_own()
     ensures { EachWholeSeatKnowsItsOwn }
 {}

@@ -97,7 +97,7 @@ impl<T: MemoryTable> Play<Option<T>, View> for Halt {
     ghost then = { TellsOf T.table halted };
 }
 
-// A look that changes nothing, for the promise that no exchange stands twice in what a joined seat has.
+// A look that changes nothing, for the promises of what a joined seat has.
 pub struct Show;
 
 impl<T: MemoryTable> Play<Option<T>, View> for Show {

@@ -1,19 +1,13 @@
--- What a status tells of the answer that it was made from.
--- Serves `main_with` and `print`.
-use Rattle.std.proofs.Common.{◌≡◌, ℕ, List, Ok, Err, Result, IfErr, OnErr, IsOkUnless, arith}
+-- What a status tells of what was done.
+-- Serves `main_with`.
+use Rattle.std.proofs.Common.{◌≡◌, Ok, Err, Result, IfErr, arith}
 use Rattle.bench_types.specs.declared.faults.Fault.{Fault}
-use Rattle.bench_types.specs.declared.faults.Fault.TheVariants.{WriteFailed}
 use Rattle.bench_types.specs.declared.sinks.Sink.{Ghosts as Sink}
-use Rattle.bench_types.specs.Output.{IsBrokenOff}
-use Rattle.command_line.specs.Statuses.{status_of, HelpIsFaulty}
+use Rattle.command_line.specs.Statuses.{IsTold, Tells, status_of, told_of}
 
-pub was_faulty : {T : Type 0} {P : Fault → Type 0} (done : Result T Fault) → IfErr done P → status_of done ≡ 1 → (fault : Fault) × P fault
-was_faulty (Ok x) p is = absurd (omega (arith, is))
-was_faulty (Err fault) p is = (fault, p)
-
--- a text that was cut is help that came to a fault
-pub help_was_cut :
-    {T W : Type 0} (sink : Sink W) (old new : W) (help : List ℕ) (done : Result T Fault) → OnErr done (IsBrokenOff sink old new help) →
-    IsOkUnless done WriteFailed → IfErr done (HelpIsFaulty sink old new)
-help_was_cut sink old new help (Ok x) cut only = tt
-help_was_cut sink old new help (Err fault) cut only = (help, rw only cut)
+-- 1 comes of a fault, and that was told
+pub was_told :
+    {T E : Type 0} {P : Fault → Type 0} (sink : Sink E) (old new : E) (done : Result T Fault) → IfErr done P →
+    Tells sink old new done → status_of done ≡ 1 → (fault : Fault) × P fault × IsTold sink old new (told_of fault)
+was_told sink old new (Ok x) p told is = absurd (omega (arith, is))
+was_told sink old new (Err fault) p told is = (fault, p, told)

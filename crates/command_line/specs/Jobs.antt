@@ -12,7 +12,6 @@ use Rattle.bench_types.specs.Output.{IsWritten, IsWriteFault}
 use Rattle.scenario.specs.Settings.{Settings}
 use Rattle.command_words.specs.declared.jobs.Job.{Job}
 use Rattle.command_words.specs.declared.jobs.Job.TheVariants.{Check, Run, Compare}
-use Rattle.command_line.specs.Statuses.{HelpIsWritten, HelpIsFaulty}
 
 -- what is printed of a scenario that is lawful
 abbrev pub ok_line : List ℕ
@@ -65,14 +64,3 @@ module _ {R W : Type 0} (source : Source R) (reader reader' : R) (sink : Sink W)
     IsJobFault Check fault = IsCheckFault fault
     IsJobFault (Run trace workers) fault = IsRunFaultWith trace workers fault
     IsJobFault (Compare workers) fault = IsCompareFault source reader reader' sink old new workers fault
-
-    -- the words asked for a job, and it was done; or they asked for help, and it was written and nothing read
-    abbrev pub IsDone : Type 0
-    IsDone = ((job : Job) × IsPerformed job) ⊎ ((reader' ≡ reader) × HelpIsWritten sink old new)
-
-    -- the words asked for a job, and it came to a fault; or there was one before it or in writing help, and nothing
-    -- was read
-    abbrev pub IsStoppedByFault : Type 0
-    IsStoppedByFault =
-        ((job : Job) × ((fault : Fault) × IsJobFault job fault))
-        ⊎ ((reader' ≡ reader) × ((fault : Fault) × HelpIsFaulty sink old new fault))

@@ -1,2 +1,3 @@
+pub mod Endings
 pub mod Statuses
 pub mod Jobs

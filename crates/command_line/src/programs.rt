@@ -1,17 +1,16 @@
 //! The program, from its words to its status.
 
-ghost use Rattle.std.specs.Prelude.{◌≡◌, ◌≤◌, OnOk, IfErr};
+ghost use Rattle.std.specs.Prelude.{◌≡◌, ◌≤◌, map};
 ghost use Rattle.bench_types.specs.declared.faults.Fault.{Fault};
-ghost use Rattle.command_line.specs.Statuses.{status_of, HelpIsWritten, HelpIsFaulty};
-ghost use Rattle.command_line.specs.Jobs.{IsDone, IsStoppedByFault};
+ghost use Rattle.command_line.specs.Endings.{HaveAnswer, IsAnswerFault, IsDone, IsHelpWritten, IsRefusalTold};
+ghost use Rattle.command_line.specs.Endings.{IsStoppedByFault};
+ghost use Rattle.command_line.specs.Statuses.{IsTold, Tells, status_of, told_of};
 
 use crate::jobs::perform;
-use arrayvec::ArrayString;
 use bench_types::{Discard, Fault, Push, Sink, Source, write_text};
 use command_words::{NoJob, job_of};
 use std::alloc::Global;
 use std::convert::AsStr;
-use std::fmt::Write;
 use std::rt::Files;
 use std::sync::Wait;
 use std::thread::Threads;
@@ -35,11 +34,12 @@ pub fn main_with<H: Threads + Wait + Sync + Files, S: AsStr, R: Source, W: Sink,
     err: &mut E,
 ) -> u8
     ensures status { result ≤ 2 }
-    ensures done { result ≡ 0 → IsDone R.Source reader.old reader.new W.Sink out.old out.new
-        ⟦<Discard as Sink>⟧ ⟦<Push<H::File> as Sink>⟧ }
-    ensures fault { result ≡ 1 → IsStoppedByFault R.Source reader.old reader.new W.Sink out.old out.new
-        ⟦<Discard as Sink>⟧ ⟦<Push<H::File> as Sink>⟧ }
-    ensures refused { result ≡ 2 → (reader.new ≡ reader.old) × (out.new ≡ out.old) }
+    ensures done { result ≡ 0 → IsDone R.Source reader.old reader.new (map S.text words.entry.now)
+        W.Sink out.old out.new E.Sink err.old err.new ⟦<Discard as Sink>⟧ ⟦<Push<H::File> as Sink>⟧ }
+    ensures fault { result ≡ 1 → IsStoppedByFault R.Source reader.old reader.new (map S.text words.entry.now)
+        W.Sink out.old out.new E.Sink err.old err.new ⟦<Discard as Sink>⟧ ⟦<Push<H::File> as Sink>⟧ }
+    ensures refused { result ≡ 2 → HaveAnswer R.Source reader.old reader.new (map S.text words.entry.now)
+        (IsRefusalTold W.Sink out.old out.new E.Sink err.old err.new) }
 {
     match job_of(alloc, words) {
         Ok(job) => {
@@ -52,12 +52,15 @@ pub fn main_with<H: Threads + Wait + Sync + Files, S: AsStr, R: Source, W: Sink,
 
 // The status after a job, or after help. The line of a fault goes to `err`.
 pub(crate) fn status_of<E: Sink>(done: Result<(), Fault>, err: &mut E) -> u8
-    ensures { result ≡ status_of done }
+    ensures status { result ≡ status_of done }
+    ensures told { Tells E.Sink err.old err.new done }
 {
     match done {
         Ok(()) => DONE,
         Err(fault) => {
-            explain(fault, err);
+            let mut line = fault.line();
+            line.push_str("\n");
+            tell(line.as_str(), err);
             FAULT
         }
     }
@@ -66,37 +69,27 @@ pub(crate) fn status_of<E: Sink>(done: Result<(), Fault>, err: &mut E) -> u8
 // The status where the words ask for help or are refused, or memory ran out.
 fn answer_words<W: Sink, E: Sink>(reason: NoJob, out: &mut W, err: &mut E) -> u8
     ensures status { result ≤ 2 }
-    ensures done { result ≡ 0 → HelpIsWritten W.Sink out.old out.new }
-    ensures fault { result ≡ 1 → (fault : Fault) × HelpIsFaulty W.Sink out.old out.new fault }
-    ensures refused { result ≡ 2 → out.new ≡ out.old }
+    ensures done { result ≡ 0 → IsHelpWritten W.Sink out.old out.new reason × (err.new ≡ err.old) }
+    ensures fault { result ≡ 1 → (fault : Fault) × IsAnswerFault W.Sink out.old out.new fault reason
+        × IsTold E.Sink err.old err.new (told_of fault) }
+    ensures refused { result ≡ 2 → IsRefusalTold W.Sink out.old out.new E.Sink err.old err.new reason }
 {
     match reason {
         NoJob::Help(text) => {
-            let done = print(&text, out);
+            let done = write_text(out, text.as_bytes());
             status_of(done, err)
         }
         NoJob::Refused(text) => {
-            let _ = write_text(err, text.as_bytes());
+            tell(text.as_str(), err);
             REFUSED
         }
         NoJob::OutOfMemory => status_of(Err(Fault::OutOfMemory), err),
     }
 }
 
-fn print<W: Sink>(help: &str, out: &mut W) -> Result<(), Fault>
-    ensures written { OnOk result (HelpIsWritten W.Sink out.old out.new) }
-    ensures fault { IfErr result (HelpIsFaulty W.Sink out.old out.new) }
+// Tells a text. Where that fails there is nobody to tell.
+fn tell<E: Sink>(text: &str, err: &mut E)
+    ensures { IsTold E.Sink err.old err.new text.now }
 {
-    write_text(out, help.as_bytes())
-}
-
-// The most bytes of a fault's line; the longest is some 50.
-const MOST_LINE: usize = 96;
-
-// Says what the fault is. It takes no memory, so it can say that there is none.
-fn explain<E: Sink>(fault: Fault, err: &mut E) {
-    let mut line = ArrayString::<MOST_LINE>::new();
-    if writeln!(line, "{fault}").is_ok() {
-        let _ = write_text(err, line.as_str().as_bytes());
-    }
+    let _ = write_text(err, text.as_bytes());
 }

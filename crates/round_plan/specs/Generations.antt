@@ -1,5 +1,5 @@
 -- The generation of a node: 0 at first, and one more in each round in which it forgets. What it writes from then on, in
--- that round too, is of the new generation. Source: this project; the word is Cassandra's.
+-- that round too, is of the new generation. Source: Cassandra for the word; the rule is this project's.
 use Rattle.std.specs.Prelude.{ℕ, zero, suc, ◌+◌, if◌then◌else◌}
 use Rattle.scenario.specs.Settings.{Settings}
 use Rattle.round_plan.specs.Outages.{forgets_now}

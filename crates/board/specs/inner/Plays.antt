@@ -12,7 +12,7 @@ use Rattle.board.specs.Rule.{Slot, TAKEN}
 use Rattle.board.specs.declared.views.View.{View}
 use Rattle.bench_types.specs.declared.exchanges.Budget.TheVariants.{Entries}
 use Rattle.bench_types.specs.declared.exchanges.Mode.TheVariants.{ScuttleBreadth}
-use Rattle.board.specs.Seats.{IsApart, LookTells, Sat, resting, view}
+use Rattle.board.specs.Seats.{IsApart, IsInformed, LookTells, Sat, resting, view}
 
 -- the successors, each once
 abbrev pub successor_list : List Exchange → ℕ → List ℕ
@@ -85,13 +85,17 @@ released st m r n =
     × (IsWhole m.0.seat → times j (map (λ release. release.1) more) ≡ 0 → (r ≡ 1) ↔ All (λ k. 0 < times k m.0.seat.made) (predecessors m.0.plan.list.exchanges j))
 
 abbrev pub looked : Step Slot → Sat → ℕ → Sat → Type 0
-looked st m r n = (n ≡ (resting m.0.plan (having_seen m.0.seat (r / 2) (is_odd r)), [])) × LookTells m.0.plan.list.exchanges m.0.seat (r / 2) (is_odd r)
+looked st m r n =
+    (n ≡ (resting m.0.plan (having_seen m.0.seat (r / 2) (is_odd r)), []))
+    × LookTells m.0.plan.list.exchanges m.0.seat (r / 2) (is_odd r)
+    × IsInformed m.0.plan.list.exchanges (having_seen m.0.seat (r / 2) (is_odd r))
 
 abbrev pub halted : Step Slot → Sat → ℕ → Sat → Type 0
 halted st m r n = (n ≡ (resting m.0.plan (having_stopped m.0.seat (r / 2)), [])) × LookTells m.0.plan.list.exchanges m.0.seat (r / 2) (is_odd r)
 
 abbrev pub shown : Step Slot → Sat → ℕ → Sat → Type 0
-shown st m r n = (n ≡ m) × IsApart m.0.plan.list.exchanges m.0.seat
+shown st m r n =
+    (n ≡ m) × IsApart m.0.plan.list.exchanges m.0.seat × IsInformed m.0.plan.list.exchanges m.0.seat
 
 -- views are split and joined as the seats are
 abbrev pub left : View → View

@@ -12,4 +12,4 @@ load-word-requires g c = (
 )
 
 pub returns-clause-seat : goal.returns-clause-seat
-returns-clause-seat g c = rests_again g.T.MemoryTable.table c.args.self.now c.args.seat.now (record { raw = c.load-word.new.seat }) _ c.requires.seat c.load-word.ensures.0 c.load-word.ensures.2.0 refl (λ i. omega arith)
+returns-clause-seat g c = rests_again g.T.MemoryTable.table c.args.self.now c.args.seat.now _ _ c.requires.seat c.load-word.ensures.0 c.load-word.ensures.2.0 refl (λ i. omega arith)

@@ -12,4 +12,4 @@ fetch_or-requires g c = (
 )
 
 pub returns-clause-seat : goal.returns-clause-seat
-returns-clause-seat g c = rests_again g.T.MemoryTable.table c.args.self.now c.args.seat.now (record { raw = c.fetch_or.new.seat }) _ c.requires.seat c.fetch_or.ensures.0 c.fetch_or.ensures.2.0 refl (λ i. omega arith)
+returns-clause-seat g c = rests_again g.T.MemoryTable.table c.args.self.now c.args.seat.now _ _ c.requires.seat c.fetch_or.ensures.0 c.fetch_or.ensures.2.0 refl (λ i. omega arith)

@@ -1,6 +1,6 @@
 -- Which copies of a run are fresh, and how long.
 -- Serves `exchanges_make_fresh`, `fresh_copies_stay` and `Rings`.
-use Rattle.std.proofs.Common.{◌≡◌, ℕ, zero, suc, ◌+◌, ◌-◌, ◌<◌, ◌≤◌, true, false, if◌then◌else◌, List, [], ◌∷◌, length, take, drop, fold, get_or, All, Some, inl, inr, refl, sym, ap, ◌∙◌, subst, arith}
+use Rattle.std.proofs.Common.{◌≡◌, ℕ, Bool, set, zero, suc, ◌+◌, ◌-◌, ◌<◌, ◌≤◌, true, false, if◌then◌else◌, List, [], ◌∷◌, length, take, drop, fold, get_or, All, Some, inl, inr, refl, sym, ap, ◌∙◌, subst, arith}
 use Rattle.std.specs.Prelude.{slice_get, Contains}
 use Rattle.std.proofs.lemmas.List.{take-append-drop, take_all}
 use Rattle.std.proofs.lemmas.Option.{get_or_from_slice_get, slice_get_within}
@@ -13,13 +13,16 @@ use Rattle.bench_types.specs.declared.exchanges.Record.{Record}
 use Rattle.bench_types.specs.declared.exchanges.Rules.{Rules}
 use Rattle.bench_types.specs.Exchange.{IsPlanned}
 use Rattle.scenario.specs.Settings.{Settings, IsLawfulScenario}
-use Rattle.model.specs.Table.{Table, entry_at, with_own_writes, without_others, without_all, IsProper}
+use Rattle.model.specs.Table.{Table, applied, entry_at, with_own_writes, without_others, without_all, IsProper}
 use Rattle.model.specs.Tables.{table_of_node}
 use Rattle.model.specs.Clusters.{AreCopiesOf}
+use Rattle.model.specs.Copies.{WritesBy}
+use Rattle.model.specs.Deltas.{DeltaView, delta_between}
 use Rattle.model.specs.ExchangeLaws.{LosesNothing}
-use Rattle.model.specs.Exchanged.{exchanged, fate_of, last_fate}
+use Rattle.model.specs.Exchanged.{exchanged, fate_of, initiator_after, last_fate}
 use Rattle.model.specs.Folds.{Folded, exchange_in, fold_of}
-use Rattle.model.proofs.FoldLaws.{before_keeps_own}
+use Rattle.model.proofs.FoldLaws.{before_keeps_own, step_keeps_own}
+use Rattle.model.proofs.Tables.{table_of_node-set_other, table_of_node-set_same}
 use Rattle.model.proofs.TableLaws.{entry_at-without_all, entry_at-without_others_own}
 use Rattle.round_plan.specs.Outages.{forgets_now, restarts_now}
 use Rattle.round_plan.specs.Plan.{round_list_of}
@@ -32,8 +35,16 @@ use Rattle.simulation.proofs.Begun.{begun_at}
 use Rattle.simulation.proofs.Soundness.{sound_run}
 use Rattle.model.proofs.Fresh.{HasAllOf, all_stays, fresh_from, has_all, initiator_has, responder_has}
 
--- no message lost is the last fate
-pub ended-loses_nothing : (e : Exchange) → LosesNothing e → fate_of e ≡ fate.Ok
+-- where two messages came the last one decides, and the initiator has got its delta
+fate-answered : (e : Exchange) → e.lost1 ≡ false → e.lost2 ≡ false → fate_of e ≡ last_fate e.lost3
+fate-answered e came1 came2 = λ i. if came1 i then fate.Lost1 else (if came2 i then fate.Lost2 else last_fate e.lost3)
+
+reaches-answered : (lost : Bool) (p : Table) (back : DeltaView) → initiator_after (last_fate lost) p back ≡ applied p back.items
+reaches-answered true p back = refl
+reaches-answered false p back = refl
+
+-- and where all three did it ended
+ended-loses_nothing : (e : Exchange) → LosesNothing e → fate_of e ≡ fate.Ok
 ended-loses_nothing e (came1, came2, came3) = λ i. if came1 i then fate.Lost1 else (if came2 i then fate.Lost2 else last_fate (came3 i))
 
 -- what was recorded stays so
@@ -98,31 +109,67 @@ module _ (s : Settings) (lawful : IsLawfulScenario s) where
         (keeps_records (rules_of s) (drop (i + 1) (exchanges round)) (fold_of (rules_of s) (first_tables round) (take (i + 1) (exchanges round))) record_of
         (subst (λ (f : Folded). Contains f.records record_of) (sym next_folded) (Contains-append_right folded.records (record_of ∷ []) record_of (0, omega arith, refl))))
 
-    pub initiator_all : fate_of e ≡ fate.Ok → SendsOwnPart (rules_of s) e.rotation (table_of_node (tables_within s round i) e.responder) (table_of_node (tables_within s round i) e.initiator) → HasAll (tables_within s round (i + 1)) e.initiator e.responder
-    initiator_all ended sends =
-        subst (λ ts. HasAll ts e.initiator e.responder) (sym next_tables)
-        (initiator_has (rules_of s) s.nodes s.keys folded e planned (writes_by s round) here.copies here.no_gap ended sends)
+    -- the two tables before it, and the delta to its initiator
+    abbrev p : Table
+    p = table_of_node (tables_within s round i) e.initiator
 
-    pub responder_all : fate_of e ≡ fate.Ok → SendsOwnPart (rules_of s) e.rotation (table_of_node (tables_within s round i) e.initiator) (table_of_node (tables_within s round i) e.responder) → HasAll (tables_within s round (i + 1)) e.responder e.initiator
+    abbrev q : Table
+    q = table_of_node (tables_within s round i) e.responder
+
+    abbrev back : DeltaView
+    back = delta_between (rules_of s).mode e.rotation (rules_of s).budget q p
+
+    -- the same exchange without a loss, which does the same to an initiator that the delta reaches
+    abbrev lossless : Exchange
+    lossless = record e { lost1 = false; lost2 = false; lost3 = false }
+
+    lossless_planned : IsPlanned s.nodes lossless
+    lossless_planned = record { initiator = planned.initiator; responder = planned.responder; apart = planned.apart; rotation = planned.rotation }
+
+    initiator_at : (x : Table) (y : Table) → table_of_node (set (set (tables_within s round i) e.initiator x) e.responder y) e.initiator ≡ x
+    initiator_at x y =
+        table_of_node-set_other (set (tables_within s round i) e.initiator x) e.responder e.initiator y planned.apart
+        ∙ table_of_node-set_same (tables_within s round i) e.initiator x (omega (arith, planned.initiator, here.copies.tables.size))
+
+    module _ (reached : initiator_after (fate_of e) p back ≡ applied p back.items) where
+      same_initiator : table_of_node (exchange_in (rules_of s) folded e).tables e.initiator ≡ table_of_node (exchange_in (rules_of s) folded lossless).tables e.initiator
+      same_initiator =
+          initiator_at (initiator_after (fate_of e) p back) (exchanged (rules_of s) e p q).responder
+          ∙ reached
+          ∙ sym (initiator_at (applied p back.items) (exchanged (rules_of s) lossless p q).responder)
+
+      same_owner : (key : ℕ) → entry_at (table_of_node (exchange_in (rules_of s) folded e).tables e.responder) e.responder key ≡ entry_at (table_of_node (exchange_in (rules_of s) folded lossless).tables e.responder) e.responder key
+      same_owner key =
+          subst (λ n. entry_at (table_of_node (exchange_in (rules_of s) folded e).tables e.responder) n key ≡ entry_at (table_of_node (exchange_in (rules_of s) folded lossless).tables e.responder) n key)
+          (here.copies.tables.tables e.responder planned.responder).node
+          ((step_keeps_own (rules_of s) s.nodes s.keys folded e planned here.copies.tables e.responder).own_part key
+          ∙ sym ((step_keeps_own (rules_of s) s.nodes s.keys folded lossless lossless_planned here.copies.tables e.responder).own_part key))
+
+      pub initiator_all : SendsOwnPart (rules_of s) e.rotation q p → HasAll (tables_within s round (i + 1)) e.initiator e.responder
+      initiator_all sends =
+          subst (λ ts. HasAll ts e.initiator e.responder) (sym next_tables) (λ key x held.
+          ap (λ (t : Table). entry_at t e.responder key) same_initiator
+          ∙ initiator_has (rules_of s) s.nodes s.keys folded lossless lossless_planned (writes_by s round) here.copies here.no_gap refl sends key x (sym (same_owner key) ∙ held))
+
+    responder_all : fate_of e ≡ fate.Ok → SendsOwnPart (rules_of s) e.rotation p q → HasAll (tables_within s round (i + 1)) e.responder e.initiator
     responder_all ended sends =
         subst (λ ts. HasAll ts e.responder e.initiator) (sym next_tables)
         (responder_has (rules_of s) s.nodes s.keys folded e planned (writes_by s round) here.copies here.no_gap ended sends)
 
-    makes_fresh : LosesNothing e → MakesFresh s (record { round = round; exchanges = i }) e
-    makes_fresh came =
+    makes_fresh : MakesFresh s (record { round = round; exchanges = i }) e
+    makes_fresh =
         let copies = (sound.within round (i + 1) first).copies in
-        let ended = ended-loses_nothing e came in
         record {
-          initiator = λ sends. fresh_from (writes_by s round) s.nodes s.keys (tables_within s round (i + 1)) copies e.initiator e.responder planned.initiator planned.responder (initiator_all ended sends);
-          responder = λ sends. fresh_from (writes_by s round) s.nodes s.keys (tables_within s round (i + 1)) copies e.responder e.initiator planned.responder planned.initiator (responder_all ended sends);
+          initiator = λ came1 came2 sends. fresh_from (writes_by s round) s.nodes s.keys (tables_within s round (i + 1)) copies e.initiator e.responder planned.initiator planned.responder (initiator_all (ap (λ f. initiator_after f p back) (fate-answered e came1 came2) ∙ reaches-answered e.lost3 p back) sends);
+          responder = λ came sends. fresh_from (writes_by s round) s.nodes s.keys (tables_within s round (i + 1)) copies e.responder e.initiator planned.responder planned.initiator (responder_all (ended-loses_nothing e came) sends);
         }
 
   pub exchanges_fresh : ExchangesMakeFresh s
-  exchanges_fresh m e first listed came = makes_fresh m.round m.exchanges first e listed came
+  exchanges_fresh m e first listed = makes_fresh m.round m.exchanges first e listed
 
   -- a node and an owner
   module _ (holder owner : ℕ) (in_nodes : holder < s.nodes) (owner_in : owner < s.nodes) where
-    holder_proper : (writes : Rattle.model.specs.Copies.WritesBy) (ts : List Table) → AreCopiesOf writes s.nodes s.keys ts → IsProper (table_of_node ts holder)
+    holder_proper : (writes : WritesBy) (ts : List Table) → AreCopiesOf writes s.nodes s.keys ts → IsProper (table_of_node ts holder)
     holder_proper writes ts copies = copies.proper holder (omega (arith, in_nodes, copies.tables.size))
 
     -- from one exchange of a round to a later one

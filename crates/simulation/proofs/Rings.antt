@@ -26,7 +26,7 @@ use Rattle.model.specs.Table.{Table, entry_at, mark_at, greatest_version}
 use Rattle.model.specs.Tables.{table_of_node}
 use Rattle.model.specs.Deltas.{DeltaView, delta_between}
 use Rattle.model.specs.Digests.{digest_size}
-use Rattle.model.specs.Exchanged.{fate_of, sent_until}
+use Rattle.model.specs.Exchanged.{fate_of, initiator_after, sent_until}
 use Rattle.model.specs.Figures.{writes_of_owner, generation_at, staleness_of, staleness_at, is_left_over, leftover_at, stale_count, rounds_behind, figures_of}
 use Rattle.model.specs.declared.writes.Write.{Write}
 use Rattle.model.specs.Writes.{write_of_entry, first_above}
@@ -264,7 +264,7 @@ module _ (s : Settings) (lawful : IsLawfulScenario s) where
       learns : HasAll s lawful (tables_after s round) n e.responder
       learns =
           stays_to_end s lawful n e.responder lt (peer_below n) round (n + 1) first
-          (initiator_all s lawful round n first e (listed n lt) whole.0
+          (initiator_all s lawful round n first e (listed n lt) (ap (λ f. initiator_after f p (delta_between s.mode e.rotation s.budget q p)) whole.0)
           (λ i own there. sent-uncut s.mode q p e.rotation s.budget (here.copies.proper e.responder (omega (arith, peer_below n, here.copies.tables.size))) q_rotation whole.1 i there))
 
     -- and leaves what copies have

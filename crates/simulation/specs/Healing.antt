@@ -41,18 +41,19 @@ abbrev pub SendsOwnPartAt : Settings → Moment → ℕ → ℕ → ℕ → Type
 SendsOwnPartAt s m rotation sender receiver =
     SendsOwnPart (rules_of s) rotation (table_at_moment s m sender) (table_at_moment s m receiver)
 
--- an exchange at a moment makes fresh what each side holds of the other, where nothing of the other's own is cut
+-- an exchange at a moment makes fresh what a side holds of the other, where the messages up to the other's delta aren't
+-- lost and nothing of the other's own is cut
 pub record MakesFresh (s : Settings) (m : Moment) (e : Exchange) : Type 0 where
-  pub initiator : SendsOwnPartAt s m e.rotation e.responder e.initiator
+  pub initiator : e.lost1 ≡ false → e.lost2 ≡ false → SendsOwnPartAt s m e.rotation e.responder e.initiator
       → IsFreshAt s (record m { exchanges = m.exchanges + 1 }) e.initiator e.responder
-  pub responder : SendsOwnPartAt s m e.rotation e.initiator e.responder
+  pub responder : LosesNothing e → SendsOwnPartAt s m e.rotation e.initiator e.responder
       → IsFreshAt s (record m { exchanges = m.exchanges + 1 }) e.responder e.initiator
 
--- and so does each exchange of a run, in every mode, of which no message is lost
+-- and so does each exchange of a run, in every mode
 abbrev pub ExchangesMakeFresh : Settings → Type 0
 ExchangesMakeFresh s =
     (m : Moment) (e : Exchange) → 1 ≤ m.round → slice_get (round_list_of s m.round).exchanges m.exchanges ≡ Some e
-    → LosesNothing e → MakesFresh s m e
+    → MakesFresh s m e
 
 -- in a round the owner writes nothing, and the holder doesn't restart
 pub record LeavesCopy (s : Settings) (holder owner round : ℕ) : Type 0 where

@@ -14,10 +14,9 @@ pub fn every_run_is_sound()
     ensures { (s : Settings) → IsLawfulScenario s → IsSoundRun s }
 {}
 
-/// A direct exchange makes fresh. Where no message of an exchange is lost, in any of the four modes, each
-/// side whose partner's own entries weren't cut comes to hold of that partner exactly what the partner
-/// holds of itself. Where the partner has written nothing since it forgot, this says nothing: what is left
-/// over of it may stay.
+/// A direct exchange makes fresh. In each mode a side that the other's delta reaches, with none of the
+/// other's own entries cut, comes to hold of the other exactly what that holds of itself. Where the other
+/// has written nothing since it forgot, this says nothing: what is left over of it may stay.
 pub fn exchanges_make_fresh()
     ensures { (s : Settings) → IsLawfulScenario s → ExchangesMakeFresh s }
 {}

@@ -7,7 +7,10 @@ mod entry_histories;
 pub use entry_histories::EntryHistories;
 use node_table::NodeTable;
 pub use runs::{check_input, compare, read_all, run};
-pub use simulation::{Round, every_run_is_sound};
+pub use simulation::{
+    Round, ample_budgets_cut_nothing, every_run_is_sound, exchanges_make_fresh, fresh_copies_stay,
+    quiet_rings_heal,
+};
 pub use workers::{FreeGate, Gate};
 
 /// A simulation over tables with entries.

@@ -1,6 +1,6 @@
 -- Laws of the sending orders, and of what a budget lets through in them.
 -- Serves `scuttle_deltas_ascend`, `sending_orders_are_total`, `uncut_deltas_send_all`, `ExchangeLaws`, `Received`,
--- `reconcile` and `version_tables`.
+-- `reconcile`, `simulation` and `version_tables`.
 use Rattle.std.proofs.Common.{◌≡◌, ℕ, ◌<◌, ◌≤◌, Bool, not, ◌&&◌, eqb, ltb, List, length, get_or, inl, inr, sym, ap, ◌∙◌, arith}
 use Rattle.std.specs.Prelude.{count_by, Contains}
 use Rattle.std.specs.declared.cmp.Ordering.TheVariants.{Less, Equal}

@@ -1,5 +1,6 @@
 -- The greatest mark of an owner, by look-ups.
--- Serves `BeginLaws`, `MarkLaws`, `Proper`, `Received`, `node_table`, `reconcile` and `version_tables`.
+-- Serves `BeginLaws`, `Fresh`, `MarkLaws`, `Proper`, `Received`, `node_table`, `reconcile`, `simulation` and
+-- `version_tables`.
 use Rattle.std.proofs.Common.{◌≡◌, ℕ, zero, suc, ◌<◌, None, ◌⊎◌, inl, inr, refl, sym, ap, ◌∙◌, subst, arith}
 use Rattle.std.specs.declared.cmp.Ordering.TheVariants.{Less, Equal, Greater}
 use Rattle.std.specs.Ordering.{nat_cmp, ordering_then}

@@ -8,6 +8,7 @@ pub mod ExchangeLaws
 pub mod Figures
 pub mod Fitting
 pub mod FoldLaws
+pub mod Fresh
 pub mod Greatest
 pub mod InLists
 pub mod Items

@@ -1,5 +1,5 @@
 -- What is sent stood among the candidates.
--- Serves `Owns`, `Received` and `reconcile`.
+-- Serves `Owns`, `Received`, `reconcile` and `simulation`.
 use Rattle.std.proofs.Common.{◌≡◌, ◌≢◌, ℕ, zero, suc, ◌+◌, true, false, cond, not, ◌&&◌, eqb, List, [], ◌∷◌, All, Some, None, refl, sym, ◌∙◌, subst}
 use Rattle.std.specs.Prelude.{count_by}
 use Rattle.std.specs.List.{filter_map, range_with_len, cons_option}

@@ -4,5 +4,8 @@ pub mod Writing
 pub mod Begun
 pub mod Standing
 pub mod Soundness
+pub mod Healing
+pub mod Rings
+pub mod Ample
 pub mod Stepping
 pub mod Playing

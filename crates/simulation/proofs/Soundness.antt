@@ -1,5 +1,5 @@
 -- What holds of the tables along every run.
--- Serves `every_run_is_sound`, `Playing` and `Stepping`.
+-- Serves most of the crate.
 use Rattle.std.proofs.Common.{◌≡◌, ℕ, zero, suc, ◌+◌, ◌-◌, ◌<◌, ◌≤◌, true, false, if◌then◌else◌, List, ◌++◌, length, All, inl, inr, refl, sym, ap, ◌∙◌, subst, arith}
 use Rattle.std.proofs.Math.Seq.{take-length}
 use Rattle.std.proofs.lemmas.Bool.{cases_lt, both_ways}
@@ -258,6 +258,10 @@ module _ (s : Settings) (some : 2 ≤ s.nodes) (most : s.nodes ≤ 4096) (some_k
     exchanges = λ round i j first le. within_rises round first (tables_after s (round - 1)) (after_held (round - 1)) i j le;
     ends = ends_at;
   }
+
+  -- each node's generation after a round, and how many writes of it it has made
+  pub counts_after : (round n : ℕ) → n < s.nodes → ((table_of_node (tables_after s round) n).generation ≡ generation_upto s n round) × (greatest_version (table_of_node (tables_after s round) n) n ≡ count_upto s n round)
+  counts_after round n lt = ((after_held round).generations n lt, (after_held round).counted n lt)
 
   -- from round to round a mark goes down only by a restart
   pub round_rises : (round : ℕ) → OnlyRestartsLowerMarks s (round + 1) (tables_after s round) (tables_after s (round + 1))

@@ -5,6 +5,7 @@ pub mod Standing
 pub mod Rows
 pub mod RoundView
 pub mod Outcomes
+pub mod Healing
 pub mod Simulation
 pub mod inner
 pub use Rattle.model.specs.Exchanged

@@ -7,6 +7,9 @@ mod laws;
 mod rounds;
 mod sims;
 
-pub use laws::every_run_is_sound;
+pub use laws::{
+    ample_budgets_cut_nothing, every_run_is_sound, exchanges_make_fresh, fresh_copies_stay,
+    quiet_rings_heal,
+};
 pub use rounds::Round;
 pub use sims::Sim;

@@ -1,0 +1,5 @@
+use Rattle.simulation.proofs.Ample.{ample_cuts}
+use Rattle.simulation.proofs.laws.ample_budgets_cut_nothing.Goals as goal
+
+pub returns : goal.returns
+returns c s lawful = ample_cuts s lawful

@@ -11,6 +11,7 @@ ghost use Rattle.bench_types.specs.Sums.{sum_below};
 ghost use Rattle.planes.specs.inner.Answering.{AnswersAs};
 
 use crate::numbers::Number;
+use crate::owners::{FEW_TO_CHANGE, FEW_TO_COUNT};
 use crate::{owners, planes};
 use bench_types::Fault;
 use std::alloc::Global;
@@ -233,7 +234,7 @@ pub fn total_above<N: Number>(cells: &[N], nodes: usize, keys: usize, low: &[N],
     requires covered { AreCovered nodes keys (map N.number cells.now) (map N.number high.now) }
     ensures { result ≡ total_above nodes keys (map N.number cells.now) (map N.number low.now) }
 {
-    if owners::are_few(keys, low, high) {
+    if owners::are_few(keys, low, high, FEW_TO_COUNT) {
         return owners::total_owners_above(cells, nodes, keys, low, high);
     }
     total(cells, nodes, keys, |r, number| number.is_above(low[r]))
@@ -287,7 +288,7 @@ pub fn take<N: Number>(
     ensures greatest { AreRaised nodes keys (map N.number cells.old) (map N.number sent.now) (map N.number low.now)
         (map N.number high.now) (map N.number greatest.old) (map N.number greatest.new) }
 {
-    if owners::are_few(keys, low, high) {
+    if owners::are_few(keys, low, high, FEW_TO_CHANGE) {
         owners::take_owners(cells, greatest, sent, nodes, keys, low, high);
         return;
     }

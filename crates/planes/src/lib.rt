@@ -3,6 +3,7 @@
 
 mod grids;
 mod lags;
+mod merges;
 mod numbers;
 mod owners;
 mod planes;
@@ -12,4 +13,5 @@ pub use grids::{
     total_upto, zeros,
 };
 pub use lags::{count_behind, least_behind, lower, lower_all};
+pub use merges::{Both, merge, most_ahead, raise_both};
 pub use numbers::{Number, Short};

@@ -24,8 +24,8 @@ fn lead<N: Number>(number: N, other: N, most: u32) -> u32
     number.widen().saturating_sub(other.widen()).min(most)
 }
 
-/// No owner has more numbers above the other table's greatest one than keys, nor more than these two are apart, where its
-/// numbers differ. These are the sums over all owners.
+/// How many numbers may come to each of two tables, by their greatest ones: of an owner no more than keys, and where its
+/// numbers differ, no more than its two greatest ones are apart.
 pub fn most_ahead<N: Number>(first: &[N], second: &[N], keys: u32) -> Both
     requires second { length second.now ≡ length first.now }
     requires nodes { length first.now ≤ MOST_NODES }
@@ -89,9 +89,9 @@ fn merge_planes<N: Number>(
     }
 }
 
-/// Raises each number of both tables to the other table's number of the same place, where that is above their own mark
-/// of its owner. No number may be above its own table's mark. It answers how many numbers come to each. It goes over all
-/// planes, or where only few owners' marks differ and there are many keys, over the keys of these owners.
+/// Raises each number of both tables to the other's of its place, where that is above their own mark of its owner. No
+/// number may be above its own table's mark. It answers how many numbers come to each. It goes over all planes, or where
+/// only few owners' marks differ and there are many keys, over the keys of these owners.
 pub fn merge<N: Number>(
     first: &mut [N],
     second: &mut [N],

@@ -229,8 +229,11 @@ module _ (written : ℕ → List Entry) (rules : Rules) (rotation most : ℕ) (h
       here : (r : ℕ) → r < from.nodes → count_between (cells_in id offer) from.keys r (low_in id offer r) (high_in id offer r) ≤ min from.keys (get_or from.greatest r 0 - get_or to.greatest r 0)
       here r lt = elim (cases_eq r to.node) [
         | inl own ↦
-            omega (arith, weight_of-none (λ _. 1) (cells_in id offer) from.keys r (low_in id offer r) (high_in id offer r)
-            (omega (arith, high-at r, low-at r, ap (λ k. get_or told k 0) own, told-own, greatest-below r lt)))
+            omega (
+              arith,
+              weight_of-none (λ _. 1) (cells_in id offer) from.keys r (low_in id offer r) (high_in id offer r)
+                  (omega (arith, high-at r, low-at r, ap (λ k. get_or told k 0) own, told-own, greatest-below r lt)),
+            )
         | inr other ↦
             omega (arith, few-between (cells_in id offer) r from.keys (low_in id offer r) (high_in id offer r) (is-offer.differ r lt), high-at r, low-at r, told-other r other)
       ]
@@ -286,8 +289,7 @@ module _ (written : ℕ → List Entry) (rules : Rules) (rotation most : ℕ) (h
       held = λ owner key in_owners in_keys yes'. marks-told.marks.held owner key in_owners in_keys (sym (same-sent owner key in_owners in_keys) ∙ yes');
       members = λ owner key e is.
           let place = from_fits.proper.in_place owner key e is in
-          let both = marks-told.marks.members owner key e is in
-          (
+          let both = marks-told.marks.members owner key e is in (
             (λ yes'. both.0 (sym (same-sent owner key place.owner_below place.key_below) ∙ yes')),
             λ there. same-sent owner key place.owner_below place.key_below ∙ both.1 there,
           );
@@ -324,8 +326,8 @@ module _ (written : ℕ → List Entry) (rules : Rules) (rotation most : ℕ) (h
                 key,
                 in_key,
                 taken-most (cell to.cells to.nodes owner key) (cell from.cells to.nodes owner key) (get_or to.greatest owner 0) (get_or from.greatest owner 0) ((to_kept.most owner lt).upto key in_key) (omega (arith, there, below)) (omega (arith, there))
-                ∙ there
-                ∙ omega (arith, raised-at owner lt, below),
+                    ∙ there
+                    ∙ omega (arith, raised-at owner lt, below),
               )
         ]
       ]

@@ -1,5 +1,5 @@
-//! Exchanges of which all comes and surely fits: each table takes all that the other has above its own greatest numbers,
-//! both ways in one pass. Nothing is planned, and no memory is taken.
+//! Exchanges of which all comes and surely fits: each table takes all that the other has above its own greatest
+//! numbers, both ways in one pass. Nothing is planned, and no memory is taken.
 
 ghost use Rattle.std.specs.Prelude.{◌≡◌, ◌*◌, ◌<◌, ◌≤◌, ◌↔◌, IsTrue, slice_index};
 ghost use Rattle.bench_types.specs.Budget.{amount_of, largest_share};
@@ -94,7 +94,7 @@ pub(crate) fn may_merge<N: Number, H: Written>(
     }
 }
 
-/// Each of two tables takes all that the other has above its own greatest numbers. It answers how many numbers these are.
+/// Each of two tables takes all that the other has above its own greatest numbers. It answers how many these are.
 pub(crate) fn merge<N: Number, H: Written>(
     initiator: &mut VersionTable<N, H>,
     responder: &mut VersionTable<N, H>,

@@ -32,7 +32,8 @@ pub record MayMerge (rules : Rules) (h : HistoriesView) (initiator responder : V
 
 -- a table's numbers and greatest ones once it took all above these of another table
 pub record IsMerged (nodes keys : ℕ) (cells greatest sent sent_greatest new_cells new_greatest : List ℕ) : Type 0 where
-  pub numbers : ArePlanesChanged (λ r k x y. y ≡ number_raised x (cell sent nodes r k) (slice_index greatest r)) nodes keys cells new_cells
+  pub numbers : ArePlanesChanged (λ r k x y. y ≡ number_raised x (cell sent nodes r k) (slice_index greatest r))
+      nodes keys cells new_cells
   pub most : AreChanged (λ r x y. y ≡ max x (slice_index sent_greatest r)) greatest new_greatest
 
 -- the table stays one then

@@ -12,11 +12,19 @@ ahead-most nodes keys numbers others few_nodes few_keys =
 pub surely_fit-requires : goal.surely_fit-requires
 surely_fit-requires g c =
     let few : length c.greatest.result.now ≤ MOST_NODES = omega (arith, length-map c.greatest.result.now g.N.Number.number, ap length c.greatest.ensures.value, c.greatest.ensures.kept.greatest_count, c.greatest.ensures.kept.proper.nodes_limit) in
-    omega (arith, c.most_ahead-most.ensures.first, ahead-most (length c.greatest.result.now) c.keys.result (map g.N.Number.number c.greatest-2.result.now) (map g.N.Number.number c.greatest.result.now) few
-    (omega (arith, c.keys.ensures.value, c.keys.ensures.kept.proper.keys_limit)))
+    omega (
+      arith,
+      c.most_ahead-most.ensures.first,
+      ahead-most (length c.greatest.result.now) c.keys.result (map g.N.Number.number c.greatest-2.result.now) (map g.N.Number.number c.greatest.result.now) few
+          (omega (arith, c.keys.ensures.value, c.keys.ensures.kept.proper.keys_limit)),
+    )
 
 pub surely_fit-requires-then-surely_fit : goal.surely_fit-requires-then-surely_fit
 surely_fit-requires-then-surely_fit g c =
     let few : length c.greatest.result.now ≤ MOST_NODES = omega (arith, length-map c.greatest.result.now g.N.Number.number, ap length c.greatest.ensures.value, c.greatest.ensures.kept.greatest_count, c.greatest.ensures.kept.proper.nodes_limit) in
-    omega (arith, c.most_ahead-most.ensures.second, ahead-most (length c.greatest.result.now) c.keys.result (map g.N.Number.number c.greatest.result.now) (map g.N.Number.number c.greatest-2.result.now) few
-    (omega (arith, c.keys.ensures.value, c.keys.ensures.kept.proper.keys_limit)))
+    omega (
+      arith,
+      c.most_ahead-most.ensures.second,
+      ahead-most (length c.greatest.result.now) c.keys.result (map g.N.Number.number c.greatest.result.now) (map g.N.Number.number c.greatest-2.result.now) few
+          (omega (arith, c.keys.ensures.value, c.keys.ensures.kept.proper.keys_limit)),
+    )

@@ -209,16 +209,21 @@ fn keep_planes_ahead<N: Number>(
     count
 }
 
-// The planes of a table once more. One at a time takes fewer instructions than the C library's way to copy much.
-fn copied<N: Number>(alloc: Global, cells: &[N], nodes: usize, keys: usize) -> Result<Vec<N>, Fault>
-    requires grid { IsGrid nodes keys (length cells.now) }
+/// So many numbers are copied at a time, which takes fewer instructions than the C library's way to copy many more.
+const COPIED: usize = 1024;
+
+// The numbers once more.
+fn copied<N: Number>(alloc: Global, cells: &[N]) -> Result<Vec<N>, Fault>
+    requires room { length cells.now ≤ MOST_KEYS * MOST_NODES }
     ensures copy { IfOk result (λ v. v.items ≡ cells.now) }
     ensures only { IsOkUnless result OutOfMemory }
 {
     let mut copy = Vec::with_capacity(alloc, cells.len())?;
-    for key in 0..keys {
-        let start = key * nodes;
-        copy.extend_from_slice(&cells[start..start + nodes])?;
+    let mut start = 0;
+    while start < cells.len() {
+        let end = (start + COPIED).min(cells.len());
+        copy.extend_from_slice(&cells[start..end])?;
+        start = end;
     }
     Ok(copy)
 }
@@ -243,7 +248,7 @@ pub fn ahead<N: Number>(
         (λ m. m.count ≡ total_above nodes keys (map N.number m.numbers.items) (map N.number low.now)) }
     ensures only { IsOkUnless result OutOfMemory }
 {
-    let mut numbers = copied(alloc, cells, nodes, keys)?;
+    let mut numbers = copied(alloc, cells)?;
     let count = keep_planes_ahead(&mut numbers, peer, nodes, keys, low);
     Ok(Masked { numbers, count })
 }

@@ -1,7 +1,7 @@
 //! Loops over a few owners of a table, each over all of its keys. The others have nothing above one mark and up to
 //! another, and are passed over.
 
-ghost use Rattle.std.specs.Prelude.{◌≡◌, ℕ, ◌<◌, ◌≤◌, ◌==◌, length, map, slice_index, if◌then◌else◌};
+ghost use Rattle.std.specs.Prelude.{◌≡◌, ◌<◌, ◌≤◌, ◌==◌, length, map, slice_index, if◌then◌else◌};
 ghost use Rattle.bench_types.specs.declared.limits.TheConstants.{MOST_NODES};
 ghost use Rattle.planes.specs.Planes.{cell, count_above, number_raised, number_taken, total_above, AreCovered, AreRaised, AreTaken, ArePlanesChanged, HasNoneAbove, IsGrid, IsRaised};
 
@@ -14,7 +14,7 @@ const MANY_KEYS: usize = 8;
 /// Owners are few where they are no more than all divided by this: to count their numbers, or to change them.
 pub(crate) const FEW_TO_COUNT: usize = 32;
 
-pub(crate) const FEW_TO_CHANGE: usize = 10;
+pub(crate) const FEW_TO_CHANGE: usize = 8;
 
 // Whether there are many keys, and few owners whose one mark is below the other. It picks the faster of two ways, and
 // both have the same outcome.

@@ -1,5 +1,5 @@
 -- The numbers of a table's planes, one after another.
--- Serves the functions of `grids`, `lags` and `owners`, `Behind` and `version_tables`.
+-- Serves the functions of `grids`, `lags`, `merges` and `owners`, `Behind` and `version_tables`.
 use Rattle.std.proofs.Common.{◌≡◌, ℕ, zero, suc, Fits, w32, ◌+◌, ◌*◌, ◌-◌, ◌<◌, ◌≤◌, Bool, cond, List, ◌++◌, length, get_or, map, take, drop, nat_lt, max, inl, inr, refl, sym, ap, ◌∙◌, subst, arith}
 use Rattle.std.proofs.Math.Nat.{mul-le-mul_right}
 use Rattle.std.proofs.lemmas.Bool.{cases_lt, lt-ltb, le-ltb}

@@ -1,12 +1,13 @@
 -- Tables whose owners are gone over one by one.
--- Serves `take_owner`, `take_owners`, `total_owners_above` and `version_tables`.
+-- Serves `merge_owners`, `raise_owner`, `take_owner`, `take_owners`, `total_owners_above` and `version_tables`.
 use Rattle.std.proofs.Common.{◌≡◌, ℕ, zero, suc, Fits, w32, ◌+◌, ◌*◌, ◌<◌, ◌≤◌, ◌==◌, ◌&&◌, Bool, true, false, cond, List, length, get_or, set, map, nat_lt, nat_le, max, inl, inr, refl, sym, ap, ◌∙◌, subst, arith}
 use Rattle.std.proofs.Math.Nat.{mul-le-mul_right}
 use Rattle.std.proofs.lemmas.Bool.{cases_lt, cases_eq, eq-eqb, ne_eqb, lt-ltb, le-ltb, lt-leb}
 use Rattle.std.proofs.lemmas.List.{get_or-set_same, get_or-set_other, length-set, map-set}
 use Rattle.bench_types.specs.declared.limits.TheConstants.{MOST_NODES, MOST_KEYS}
 use Rattle.bench_types.specs.Sums.{sum_below}
-use Rattle.planes.specs.Planes.{Cells, cell, count_above, number_taken, HasNoneAbove, IsRaised, ArePlanesChanged, ArePlanesChangedUpto}
+use Rattle.bench_types.proofs.Sums.{sum_below-same}
+use Rattle.planes.specs.Planes.{Cells, cell, count_above, number_raised, number_taken, HasNoneAbove, IsRaised, ArePlanesChanged, ArePlanesChangedUpto}
 use Rattle.planes.proofs.Counts.{count_le, sum_next}
 
 -- an owner of whom nothing is above its mark
@@ -192,3 +193,44 @@ raised-same one other keys owner x y same is = record {
     | inr (k, lt, e) ↦ inr (k, lt, sym (same k lt) ∙ e)
   ];
 }
+
+-- nothing is raised where nothing is above the mark
+pub raised-none_above : (x other low : ℕ) → other ≤ low → number_raised x other low ≡ x
+raised-none_above x other low le = ap (λ b. max x (cond b other 0)) (le-ltb low other le) ∙ omega arith
+
+-- an owner's numbers that come from another table
+module _ (nodes keys : ℕ) (cells others : List ℕ) (low : ℕ → ℕ) (owner : ℕ) (in_nodes : owner < nodes) where
+  abbrev raised_in : ℕ → ℕ → ℕ → ℕ
+  raised_in r k x = number_raised x (cell others nodes r k) (low r)
+
+  -- they come, and the other table still has that owner's as they were
+  pub raise-next : (mid others_mid new : List ℕ) (mark : ℕ) (to_others : ℕ → ℕ → ℕ → ℕ) → ArePlanesChanged (owners_changed raised_in owner) nodes keys cells mid → ArePlanesChanged (owners_changed to_others owner) nodes keys others others_mid → mark ≡ low owner
+      → ArePlanesChanged (λ r k x y. y ≡ cond (r == owner) (number_raised x (cell others_mid nodes r k) mark) x) nodes keys mid new
+      → ArePlanesChanged (owners_changed raised_in (owner + 1)) nodes keys cells new
+  raise-next mid others_mid new mark to_others before waits same now = record {
+    size = now.size ∙ before.size;
+    each = λ r k in_node in_key.
+        owner_turn raised_in nodes keys cells owner r (λ y. number_raised y (cell others_mid nodes r k) mark) k (cell cells nodes r k) (cell mid nodes r k) (cell new nodes r k) (before.each r k in_node in_key) (now.each r k in_node in_key)
+        (λ here i. number_raised (cell cells nodes r k)
+        ((ap (λ o. cell others_mid nodes o k) here ∙ owner-waits to_others nodes keys others owner others_mid waits k in_nodes in_key ∙ ap (λ o. cell others nodes o k) (sym here)) i)
+        ((same ∙ ap low (sym here)) i));
+  }
+
+  -- so many
+  pub raise-count : (others_mid : List ℕ) (mark count : ℕ) (to_others : ℕ → ℕ → ℕ → ℕ) → ArePlanesChanged (owners_changed to_others owner) nodes keys others others_mid → count ≡ count_above (cell others_mid nodes) keys owner mark
+      → count ≡ count_above (cell others nodes) keys owner mark
+  raise-count others_mid mark count to_others waits now =
+      now ∙ sum_below-same keys _ _ (λ k lt. ap (λ n. cond (nat_lt mark n) 1 0) (owner-waits to_others nodes keys others owner others_mid waits k in_nodes lt))
+
+  -- none comes
+  pub raise-passed : (mid : List ℕ) (high : ℕ) → ArePlanesChanged (owners_changed raised_in owner) nodes keys cells mid → HasNoneAbove (cell others nodes) keys owner high → high ≤ low owner → ArePlanesChanged (owners_changed raised_in (owner + 1)) nodes keys cells mid
+  raise-passed mid high before covered le = record {
+    size = before.size;
+    each = λ r k in_node in_key.
+        owner_turn raised_in nodes keys cells owner r (λ y. y) k (cell cells nodes r k) (cell mid nodes r k) (cell mid nodes r k) (before.each r k in_node in_key) (either_same (r == owner) (cell mid nodes r k))
+        (λ here. sym (raised-none_above (cell cells nodes r k) (cell others nodes r k) (low r) (omega (arith, ap (λ o. cell others nodes o k) here, ap low here, covered k in_key, le))));
+  }
+    where
+      either_same : (b : Bool) (y : ℕ) → y ≡ cond b y y
+      either_same true y = refl
+      either_same false y = refl

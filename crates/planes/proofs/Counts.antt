@@ -1,5 +1,6 @@
 -- Sums that a loop counts.
--- Serves the functions of `grids`, `lags`, `owners` and `planes`, `ByOwner`, `Places` and `version_tables`.
+-- Serves the functions of `grids`, `lags`, `merges`, `owners` and `planes`, `ByOwner`, `Places` and
+-- `version_tables`.
 use Rattle.std.proofs.Common.{◌≡◌, ℕ, zero, suc, ◌+◌, ◌<◌, ◌≤◌, Bool, true, false, cond, ap, ◌∙◌, arith}
 use Rattle.bench_types.specs.declared.limits.TheConstants.{MOST_NODES}
 use Rattle.bench_types.specs.Sums.{sum_below}

@@ -1,6 +1,6 @@
 -- The numbers of a table's planes, one after another.
--- Serves the functions of `grids`, `lags` and `owners`, `Behind` and `version_tables`.
-use Rattle.std.proofs.Common.{◌≡◌, ℕ, zero, suc, Fits, w32, ◌+◌, ◌*◌, ◌-◌, ◌<◌, ◌≤◌, ◌&&◌, Bool, true, false, cond, List, ◌++◌, length, get_or, map, take, drop, nat_lt, nat_le, max, inl, inr, refl, sym, ap, ◌∙◌, subst, arith}
+-- Serves the functions of `grids`, `lags`, `merges` and `owners`, `Behind` and `version_tables`.
+use Rattle.std.proofs.Common.{◌≡◌, ℕ, zero, suc, Fits, w32, ◌+◌, ◌*◌, ◌-◌, ◌<◌, ◌≤◌, Bool, cond, List, ◌++◌, length, get_or, map, take, drop, nat_lt, max, inl, inr, refl, sym, ap, ◌∙◌, subst, arith}
 use Rattle.std.proofs.Math.Nat.{mul-le-mul_right}
 use Rattle.std.proofs.lemmas.Bool.{cases_lt, lt-ltb, le-ltb}
 use Rattle.std.proofs.lemmas.List.{get_or-take, get_or-drop, length-map, length-append, length-drop, length-take-le, get_or_append_left, get_or-append_right, map-append, take-map}
@@ -10,7 +10,7 @@ use Rattle.bench_types.specs.declared.limits.TheConstants.{MOST_NODES, MOST_KEYS
 use Rattle.planes.specs.Elementwise.{AreChanged}
 use Rattle.bench_types.specs.Sums.{sum_below}
 use Rattle.planes.specs.Planes.{Cells}
-use Rattle.planes.specs.Planes.{IsLeastAbove, IsRaised, HasNoneAbove, count_between}
+use Rattle.planes.specs.Planes.{IsLeastAbove, IsRaised, HasNoneAbove}
 use Rattle.planes.specs.Planes.{cell, next_above, number_ahead, total_above, total_of, IsLowered, IsGrid, HasEach, IsNextAbove, ArePlanesChangedUpto, ArePlanesChanged}
 use Rattle.planes.proofs.Counts.{count_le}
 use Rattle.bench_types.proofs.Sums.{sum_below-same, sum_below-turned}
@@ -29,14 +29,6 @@ each-next nodes is next changed old new before now step = record {
   size = now.size ∙ before.size;
   each = λ r lt. step r (get_or old r 0) (get_or new r 0) lt (before.each r lt) (now.each r (omega (arith, lt, before.size)));
 }
-
--- two tests as one
-both-tests : (a b : Bool) → ◌≡◌ {A = ℕ} (cond (a && b) 1 0) (cond a (cond b 1 0) 0)
-both-tests true b = refl
-both-tests false b = refl
-
-pub between-tests : (low mark n : ℕ) → ◌≡◌ {A = ℕ} (cond (nat_lt low n && nat_le n mark) 1 0) (cond (nat_lt low n) (cond (nat_le n mark) 1 0) 0)
-between-tests low mark n = both-tests (nat_lt low n) (nat_le n mark)
 
 -- the least above a mark, of one key more
 pub least-none : (most : ℕ) (cells : Cells) (owner mark : ℕ) → (most ≤ most) × IsNextAbove most cells 0 owner mark most
@@ -171,6 +163,32 @@ map-put_mid number start nodes xs ys =
     ∙ (λ i. sym (take-map number start xs) i ++ map-append number ys (post_of start nodes xs) i)
     ∙ (λ i. take start (map number xs) ++ (map number ys ++ (sym (drop-map number nodes (drop start xs)) ∙ ap (drop nodes) (sym (drop-map number start xs))) i))
 
+-- a part of numbers is written anew
+module _ {N : Type 0} (number : N → ℕ) (start n : ℕ) (xs ys : List N) (within : start + n ≤ length xs) (size : length ys ≡ n) where
+  room_for : start + n ≤ length (map number xs)
+  room_for = omega (arith, within, length-map xs number)
+
+  size_of : length (map number ys) ≡ n
+  size_of = length-map ys number ∙ size
+
+  pub part-here : (r : ℕ) → r < n → get_or (map number (put_mid start n xs ys)) (start + r) 0 ≡ get_or (map number ys) r 0
+  part-here r lt = ap (λ zs. get_or zs (start + r) 0) (map-put_mid number start n xs ys) ∙ laid-here start n (map number xs) (map number ys) room_for size_of r lt
+
+  pub part-written : (nodes : ℕ) (is : ℕ → ℕ → Type 0) → HasEach nodes is (map number xs) → ((r : ℕ) → r < n → is (start + r) (get_or (map number ys) r 0)) → HasEach nodes is (map number (put_mid start n xs ys))
+  part-written nodes is before now = subst (HasEach nodes is) (sym (map-put_mid number start n xs ys)) (record {
+    size = laid-length start n (map number xs) (map number ys) room_for size_of ∙ before.size;
+    each = λ r lt. elim (cases_lt r start) [
+      | inl front ↦ subst (is r) (sym (laid-before start n (map number xs) (map number ys) room_for size_of r front)) (before.each r lt)
+      | inr not_front ↦ elim (cases_lt r (start + n)) [
+        | inr behind ↦ subst (is r) (sym (laid-behind start n (map number xs) (map number ys) room_for size_of r (omega (arith, behind)))) (before.each r lt)
+        | inl here ↦
+            let inside : r - start < n = omega (arith, not_front, here) in
+            subst (λ j. is j (get_or (put_mid start n (map number xs) (map number ys)) j 0)) {x = start + (r - start)} {y = r} (omega (arith, not_front))
+            (subst (is (start + (r - start))) (sym (laid-here start n (map number xs) (map number ys) room_for size_of (r - start) inside)) (now (r - start) inside))
+      ]
+    ];
+  })
+
 -- one more plane is changed
 module _ (changed : ℕ → ℕ → ℕ → ℕ → Type 0) (nodes : ℕ) (old : List ℕ) where
   pub planes-none : ArePlanesChangedUpto changed nodes old old 0
@@ -214,6 +232,13 @@ plane_cells number nodes key xs within = record {
       ∙ get_or-drop (key * nodes) (map number xs) r 0;
 }
 
+-- a part of a list
+pub window-at : {N : Type 0} (number : N → ℕ) (start count n : ℕ) (xs : List N) → n ≡ count → (r : ℕ) → r < count → get_or (map number (take n (drop start xs))) r 0 ≡ get_or (map number xs) (start + r) 0
+window-at number start count n xs is r lt =
+    ap (λ zs. get_or zs r 0) (sym (ap (take n) (drop-map number start xs) ∙ take-map number n (drop start xs)))
+    ∙ get_or-take n (drop start (map number xs)) r 0 (omega (arith, lt, is))
+    ∙ get_or-drop start (map number xs) r 0
+
 pub plane-cells : {N : Type 0} (number : N → ℕ) (nodes key n : ℕ) (xs : List N) → n ≡ nodes → key * nodes + nodes ≤ length xs → HasEach nodes (λ r m. m ≡ cell (map number xs) nodes r key) (map number (take n (drop (key * nodes) xs)))
 plane-cells number nodes key n xs is within =
     subst (λ k. HasEach nodes (λ r m. m ≡ cell (map number xs) nodes r key) (map number (take k (drop (key * nodes) xs)))) (sym is) (plane_cells number nodes key xs within)
@@ -244,9 +269,6 @@ each-whole is nodes key keys xs le ge before = subst (λ k. HasEach nodes (is k)
 
 pub each-other : (nodes : ℕ) (is other : ℕ → ℕ → Type 0) (xs : List ℕ) → ((r n : ℕ) → is r n → other r n) → HasEach nodes is xs → HasEach nodes other xs
 each-other nodes is other xs step before = record { size = before.size; each = λ r lt. step r _ (before.each r lt) }
-
-pub between-sums : (cells : Cells) (keys owner low mark : ℕ) → ◌≡◌ {A = ℕ} (sum_below keys (λ k. cond (nat_lt low (cells owner k) && nat_le (cells owner k) mark) 1 0)) (count_between cells keys owner low mark)
-between-sums cells keys owner low mark = sum_below-same keys _ _ (λ k lt. between-tests low mark (cells owner k))
 
 pub each-start : (nodes most : ℕ) (cells : Cells) (mark : ℕ → ℕ) (xs : List ℕ) → HasEach nodes (λ r n. n ≡ most) xs → HasEach nodes (λ r n. (n ≤ most) × IsNextAbove most cells 0 r (mark r) n) xs
 each-start nodes most cells mark xs start = record {

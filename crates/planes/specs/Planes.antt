@@ -1,5 +1,5 @@
 -- What loops over planes do to one number. Source: this project.
-use Rattle.std.specs.Prelude.{◌≡◌, ◌⊎◌, ℕ, ◌+◌, ◌*◌, ◌<◌, ◌≤◌, ◌&&◌, Bool, List, length, max, min, nat_lt, nat_le, slice_index, if◌then◌else◌}
+use Rattle.std.specs.Prelude.{◌≡◌, ◌⊎◌, ℕ, ◌+◌, ◌-◌, ◌*◌, ◌<◌, ◌≤◌, ◌&&◌, Bool, List, length, max, min, nat_lt, nat_le, slice_index, if◌then◌else◌}
 use Rattle.bench_types.specs.declared.limits.TheConstants.{MOST_NODES, MOST_KEYS}
 use Rattle.bench_types.specs.Sums.{sum_below}
 
@@ -43,6 +43,14 @@ number_ahead number peer low = if nat_lt (max peer low) number then number else 
 -- a number raised to a sent one that is above one mark and up to another
 abbrev pub number_taken : ℕ → ℕ → ℕ → ℕ → ℕ
 number_taken number sent low high = max number (if nat_lt low sent && nat_le sent high then sent else 0)
+
+-- a number raised to another one that is above a mark
+abbrev pub number_raised : ℕ → ℕ → ℕ → ℕ
+number_raised number other low = max number (if nat_lt low other then other else 0)
+
+-- how far each owner's number is ahead of another, but no more than the keys, for all owners together
+abbrev pub most_ahead : ℕ → ℕ → List ℕ → List ℕ → ℕ
+most_ahead nodes keys numbers others = sum_below nodes (λ r. min keys (slice_index numbers r - slice_index others r))
 
 -- the number of a key of an owner, in planes one after another
 abbrev pub cell : List ℕ → ℕ → Cells

@@ -4,6 +4,7 @@
 ghost use Rattle.std.specs.Prelude.{◌≡◌, ℕ, ◌+◌, ◌*◌, ◌<◌, ◌≤◌, ◌&&◌, Bool, length, map, max, nat_le, nat_lt, slice_index, IfOk, IsOkUnless, if◌then◌else◌};
 ghost use Rattle.bench_types.specs.declared.faults.Fault.TheVariants.{OutOfMemory};
 ghost use Rattle.bench_types.specs.declared.limits.TheConstants.{MOST_NODES, MOST_KEYS};
+ghost use Rattle.planes.specs.Elementwise.{AreChanged};
 ghost use Rattle.planes.specs.Planes.{count_above};
 ghost use Rattle.planes.specs.Planes.{cell, number_ahead, total_above, total_of, AreCovered, ArePlanesChanged, AreRaised, AreTaken, HasEach, HasEachPlace, IsGrid, IsNextAbove};
 ghost use Rattle.planes.specs.Planes.{count_between};
@@ -11,6 +12,7 @@ ghost use Rattle.bench_types.specs.Sums.{sum_below};
 ghost use Rattle.planes.specs.inner.Answering.{AnswersAs};
 
 use crate::numbers::Number;
+use crate::owners::{FEW_TO_CHANGE, FEW_TO_COUNT};
 use crate::{owners, planes};
 use bench_types::Fault;
 use std::alloc::Global;
@@ -32,8 +34,8 @@ pub(crate) fn plane_of<N: Number>(cells: &[N], nodes: usize, key: usize) -> &[N]
     &cells[start..start + nodes]
 }
 
-// So many times the same number.
-pub(crate) fn all_of<N: Number>(alloc: Global, count: usize, number: N) -> Result<Vec<N>, Fault>
+/// So many times the same number. An error is lack of memory (`OutOfMemory`).
+pub fn all_of<N: Number>(alloc: Global, count: usize, number: N) -> Result<Vec<N>, Fault>
     ensures numbers { IfOk result (λ v. HasEach count (λ r n. n ≡ N.number number) (map N.number v.items)) }
     ensures only { IsOkUnless result OutOfMemory }
 {
@@ -98,33 +100,61 @@ pub fn counts_above<N: Number>(
     )
 }
 
-/// For each owner how many of its numbers are above one mark and up to another. An error is lack of memory
-/// (`OutOfMemory`).
-pub fn counts_between<N: Number>(
-    alloc: Global,
-    cells: &[N],
-    nodes: usize,
-    keys: usize,
-    low: &[N],
-    high: &[N],
-) -> Result<Vec<N>, Fault>
-    requires grid { IsGrid nodes keys (length cells.now) }
-    requires low { length low.now ≡ nodes }
-    requires high { length high.now ≡ nodes }
-    ensures counts { IfOk result (λ v. HasEach nodes
-        (λ r n. n ≡ count_between (cell (map N.number cells.now) nodes) keys r (slice_index (map N.number low.now) r)
-        (slice_index (map N.number high.now) r)) (map N.number v.items)) }
-    ensures only { IsOkUnless result OutOfMemory }
+// Counts of a part of a plane which numbers are above one mark and up to another.
+fn count_plane_between<N: Number>(counts: &mut [N], plane: &[N], low: &[N], high: &[N])
+    requires plane { length plane.now ≡ length counts.old }
+    requires low { length low.now ≡ length counts.old }
+    requires high { length high.now ≡ length counts.old }
+    requires room { (r : ℕ) → r < length counts.old → slice_index (map N.number counts.old) r < N.most }
+    ensures { AreChanged (λ r x y. y ≡ x + (if nat_lt (slice_index (map N.number low.now) r)
+        (slice_index (map N.number plane.now) r) && nat_le (slice_index (map N.number plane.now) r)
+        (slice_index (map N.number high.now) r) then 1 else 0)) (map N.number counts.old) (map N.number counts.new) }
 {
-    counts(
-        alloc,
-        cells,
-        nodes,
-        keys,
+    planes::count(
+        counts,
+        plane,
         |r, number|
             requires { (r < length low.now) × (r < length high.now) }
         { planes::is_between(number, low[r], high[r]) },
-    )
+    );
+}
+
+// Puts 0 in place of each count.
+fn clear<N: Number>(counts: &mut [N])
+    ensures { AreChanged (λ r x y. y ≡ 0) (map N.number counts.old) (map N.number counts.new) }
+{
+    for r in 0..counts.len() {
+        counts[r] = N::zero();
+    }
+}
+
+/// For each owner of a part of them, from a first one on, how many of its numbers are above one mark and up to another.
+pub fn count_some_between<N: Number>(
+    counts: &mut [N],
+    cells: &[N],
+    nodes: usize,
+    keys: usize,
+    first: usize,
+    low: &[N],
+    high: &[N],
+)
+    requires grid { IsGrid nodes keys (length cells.now) }
+    requires part { first + length counts.old ≤ nodes }
+    requires low { length low.now ≡ nodes }
+    requires high { length high.now ≡ nodes }
+    ensures { HasEach (length counts.old)
+        (λ r n. n ≡ count_between (cell (map N.number cells.now) nodes) keys (first + r)
+        (slice_index (map N.number low.now) (first + r)) (slice_index (map N.number high.now) (first + r)))
+        (map N.number counts.new) }
+{
+    clear(counts);
+    let size = counts.len();
+    let lows = &low[first..first + size];
+    let highs = &high[first..first + size];
+    for key in 0..keys {
+        let start = key * nodes + first;
+        count_plane_between(counts, &cells[start..start + size], lows, highs);
+    }
 }
 
 /// For each owner the least of its numbers above a mark, or `N::greatest()` where there is none. An error is lack of
@@ -179,6 +209,25 @@ fn keep_planes_ahead<N: Number>(
     count
 }
 
+/// So many numbers are copied at a time, which takes fewer instructions than the C library's way to copy many more.
+const COPIED: usize = 1024;
+
+// The numbers once more.
+fn copied<N: Number>(alloc: Global, cells: &[N]) -> Result<Vec<N>, Fault>
+    requires room { length cells.now ≤ MOST_KEYS * MOST_NODES }
+    ensures copy { IfOk result (λ v. v.items ≡ cells.now) }
+    ensures only { IsOkUnless result OutOfMemory }
+{
+    let mut copy = Vec::with_capacity(alloc, cells.len())?;
+    let mut start = 0;
+    while start < cells.len() {
+        let end = (start + COPIED).min(cells.len());
+        copy.extend_from_slice(&cells[start..end])?;
+        start = end;
+    }
+    Ok(copy)
+}
+
 /// The numbers that are above both the peer's and their owner's mark, and 0 in place of the others. One pass masks them
 /// and counts those that it keeps. An error is lack of memory (`OutOfMemory`).
 pub fn ahead<N: Number>(
@@ -199,7 +248,7 @@ pub fn ahead<N: Number>(
         (λ m. m.count ≡ total_above nodes keys (map N.number m.numbers.items) (map N.number low.now)) }
     ensures only { IsOkUnless result OutOfMemory }
 {
-    let mut numbers = Vec::from_slice(alloc, cells)?;
+    let mut numbers = copied(alloc, cells)?;
     let count = keep_planes_ahead(&mut numbers, peer, nodes, keys, low);
     Ok(Masked { numbers, count })
 }
@@ -233,7 +282,7 @@ pub fn total_above<N: Number>(cells: &[N], nodes: usize, keys: usize, low: &[N],
     requires covered { AreCovered nodes keys (map N.number cells.now) (map N.number high.now) }
     ensures { result ≡ total_above nodes keys (map N.number cells.now) (map N.number low.now) }
 {
-    if owners::are_few(keys, low, high) {
+    if owners::are_few(keys, low, high, FEW_TO_COUNT) {
         return owners::total_owners_above(cells, nodes, keys, low, high);
     }
     total(cells, nodes, keys, |r, number| number.is_above(low[r]))
@@ -287,7 +336,7 @@ pub fn take<N: Number>(
     ensures greatest { AreRaised nodes keys (map N.number cells.old) (map N.number sent.now) (map N.number low.now)
         (map N.number high.now) (map N.number greatest.old) (map N.number greatest.new) }
 {
-    if owners::are_few(keys, low, high) {
+    if owners::are_few(keys, low, high, FEW_TO_CHANGE) {
         owners::take_owners(cells, greatest, sent, nodes, keys, low, high);
         return;
     }

@@ -1,25 +1,29 @@
 //! Loops over a few owners of a table, each over all of its keys. The others have nothing above one mark and up to
 //! another, and are passed over.
 
-ghost use Rattle.std.specs.Prelude.{◌≡◌, ℕ, ◌<◌, ◌≤◌, ◌==◌, length, map, if◌then◌else◌};
+ghost use Rattle.std.specs.Prelude.{◌≡◌, ◌<◌, ◌≤◌, ◌==◌, length, map, slice_index, if◌then◌else◌};
 ghost use Rattle.bench_types.specs.declared.limits.TheConstants.{MOST_NODES};
-ghost use Rattle.planes.specs.Planes.{cell, count_above, number_taken, total_above, AreCovered, AreRaised, AreTaken, ArePlanesChanged, HasNoneAbove, IsGrid, IsRaised};
+ghost use Rattle.planes.specs.Planes.{cell, count_above, number_raised, number_taken, total_above, AreCovered, AreRaised, AreTaken, ArePlanesChanged, HasNoneAbove, IsGrid, IsRaised};
 
+use crate::merges::Both;
 use crate::numbers::Number;
 use crate::planes;
 
 /// So many keys are many: with fewer, planes are the faster way.
 const MANY_KEYS: usize = 8;
-/// Owners are few where they are no more than all divided by this.
-const FEW: usize = 32;
+/// Owners are few where they are no more than all divided by this: to count their numbers, or to change them.
+pub(crate) const FEW_TO_COUNT: usize = 32;
+
+pub(crate) const FEW_TO_CHANGE: usize = 8;
 
 // Whether there are many keys, and few owners whose one mark is below the other. It picks the faster of two ways, and
 // both have the same outcome.
-pub(crate) fn are_few<N: Number>(keys: usize, low: &[N], high: &[N]) -> bool
+pub(crate) fn are_few<N: Number>(keys: usize, low: &[N], high: &[N], few: usize) -> bool
+    requires few { 1 ≤ few }
     requires marks { length low.now ≡ length high.now }
     requires room { length high.now ≤ MOST_NODES }
 {
-    keys >= MANY_KEYS && planes::how_many_above(high, low) as usize <= high.len() / FEW
+    keys >= MANY_KEYS && planes::how_many_above(high, low) as usize <= high.len() / few
 }
 
 // How many numbers of an owner are above a mark.
@@ -130,5 +134,74 @@ pub(crate) fn take_owners<N: Number>(
                 greatest[owner],
             );
         }
+    }
+}
+
+// Raises an owner's numbers to those of another table that are above a mark. It answers how many these are.
+fn raise_owner<N: Number>(
+    cells: &mut [N],
+    others: &[N],
+    nodes: usize,
+    keys: usize,
+    owner: usize,
+    low: N,
+) -> u32
+    requires grid { IsGrid nodes keys (length cells.old) }
+    requires owner { owner < nodes }
+    requires others { length others.now ≡ length cells.old }
+    ensures cells { ArePlanesChanged (λ r k x y. y ≡ (if r == owner then number_raised x
+        (cell (map N.number others.now) nodes r k) (N.number low) else x)) nodes keys
+        (map N.number cells.old) (map N.number cells.new) }
+    ensures count { result ≡ count_above (cell (map N.number others.now) nodes) keys owner (N.number low) }
+{
+    let mut count = 0;
+    for key in 0..keys {
+        let number = others[key * nodes + owner];
+        let is_above = number.is_above(low);
+        let cell = &mut cells[key * nodes + owner];
+        *cell = planes::raised_to(*cell, number, is_above);
+        count += u32::from(is_above);
+    }
+    count
+}
+
+// Two tables take of each other what is above their marks, of the owners alone of which one mark is above the other. The
+// numbers of such an owner come from the table with the higher mark.
+pub(crate) fn merge_owners<N: Number>(
+    first: &mut [N],
+    second: &mut [N],
+    first_low: &[N],
+    second_low: &[N],
+    nodes: usize,
+    keys: usize,
+) -> Both
+    requires grid { IsGrid nodes keys (length first.old) }
+    requires second { length second.old ≡ length first.old }
+    requires first_low { length first_low.now ≡ nodes }
+    requires second_low { length second_low.now ≡ nodes }
+    requires first_covered { AreCovered nodes keys (map N.number first.old) (map N.number first_low.now) }
+    requires second_covered { AreCovered nodes keys (map N.number second.old) (map N.number second_low.now) }
+    ensures first { ArePlanesChanged (λ r k x y. y ≡ number_raised x (cell (map N.number second.old) nodes r k)
+        (slice_index (map N.number first_low.now) r)) nodes keys (map N.number first.old) (map N.number first.new) }
+    ensures second { ArePlanesChanged (λ r k x y. y ≡ number_raised x (cell (map N.number first.old) nodes r k)
+        (slice_index (map N.number second_low.now) r)) nodes keys (map N.number second.old) (map N.number second.new) }
+    ensures first_count { result.first ≡ total_above nodes keys (map N.number second.old) (map N.number first_low.now) }
+    ensures second_count { result.second
+        ≡ total_above nodes keys (map N.number first.old) (map N.number second_low.now) }
+{
+    let mut to_first = 0;
+    let mut to_second = 0;
+    for owner in 0..nodes {
+        let mark = first_low[owner];
+        let other = second_low[owner];
+        if other.is_above(mark) {
+            to_first += raise_owner(first, second, nodes, keys, owner, mark);
+        } else if mark.is_above(other) {
+            to_second += raise_owner(second, first, nodes, keys, owner, other);
+        }
+    }
+    Both {
+        first: to_first,
+        second: to_second,
     }
 }

@@ -21,6 +21,13 @@ pub(crate) fn pick<N: Number>(test: bool, number: N, other: N) -> N
     if test { number } else { other }
 }
 
+// A number raised to another one that is above a mark.
+pub(crate) fn raised_to<N: Number>(number: N, other: N, is_above: bool) -> N
+    ensures { N.number result ≡ max (N.number number) (if is_above then N.number other else 0) }
+{
+    number.max_with(pick(is_above, other, N::zero()))
+}
+
 /// Counts for each owner whether its number in a plane passes a test of owner and number.
 pub fn count<N: Number, F: Fn(usize, N) -> bool>(counts: &mut [N], plane: &[N], passes: F)
     requires plane { length plane.now ≡ length counts.old }

@@ -1,5 +1,5 @@
 -- Numbers of an owner's keys that are dropped.
--- Serves `drop_older`.
+-- Serves `drop_older`, `is_current`, `none_began` and `Merged`.
 use Rattle.std.proofs.Common.{◌≡◌, ℕ, zero, suc, ◌+◌, ◌<◌, ◌≤◌, ◌&&◌, Bool, true, false, cond, List, nat_lt, nat_le, inl, inr, refl, ap, subst, arith}
 use Rattle.std.proofs.lemmas.Bool.{cases_lt, lt-leb}
 use Rattle.bench_types.specs.declared.entries.Entry.{Entry}

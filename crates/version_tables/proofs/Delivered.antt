@@ -1,5 +1,5 @@
 -- From an offer's marks to the marks of a delta between two tables.
--- Serves `either`, `marks_sent` and `told_to`.
+-- Serves `either`, `marks_sent`, `told_to` and `Merged`.
 use Rattle.std.proofs.Common.{◌≡◌, ℕ, ◌*◌, ◌<◌, ◌≤◌, max, true, cond, List, length, get_or, map, inl, inr, refl, sym, ap, ◌∙◌, subst, arith}
 use Rattle.std.specs.Prelude.{nat_lt, nat_le, ◌&&◌}
 use Rattle.std.proofs.lemmas.Bool.{cases_lt, cases_eq, lt-ltb, le-ltb, le-leb, eq-eqb, ne_eqb}

@@ -1,5 +1,5 @@
 -- An exchange of tables of versions is the model's.
--- Serves `exchange` and `exchange_deltas`.
+-- Serves `exchange`, `exchange_deltas` and `Merged`.
 use Rattle.std.proofs.Common.{◌≡◌, ℕ, ◌<◌, Bool, true, false, eqb, List, [], ◌∷◌, length, if◌then◌else◌, refl, sym, ap, ◌∙◌, subst, arith}
 use Rattle.std.specs.Prelude.{◌||◌}
 use Rattle.std.proofs.lemmas.Bool.{eqb-true}

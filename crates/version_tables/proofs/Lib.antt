@@ -40,6 +40,8 @@ pub mod RunSteps
 pub mod StopSteps
 pub mod TurnSteps
 pub mod ExchangedViews
+pub mod Merged
+pub mod MergedViews
 pub mod DigestSizes
 pub mod HistoryCalls
 pub mod Carried

@@ -1,5 +1,5 @@
 -- Marks of all that is offered, or of a level that was shared out.
--- Serves `planned`.
+-- Serves `planned` and `Merged`.
 use Rattle.std.proofs.Common.{◌≡◌, ℕ, ◌-◌, ◌<◌, ◌≤◌, Bool, true, false, ltb, leb, List, length, get_or, map, inl, inr, sym, ap, ◌∙◌, subst, arith}
 use Rattle.std.proofs.lemmas.Bool.{cases_lt, lt-ltb, le-ltb, le-leb}
 use Rattle.std.proofs.lemmas.List.{length-map, get_or_past}

@@ -1,5 +1,5 @@
 -- The modes that send the oldest numbers first: all but the last.
--- Serves `Offer::parts`, `Offer::stop` and `Offer::weight_of_whole`.
+-- Serves `Offer::count_parts`, `Offer::stop` and `Offer::weight_of_whole`.
 use Rattle.std.proofs.Common.{◌≡◌, ◌⊎◌, inl, inr, sym, subst}
 use Rattle.bench_types.specs.declared.exchanges.Mode.{Mode}
 use Rattle.bench_types.specs.declared.exchanges.Mode.TheVariants.{ScuttleBreadth, ScuttleDepth, PreciseOldest}

@@ -1,5 +1,5 @@
 -- What marks at the ends of rounds let through.
--- Serves `few_rounds`, `look`, `marks_sent`, `rounds` and `row_of`.
+-- Serves the functions of `deltas` and `rounds` and `Merged`.
 use Rattle.std.proofs.Common.{◌≡◌, ℕ, ◌+◌, ◌-◌, ◌*◌, ◌<◌, ◌≤◌, max, map, Bool, true, false, cond, ltb, leb, List, length, inl, inr, refl, sym, ap, ◌∙◌, subst, arith}
 use Rattle.std.specs.Prelude.{nat_lt}
 use Rattle.std.proofs.Math.Nat.{mul-le-mul_right}

@@ -1,5 +1,5 @@
 -- A table that took a delta by marks is the model's table that took its items.
--- Serves `ExchangedViews`.
+-- Serves `ExchangedViews` and `Merged`.
 use Rattle.std.proofs.Common.{◌≡◌, ℕ, ◌<◌, ◌≤◌, Bool, true, false, max, nat_lt, nat_le, List, length, Some, None, ◌⊎◌, inl, inr, refl, sym, ap, ◌∙◌, subst, arith}
 use Rattle.std.specs.Prelude.{slice_index}
 use Rattle.std.proofs.lemmas.Bool.{le-ltb, ltb-true, and_left, and_parts}

@@ -3,6 +3,7 @@ pub mod Offers
 pub mod Levels
 pub mod LevelMarks
 pub mod Taken
+pub mod Merged
 pub mod Missed
 pub mod Pieces
 pub mod Weights

@@ -1,6 +1,6 @@
 //! The exchange of an initiator and a responder whose tables keep versions alone.
 
-ghost use Rattle.std.specs.Prelude.{◌≡◌, ◌==◌, ℕ, ◌<◌, length, map, IfOk, OnOk, OnErr, IsOkUnless, false};
+ghost use Rattle.std.specs.Prelude.{◌≡◌, ◌==◌, ℕ, ◌<◌, length, map, IfOk, IsTrue, OnOk, OnErr, IsOkUnless, false};
 ghost use Rattle.bench_types.specs.declared.faults.Fault.TheVariants.{OutOfMemory};
 ghost use Rattle.bench_types.specs.Budget.{IsLawfulBudget};
 ghost use Rattle.bench_types.specs.Mode.{digest_kind};
@@ -10,16 +10,18 @@ ghost use Rattle.planes.specs.Planes.{HasEach};
 ghost use Rattle.model.specs.Digests.{digest_size};
 ghost use Rattle.version_tables.specs.Views.{table_in, IsKept, VersionTableView};
 ghost use Rattle.version_tables.specs.inner.Histories.{bases_in, FitsHistories, IsReadyExchange};
+ghost use Rattle.version_tables.specs.inner.Merged.{MayMerge};
 ghost use Rattle.version_tables.specs.inner.Offers.{IsNumberedHistory};
 ghost use Rattle.version_tables.specs.inner.Taken.{HasTakenUnless, StaysOne};
 
 use crate::deltas::{DeltaMarks, delta};
 use crate::digests::digest_size;
 use crate::histories::Histories;
+use crate::merging::{may_merge, merge};
 use crate::tables::{VersionTable, Written};
 use crate::taking::take_unless;
 use bench_types::{Exchange, Fault, Record, Rules};
-use model::{sent_back, sent_before_an_answer, sent_both};
+use model::{DeltaCounts, sent_back, sent_before_an_answer, sent_both};
 use owner_lists::OwnerList;
 use planes::Number;
 use std::alloc::Global;
@@ -48,7 +50,61 @@ pub(crate) fn exchange<N: Number, H: Written>(
     if plan.lost1 {
         return Ok(sent_before_an_answer(digest1));
     }
+    if all_comes(plan) && may_merge(initiator, responder, histories, rules) {
+        return Ok(exchange_all(initiator, responder, digest1, plan, rules, histories));
+    }
     exchange_deltas(alloc, histories, initiator, responder, digest1, plan, rules)
+}
+
+// Whether no message after the first is lost.
+fn all_comes(plan: &Exchange) -> bool
+    ensures second { IsTrue result → plan.now.lost2 ≡ false }
+    ensures third { IsTrue result → plan.now.lost3 ≡ false }
+{
+    !plan.lost2 & !plan.lost3
+}
+
+// The exchange of which all comes and surely fits, from the second message on.
+fn exchange_all<N: Number, H: Written>(
+    initiator: &mut VersionTable<N, H>,
+    responder: &mut VersionTable<N, H>,
+    digest1: u32,
+    plan: &Exchange,
+    rules: &Rules,
+    histories: &Histories<N, H>,
+) -> Record
+    requires first { plan.now.lost1 ≡ false }
+    requires second { plan.now.lost2 ≡ false }
+    requires third { plan.now.lost3 ≡ false }
+    requires kept { IsKept H.lists initiator.old }
+    requires digest1 { digest1 ≡ digest_size (digest_kind rules.now.mode) (table_in H.lists initiator.old) }
+    requires may { IsReadyExchange rules.now plan.now histories.now (table_in H.lists initiator.old)
+        (table_in H.lists responder.old) }
+    requires merge { MayMerge rules.now histories.now initiator.old responder.old }
+    ensures { MakesOf (table_in H.lists) rules.now plan.now initiator.old responder.old initiator.new responder.new
+        result }
+{
+    let _lists = histories.lists();
+    let digest2 = digest_size(responder, rules.mode);
+    let came = merge(initiator, responder);
+    sent_both(
+        digest1,
+        digest2,
+        all_sent(came.first),
+        all_sent(came.second),
+        false,
+    )
+}
+
+// So many are sent, and none is cut.
+fn all_sent(count: u32) -> DeltaCounts
+    ensures sent { result.sent ≡ count }
+    ensures cut { result.cut ≡ 0 }
+{
+    DeltaCounts {
+        sent: count,
+        cut: 0,
+    }
 }
 
 // The exchange from the second message on. The first one came.

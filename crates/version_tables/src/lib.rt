@@ -14,6 +14,7 @@ mod histories;
 mod lags;
 mod laws;
 mod marked;
+mod merging;
 mod owners;
 mod rounds;
 mod sharing;

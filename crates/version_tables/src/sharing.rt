@@ -1,19 +1,20 @@
 //! A level that doesn't fit, shared out: the owners take turns from the rotation on, up to the first number that
 //! doesn't fit.
 
-ghost use Rattle.std.specs.Prelude.{◌≡◌, ℕ, ◌+◌, ◌-◌, ◌<◌, ◌≤◌, IfOk, IsOkUnless, length, map};
+ghost use Rattle.std.specs.Prelude.{◌≡◌, ◌+◌, ◌-◌, ◌<◌, ◌≤◌, IfOk, IsOkUnless, length, map};
 ghost use Rattle.bench_types.specs.Budget.{amount_of};
 ghost use Rattle.bench_types.specs.declared.faults.Fault.TheVariants.{OutOfMemory};
 ghost use Rattle.model.specs.Order.{rotated};
+ghost use Rattle.planes.specs.Planes.{HasEach};
 ghost use Rattle.version_tables.specs.inner.OfferInMemory.{cells_in, marks, weights_in, IsOffer};
 ghost use Rattle.version_tables.specs.inner.Plans.{weight_on, IsLevel};
 ghost use Rattle.version_tables.specs.inner.Sharing.{AreShared};
-ghost use Rattle.version_tables.specs.inner.Turns.{part_between, AreTurnsOf, AreTurnsPassed, ArePartCounts, IsStop};
+ghost use Rattle.version_tables.specs.inner.Turns.{part_between, AreTurnsOf, AreKnownCounts, AreTurnsPassed, IsStop};
 
 use crate::stops::{First, Stop};
 use crate::weights::{Level, Offer, Share, number_at};
 use bench_types::{Budget, Fault, Mode};
-use planes::{Number, counts_between};
+use planes::{Number, all_of, count_some_between};
 use std::alloc::Global;
 
 // An owner whose part doesn't fit, what is left for it, and how many numbers were let through before.
@@ -24,13 +25,15 @@ struct Passed {
     sent: u32,
 }
 
-// A level that the owners share out in turn from the rotation on, and how many numbers each one's part has.
+/// The parts of so many owners are counted at a time: mostly the first part that doesn't fit is one of them.
+const MANY: usize = 64;
+
+// A level that the owners share out in turn from the rotation on.
 #[derive(Drop)]
 struct Turns<'a, N: Number> {
     mode: Mode,
     rotation: usize,
     level: &'a Level<N>,
-    counts: &'a [N],
 }
 
 // The owner whose turn it is.
@@ -101,41 +104,70 @@ impl<'a, N: Number> Offer<'a, N> {
         }
     }
 
-    // How many numbers each owner's part has.
-    fn parts(&self, alloc: Global, mode: Mode, level: &Level<N>) -> Result<Vec<N>, Fault>
+    // How many numbers the parts of some owners have, from a first one on.
+    fn count_parts(&self, mode: Mode, level: &Level<N>, first: usize, counts: &mut [N])
         requires offer { IsOffer N.number N.most self.now }
         requires level { IsLevel mode N.number self.now level.now }
-        ensures counts { IfOk result (λ v. ArePartCounts mode N.number self.now level.now (map N.number v.items)) }
-        ensures only { IsOkUnless result OutOfMemory }
+        requires part { first + length counts.old ≤ self.now.nodes }
+        ensures { HasEach (length counts.old) (λ r n. n ≡ part_between mode (λ _. 1) (cells_in N.number self.now)
+            self.now.keys (first + r) (marks N.number level.now.near.items (first + r))
+            (marks N.number level.now.far.items (first + r))) (map N.number counts.new) }
     {
         match mode {
             Mode::PreciseNewest => {
-                counts_between(
-                    alloc,
+                count_some_between(
+                    counts,
                     self.cells,
                     self.nodes,
                     self.keys,
+                    first,
                     &level.far,
                     &level.near,
-                )
+                );
             }
             Mode::ScuttleBreadth | Mode::ScuttleDepth | Mode::PreciseOldest => {
-                counts_between(
-                    alloc,
+                count_some_between(
+                    counts,
                     self.cells,
                     self.nodes,
                     self.keys,
+                    first,
                     &level.near,
                     &level.far,
-                )
+                );
             }
         }
     }
 
-    // Gives the owners in turn the far mark as long as their parts fit. Answers whose part doesn't.
-    fn pass_turns(&self, turns: &Turns<N>, mark: &mut [N], room: u32) -> Passed
+    // How many numbers an owner's part has. Where that isn't known, parts are counted from this owner on.
+    fn count_of_part(&self, turns: &Turns<N>, counts: &mut [N], owner: usize) -> u32
         requires offer { IsOffer N.number N.most self.now }
         requires turns { AreTurnsOf N.number self.now turns.now }
+        requires owner { owner < self.now.nodes }
+        requires counts { AreKnownCounts turns.now.mode N.number N.most self.now turns.now.level.now
+            (map N.number counts.old) }
+        ensures count { result ≡ part_between turns.now.mode (λ _. 1) (cells_in N.number self.now) self.now.keys owner
+            (marks N.number turns.now.level.now.near.items owner)
+            (marks N.number turns.now.level.now.far.items owner) }
+        ensures counts { AreKnownCounts turns.now.mode N.number N.most self.now turns.now.level.now
+            (map N.number counts.new) }
+    {
+        let known = number_at(counts, owner);
+        if N::greatest().is_above(known) {
+            return known.widen();
+        }
+        let end = (owner + MANY).min(self.nodes);
+        let some = &mut counts[owner..end];
+        self.count_parts(turns.mode, turns.level, owner, some);
+        number_at(counts, owner).widen()
+    }
+
+    // Gives the owners in turn the far mark as long as their parts fit. Answers whose part doesn't.
+    fn pass_turns(&self, turns: &Turns<N>, counts: &mut [N], mark: &mut [N], room: u32) -> Passed
+        requires offer { IsOffer N.number N.most self.now }
+        requires turns { AreTurnsOf N.number self.now turns.now }
+        requires counts { AreKnownCounts turns.now.mode N.number N.most self.now turns.now.level.now
+            (map N.number counts.old) }
         requires mark { mark.old ≡ turns.now.level.now.near.items }
         requires room { weight_on turns.now.mode N.number self.now
             (marks N.number turns.now.level.now.near.items) + room ≡ amount_of self.now.budget }
@@ -155,7 +187,7 @@ impl<'a, N: Number> Offer<'a, N> {
             let owner = owner_of_turn(turn, self.nodes, turns.rotation);
             let near = number_at(&turns.level.near, owner);
             let far = number_at(&turns.level.far, owner);
-            let count = number_at(turns.counts, owner).widen();
+            let count = self.count_of_part(turns, counts, owner);
             let weight = self.weight_of_part(turns.mode, owner, near, far, count);
             if left < weight {
                 return Passed { owner, left, sent };
@@ -168,9 +200,11 @@ impl<'a, N: Number> Offer<'a, N> {
     }
 
     // Puts the marks that stop at the first number that doesn't fit. Answers how many numbers they let through.
-    fn share_into(&self, turns: &Turns<N>, mark: &mut [N]) -> u32
+    fn share_into(&self, turns: &Turns<N>, counts: &mut [N], mark: &mut [N]) -> u32
         requires offer { IsOffer N.number N.most self.now }
         requires turns { AreTurnsOf N.number self.now turns.now }
+        requires counts { AreKnownCounts turns.now.mode N.number N.most self.now turns.now.level.now
+            (map N.number counts.old) }
         requires mark { mark.old ≡ turns.now.level.now.near.items }
         ensures size { length mark.new ≡ self.now.nodes }
         ensures shared { AreShared turns.now.mode turns.now.rotation N.number self.now
@@ -178,7 +212,7 @@ impl<'a, N: Number> Offer<'a, N> {
             (marks N.number mark.new) result }
     {
         let room = self.budget.amount() - self.weight_of_whole(turns.mode, turns.level);
-        let passed = self.pass_turns(turns, mark, room);
+        let passed = self.pass_turns(turns, counts, mark, room);
         let owner = passed.owner;
         let near = number_at(&turns.level.near, owner);
         let far = number_at(&turns.level.far, owner);
@@ -204,14 +238,13 @@ pub(crate) fn share<N: Number>(
         (marks N.number level.now.far.items) (marks N.number s.mark.items) s.sent) }
     ensures only { IsOkUnless result OutOfMemory }
 {
-    let counts = offer.parts(alloc, mode, level)?;
+    let mut counts = all_of(alloc, offer.nodes, N::greatest())?;
     let mut mark = Vec::from_slice(alloc, &level.near)?;
     let turns = Turns {
         mode,
         rotation,
         level,
-        counts: &counts,
     };
-    let sent = offer.share_into(&turns, &mut mark);
+    let sent = offer.share_into(&turns, &mut counts, &mut mark);
     Ok(Share { mark, sent })
 }

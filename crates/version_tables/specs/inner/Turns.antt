@@ -1,5 +1,5 @@
 -- The owners' turns in a level, from the rotation on. Source: this project.
-use Rattle.std.specs.Prelude.{◌≡◌, ℕ, ◌+◌, ◌<◌, ◌≤◌, List, map, true, false}
+use Rattle.std.specs.Prelude.{◌≡◌, ◌⊎◌, ℕ, ◌+◌, ◌<◌, ◌≤◌, List, true, false}
 use Rattle.bench_types.specs.declared.exchanges.Mode.{Mode}
 use Rattle.bench_types.specs.declared.exchanges.Mode.TheVariants.{ScuttleBreadth, ScuttleDepth, PreciseOldest, PreciseNewest}
 use Rattle.bench_types.specs.Budget.{amount_of}
@@ -21,17 +21,16 @@ part_between ScuttleDepth weight cells keys owner near far = weight_of weight ce
 part_between PreciseOldest weight cells keys owner near far = weight_of weight cells keys owner near far
 part_between PreciseNewest weight cells keys owner near far = weight_of weight cells keys owner far near
 
--- how many numbers each owner's part of a level has
-abbrev pub ArePartCounts : {N : Type 0} → Mode → (N → ℕ) → Offer N → Level N → List ℕ → Type 0
-ArePartCounts mode number offer level counts =
-    HasEach offer.nodes (λ r n. n ≡ part_between mode (λ _. 1) (cells_in number offer) offer.keys r
-    (marks number level.near.items r) (marks number level.far.items r)) counts
+-- how many numbers each owner's part of a level has, or the most where that isn't known
+abbrev pub AreKnownCounts : {N : Type 0} → Mode → (N → ℕ) → ℕ → Offer N → Level N → List ℕ → Type 0
+AreKnownCounts mode number most offer level counts =
+    HasEach offer.nodes (λ r n. (n ≡ most) ⊎ (n ≡ part_between mode (λ _. 1) (cells_in number offer) offer.keys r
+    (marks number level.near.items r) (marks number level.far.items r))) counts
 
 -- a level that is shared out in turn from a rotation on
 pub record AreTurnsOf {N : Type 0} (number : N → ℕ) (offer : Offer N) (turns : Turns N) : Type 0 where
   pub rotation : turns.rotation < offer.nodes
   pub level : IsLevel turns.mode number offer turns.level.now
-  pub counts : ArePartCounts turns.mode number offer turns.level.now (map number turns.counts.now)
 
 -- owners whose turn has come have the far mark, and the others the near one
 pub record AreTurnsPassed {N : Type 0} (mode : Mode) (number : N → ℕ) (offer : Offer N) (rotation : ℕ)

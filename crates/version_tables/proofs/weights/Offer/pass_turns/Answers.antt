@@ -1,5 +1,5 @@
 use Rattle.std.proofs.Common.{◌<◌, length, set, sym, ap, ◌∙◌, subst, arith}
-use Rattle.std.proofs.lemmas.List.{length-map, length-set}
+use Rattle.std.proofs.lemmas.List.{length-set}
 use Rattle.version_tables.specs.inner.OfferInMemory.{cells_in, marks, weights_in}
 use Rattle.version_tables.specs.inner.Turns.{part_between, AreTurnsPassed}
 use Rattle.version_tables.proofs.TurnSteps.{turns-first, turns-next, turns-end, put-here, put-other, part-few, count_on-few}
@@ -11,6 +11,7 @@ loop-turn-init g c =
     let level = c.args.turns.now.level.now in
     record {
       size = ap length c.requires.mark ∙ c.requires.turns.level.near;
+      counts = c.requires.counts;
       so_far =
           subst (λ xs. AreTurnsPassed c.args.turns.now.mode number c.args.self.now c.args.turns.now.rotation (marks number level.near.items) (marks number level.far.items) (marks number xs) 0 c.args.room level.whole) (sym c.requires.mark)
           (turns-first number g.N.Number.most c.args.self.now c.requires.offer c.args.turns.now.mode c.args.turns.now.rotation c.requires.turns.rotation (marks number level.near.items) (marks number level.far.items) c.requires.turns.level.farther
@@ -23,9 +24,7 @@ weight_of_part-weight-requires-clause-count g c κs within =
     let owner = c.owner_of_turn-owner.result in
     let near = c.number_at-near.ensures ∙ ap (λ xs. marks number xs owner) c.deref.ensures.value in
     let far = c.number_at-far.ensures ∙ ap (λ xs. marks number xs owner) c.deref-in-loop-turn.ensures.value in
-    c.widen-count.ensures
-    ∙ c.number_at.ensures
-    ∙ c.requires.turns.counts.each owner c.owner_of_turn-owner.ensures.below
+    c.count_of_part-count.ensures.count
     ∙ sym (λ i. part_between c.args.turns.now.mode (λ _. 1) (cells_in number c.args.self.now) c.args.self.now.keys owner (near i) (far i))
 
 pub loop-turn-preserved : goal.loop-turn-preserved
@@ -40,12 +39,13 @@ loop-turn-preserved g c =
     let in_mark : owner < length c.loop-turn.mark = omega (arith, below, c.loop-turn.invariant.size) in
     record {
       size = length-set c.loop-turn.mark owner c.number_at-far.result ∙ c.loop-turn.invariant.size;
+      counts = c.count_of_part-count.ensures.counts;
       so_far =
           turns-next number g.N.Number.most offer c.requires.offer c.args.turns.now.mode c.args.turns.now.rotation c.requires.turns.rotation (marks number level.near.items) (marks number level.far.items) c.requires.turns.level.farther
           (marks number c.loop-turn.mark) c.loop-turn.turn c.loop-turn.left c.loop-turn.sent c.loop-turn.invariant.so_far
-          owner c.weight_of_part-weight.result c.widen-count.result (marks number (set c.loop-turn.mark owner c.number_at-far.result)) below c.owner_of_turn-owner.ensures.turn c.if-left-weight.false
+          owner c.weight_of_part-weight.result c.count_of_part-count.result (marks number (set c.loop-turn.mark owner c.number_at-far.result)) below c.owner_of_turn-owner.ensures.turn c.if-left-weight.false
           (c.weight_of_part-weight.ensures ∙ (λ i. part_between c.args.turns.now.mode (weights_in offer owner) (cells_in number offer) offer.keys owner (near i) (far i)))
-          (c.widen-count.ensures ∙ c.number_at.ensures ∙ c.requires.turns.counts.each owner below)
+          c.count_of_part-count.ensures.count
           (put-here number c.loop-turn.mark owner c.number_at-far.result in_mark ∙ far)
           (λ r lt other. put-other number c.loop-turn.mark owner c.number_at-far.result r other);
     }
@@ -58,7 +58,7 @@ overflow_add-sent g c =
     let owner = c.owner_of_turn-owner.result in
     omega (
       arith,
-      c.widen-count.ensures ∙ c.number_at.ensures ∙ c.requires.turns.counts.each owner c.owner_of_turn-owner.ensures.below,
+      c.count_of_part-count.ensures.count,
       part-few c.args.turns.now.mode (cells_in number offer) offer.keys owner (marks number level.near.items owner) (marks number level.far.items owner),
       c.requires.offer.grid.few_keys,
       c.loop-turn.invariant.so_far.count,
@@ -101,12 +101,6 @@ pub number_at-far-requires : goal.number_at-far-requires
 number_at-far-requires g c = (
   c.type_bounds.send-N,
   (c.type_bounds.sync-N, subst (λ n. c.owner_of_turn-owner.result < n) (sym (ap length c.deref-in-loop-turn.ensures.value ∙ c.requires.turns.level.far)) c.owner_of_turn-owner.ensures.below),
-)
-
-pub number_at-requires : goal.number_at-requires
-number_at-requires g c = (
-  c.type_bounds.send-N,
-  (c.type_bounds.sync-N, subst (λ n. c.owner_of_turn-owner.result < n) (sym (sym (length-map c.args.turns.now.counts.now g.N.Number.number) ∙ c.requires.turns.counts.size)) c.owner_of_turn-owner.ensures.below),
 )
 
 pub weight_of_part-weight-requires-clause-owner : goal.weight_of_part-weight-requires-clause-owner

@@ -1,0 +1,17 @@
+use Rattle.std.proofs.Common.{◌≡◌, ◌+◌, ◌-◌, ◌++◌, take, drop, sym, ap, ◌∙◌, arith}
+use Rattle.std.proofs.Math.Seq.{take-add}
+use Rattle.planes.proofs.grids.copied.Goals as goal
+
+pub loop-start-preserved : goal.loop-start-preserved
+loop-start-preserved g c =
+    let start = c.loop-start.start in
+    let end = c.min-end.result in
+    let whole : start + (end - start) ≡ end = omega (arith, c.min-end.ensures, c.loop-start-test.true) in
+    record {
+      copy =
+          c.in_ok-extend_from_slice.ensures.items
+          ∙ (λ i. c.loop-start.invariant.copy i ++ take (end - start) (drop start c.args.cells.now))
+          ∙ sym (take-add start (end - start) c.args.cells.now)
+          ∙ ap (λ n. take n c.args.cells.now) whole;
+      within = omega (arith, c.min-end.ensures);
+    }

@@ -1,0 +1,14 @@
+use Rattle.std.proofs.Common.{◌≡◌, nat_lt, slice_index, map, if◌then◌else◌}
+use Rattle.bench_types.specs.Sums.{sum_below}
+use Rattle.planes.specs.Planes.{cell, number_raised, ArePlanesChangedUpto}
+use Rattle.planes.proofs.merges.merge.Given as goal
+
+abbrev pub invariant-loop-key : goal.invariant-loop-key
+invariant-loop-key g l = record {
+  first : ArePlanesChangedUpto (λ r k x y. y ≡ number_raised x (cell (map g.N.Number.number l.initial.second) l.nodes r k) (slice_index (map g.N.Number.number l.first_low) r)) l.nodes
+      (map g.N.Number.number l.initial.first) (map g.N.Number.number l.first) l.key;
+  second : ArePlanesChangedUpto (λ r k x y. y ≡ number_raised x (cell (map g.N.Number.number l.initial.first) l.nodes r k) (slice_index (map g.N.Number.number l.second_low) r)) l.nodes
+      (map g.N.Number.number l.initial.second) (map g.N.Number.number l.second) l.key;
+  first_count : l.to_first ≡ sum_below l.key (λ k. sum_below l.nodes (λ r. if nat_lt (slice_index (map g.N.Number.number l.first_low) r) (cell (map g.N.Number.number l.initial.second) l.nodes r k) then 1 else 0));
+  second_count : l.to_second ≡ sum_below l.key (λ k. sum_below l.nodes (λ r. if nat_lt (slice_index (map g.N.Number.number l.second_low) r) (cell (map g.N.Number.number l.initial.first) l.nodes r k) then 1 else 0));
+}

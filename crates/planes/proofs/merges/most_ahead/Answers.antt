@@ -1,0 +1,26 @@
+use Rattle.std.proofs.Common.{◌-◌, min, ◌∙◌, arith, length}
+use Rattle.planes.proofs.Elementwise.{number-at}
+use Rattle.planes.proofs.Counts.{sum_next, sum_whole}
+use Rattle.planes.proofs.Leads.{lead-fits}
+use Rattle.planes.proofs.merges.most_ahead.Goals as goal
+
+pub overflow_add-to_first : goal.overflow_add-to_first
+overflow_add-to_first g c = lead-fits c.args.keys _ _ c.loop-r.r c.loop-r.to_first c.lead-to_first.result c.loop-r.invariant.to_first (omega (arith, c.lead-to_first.ensures)) (omega (arith, c.loop-r-test.true, c.requires.nodes)) c.requires.keys
+
+pub overflow_add-to_second : goal.overflow_add-to_second
+overflow_add-to_second g c = lead-fits c.args.keys _ _ c.loop-r.r c.loop-r.to_second c.lead-to_second.result c.loop-r.invariant.to_second (omega (arith, c.lead-to_second.ensures)) (omega (arith, c.loop-r-test.true, c.requires.nodes)) c.requires.keys
+
+pub loop-r-preserved : goal.loop-r-preserved
+loop-r-preserved g c =
+    let first = number-at g.N.Number.number c.args.first.now c.loop-r.r c.index-first-r.result c.loop-r-test.true c.index-first-r.is in
+    let second = number-at g.N.Number.number c.args.second.now c.loop-r.r c.index-second-r.result (omega (arith, c.loop-r-test.true, c.requires.second)) c.index-second-r.is in
+    record {
+      to_first = sum_next _ c.loop-r.r c.loop-r.to_first c.lead-to_first.result c.loop-r.invariant.to_first (c.lead-to_first.ensures ∙ (λ i. min c.args.keys (second i - first i)));
+      to_second = sum_next _ c.loop-r.r c.loop-r.to_second c.lead-to_second.result c.loop-r.invariant.to_second (c.lead-to_second.ensures ∙ (λ i. min c.args.keys (first i - second i)));
+    }
+
+pub returns-clause-first : goal.returns-clause-first
+returns-clause-first g c = sum_whole _ c.loop-r.r (length c.args.first.now) c.loop-r.to_first c.loop-r.invariant.to_first c.loop-r-test.false c.loop-r.auto.r-end
+
+pub returns-clause-second : goal.returns-clause-second
+returns-clause-second g c = sum_whole _ c.loop-r.r (length c.args.first.now) c.loop-r.to_second c.loop-r.invariant.to_second c.loop-r-test.false c.loop-r.auto.r-end

@@ -1,0 +1,152 @@
+//! Two tables that take of each other all that is above their marks, both ways in one pass.
+
+ghost use Rattle.std.specs.Prelude.{◌≡◌, ◌-◌, ◌≤◌, length, map, max, min, nat_lt, slice_index, if◌then◌else◌};
+ghost use Rattle.bench_types.specs.declared.limits.TheConstants.{MOST_NODES, MOST_KEYS};
+ghost use Rattle.bench_types.specs.Sums.{sum_below};
+ghost use Rattle.planes.specs.Elementwise.{AreChanged};
+ghost use Rattle.planes.specs.Planes.{cell, most_ahead, number_raised, total_above, AreCovered, ArePlanesChanged, IsGrid};
+
+use crate::numbers::Number;
+use crate::owners::FEW_TO_CHANGE;
+use crate::{owners, planes};
+
+/// A number for what comes to the first of two tables, and one for what comes to the second.
+#[derive(Clone, Copy)]
+pub struct Both {
+    pub first: u32,
+    pub second: u32,
+}
+
+// How far a number is ahead of another, but no more than so much.
+fn lead<N: Number>(number: N, other: N, most: u32) -> u32
+    ensures { result ≡ min most (N.number number - N.number other) }
+{
+    number.widen().saturating_sub(other.widen()).min(most)
+}
+
+/// How many numbers may come to each of two tables, by their greatest ones: of an owner no more than keys, and where its
+/// numbers differ, no more than its two greatest ones are apart.
+pub fn most_ahead<N: Number>(first: &[N], second: &[N], keys: u32) -> Both
+    requires second { length second.now ≡ length first.now }
+    requires nodes { length first.now ≤ MOST_NODES }
+    requires keys { keys ≤ MOST_KEYS }
+    ensures first { result.first ≡ most_ahead (length first.now) keys (map N.number second.now)
+        (map N.number first.now) }
+    ensures second { result.second ≡ most_ahead (length first.now) keys (map N.number first.now)
+        (map N.number second.now) }
+{
+    let mut to_first = 0;
+    let mut to_second = 0;
+    for r in 0..first.len() {
+        let number = first[r];
+        let other = second[r];
+        to_first += lead(other, number, keys);
+        to_second += lead(number, other, keys);
+    }
+    Both {
+        first: to_first,
+        second: to_second,
+    }
+}
+
+// The planes of one key.
+fn merge_planes<N: Number>(
+    first: &mut [N],
+    second: &mut [N],
+    first_low: &[N],
+    second_low: &[N],
+) -> Both
+    requires second { length second.old ≡ length first.old }
+    requires first_low { length first_low.now ≡ length first.old }
+    requires second_low { length second_low.now ≡ length first.old }
+    requires room { length first.old ≤ MOST_NODES }
+    ensures first { AreChanged (λ r x y. y ≡ number_raised x (slice_index (map N.number second.old) r)
+        (slice_index (map N.number first_low.now) r)) (map N.number first.old) (map N.number first.new) }
+    ensures second { AreChanged (λ r x y. y ≡ number_raised x (slice_index (map N.number first.old) r)
+        (slice_index (map N.number second_low.now) r)) (map N.number second.old) (map N.number second.new) }
+    ensures first_count { result.first ≡ sum_below (length first.old)
+        (λ r. if nat_lt (slice_index (map N.number first_low.now) r) (slice_index (map N.number second.old) r)
+        then 1 else 0) }
+    ensures second_count { result.second ≡ sum_below (length first.old)
+        (λ r. if nat_lt (slice_index (map N.number second_low.now) r) (slice_index (map N.number first.old) r)
+        then 1 else 0) }
+{
+    let mut to_first = N::zero();
+    let mut to_second = N::zero();
+    for r in 0..first.len() {
+        let number = first[r];
+        let other = second[r];
+        let comes = other.is_above(first_low[r]);
+        let goes = number.is_above(second_low[r]);
+        first[r] = planes::raised_to(number, other, comes);
+        second[r] = planes::raised_to(other, number, goes);
+        to_first = to_first.plus(comes);
+        to_second = to_second.plus(goes);
+    }
+    Both {
+        first: to_first.widen(),
+        second: to_second.widen(),
+    }
+}
+
+/// Raises each number of both tables to the other's of its place, where that is above their own mark of its owner. No
+/// number may be above its own table's mark. It answers how many numbers come to each. It goes over all planes, or where
+/// only few owners' marks differ and there are many keys, over the keys of these owners.
+pub fn merge<N: Number>(
+    first: &mut [N],
+    second: &mut [N],
+    first_low: &[N],
+    second_low: &[N],
+    nodes: usize,
+    keys: usize,
+) -> Both
+    requires grid { IsGrid nodes keys (length first.old) }
+    requires second { length second.old ≡ length first.old }
+    requires first_low { length first_low.now ≡ nodes }
+    requires second_low { length second_low.now ≡ nodes }
+    requires first_covered { AreCovered nodes keys (map N.number first.old) (map N.number first_low.now) }
+    requires second_covered { AreCovered nodes keys (map N.number second.old) (map N.number second_low.now) }
+    ensures first { ArePlanesChanged (λ r k x y. y ≡ number_raised x (cell (map N.number second.old) nodes r k)
+        (slice_index (map N.number first_low.now) r)) nodes keys (map N.number first.old) (map N.number first.new) }
+    ensures second { ArePlanesChanged (λ r k x y. y ≡ number_raised x (cell (map N.number first.old) nodes r k)
+        (slice_index (map N.number second_low.now) r)) nodes keys (map N.number second.old) (map N.number second.new) }
+    ensures first_count { result.first ≡ total_above nodes keys (map N.number second.old) (map N.number first_low.now) }
+    ensures second_count { result.second
+        ≡ total_above nodes keys (map N.number first.old) (map N.number second_low.now) }
+{
+    if owners::are_few(keys, first_low, second_low, FEW_TO_CHANGE)
+        && owners::are_few(keys, second_low, first_low, FEW_TO_CHANGE)
+    {
+        return owners::merge_owners(first, second, first_low, second_low, nodes, keys);
+    }
+    let mut to_first = 0;
+    let mut to_second = 0;
+    for key in 0..keys {
+        let start = key * nodes;
+        let one = &mut first[start..start + nodes];
+        let other = &mut second[start..start + nodes];
+        let both = merge_planes(one, other, first_low, second_low);
+        to_first += both.first;
+        to_second += both.second;
+    }
+    Both {
+        first: to_first,
+        second: to_second,
+    }
+}
+
+/// Raises each number of two lists to the other list's.
+pub fn raise_both<N: Number>(first: &mut [N], second: &mut [N])
+    requires second { length second.old ≡ length first.old }
+    ensures first { AreChanged (λ r x y. y ≡ max x (slice_index (map N.number second.old) r))
+        (map N.number first.old) (map N.number first.new) }
+    ensures second { AreChanged (λ r x y. y ≡ max x (slice_index (map N.number first.old) r))
+        (map N.number second.old) (map N.number second.new) }
+{
+    for r in 0..first.len() {
+        let number = first[r];
+        let other = second[r];
+        first[r] = number.max_with(other);
+        second[r] = other.max_with(number);
+    }
+}

@@ -1,0 +1,388 @@
+-- Tables that take all that the other has above their own greatest numbers exchange as the model's do.
+-- Serves `exchange_all`.
+use Rattle.std.proofs.Common.{◌≡◌, ℕ, zero, suc, ◌+◌, ◌-◌, ◌<◌, ◌≤◌, ◌&&◌, true, false, cond, min, max, nat_lt, nat_le, List, length, get_or, set, map, ◌⊎◌, inl, inr, refl, sym, ap, ◌∙◌, subst, arith}
+use Rattle.std.specs.Prelude.{◌≢◌, Some, None}
+use Rattle.std.proofs.Math.Bool.{and-true}
+use Rattle.std.proofs.Math.Nat.{mul-le-mul_right}
+use Rattle.std.proofs.lemmas.Bool.{cases_lt, cases_eq, eq-eqb, ne_eqb, lt-ltb, le-ltb, le-leb, and_left}
+use Rattle.std.proofs.lemmas.List.{get_or-set_same, get_or-set_other, length-set, map-id}
+use Rattle.bench_types.specs.declared.entries.Entry.{Entry}
+use Rattle.bench_types.specs.declared.exchanges.Budget.{Budget}
+use Rattle.bench_types.specs.declared.exchanges.Budget.TheVariants.{Entries, Bytes}
+use Rattle.bench_types.specs.declared.exchanges.DigestKind.TheVariants.{Scuttle, Precise}
+use Rattle.bench_types.specs.declared.exchanges.Exchange.{Exchange}
+use Rattle.bench_types.specs.declared.exchanges.Fate.TheVariants as fate
+use Rattle.bench_types.specs.declared.exchanges.Mode.{Mode}
+use Rattle.bench_types.specs.declared.exchanges.Mode.TheVariants.{ScuttleBreadth, ScuttleDepth, PreciseOldest, PreciseNewest}
+use Rattle.bench_types.specs.declared.exchanges.Record.{Record}
+use Rattle.bench_types.specs.declared.exchanges.Rules.{Rules}
+use Rattle.bench_types.specs.Budget.{amount_of, largest_share}
+use Rattle.bench_types.specs.Mode.{digest_kind}
+use Rattle.bench_types.proofs.Sums.{sum_below-le}
+use Rattle.model.specs.Deltas.{DeltaView}
+use Rattle.model.specs.Digests.{digest_size}
+use Rattle.model.specs.Exchanged.{last_fate, sent_until}
+use Rattle.model.specs.Exchanging.{MakesOf}
+use Rattle.model.specs.Numbers.{write_numbered}
+use Rattle.model.specs.OwnerListView.{all_writes, list_of_owner, AreWrites}
+use Rattle.model.specs.Table.{applied}
+use Rattle.planes.specs.Planes.{Cells, cell, count_between, most_ahead, number_raised, number_taken, numbers_taken, total_above, HasEach}
+use Rattle.planes.proofs.Places.{total-same}
+use Rattle.version_tables.specs.declared.weights.Offer.{Offer}
+use Rattle.version_tables.specs.Laid.{IsVersionTable}
+use Rattle.version_tables.specs.Views.{VersionTableView, HistoriesView, table_in, IsKept}
+use Rattle.version_tables.specs.inner.Deltas.{delta_of_views, is_taken_at, AreMarksOf}
+use Rattle.version_tables.specs.inner.Histories.{bases_in, IsWrittenSoFar, FitsHistories}
+use Rattle.version_tables.specs.inner.LevelMarks.{NumbersDiffer}
+use Rattle.version_tables.specs.inner.Marked.{whole_marks, low_list, high_list, AreMarked}
+use Rattle.version_tables.specs.inner.Merged.{HasMerged, IsMerged, MayMerge, MayTakeAll, StaysMerged}
+use Rattle.version_tables.specs.inner.OfferInMemory.{cells_in, low_in, high_in, weights_in, weight_in, count_in, IsOffer}
+use Rattle.version_tables.specs.inner.Offers.{offered_by, told_by, told_number}
+use Rattle.version_tables.specs.inner.Taken.{is_taken, number_kept, AreSent, IsTaken}
+use Rattle.version_tables.specs.inner.Weights.{share_or_none}
+use Rattle.version_tables.proofs.Clearing.{kept-all, no_start}
+use Rattle.version_tables.proofs.Columns.{sum_below-none}
+use Rattle.version_tables.proofs.Delivered.{offer-is, delta-marks}
+use Rattle.version_tables.proofs.ExchangedViews.{all_sent_case}
+use Rattle.version_tables.proofs.Fitting.{fits-below}
+use Rattle.version_tables.proofs.MarkedLaws.{whole-marked}
+use Rattle.version_tables.proofs.RoundMarks.{count-newest}
+use Rattle.version_tables.proofs.TakenViews.{becomes_applied, becomes_one}
+use Rattle.version_tables.proofs.WeightLaws.{part, part-cases, weight_of-none, weight_of-split, weight_between-most, count_between-most}
+
+-- the modes of a scuttle digest have one kind of marks
+scuttle-or : (mode : Mode) → digest_kind mode ≡ Scuttle → (P : Mode → Type 0) → P ScuttleBreadth → P ScuttleDepth → P mode
+scuttle-or ScuttleBreadth is P breadth depth = breadth
+scuttle-or ScuttleDepth is P breadth depth = depth
+scuttle-or PreciseOldest is P breadth depth = absurd (no is)
+  where
+    no : Precise ≡ Scuttle → ⊥
+    no h = cc
+scuttle-or PreciseNewest is P breadth depth = absurd (no is)
+  where
+    no : Precise ≡ Scuttle → ⊥
+    no h = cc
+
+-- of numbers that differ no more are between two marks than these are apart
+module _ (cells : Cells) (owner : ℕ) where
+  abbrev between : ℕ → ℕ → ℕ → ℕ
+  between keys low high = count_between cells keys owner low high
+
+  fewer : (keys : ℕ) → NumbersDiffer cells (suc keys) owner → NumbersDiffer cells keys owner
+  fewer keys differ k l k_lt l_lt some same = differ k l (omega (arith, k_lt)) (omega (arith, l_lt)) some same
+
+  -- a number that is in between one mark and the next
+  next-is : (low number : ℕ) → low < number → number ≤ low + 1 → number ≡ low + 1
+  next-is low number above upto = omega (arith, above, upto)
+
+  one-between : (keys low : ℕ) → NumbersDiffer cells keys owner → between keys low (low + 1) ≤ 1
+  one-between zero low differ = omega arith
+  one-between (suc keys) low differ = elim (part-cases (λ _. 1) low (low + 1) (cells owner keys)) [
+    | inr none ↦ omega (arith, none, one-between keys low (fewer keys differ))
+    | inl here ↦
+        let is : cells owner keys ≡ low + 1 = next-is low (cells owner keys) here.0 here.1 in
+        let none : between keys low (low + 1) ≡ 0 = sum_below-none keys (λ key. part (λ _. 1) low (low + 1) (cells owner key)) (λ key lt. elim (part-cases (λ _. 1) low (low + 1) (cells owner key)) [
+          | inr nothing ↦ nothing
+          | inl there ↦
+              let same : key ≡ keys = differ key keys (omega (arith, lt)) (omega arith) (omega (arith, there.0)) (next-is low (cells owner key) there.0 there.1 ∙ sym is) in
+              absurd (omega (arith, same, lt))
+        ]) in
+        omega (arith, here.2, none)
+  ]
+
+  apart-between : (keys low apart : ℕ) → NumbersDiffer cells keys owner → between keys low (low + apart) ≤ apart
+  apart-between keys low zero differ = omega (arith, weight_of-none (λ _. 1) cells keys owner low (low + zero) (omega arith))
+  apart-between keys low (suc apart) differ =
+      let parts = weight_of-split (λ _. 1) cells keys owner low (low + apart) (low + apart + 1) (omega arith) (omega arith) in
+      let same : between keys low (low + suc apart) ≡ between keys low (low + apart + 1) = ap (between keys low) {x = low + suc apart} {y = low + apart + 1} (omega arith) in
+      omega (arith, same, parts, apart-between keys low apart differ, one-between keys (low + apart) differ)
+
+  pub few-between : (keys low high : ℕ) → NumbersDiffer cells keys owner → between keys low high ≤ min keys (high - low)
+  few-between keys low high differ = elim (cases_lt low high) [
+    | inr not_below ↦ omega (arith, weight_of-none (λ _. 1) cells keys owner low high (omega (arith, not_below)))
+    | inl below ↦
+        let same : between keys low high ≡ between keys low (low + (high - low)) = ap (between keys low) {x = high} {y = low + (high - low)} (omega (arith, below)) in
+        omega (arith, same, apart-between keys low (high - low) differ, count_between-most cells keys owner low high)
+  ]
+
+-- no write takes more than the largest share
+largest-share : (budget : Budget) (writes : List Entry) (number : ℕ) → share_or_none budget (write_numbered writes number) ≤ largest_share budget
+largest-share (Entries n) writes number = elim (write_numbered writes number) as (λ o. share_or_none (Entries n) o ≤ 1) [
+  | None ↦ omega arith
+  | Some e ↦ omega arith
+]
+largest-share (Bytes n) writes number = elim (write_numbered writes number) as (λ o. share_or_none (Bytes n) o ≤ largest_share (Bytes n)) [
+  | None ↦ omega arith
+  | Some e ↦ omega arith
+]
+
+-- one number, of which the sender has none above a high mark
+module _ (x s low high : ℕ) (upto : s ≤ high) where
+  raised-taken : number_raised x s low ≡ number_taken x s low high
+  raised-taken = ap (λ b. max x (cond b s 0)) (sym (test ∙ and-true (nat_lt low s)))
+    where
+      test : (nat_lt low s && nat_le s high) ≡ (nat_lt low s && true)
+      test = ap (λ b. nat_lt low s && b) (le-leb s high upto)
+
+taken-le : (x s low high : ℕ) → number_taken x s low high ≤ max x s
+taken-le x s low high = elim (nat_lt low s && nat_le s high) as (λ b. max x (cond b s 0) ≤ max x s) [
+  | true ↦ omega arith
+  | false ↦ omega arith
+]
+
+taken-most : (x s low high : ℕ) → x ≤ low → low < s → s ≤ high → number_taken x s low high ≡ s
+taken-most x s low high le above upto = ap (λ b. max x (cond b s 0)) ((λ i. lt-ltb low s above i && le-leb s high upto i)) ∙ omega (arith, le, above)
+
+-- not taken, since it isn't above a mark
+not_taken : (x s low high : ℕ) → s ≤ low → is_taken x s low high ≡ false
+not_taken x s low high le = and_left (nat_lt (max x low) s) (nat_le s high) (le-ltb (max x low) s (omega (arith, le)))
+
+module _ (written : ℕ → List Entry) (rules : Rules) (rotation most : ℕ) (h : HistoriesView)
+    (so_far : (owner : ℕ) → IsWrittenSoFar (written owner) most h.rounds (all_writes h.lists owner)) (are : (owner : ℕ) → AreWrites (list_of_owner h.lists owner))
+    (from to : VersionTableView) (from_kept : IsKept written from) (to_kept : IsKept written to) (from_fits : FitsHistories h (table_in written from)) (to_fits : FitsHistories h (table_in written to))
+    (nodes : from.nodes ≡ to.nodes) (keys : from.keys ≡ to.keys) (in_nodes : rotation < from.nodes) (scuttle : digest_kind rules.mode ≡ Scuttle) (may : MayTakeAll rules.budget (bases_in h.lists) from to) where
+  abbrev mode : Mode
+  mode = rules.mode
+
+  abbrev lists : ℕ → List Entry
+  lists = all_writes h.lists
+
+  abbrev id : ℕ → ℕ
+  id n = n
+
+  -- what the receiver tells, in a list
+  abbrev told : List ℕ
+  told = set to.greatest to.node most
+
+  abbrev offer : Offer ℕ
+  offer = record {
+    cells = record { ref_ptr = (0, 0); now = from.cells };
+    nodes = from.nodes;
+    keys = from.keys;
+    low = record { ref_ptr = (0, 0); now = told };
+    high = record { ref_ptr = (0, 0); now = from.greatest };
+    lists = record { ref_ptr = (0, 0); now = h.lists };
+    budget = rules.budget;
+  }
+
+  own-below : to.node < to.nodes
+  own-below = to_fits.proper.node_below
+
+  told-own : get_or told to.node 0 ≡ most
+  told-own = get_or-set_same to.greatest to.node most 0 (omega (arith, own-below, to_kept.greatest_count))
+
+  told-other : (r : ℕ) → r ≢ to.node → get_or told r 0 ≡ get_or to.greatest r 0
+  told-other r other = get_or-set_other to.greatest to.node r most 0 other
+
+  told-number : (r : ℕ) → get_or told r 0 ≡ told_number (digest_kind mode) most to.node lists (λ r. get_or to.greatest r 0) r
+  told-number r = elim (cases_eq r to.node) [
+    | inl own ↦
+        ap (λ k. get_or told k 0) own ∙ told-own
+        ∙ ap (λ b. cond b most (told_by (digest_kind mode) (lists r) (get_or to.greatest r 0))) (sym (eq-eqb r to.node own))
+    | inr other ↦
+        told-other r other
+        ∙ ap (λ k. told_by k (lists r) (get_or to.greatest r 0)) (sym scuttle)
+        ∙ ap (λ b. cond b most (told_by (digest_kind mode) (lists r) (get_or to.greatest r 0))) (sym (ne_eqb r to.node other))
+  ]
+
+  low-is : HasEach (length h.lists) (λ r n. n ≡ told_number (digest_kind mode) most to.node lists (λ r. get_or to.greatest r 0) r) (map id told)
+  low-is = record {
+    size = ap length (map-id told) ∙ length-set to.greatest to.node most ∙ to_kept.greatest_count ∙ to_fits.nodes;
+    each = λ r lt. ap (λ xs. get_or xs r 0) (map-id told) ∙ told-number r;
+  }
+
+  cells-are : (owner key : ℕ) → owner < from.nodes → key < from.keys
+      → cells_in id offer owner key ≡ offered_by (digest_kind mode) (cell from.cells from.nodes) (cell to.cells to.nodes) (low_in id offer) owner key
+  cells-are owner key in_owners in_keys =
+      ap (λ xs. cell xs from.nodes owner key) (map-id from.cells)
+      ∙ ap (λ k. offered_by k (cell from.cells from.nodes) (cell to.cells to.nodes) (low_in id offer) owner key) (sym scuttle)
+
+  is-offer : IsOffer id most offer
+  is-offer = offer-is id most written from to from_kept to_kept h so_far from_fits to_fits nodes keys mode offer refl refl refl (map-id from.greatest) low-is from_kept.cell_count cells-are
+
+  low-at : (r : ℕ) → low_in id offer r ≡ get_or told r 0
+  low-at r = ap (λ xs. get_or xs r 0) (map-id told)
+
+  high-at : (r : ℕ) → high_in id offer r ≡ get_or from.greatest r 0
+  high-at r = ap (λ xs. get_or xs r 0) (map-id from.greatest)
+
+  sender-upto : (owner key : ℕ) → owner < from.nodes → key < from.keys → cell from.cells from.nodes owner key ≤ get_or from.greatest owner 0
+  sender-upto owner key in_owners in_keys = (from_kept.most owner in_owners).upto key in_keys
+
+  sender-below : (owner key : ℕ) → owner < from.nodes → key < from.keys → cell from.cells from.nodes owner key < most
+  sender-below owner key in_owners in_keys = fits-below written from from_kept most h so_far from_fits owner key in_owners in_keys
+
+  greatest-below : (owner : ℕ) → owner < from.nodes → get_or from.greatest owner 0 ≤ most
+  greatest-below owner in_owners = elim (from_kept.most owner in_owners).held [
+    | inl none ↦ omega (arith, none)
+    | inr (key, lt, is) ↦ omega (arith, is, sender-below owner key in_owners lt)
+  ]
+
+  -- nothing of the receiver's own is above what it has
+  own-upto : (owner key : ℕ) → owner < from.nodes → key < from.keys → owner ≡ to.node → cell from.cells from.nodes owner key ≤ get_or to.greatest owner 0
+  own-upto owner key in_owners in_keys own = omega (arith, sender-upto owner key in_owners in_keys, ap (λ r. get_or from.greatest r 0) own, ap (λ r. get_or to.greatest r 0) own, may.own)
+
+  -- all fits
+  count-few : count_in id offer (low_in id offer) (high_in id offer) ≤ most_ahead from.nodes from.keys from.greatest to.greatest
+  count-few = sum_below-le from.nodes _ _ (λ r lt. here r lt)
+    where
+      here : (r : ℕ) → r < from.nodes → count_between (cells_in id offer) from.keys r (low_in id offer r) (high_in id offer r) ≤ min from.keys (get_or from.greatest r 0 - get_or to.greatest r 0)
+      here r lt = elim (cases_eq r to.node) [
+        | inl own ↦
+            omega (
+              arith,
+              weight_of-none (λ _. 1) (cells_in id offer) from.keys r (low_in id offer r) (high_in id offer r)
+                  (omega (arith, high-at r, low-at r, ap (λ k. get_or told k 0) own, told-own, greatest-below r lt)),
+            )
+        | inr other ↦
+            omega (arith, few-between (cells_in id offer) r from.keys (low_in id offer r) (high_in id offer r) (is-offer.differ r lt), high-at r, low-at r, told-other r other)
+      ]
+
+  within : weight_in id offer (low_in id offer) (high_in id offer) ≤ amount_of rules.budget
+  within =
+      let weighs = weight_between-most (weights_in offer) (largest_share rules.budget) (cells_in id offer) from.nodes from.keys (low_in id offer) (high_in id offer) (λ owner number. largest-share rules.budget (lists owner) number) in
+      let times = mul-le-mul_right {m = count_in id offer (low_in id offer) (high_in id offer)} {n = most_ahead from.nodes from.keys from.greatest to.greatest} (largest_share rules.budget) count-few in
+      omega (arith, weighs, times, may.fits)
+
+  -- so many
+  same-total : total_above from.nodes from.keys from.cells to.greatest ≡ count_in id offer (low_in id offer) (high_in id offer)
+  same-total =
+      total-same from.nodes from.keys _ _ (λ r k lt in_keys. here r k lt in_keys)
+      ∙ count-newest id most offer is-offer (low_in id offer)
+    where
+      here : (r k : ℕ) → r < from.nodes → k < from.keys → nat_lt (get_or to.greatest r 0) (cell from.cells from.nodes r k) ≡ nat_lt (low_in id offer r) (cells_in id offer r k)
+      here r k lt in_keys =
+          elim (cases_eq r to.node) [
+            | inl own ↦
+                le-ltb (get_or to.greatest r 0) (cell from.cells from.nodes r k) (own-upto r k lt in_keys own)
+                ∙ sym (le-ltb (get_or told r 0) (cell from.cells from.nodes r k) (omega (arith, ap (λ j. get_or told j 0) own, told-own, sender-below r k lt in_keys)))
+            | inr other ↦ ap (λ n. nat_lt n (cell from.cells from.nodes r k)) (sym (told-other r other))
+          ]
+          ∙ (λ i. nat_lt (sym (low-at r) i) (cell (sym (map-id from.cells) i) from.nodes r k))
+
+  module _ (sent : ℕ) (sent-is : sent ≡ total_above from.nodes from.keys from.cells to.greatest) where
+    whole-high : map id from.greatest ≡ whole_marks mode id offer
+    whole-high = scuttle-or mode scuttle (λ m. map id from.greatest ≡ whole_marks m id offer) refl refl
+
+    marks-told : AreMarksOf rules rotation written from to told from.greatest sent 0
+    marks-told =
+        subst (λ xs. AreMarksOf rules rotation written from to xs from.greatest sent 0) (map-id told)
+        (scuttle-or mode scuttle (λ m. AreMarksOf rules rotation written from to (low_list m (map id told) from.greatest) (high_list m from.greatest (map id from.greatest)) sent 0 → AreMarksOf rules rotation written from to (map id told) from.greatest sent 0)
+        (λ are. are) (λ are. are)
+        (delta-marks id most written from to from_kept to_kept h so_far from_fits to_fits nodes keys mode offer refl refl refl (map-id from.greatest) low-is from_kept.cell_count cells-are
+        rules.budget refl rotation in_nodes from.greatest sent 0
+        (subst (λ xs. AreMarked mode rotation id offer (λ r. get_or xs r 0) sent 0) (map-id from.greatest)
+        (whole-marked id most offer is-offer rotation sent (sent-is ∙ same-total) within mode from.greatest whole-high))
+        from_kept.greatest_count))
+
+    -- the receiver's own greatest numbers are such marks too
+    same-sent : (owner key : ℕ) → owner < from.nodes → key < from.keys → is_taken_at from to to.greatest from.greatest owner key ≡ is_taken_at from to told from.greatest owner key
+    same-sent owner key in_owners in_keys = elim (cases_eq owner to.node) [
+      | inl own ↦
+          not_taken (cell to.cells to.nodes owner key) (cell from.cells from.nodes owner key) (get_or to.greatest owner 0) (get_or from.greatest owner 0) (own-upto owner key in_owners in_keys own)
+          ∙ sym (not_taken (cell to.cells to.nodes owner key) (cell from.cells from.nodes owner key) (get_or told owner 0) (get_or from.greatest owner 0) (omega (arith, ap (λ j. get_or told j 0) own, told-own, sender-below owner key in_owners in_keys)))
+      | inr other ↦ ap (λ n. is_taken (cell to.cells to.nodes owner key) (cell from.cells from.nodes owner key) n (get_or from.greatest owner 0)) (sym (told-other owner other))
+    ]
+
+    marks : AreSent (table_in written from) (delta_of_views rules rotation written from to).items (is_taken_at from to to.greatest from.greatest)
+    marks = record {
+      held = λ owner key in_owners in_keys yes'. marks-told.marks.held owner key in_owners in_keys (sym (same-sent owner key in_owners in_keys) ∙ yes');
+      members = λ owner key e is.
+          let place = from_fits.proper.in_place owner key e is in
+          let both = marks-told.marks.members owner key e is in (
+            (λ yes'. both.0 (sym (same-sent owner key place.owner_below place.key_below) ∙ yes')),
+            λ there. same-sent owner key place.owner_below place.key_below ∙ both.1 there,
+          );
+    }
+
+    pub marks-of : AreMarksOf rules rotation written from to to.greatest from.greatest sent 0
+    marks-of = record {
+      low_count = to_kept.greatest_count ∙ sym nodes;
+      high_count = from_kept.greatest_count;
+      marks = marks;
+      count = marks-told.count;
+      left = marks-told.left;
+    }
+
+    -- what it then has was taken
+    module _ (cells greatest : List ℕ) (merged : IsMerged to.nodes to.keys to.cells to.greatest from.cells from.greatest cells greatest) where
+      here-sent : (owner key : ℕ) → owner < to.nodes → key < to.keys → cell from.cells to.nodes owner key ≤ get_or from.greatest owner 0
+      here-sent owner key in_owners in_keys =
+          omega (arith, ap (λ n. cell from.cells n owner key) nodes, sender-upto owner key (omega (arith, in_owners, nodes)) (omega (arith, in_keys, keys)))
+
+      raised-at : (owner : ℕ) → owner < to.nodes → get_or greatest owner 0 ≡ max (get_or to.greatest owner 0) (get_or from.greatest owner 0)
+      raised-at owner lt = merged.most.each owner (omega (arith, lt, to_kept.greatest_count))
+
+      raised-from : (owner : ℕ) → owner < to.nodes
+          → (get_or greatest owner 0 ≡ get_or to.greatest owner 0) ⊎ ((key : ℕ) × (key < to.keys) × (numbers_taken to.nodes to.cells from.cells to.greatest from.greatest owner key ≡ get_or greatest owner 0))
+      raised-from owner lt = elim (cases_lt (get_or to.greatest owner 0) (get_or from.greatest owner 0)) [
+        | inr not_below ↦ inl (omega (arith, raised-at owner lt, not_below))
+        | inl below ↦ elim (from_kept.most owner (omega (arith, lt, nodes))).held [
+          | inl none ↦ absurd (omega (arith, none, below))
+          | inr (key, in_keys, is) ↦
+              let there : cell from.cells to.nodes owner key ≡ get_or from.greatest owner 0 = ap (λ n. cell from.cells n owner key) (sym nodes) ∙ is in
+              let in_key : key < to.keys = omega (arith, in_keys, keys) in
+              inr (
+                key,
+                in_key,
+                taken-most (cell to.cells to.nodes owner key) (cell from.cells to.nodes owner key) (get_or to.greatest owner 0) (get_or from.greatest owner 0) ((to_kept.most owner lt).upto key in_key) (omega (arith, there, below)) (omega (arith, there))
+                    ∙ there
+                    ∙ omega (arith, raised-at owner lt, below),
+              )
+        ]
+      ]
+
+      taken : IsTaken lists (bases_in h.lists) to.nodes to.keys to.cells to.greatest from.cells to.greatest from.greatest cells greatest
+      taken = record {
+        cell_count = merged.numbers.size;
+        greatest_count = merged.most.size ∙ to_kept.greatest_count;
+        raised = λ owner lt. record {
+          rises = omega (arith, raised-at owner lt);
+          upto = λ key in_keys.
+              omega (arith, taken-le (cell to.cells to.nodes owner key) (cell from.cells to.nodes owner key) (get_or to.greatest owner 0) (get_or from.greatest owner 0), (to_kept.most owner lt).upto key in_keys, here-sent owner key lt in_keys, raised-at owner lt);
+          from = raised-from owner lt;
+        };
+        kept = λ owner key lt in_keys.
+            merged.numbers.each owner key lt in_keys
+            ∙ raised-taken (cell to.cells to.nodes owner key) (cell from.cells to.nodes owner key) (get_or to.greatest owner 0) (get_or from.greatest owner 0) (here-sent owner key lt in_keys)
+            ∙ sym (kept-all (numbers_taken to.nodes to.cells from.cells to.greatest from.greatest owner key))
+            ∙ ap (λ n. number_kept n (numbers_taken to.nodes to.cells from.cells to.greatest from.greatest owner key))
+            (sym (no_start (lists owner) (get_or to.greatest owner 0) (bases_in h.lists owner) (get_or greatest owner 0) (may.current owner lt)));
+      }
+
+      pub merged-stays : IsVersionTable written to.node to.nodes to.keys to.generation cells greatest
+      merged-stays = becomes_one rules rotation written most h so_far are from to from_kept to_kept from_fits to_fits nodes keys to.greatest from.greatest marks from.cells cells greatest (λ owner key lt in_keys. refl) taken
+
+      pub merged-applied : table_in written (record to { cells = cells; greatest = greatest }) ≡ applied (table_in written to) (delta_of_views rules rotation written from to).items
+      merged-applied = becomes_applied rules rotation written most h so_far are from to from_kept to_kept from_fits to_fits nodes keys to.greatest from.greatest marks from.cells cells greatest (λ owner key lt in_keys. refl) taken
+
+-- both tables take all
+module _ (written : ℕ → List Entry) (rules : Rules) (e : Exchange) (most : ℕ) (h : HistoriesView)
+    (so_far : (owner : ℕ) → IsWrittenSoFar (written owner) most h.rounds (all_writes h.lists owner)) (are : (owner : ℕ) → AreWrites (list_of_owner h.lists owner))
+    (p q : VersionTableView) (p_kept : IsKept written p) (q_kept : IsKept written q) (p_fits : FitsHistories h (table_in written p)) (q_fits : FitsHistories h (table_in written q))
+    (nodes : p.nodes ≡ q.nodes) (keys : p.keys ≡ q.keys) (rotation : e.rotation < p.nodes) (may : MayMerge rules h p q) where
+  turns : e.rotation < q.nodes
+  turns = omega (arith, rotation, nodes)
+
+  pub stays-back : StaysMerged written p q.cells q.greatest
+  stays-back cells greatest merged =
+      merged-stays written rules e.rotation most h so_far are q p q_kept p_kept q_fits p_fits (sym nodes) (sym keys) turns may.kind may.back _ refl cells greatest merged
+
+  pub stays-forth : StaysMerged written q p.cells p.greatest
+  stays-forth cells greatest merged =
+      merged-stays written rules e.rotation most h so_far are p q p_kept q_kept p_fits q_fits nodes keys rotation may.kind may.forth _ refl cells greatest merged
+
+  module _ (p' q' : VersionTableView) (took : HasMerged q p p') (takes : HasMerged p q q') (back forth : ℕ) (back_is : back ≡ total_above q.nodes q.keys q.cells p.greatest) (forth_is : forth ≡ total_above p.nodes p.keys p.cells q.greatest) where
+    pub merged-whole : (d1 d2 : ℕ) → d1 ≡ digest_size (digest_kind rules.mode) (table_in written p) → d2 ≡ digest_size (digest_kind rules.mode) (table_in written q)
+        → e.lost1 ≡ false → e.lost2 ≡ false → e.lost3 ≡ false → (r : Record) → ((b f : DeltaView) → back ≡ length b.items → 0 ≡ b.cut → forth ≡ length f.items → 0 ≡ f.cut → r ≡ sent_until (last_fate false) d1 d2 b f)
+        → MakesOf (table_in written) rules e p q p' q' r
+    merged-whole d1 d2 d1_is d2_is first second third r sent =
+        all_sent_case written rules e p q first d1 d2 d1_is d2_is p.greatest q.greatest back 0
+        (marks-of written rules e.rotation most h so_far are q p q_kept p_kept q_fits p_fits (sym nodes) (sym keys) turns may.kind may.back back back_is)
+        q.greatest p.greatest forth 0
+        (marks-of written rules e.rotation most h so_far are p q p_kept q_kept p_fits q_fits nodes keys rotation may.kind may.forth forth forth_is)
+        p' q' r second
+        (ap (table_in written) took.rest ∙ merged-applied written rules e.rotation most h so_far are q p q_kept p_kept q_fits p_fits (sym nodes) (sym keys) turns may.kind may.back back back_is p'.cells p'.greatest took.merged)
+        (ap (table_in written) takes.rest ∙ merged-applied written rules e.rotation most h so_far are p q p_kept q_kept p_fits q_fits nodes keys rotation may.kind may.forth forth forth_is q'.cells q'.greatest takes.merged
+        ∙ ap (λ b. cond b (table_in written q) (applied (table_in written q) (delta_of_views rules e.rotation written p q).items)) (sym third))
+        (λ b f is_back none_back is_forth none_forth. sent b f is_back none_back is_forth none_forth ∙ ap (λ l. sent_until (last_fate l) d1 d2 b f) (sym third))

@@ -1,0 +1,48 @@
+-- Two tables that take of each other all that is above their own greatest numbers. Source: this project.
+use Rattle.std.specs.Prelude.{◌≡◌, ℕ, ◌*◌, ◌<◌, ◌≤◌, ◌&&◌, false, max, nat_lt, nat_le, List, slice_index}
+use Rattle.bench_types.specs.declared.entries.Entry.{Entry}
+use Rattle.bench_types.specs.declared.exchanges.Budget.{Budget}
+use Rattle.bench_types.specs.declared.exchanges.DigestKind.TheVariants.{Scuttle}
+use Rattle.bench_types.specs.declared.exchanges.Rules.{Rules}
+use Rattle.bench_types.specs.Budget.{amount_of, largest_share}
+use Rattle.bench_types.specs.Mode.{digest_kind}
+use Rattle.planes.specs.Elementwise.{AreChanged}
+use Rattle.planes.specs.Planes.{cell, most_ahead, number_raised, ArePlanesChanged}
+use Rattle.version_tables.specs.Views.{VersionTableView, HistoriesView}
+use Rattle.version_tables.specs.Laid.{IsVersionTable}
+use Rattle.version_tables.specs.inner.Histories.{bases_in}
+
+-- nothing that is held is of an earlier generation than its owner's, which has so many writes before it
+abbrev pub AreCurrent : (ℕ → ℕ) → VersionTableView → Type 0
+AreCurrent bases v =
+    (owner : ℕ) → owner < v.nodes
+    → (nat_lt 0 (slice_index v.greatest owner) && nat_le (slice_index v.greatest owner) (bases owner)) ≡ false
+
+-- all that one table has above the other's greatest numbers surely fits, and of the other's owner there is nothing
+pub record MayTakeAll (budget : Budget) (bases : ℕ → ℕ) (from to : VersionTableView) : Type 0 where
+  pub fits : most_ahead from.nodes from.keys from.greatest to.greatest * largest_share budget ≤ amount_of budget
+  pub current : AreCurrent bases to
+  pub own : slice_index from.greatest to.node ≤ slice_index to.greatest to.node
+
+-- and so it is both ways
+pub record MayMerge (rules : Rules) (h : HistoriesView) (initiator responder : VersionTableView) : Type 0 where
+  pub kind : digest_kind rules.mode ≡ Scuttle
+  pub back : MayTakeAll rules.budget (bases_in h.lists) responder initiator
+  pub forth : MayTakeAll rules.budget (bases_in h.lists) initiator responder
+
+-- a table's numbers and greatest ones once it took all above these of another table
+pub record IsMerged (nodes keys : ℕ) (cells greatest sent sent_greatest new_cells new_greatest : List ℕ) : Type 0 where
+  pub numbers : ArePlanesChanged (λ r k x y. y ≡ number_raised x (cell sent nodes r k) (slice_index greatest r))
+      nodes keys cells new_cells
+  pub most : AreChanged (λ r x y. y ≡ max x (slice_index sent_greatest r)) greatest new_greatest
+
+-- the table stays one then
+abbrev pub StaysMerged : (ℕ → List Entry) → VersionTableView → List ℕ → List ℕ → Type 0
+StaysMerged written to sent sent_greatest =
+    (cells greatest : List ℕ) → IsMerged to.nodes to.keys to.cells to.greatest sent sent_greatest cells greatest
+    → IsVersionTable written to.node to.nodes to.keys to.generation cells greatest
+
+-- a table has taken all: its numbers alone have changed
+pub record HasMerged (from to new : VersionTableView) : Type 0 where
+  pub merged : IsMerged to.nodes to.keys to.cells to.greatest from.cells from.greatest new.cells new.greatest
+  pub rest : new ≡ record to { cells = new.cells; greatest = new.greatest }

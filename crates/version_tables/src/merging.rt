@@ -1,0 +1,152 @@
+//! Exchanges of which all comes and surely fits: each table takes all that the other has above its own greatest
+//! numbers, both ways in one pass. Nothing is planned, and no memory is taken.
+
+ghost use Rattle.std.specs.Prelude.{◌≡◌, ℕ, ◌*◌, ◌<◌, ◌≤◌, ◌↔◌, IsTrue, slice_index};
+ghost use Rattle.bench_types.specs.Budget.{amount_of, largest_share};
+ghost use Rattle.bench_types.specs.declared.limits.TheConstants.{MOST_NODES, MOST_KEYS};
+ghost use Rattle.planes.specs.Planes.{most_ahead, total_above};
+ghost use Rattle.version_tables.specs.Views.{table_in};
+ghost use Rattle.version_tables.specs.inner.Histories.{bases_in, FitsHistories};
+ghost use Rattle.version_tables.specs.inner.Merged.{AreCurrent, HasMerged, MayMerge, StaysMerged};
+
+use crate::histories::Histories;
+use crate::tables::{VersionTable, Written};
+use bench_types::limits::MOST_ENTRY_SIZE;
+use bench_types::{Budget, DigestKind, Rules};
+use planes::{Both, Number};
+
+// Whether so many entries surely fit.
+fn surely_fit(budget: Budget, count: u32) -> bool
+    requires { count ≤ MOST_NODES * MOST_KEYS }
+    ensures { IsTrue result ↔ (count * largest_share budget ≤ amount_of budget) }
+{
+    match budget {
+        Budget::Entries(amount) => count <= amount,
+        Budget::Bytes(amount) => count * MOST_ENTRY_SIZE <= amount,
+    }
+}
+
+// Whether all that each of two tables may have above the other's greatest numbers surely fits.
+fn all_fits<N: Number, H: Written>(
+    initiator: &VersionTable<N, H>,
+    responder: &VersionTable<N, H>,
+    budget: Budget,
+) -> bool
+    requires nodes { initiator.now.nodes ≡ responder.now.nodes }
+    requires keys { initiator.now.keys ≡ responder.now.keys }
+    ensures back { IsTrue result → most_ahead responder.now.nodes responder.now.keys responder.now.greatest
+        initiator.now.greatest * largest_share budget ≤ amount_of budget }
+    ensures forth { IsTrue result → most_ahead initiator.now.nodes initiator.now.keys initiator.now.greatest
+        responder.now.greatest * largest_share budget ≤ amount_of budget }
+{
+    let most = planes::most_ahead(initiator.greatest(), responder.greatest(), initiator.keys());
+    surely_fit(budget, most.first) && surely_fit(budget, most.second)
+}
+
+// Whether no owner of a table has begun a second generation.
+fn none_began<N: Number, H: Written>(
+    table: &VersionTable<N, H>,
+    histories: &Histories<N, H>,
+) -> bool
+    requires { FitsHistories histories.now (table_in H.lists table.now) }
+    ensures { IsTrue result → (owner : ℕ) → owner < table.now.nodes → bases_in histories.now.lists owner ≡ 0 }
+{
+    let nodes = table.nodes() as usize;
+    planes::total_held(histories.bases(), nodes, 1) == 0
+}
+
+// Whether nothing that a table holds is of an earlier generation than its owner's.
+fn is_current<N: Number, H: Written>(
+    table: &VersionTable<N, H>,
+    histories: &Histories<N, H>,
+) -> bool
+    requires { FitsHistories histories.now (table_in H.lists table.now) }
+    ensures { IsTrue result → AreCurrent (bases_in histories.now.lists) table.now }
+{
+    let nodes = table.nodes() as usize;
+    planes::total_upto(table.greatest(), nodes, 1, histories.bases()) == 0
+}
+
+// Whether that is so of two tables. Most often no owner has forgotten, which one fast loop tells.
+fn are_current<N: Number, H: Written>(
+    initiator: &VersionTable<N, H>,
+    responder: &VersionTable<N, H>,
+    histories: &Histories<N, H>,
+) -> bool
+    requires initiator { FitsHistories histories.now (table_in H.lists initiator.now) }
+    requires responder { FitsHistories histories.now (table_in H.lists responder.now) }
+    requires nodes { initiator.now.nodes ≡ responder.now.nodes }
+    ensures initiator { IsTrue result → AreCurrent (bases_in histories.now.lists) initiator.now }
+    ensures responder { IsTrue result → AreCurrent (bases_in histories.now.lists) responder.now }
+{
+    none_began(initiator, histories)
+        || is_current(initiator, histories) && is_current(responder, histories)
+}
+
+// Whether one table has nothing of the other's node above what that has itself.
+fn has_no_newer<N: Number, H: Written>(
+    table: &VersionTable<N, H>,
+    other: &VersionTable<N, H>,
+) -> bool
+    requires nodes { table.now.nodes ≡ other.now.nodes }
+    ensures { IsTrue result → slice_index table.now.greatest other.now.node
+        ≤ slice_index other.now.greatest other.now.node }
+{
+    let node = other.node() as usize;
+    table.greatest()[node].is_upto(other.greatest()[node])
+}
+
+/// Whether all that two tables lack of each other surely fits, by scuttle digests, and nothing of an earlier generation
+/// is held.
+pub(crate) fn may_merge<N: Number, H: Written>(
+    initiator: &VersionTable<N, H>,
+    responder: &VersionTable<N, H>,
+    histories: &Histories<N, H>,
+    rules: &Rules,
+) -> bool
+    requires nodes { initiator.now.nodes ≡ responder.now.nodes }
+    requires keys { initiator.now.keys ≡ responder.now.keys }
+    requires initiator { FitsHistories histories.now (table_in H.lists initiator.now) }
+    requires responder { FitsHistories histories.now (table_in H.lists responder.now) }
+    ensures { IsTrue result → MayMerge rules.now histories.now initiator.now responder.now }
+{
+    match rules.mode.digest_kind() {
+        DigestKind::Scuttle => {
+            has_no_newer(initiator, responder)
+                && has_no_newer(responder, initiator)
+                && all_fits(initiator, responder, rules.budget)
+                && are_current(initiator, responder, histories)
+        }
+        DigestKind::Precise => false,
+    }
+}
+
+/// Each of two tables takes all that the other has above its own greatest numbers. It answers how many these are.
+pub(crate) fn merge<N: Number, H: Written>(
+    initiator: &mut VersionTable<N, H>,
+    responder: &mut VersionTable<N, H>,
+) -> Both
+    requires nodes { initiator.old.nodes ≡ responder.old.nodes }
+    requires keys { initiator.old.keys ≡ responder.old.keys }
+    requires initiator { StaysMerged H.lists initiator.old responder.old.cells responder.old.greatest }
+    requires responder { StaysMerged H.lists responder.old initiator.old.cells initiator.old.greatest }
+    ensures initiator { HasMerged responder.old initiator.old initiator.new }
+    ensures responder { HasMerged initiator.old responder.old responder.new }
+    ensures back { result.first
+        ≡ total_above responder.old.nodes responder.old.keys responder.old.cells initiator.old.greatest }
+    ensures forth { result.second
+        ≡ total_above initiator.old.nodes initiator.old.keys initiator.old.cells responder.old.greatest }
+{
+    let nodes = initiator.nodes as usize;
+    let keys = initiator.keys as usize;
+    let came = planes::merge(
+        &mut initiator.cells,
+        &mut responder.cells,
+        &initiator.greatest,
+        &responder.greatest,
+        nodes,
+        keys,
+    );
+    planes::raise_both(&mut initiator.greatest, &mut responder.greatest);
+    came
+}

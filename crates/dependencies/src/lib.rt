@@ -1,5 +1,12 @@
 //! Which exchanges of a round have to wait for which others, and what every order that respects this
 //! gives: the tables and records of list order.
+//!
+//! # Choices
+//!
+//! - Dependencies are seen as the list alone. What is kept beside it, the neighbours of each exchange, follows from the
+//!   list, so no value has it.
+//! - Each exchange keeps the places that it waits for, not a count that goes down.
+//! - The laws speak of every list, not only of a round's: any exchanges of two different nodes each.
 #![tactic(auto)]
 
 mod deps;

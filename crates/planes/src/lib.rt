@@ -1,4 +1,26 @@
 //! Numbers in planes, one plane for each key and in it a number for each owner: loops over one plane, and over all.
+//!
+//! # Choices
+//!
+//! - Loops go by index, as `counts[r] = ..` for r below the length. A proved index has no test at run time, each write
+//!   has a clause, and the compiler makes vector code of such a loop as of zipped slices. What differs between sibling
+//!   loops, which numbers count or what one is lowered to, comes as a closure: measured on five scenarios, with one
+//!   worker, that took from 5 % less time to as much.
+//! - Numbers are copied 1024 at a time, which takes fewer instructions than the C library's way to copy many more at
+//!   once.
+//! - A count over one plane has as many bits as its numbers, which can count more nodes than a scenario may have. A
+//!   wider sum would halve what a vector instruction does.
+//! - What goes over the same planes goes in one loop: to take numbers and to raise the greatest ones, to count what is
+//!   behind and to lower the least. Where tables are large, each pass waits for memory.
+//! - Where all comes, both ways go in one pass (`merge`). A number of one table that is above the other's greatest one
+//!   goes over; it can't be that one comes back in its place, so neither way has to wait for the other. The pass counts
+//!   what goes each way, and the greatest numbers are raised once behind it.
+//! - Few owners are gone through one by one. An owner whose two marks have nothing between them concerns no loop that
+//!   takes or counts numbers. Where there are 8 keys or more, and at most one in 32 owners has something between its
+//!   marks, or one in 8 where numbers are changed, these owners alone are visited, key by key, in place of whole
+//!   planes. Where two tables are merged, the numbers of such an owner come from the table with the greater mark. The
+//!   contract is the same.
+//! - These loops know no table, so their proofs stand on nothing but the limits, and are checked beside the rest.
 #![tactic(auto)]
 
 mod grids;

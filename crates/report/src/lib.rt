@@ -1,5 +1,17 @@
 //! The lines of the bench's texts of comma-separated fields, written to any sink. Each call makes
 //! its lines in memory, then writes and flushes them.
+//!
+//! # Choices
+//!
+//! - The columns of the report stand in one list, in code and in `specs`: each with its name, its number in a row and
+//!   the first format that has it. The headers and the rows of report and comparison go by it, so a further column is
+//!   one line more in each of the two lists.
+//! - Every error of `csv` is `OutOfMemory`, as its writer writes into a vector, which fails for no other cause. Each
+//!   line has a writer of its own, so none can differ in its number of fields.
+//! - No trace row is made for a sink that drops all: a sink may say that it takes each byte and keeps none
+//!   (`drops_all`), which `Discard` does, so a trace that nobody reads costs nothing. What such a sink has taken is
+//!   unknown to every contract, so none changes.
+//! - No clause says of a push that the sink isn't flushed any more, since a sink may flush by itself.
 #![tactic(auto)]
 
 mod cells;

@@ -1,5 +1,25 @@
 //! From a scenario's bytes to those of its report and its trace, or of the comparison of the modes:
 //! reading, rounds in order, lines.
+//!
+//! # Choices
+//!
+//! - `read_all` takes no memory before its first pull, so a source that had failed before is answered `ReadFailed` for
+//!   sure (`was_sound` in each other case). It reads pieces of 8192 bytes, and asks for at most one byte more than a
+//!   scenario may have. `TooLong` is tested before memory is taken for the bytes: an input that is too long is answered
+//!   so, whatever memory is left.
+//! - Report and trace are functions of the settings. `report_text`, `trace_text` and what they stand on have no table
+//!   in memory and no list in them, so the contract of `run` can be read without the code.
+//! - In each round the lines of the trace are written before the row of the report, so the trace is never behind the
+//!   report, whichever end fails.
+//! - A run says of a fault where it stopped: all that stands before some place of the two texts was written, and
+//!   writing what stands there came to the fault (`StopsAt`). So the contract tells which end failed, and that
+//!   `OutOfMemory` is never answered for an end that failed. A run in which a round fails stops at a place of its own,
+//!   `round_after`, behind all lines of the rounds before; only there can `NoThread` come.
+//! - `run` takes the runtime by reference, as `step` does, for the workers and for the threads of a round's figures.
+//!   They may wait. `run` and `compare` call no gate, so they pass `FreeGate`, where `step` takes any.
+//! - A comparison's text doesn't depend on the scenario's own mode, which the contract of `compare` says (`own_mode` of
+//!   `IsCompared`) beside the text itself. The scenario goes from mode to mode by value: `Sim::into_scenario` hands it
+//!   back, so nothing is copied.
 #![tactic(auto)]
 
 mod comparing;

@@ -1,5 +1,17 @@
 //! The simulation, round by round: what each node holds, the exchanges of a round in list order, its
 //! records and its figures.
+//!
+//! # Choices
+//!
+//! - A round's restarts come before its writes, which only a restart that forgets can show: any other leaves a node's
+//!   own entries, and a write changes nothing else.
+//! - `every_run_is_sound` speaks of each moment within a round, which no caller of `step` can look at; what holds after
+//!   a round stands in the contract of `step` too.
+//! - A quiet round's losses and cuts are those of its row, so the law holds too in a scenario with losses, where by
+//!   chance none came for so many rounds.
+//! - The wrong body that counts down nodes as fresh (`must-fail`) does so in rounds in which all nodes are down. In any
+//!   other round it would need the figures of some tables, which only a loop with an invariant could give, so it would
+//!   be refused for want of one.
 #![tactic(auto)]
 
 mod clusters;

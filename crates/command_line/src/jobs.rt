@@ -14,8 +14,8 @@ use std::sync::Wait;
 use std::thread::Threads;
 
 /// Reads a scenario and does the job: `out` gets what is asked for. The file of a trace is made anew
-/// before anything is read; where it can't be made, the fault is `WriteFailed`. Other faults are those of
-/// `check_input`, `run` and `compare`, and `WriteFailed` where `ok` can't be printed.
+/// before anything is read; if it can't be made, the fault is `WriteFailed`. Other faults are those of
+/// `check_input`, `run` and `compare`, and `WriteFailed` if `ok` can't be printed.
 pub fn perform<H: Threads + Wait + Sync + Files, R: Source, W: Sink>(
     rt: &H,
     alloc: Global,

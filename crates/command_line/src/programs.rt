@@ -22,9 +22,9 @@ const FAULT: u8 = 1;
 
 pub(crate) const REFUSED: u8 = 2;
 
-/// Does what the words ask for, which are those behind the program's name. The status is 0 where it
-/// was done, 1 after a fault, whose line goes to `err`, and 2 where the words are refused, whose
-/// text goes to `err`; help goes to `out`. That `err` fails changes no status.
+/// Does what the words behind the program's name ask for. The status is 0 if it was done; 1 after a
+/// fault, whose line goes to `err`; and 2 if the words are refused, for a reason that goes to `err`.
+/// Help goes to `out`. The status is the same if `err` fails.
 pub fn main_with<H: Threads + Wait + Sync + Files, S: AsStr, R: Source, W: Sink, E: Sink>(
     rt: &H,
     alloc: Global,

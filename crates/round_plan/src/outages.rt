@@ -20,8 +20,8 @@ pub fn is_up(scenario: &Scenario, node: u32, round: u32) -> bool
         .any(|restart| takes_down(restart, node, round))
 }
 
-/// Whether a node restarts at the begin of a round, and so loses its copies of all others, and what
-/// it holds of itself where it forgets. Costs a step for each restart.
+/// Whether a node restarts at the beginning of a round, and so loses its copies of all others, and its
+/// own entries too if it forgets. Costs a step for each restart.
 pub fn restarts_now(scenario: &Scenario, node: u32, round: u32) -> bool
     requires node { node < scenario.now.nodes }
     requires first { 1 ≤ round }
@@ -34,8 +34,8 @@ pub fn restarts_now(scenario: &Scenario, node: u32, round: u32) -> bool
         .any(|restart| restarts_in(restart, node, round))
 }
 
-/// Whether a node forgets all that it holds at the begin of a round, and so begins its next
-/// generation: one of its restarts then does. Costs a step for each restart.
+/// Whether a node forgets all that it holds at the beginning of a round, and so begins its next
+/// generation: one of its restarts there says so. Costs a step for each restart.
 pub fn forgets_now(scenario: &Scenario, node: u32, round: u32) -> bool
     requires node { node < scenario.now.nodes }
     requires first { 1 ≤ round }

@@ -92,7 +92,7 @@ pub fn writes_in(scenario: &Scenario, round: u32) -> u32
     }
 }
 
-/// The writes of a node in a round, before which it had made `count_before` of its generation: none where it is down.
+/// The writes of a node in a round, none if it is down. Before the round it had made `count_before` in its generation.
 /// Costs a step for each restart and load, and where writes are random one block of words.
 pub fn writes_of(scenario: &Scenario, node: u32, round: u32, count_before: u32) -> Writes
     requires node { node < scenario.now.nodes }
@@ -116,7 +116,7 @@ fn write_words(scenario: &Scenario, node: u32, round: u32) -> [u32; ROUND_WORDS 
     }
 }
 
-/// As `writes_of`, by the node's words of the round, which matter only where writes are random. Costs
+/// As `writes_of`, by the node's words of the round, which matter only if writes are random. Costs
 /// a step for each restart and load.
 pub fn writes_by(
     scenario: &Scenario,

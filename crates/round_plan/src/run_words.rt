@@ -44,8 +44,8 @@ impl Model for RunWords {
 }
 
 impl RunWords {
-    /// The words before the first round of a scenario's run, where none was drawn. It takes memory for
-    /// the nodes, and costs the begin of a stream for each. An error is lack of memory (`OutOfMemory`).
+    /// The words before the first round of a scenario's run, when none is drawn. This takes memory for
+    /// the nodes, and costs the beginning of a stream for each. An error is lack of memory (`OutOfMemory`).
     pub fn new(alloc: Global, scenario: &Scenario) -> Result<RunWords, Fault>
         ensures before { IfOk result (λ words. words ≡ run_words_of scenario.now 0) }
         ensures only { IsOkUnless result OutOfMemory }
@@ -66,7 +66,7 @@ impl RunWords {
         self.round += 1;
     }
 
-    /// A node's words of the round, by place. Costs nothing: they were drawn at the begin of the round.
+    /// A node's words of the round, by place. Costs nothing: they were drawn as the round began.
     pub fn of_node(&self, node: u32) -> &[u32; ROUND_WORDS as usize]
         requires node { node < self.now.nodes }
         requires begun { 1 ≤ self.now.round }

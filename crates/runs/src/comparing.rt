@@ -26,7 +26,7 @@ use workers::FreeGate;
 
 /// Reads a scenario, and writes the comparison of the modes: the header, and for each mode, in the
 /// order of `Mode::ALL`, the row of each round of the scenario under that mode. The scenario's own
-/// mode has no effect. Nothing is written where the scenario is at fault or reading failed. Workers and errors
+/// mode has no effect. Nothing is written if the scenario is at fault or reading failed. Workers and errors
 /// are as for `run`.
 pub fn compare<H: Threads + Wait + Sync, R: Source, W: Sink>(
     rt: &H,

@@ -26,8 +26,8 @@ use version_tables::{Histories, Short, VersionTable, Written};
 use workers::FreeGate;
 
 /// Reads a scenario, and writes the report of its run to `writer` and its trace to `trace`: the two
-/// headers, and after each round its exchanges and its row. `Discard` serves where no trace is
-/// wanted. Nothing is written where the scenario is at fault or reading failed.
+/// headers, and after each round its exchanges and its row. Pass `Discard` if no trace is wanted.
+/// Nothing is written if the scenario is at fault or reading failed.
 ///
 /// What is written is the same for every number of workers. With one, the exchanges of a round are done one
 /// after another; with more, so many threads do them in each round, and where one can't be started the fault

@@ -154,7 +154,7 @@ impl Scenario {
         self.basics.rounds
     }
 
-    /// What the random words of all nodes follow from.
+    /// The seed, from which the random words of all nodes follow.
     pub fn seed(&self) -> u64
         ensures value { result ≡ self.now.seed }
         ensures limits { result ≤ MOST_SEED }

@@ -11,7 +11,7 @@ use bench_types::Fault;
 use std::alloc::Global;
 use toml::Table;
 
-/// Reads and checks the text of a scenario. The time is about in proportion to the text.
+/// Reads and checks the text of a scenario. The time is about proportional to its length.
 ///
 /// Answers `NotToml`, `Missing`, `WrongType`, `OutOfRange`, `TooLarge`, `BudgetTooSmall` or
 /// `UnknownField` for a text at fault, and `OutOfMemory` where memory was refused.

@@ -1,5 +1,5 @@
-//! Tests of whole runs that need code: readers and writers that go byte by byte, fail or never end, a
-//! simulation step by step, tables of both kinds beside each other, and what an accepted scenario says. The
+//! Tests of whole runs that need code: readers and writers that go byte by byte and fail, a simulation
+//! step by step, tables of both kinds beside each other, and what an accepted scenario says. The
 //! cases of the crate `acceptance` go from text to text.
 #![tactic(auto)]
 

@@ -1,9 +1,12 @@
-//! Ends that go byte by byte and fail at each place of a run of two rounds.
+//! Ends that go byte by byte and fail at each place of a run of two rounds, and flushes of what else the program
+//! prints. How the program meets reads and writes that fail is tried by `scripts/try_program`.
 
-use crate::tests::comparing::expect;
-use bench::run;
-use bench_types::{Fault, Field, Pull, Push};
-use fixtures::{ALL, Drip, Halting, RESTART_WITHOUT_DOWNTIME, Taking, Team};
+use crate::tests::comparing::{expect, expect_at};
+use bench::{compare, run};
+use bench_types::{Fault, Field, Pull, Push, write_text};
+use fixtures::{
+    ALL, Drip, FOUR_MODES, FOUR_MODES_COMPARED, Halting, RESTART_WITHOUT_DOWNTIME, Taking, Team,
+};
 use std::alloc::{AllocError, AllocGlobal, Global};
 use std::io::ErrorKind;
 use std::process::Abort;
@@ -242,4 +245,55 @@ fn flushes_that_fail(rt: HostRuntime) -> Result<(), Fault> {
         }
     }
     Ok(())
+}
+
+// What a comparison answers whose writer answers so many flushes, and what it has written.
+fn compared_until(
+    rt: &(impl Threads + Wait + AllocGlobal + Sync),
+    flushes: usize,
+    team: Team,
+) -> (Result<(), Fault>, Vec<u8>) {
+    let mut reader = Pull::new(FOUR_MODES.as_bytes());
+    let mut writer = Push::new(Drip::new(rt.alloc(), Taking { flushes, ..ALL }));
+    let answer = compare(rt, rt.alloc(), &mut reader, &mut writer, team.workers());
+    (answer, writer.into_inner().taken)
+}
+
+// A comparison whose writer answers so many flushes answers this, and has written so much.
+fn expect_compared(
+    rt: &(impl Threads + Wait + Abort + AllocGlobal + Sync),
+    (flushes, length): (usize, usize),
+    team: Team,
+    wanted: Result<(), Fault>,
+) {
+    let (answer, written) = compared_until(rt, flushes, team);
+    expect_at(rt, answer, wanted, team);
+    expect_at(rt, written.len(), length, team);
+    assert!(rt;
+        FOUR_MODES_COMPARED.as_bytes().starts_with(&written),
+        "{flushes}"
+    );
+}
+
+// Each line is flushed.
+#[test]
+fn flushes_of_a_comparison_that_fail(rt: HostRuntime) {
+    for team in Team::ALL {
+        let mut length = 0usize;
+        for (flushes, line) in FOUR_MODES_COMPARED.split_inclusive('\n').enumerate() {
+            length = length.saturating_add(line.len());
+            expect_compared(&rt, (flushes, length), team, Err(Fault::WriteFailed));
+        }
+        expect_compared(&rt, (9, length), team, Ok(()));
+    }
+}
+
+// What `check` prints.
+#[test]
+fn flushes_of_a_text_that_fail(rt: HostRuntime) {
+    for (flushes, wanted) in [(0, Err(Fault::WriteFailed)), (1, Ok(()))] {
+        let mut writer = Push::new(Drip::new(rt.alloc(), Taking { flushes, ..ALL }));
+        expect(&rt, write_text(&mut writer, b"ok\n"), wanted);
+        expect(&rt, writer.into_inner().taken.as_slice(), b"ok\n");
+    }
 }

@@ -1,7 +1,8 @@
 //! What an accepted scenario says.
 
 use crate::tests::comparing::expect;
-use bench_types::{Budget, Fault, Mode};
+use bench::check_input;
+use bench_types::{Budget, Fault, Mode, Pull};
 use fixtures::{changed, changed_in_bytes};
 use scenario::{Choice, Load, Partition, Peers, Restart, Rotation, Scenario, read};
 use std::process::Abort;
@@ -35,23 +36,14 @@ fn expect_numbers(rt: &impl Abort, scenario: &Scenario) {
     assert!(rt; scenario.seed() == 42 && budget == Budget::Entries(65_535));
 }
 
-fn expect_words(
-    rt: &impl Abort,
-    scenario: &Scenario,
-    mode: Mode,
-    words: (Peers, Rotation, Choice),
-) {
-    expect(rt, scenario.mode(), mode);
-    let found = (scenario.peers(), scenario.rotation(), scenario.choice());
-    expect(rt, found, words);
-}
-
 #[test]
 fn values_of_the_fields(rt: HostRuntime) -> Result<(), Fault> {
-    let scenario = read(rt.alloc(), TEXT.as_bytes())?;
+    let scenario = check_input(rt.alloc(), &mut Pull::new(TEXT.as_bytes()))?;
     expect_numbers(&rt, &scenario);
-    let words = (Peers::Random, Rotation::Random, Choice::Random);
-    expect_words(&rt, &scenario, Mode::PreciseNewest, words);
+    expect(&rt, scenario.mode(), Mode::PreciseNewest);
+    let words = (scenario.peers(), scenario.rotation(), scenario.choice());
+    let random = (Peers::Random, Rotation::Random, Choice::Random);
+    expect(&rt, words, random);
     assert!(rt; scenario.partitions().is_empty());
     assert!(rt; scenario.restarts().is_empty());
     assert!(rt; scenario.loads().is_empty());
@@ -71,24 +63,6 @@ fn byte_budget_limits(rt: HostRuntime) -> Result<(), Fault> {
         let scenario = read(rt.alloc(), text.as_bytes())?;
         assert!(rt; scenario.format() == 2);
         expect(&rt, scenario.budget(), Budget::Bytes(bytes));
-    }
-    Ok(())
-}
-
-const MODES: [(&str, Mode); 4] = [
-    ("scuttle-breadth", Mode::ScuttleBreadth),
-    ("scuttle-depth", Mode::ScuttleDepth),
-    ("precise-oldest", Mode::PreciseOldest),
-    ("precise-newest", Mode::PreciseNewest),
-];
-
-#[test]
-fn values_of_the_words(rt: HostRuntime) -> Result<(), Fault> {
-    let words = (Peers::Ring, Rotation::Off, Choice::Cycle);
-    for (word, mode) in MODES {
-        let text = changed(rt.alloc(), &[("scuttle-breadth", word)], "")?;
-        let scenario = read(rt.alloc(), text.as_bytes())?;
-        expect_words(&rt, &scenario, mode, words);
     }
     Ok(())
 }

@@ -28,9 +28,9 @@ use Rattle.version_tables.specs.inner.Histories.{IsWrittenSoFar, FitsHistories}
 use Rattle.version_tables.specs.Laid.{AreNumbers}
 use Rattle.version_tables.specs.inner.Firsts.{by_first}
 use Rattle.version_tables.specs.inner.Marked.{LetAll, ShareLevel, KeepsLow, AreMarked, AreOffered}
-use Rattle.version_tables.specs.inner.OfferInMemory.{cells_in, low_in, high_in, weights_in, count_in, IsOffer}
+use Rattle.version_tables.specs.inner.OfferInMemory.{cells_in, low_in, high_in, count_in, IsOffer}
 use Rattle.version_tables.specs.inner.Offers.{IsHistory, Offers, offered_by, told_by, told_number}
-use Rattle.version_tables.specs.inner.Plans.{weight_on, count_on}
+use Rattle.version_tables.specs.inner.Plans.{weight_on}
 use Rattle.version_tables.specs.inner.LevelMarks.{lets_through, NumbersDiffer, HasShape}
 use Rattle.version_tables.specs.inner.Taken.{is_taken}
 use Rattle.version_tables.specs.inner.Told.{AreKnown}

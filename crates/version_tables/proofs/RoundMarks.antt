@@ -1,6 +1,6 @@
 -- What marks at the ends of rounds let through.
 -- Serves the functions of `deltas` and `rounds` and `Merged`.
-use Rattle.std.proofs.Common.{◌≡◌, ℕ, ◌+◌, ◌-◌, ◌*◌, ◌<◌, ◌≤◌, max, map, true, ltb, leb, List, length, inl, inr, refl, sym, ap, ◌∙◌, subst, arith}
+use Rattle.std.proofs.Common.{◌≡◌, ℕ, ◌+◌, ◌-◌, ◌*◌, ◌<◌, ◌≤◌, max, map, ltb, leb, List, length, inl, inr, refl, sym, ap, ◌∙◌, subst, arith}
 use Rattle.std.specs.Prelude.{nat_lt}
 use Rattle.std.proofs.Math.Nat.{mul-le-mul_right}
 use Rattle.std.proofs.lemmas.List.{length-map}
@@ -10,7 +10,7 @@ use Rattle.bench_types.specs.declared.exchanges.First.{First}
 use Rattle.bench_types.specs.declared.exchanges.First.TheVariants.{Oldest, Newest}
 use Rattle.bench_types.specs.Budget.{amount_of}
 use Rattle.model.specs.OwnerListView.{all_writes}
-use Rattle.planes.specs.Planes.{Cells, cell, total_of, count_between, HasNoneAbove, HasEach}
+use Rattle.planes.specs.Planes.{Cells, cell, total_of, HasNoneAbove, HasEach}
 use Rattle.bench_types.specs.Sums.{sum_below}
 use Rattle.bench_types.proofs.Sums.{sum_below-same, sum_below-plus}
 use Rattle.version_tables.specs.declared.weights.Offer.{Offer}
@@ -18,11 +18,11 @@ use Rattle.version_tables.specs.declared.weights.Level.{Level}
 use Rattle.version_tables.specs.inner.Histories.{AreMadeBy}
 use Rattle.version_tables.specs.inner.OfferInMemory.{cells_in, low_in, high_in, marks, weights_in, weight_in, count_in, IsOffer}
 use Rattle.version_tables.specs.inner.Plans.{weight_on, count_on, AreFarther, IsLevel}
-use Rattle.version_tables.specs.inner.RoundLevels.{round_at, end_mark, round_mark, AreFewAndEnough}
+use Rattle.version_tables.specs.inner.RoundLevels.{end_mark, round_mark, AreFewAndEnough}
 use Rattle.version_tables.specs.inner.RoundEnds.{AreEnds}
 use Rattle.version_tables.specs.inner.LevelMarks.{IsRoundMark, AreRounds}
 use Rattle.version_tables.specs.inner.Stops.{IsOn}
-use Rattle.version_tables.specs.inner.Weights.{weight_of, weight_between, weight_through, count_all_between, one_each}
+use Rattle.version_tables.specs.inner.Weights.{weight_between, weight_through, count_all_between, one_each}
 use Rattle.version_tables.proofs.Columns.{where_true, where_none, sum_below-none}
 use Rattle.version_tables.proofs.Numbers.{numbered-some}
 use Rattle.version_tables.proofs.TurnSteps.{through-same}

@@ -96,7 +96,8 @@ fn marks_sent<N: Number, H: Written>(
         (map N.number low.now) }
     ensures marks { IfOk result (λ m. AreMarksOf rules.now rotation H.lists sender.now receiver.now
         (by_first (first_sent rules.now.mode) (map N.number low.now) (map N.number m.mark.items))
-        (by_first (first_sent rules.now.mode) (map N.number m.mark.items) sender.now.greatest) m.counts.sent m.counts.cut) }
+        (by_first (first_sent rules.now.mode) (map N.number m.mark.items) sender.now.greatest) m.counts.sent
+        m.counts.cut) }
     ensures only { IsOkUnless result OutOfMemory }
 {
     let offer = Offer {

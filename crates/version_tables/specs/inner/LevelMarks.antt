@@ -95,4 +95,5 @@ HasShape PreciseNewest lists cells nodes keys low near far = AreRounds Newest li
 -- the sizes of what marks let through of the numbers above others
 abbrev pub size_through_marks : First → Table → Cells → (ℕ → ℕ) → (ℕ → ℕ → ℕ) → (ℕ → ℕ) → ℕ
 size_through_marks first from cells low sizes mark =
-    offered_sum from cells low (λ owner key. if lets_through first (mark owner) (cells owner key) then sizes owner key else 0)
+    offered_sum from cells low
+    (λ owner key. if lets_through first (mark owner) (cells owner key) then sizes owner key else 0)

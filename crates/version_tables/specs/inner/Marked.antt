@@ -1,5 +1,5 @@
 -- What is sent where not all fits, or all, as one mark for each owner. Source: this project.
-use Rattle.std.specs.Prelude.{◌≡◌, ◌⊎◌, ℕ, ◌+◌, ◌*◌, ◌<◌, ◌≤◌, true, List, length, map, slice_index}
+use Rattle.std.specs.Prelude.{◌≡◌, ◌⊎◌, ℕ, ◌+◌, ◌*◌, ◌<◌, ◌≤◌, true, List, length, slice_index}
 use Rattle.bench_types.specs.declared.exchanges.First.{First}
 use Rattle.bench_types.specs.declared.exchanges.First.TheVariants.{Oldest, Newest}
 use Rattle.bench_types.specs.declared.exchanges.Mode.{Mode}

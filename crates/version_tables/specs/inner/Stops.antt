@@ -38,7 +38,8 @@ IsNext Newest cells keys owner near far next = IsNextDown cells keys owner far n
 
 -- some number is between a near and a far mark
 abbrev pub HasNext : First → Cells → ℕ → ℕ → ℕ → ℕ → Type 0
-HasNext first cells keys owner near far = HasBetween cells keys owner (by_first first near far) (by_first first far near)
+HasNext first cells keys owner near far =
+    HasBetween cells keys owner (by_first first near far) (by_first first far near)
 
 -- one mark is no nearer than another
 abbrev pub IsOn : First → ℕ → ℕ → Type 0

@@ -34,7 +34,8 @@ pub record AreTurnsPassed {N : Type 0} (first : First) (number : N → ℕ) (off
   pub count : sent ≡ count_on first number offer mark
 
 -- an owner's mark that stops at the first number of its part that doesn't fit into some room
-pub record IsStop (first : First) (weight : ℕ → ℕ) (cells : Cells) (keys owner near far room mark sent : ℕ) : Type 0 where
+pub record IsStop (first : First) (weight : ℕ → ℕ) (cells : Cells)
+    (keys owner near far room mark sent : ℕ) : Type 0 where
   pub key : ℕ
   pub in_keys : key < keys
   pub outside : lets_through first near (cells owner key) ≡ false

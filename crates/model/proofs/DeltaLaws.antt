@@ -1,6 +1,6 @@
 -- Laws of the sending orders, and of what a budget lets through in them.
--- Serves `scuttle_deltas_ascend`, `sending_orders_are_total`, `uncut_deltas_send_all`, `ExchangeLaws`, `Received`,
--- `reconcile`, `simulation` and `version_tables`.
+-- Serves the functions of `laws`, `ExchangeLaws`, `Levels`, `Received`, `reconcile`, `simulation` and
+-- `version_tables`.
 use Rattle.std.proofs.Common.{◌≡◌, ℕ, ◌<◌, ◌≤◌, Bool, not, ◌&&◌, eqb, ltb, List, length, get_or, inl, inr, sym, ap, ◌∙◌, arith}
 use Rattle.std.specs.Prelude.{count_by, Contains}
 use Rattle.std.specs.declared.cmp.Ordering.TheVariants.{Less, Equal}
@@ -44,14 +44,18 @@ sending_order-strict mode from to rotation proper in_nodes c d (j, in_j, is_c) (
     ((λ i. sending_order mode from.nodes rotation cs (at_j i) (at_k i)) ∙ e) in
     sym at_j ∙ ap (λ n. get_or cs n no_item) same ∙ at_k
 
+-- of one owner's items those of greater versions have more candidates before them, where the others are candidates
+pub rank-more : (cs : List Item) (c d : Item) → Contains cs c → c.owner ≡ d.owner → c.entry.version < d.entry.version → rank_among cs c < rank_among cs d
+rank-more cs c d stands owners older =
+    count_by-lt (λ (x : Item). eqb x.owner c.owner && ltb x.entry.version c.entry.version) (λ (x : Item). eqb x.owner d.owner && ltb x.entry.version d.entry.version) cs
+    (λ x passes. let parts = and_parts (eqb x.owner c.owner) (ltb x.entry.version c.entry.version) passes in
+    and_from _ _ (eq-eqb x.owner d.owner (eqb-true x.owner c.owner parts.0 ∙ owners)) (lt-ltb x.entry.version d.entry.version (omega (arith, older, ltb-true x.entry.version c.entry.version parts.1))))
+    c stands (and_right (eqb c.owner c.owner) _ (le-ltb c.entry.version c.entry.version (omega arith))) (and_from _ _ (eq-eqb c.owner d.owner owners) (lt-ltb c.entry.version d.entry.version older))
+
 -- in a scuttle mode a candidate comes before those of its owner with greater versions
 pub sending_order-ascending : (mode : Mode) → IsScuttleMode mode → (nodes rotation : ℕ) (cs : List Item) (c d : Item) → Contains cs c → c.owner ≡ d.owner → c.entry.version < d.entry.version → sending_order mode nodes rotation cs c d ≡ Less
 sending_order-ascending ScuttleBreadth is nodes rotation cs c d stands owners older =
-    let more : rank_among cs c < rank_among cs d = count_by-lt (λ (x : Item). eqb x.owner c.owner && ltb x.entry.version c.entry.version) (λ (x : Item). eqb x.owner d.owner && ltb x.entry.version d.entry.version) cs
-    (λ x passes. let parts = and_parts (eqb x.owner c.owner) (ltb x.entry.version c.entry.version) passes in
-    and_from _ _ (eq-eqb x.owner d.owner (eqb-true x.owner c.owner parts.0 ∙ owners)) (lt-ltb x.entry.version d.entry.version (omega (arith, older, ltb-true x.entry.version c.entry.version parts.1))))
-    c stands (and_right (eqb c.owner c.owner) _ (le-ltb c.entry.version c.entry.version (omega arith))) (and_from _ _ (eq-eqb c.owner d.owner owners) (lt-ltb c.entry.version d.entry.version older)) in
-    ap (λ o. ordering_then o (ordering_then (nat_cmp (rotated nodes rotation c.owner) (rotated nodes rotation d.owner)) (nat_cmp c.entry.key d.entry.key))) (nat_cmp-less (rank_among cs c) (rank_among cs d) more)
+    ap (λ o. ordering_then o (ordering_then (nat_cmp (rotated nodes rotation c.owner) (rotated nodes rotation d.owner)) (nat_cmp c.entry.key d.entry.key))) (nat_cmp-less (rank_among cs c) (rank_among cs d) (rank-more cs c d stands owners older))
 sending_order-ascending ScuttleDepth is nodes rotation cs c d stands owners older =
     λ i. ordering_then (nat_cmp-equal (owner_count cs d) (owner_count cs c) (ap (λ o. count_by (λ (x : Item). eqb x.owner o) cs) (sym owners)) i)
     (ordering_then (nat_cmp-equal (rotated nodes rotation c.owner) (rotated nodes rotation d.owner) (ap (rotated nodes rotation) owners) i)

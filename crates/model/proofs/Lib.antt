@@ -14,6 +14,7 @@ pub mod InLists
 pub mod Items
 pub mod Lacking
 pub mod LastWrites
+pub mod Levels
 pub mod TableLaws
 pub mod MarkLaws
 pub mod Members

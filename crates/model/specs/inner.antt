@@ -3,3 +3,4 @@ pub mod Codes
 pub mod Fitting
 pub mod GreatestMarks
 pub mod Items
+pub mod Levels

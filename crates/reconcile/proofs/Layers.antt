@@ -1,7 +1,7 @@
 -- Items that stand by turn, then by version and then by key, and are taken layer by layer, are in the order of their
 -- scuttle mode.
 -- Serves `by_length`, `by_rank`, `Answering` and `Turned`.
-use Rattle.std.proofs.Common.{◌≡◌, ℕ, zero, suc, ◌+◌, ◌-◌, ◌<◌, ◌≤◌, ◌^◌, Bool, true, false, cond, not, ◌&&◌, eqb, ltb, List, [], ◌∷◌, ◌++◌, length, get_or, All, ◌⊎◌, inl, inr, refl, sym, ap, ◌∙◌, subst, arith}
+use Rattle.std.proofs.Common.{◌≡◌, ℕ, zero, suc, ◌+◌, ◌<◌, ◌≤◌, ◌^◌, Bool, true, false, cond, not, ◌&&◌, eqb, ltb, List, [], ◌∷◌, ◌++◌, length, get_or, All, ◌⊎◌, inl, inr, refl, sym, ap, ◌∙◌, subst, arith}
 use Rattle.std.specs.Prelude.{filter, Contains, IsPermutation}
 use Rattle.std.specs.List.{AllPairs}
 use Rattle.std.specs.List.Sorted.{IsSorted}
@@ -14,7 +14,6 @@ use Rattle.std.proofs.lemmas.List.Kept.{AllPairs-filter}
 use Rattle.std.proofs.lemmas.List.Sorted.{length_permutation, Contains-permutation, IsPermutation-refl, IsPermutation-sym, IsPermutation-trans, IsPermutation-append_left, IsPermutation-filter_both}
 use Rattle.bench_types.specs.declared.entries.Item.{Item}
 use Rattle.bench_types.specs.declared.exchanges.Mode.{Mode}
-use Rattle.bench_types.specs.declared.exchanges.Mode.TheVariants.{ScuttleBreadth, ScuttleDepth, PreciseOldest, PreciseNewest}
 use Rattle.bench_types.proofs.Comparing.{nat_cmp-less, nat_cmp-equal, nat_cmp-greater}
 use Rattle.model.specs.Candidates.{IsScuttleMode}
 use Rattle.model.specs.Order.{rotated, sending_order}
@@ -148,25 +147,19 @@ abbrev pub InTurn : ℕ → ℕ → Item → Item → Type 0
 InTurn ns s i j = (rotated ns s i.owner < rotated ns s j.owner) ⊎ ((i.owner ≡ j.owner) × (ordering_then (nat_cmp i.entry.version j.entry.version) (nat_cmp i.entry.key j.entry.key) ≡ Less))
 
 module _ (mode : Mode) (scuttle : IsScuttleMode mode) (ns s : ℕ) (cs : List Item) (few : length cs < 2 ^ 32) where
-  second_same : (m : Mode) → IsScuttleMode m → (i j : Item) → i.entry.version ≡ j.entry.version → second_key m i ≡ second_key m j
-  second_same ScuttleBreadth is i j same = refl
-  second_same ScuttleDepth is i j same = same
-  second_same PreciseOldest is i j same = same
-  second_same PreciseNewest is i j same = ap (λ n. 4294967295 - n) same
-
   -- so an item comes before those of later layers, and in its layer before those of later turns
   pair_sent : (c d : Item) → Contains cs c → (first_key mode cs c < first_key mode cs d) ⊎ ((first_key mode cs c ≡ first_key mode cs d) × InTurn ns s c d) → sending_order mode ns s cs c d ≡ Less
   pair_sent c d stands (inl less) =
       sym (scuttle-sending mode scuttle ns s cs c d few)
-      ∙ ap (λ o. ordering_then o (ordering_then (nat_cmp (rotated ns s c.owner) (rotated ns s d.owner)) (ordering_then (nat_cmp (second_key mode c) (second_key mode d)) (nat_cmp c.entry.key d.entry.key))))
+      ∙ ap (λ o. ordering_then o (ordering_then (nat_cmp (rotated ns s c.owner) (rotated ns s d.owner)) (ordering_then (nat_cmp (second_key mode c.entry.version) (second_key mode d.entry.version)) (nat_cmp c.entry.key d.entry.key))))
       (nat_cmp-less (first_key mode cs c) (first_key mode cs d) less)
   pair_sent c d stands (inr (same, inl less)) =
       sym (scuttle-sending mode scuttle ns s cs c d few)
-      ∙ (λ n. ordering_then (nat_cmp-equal (first_key mode cs c) (first_key mode cs d) same n) (ordering_then (nat_cmp-less (rotated ns s c.owner) (rotated ns s d.owner) less n) (ordering_then (nat_cmp (second_key mode c) (second_key mode d)) (nat_cmp c.entry.key d.entry.key))))
+      ∙ (λ n. ordering_then (nat_cmp-equal (first_key mode cs c) (first_key mode cs d) same n) (ordering_then (nat_cmp-less (rotated ns s c.owner) (rotated ns s d.owner) less n) (ordering_then (nat_cmp (second_key mode c.entry.version) (second_key mode d.entry.version)) (nat_cmp c.entry.key d.entry.key))))
   pair_sent c d stands (inr (same, inr (owners, rest))) = elim (cases_order c.entry.version d.entry.version) [
     | inl versions ↦
         sym (scuttle-sending mode scuttle ns s cs c d few)
-        ∙ (λ n. ordering_then (nat_cmp-equal (first_key mode cs c) (first_key mode cs d) same n) (ordering_then (nat_cmp-equal (rotated ns s c.owner) (rotated ns s d.owner) (ap (rotated ns s) owners) n) (ordering_then (nat_cmp-equal (second_key mode c) (second_key mode d) (second_same mode scuttle c d versions) n) (nat_cmp c.entry.key d.entry.key))))
+        ∙ (λ n. ordering_then (nat_cmp-equal (first_key mode cs c) (first_key mode cs d) same n) (ordering_then (nat_cmp-equal (rotated ns s c.owner) (rotated ns s d.owner) (ap (rotated ns s) owners) n) (ordering_then (nat_cmp-equal (second_key mode c.entry.version) (second_key mode d.entry.version) (ap (second_key mode) versions) n) (nat_cmp c.entry.key d.entry.key))))
         ∙ ap (λ o. ordering_then o (nat_cmp c.entry.key d.entry.key)) (sym (nat_cmp-equal c.entry.version d.entry.version versions))
         ∙ rest
     | inr differ ↦ elim differ [

@@ -39,12 +39,12 @@ first_key ScuttleDepth cs i = reversed (owner_count cs i)
 first_key PreciseOldest cs i = i.entry.born
 first_key PreciseNewest cs i = reversed i.entry.born
 
--- what each mode looks at after the owner's turn
-abbrev pub second_key : Mode → Item → ℕ
-second_key ScuttleBreadth i = 0
-second_key ScuttleDepth i = i.entry.version
-second_key PreciseOldest i = i.entry.version
-second_key PreciseNewest i = reversed i.entry.version
+-- what each mode looks at after the owner's turn, of a version
+abbrev pub second_key : Mode → ℕ → ℕ
+second_key ScuttleBreadth version = 0
+second_key ScuttleDepth version = version
+second_key PreciseOldest version = version
+second_key PreciseNewest version = reversed version
 
 -- a list of candidates that is sorted by a test of their items is so as a list of items
 pub sorted_items : (lt : Item → Item → Bool) (cs : List Candidate) → IsSortedBy (λ c d. lt (item_in c) (item_in d)) cs → IsSortedBy lt (items_in cs)
@@ -78,7 +78,7 @@ nat_cmp-reversed a b in_a in_b = elim (cases_order a b) [
 
 -- the keys alone, put in place of the numbers
 abbrev pub by_items : Mode → ℕ → ℕ → List Item → Item → Item → Ordering
-by_items mode ns s items i j = ordering_then (nat_cmp (first_key mode items i) (first_key mode items j)) (ordering_then (nat_cmp (rotated ns s i.owner) (rotated ns s j.owner)) (ordering_then (nat_cmp (second_key mode i) (second_key mode j)) (nat_cmp i.entry.key j.entry.key)))
+by_items mode ns s items i j = ordering_then (nat_cmp (first_key mode items i) (first_key mode items j)) (ordering_then (nat_cmp (rotated ns s i.owner) (rotated ns s j.owner)) (ordering_then (nat_cmp (second_key mode i.entry.version) (second_key mode j.entry.version)) (nat_cmp i.entry.key j.entry.key)))
 
 -- they compare as the mode says
 pub scuttle-sending : (mode : Mode) → IsScuttleMode mode → (ns s : ℕ) (items : List Item) (i j : Item) → length items < 2 ^ 32 → by_items mode ns s items i j ≡ sending_order mode ns s items i j

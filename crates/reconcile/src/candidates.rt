@@ -20,7 +20,7 @@ use crate::deltas::Delta;
 use crate::digests::{Digest, generation_in};
 use crate::parcels::{Parcel, most_sent};
 use crate::turns::Turns;
-use bench_types::{Budget, DigestKind, Entry, Fault, Item, Mode};
+use bench_types::{Budget, DigestKind, Entry, Fault, First, Item};
 use node_table::NodeTable;
 use std::alloc::Global;
 
@@ -148,7 +148,6 @@ fn candidates(
     receiver: u32,
     turns: Turns,
 ) -> Result<Vec<Candidate>, Fault>
-    requires precise { digest_kind turns.mode ≡ DigestKind.Precise }
     requires kind { IsOfKind DigestKind.Precise digest.now }
     requires told { digest.now.nodes ≡ table.now.table.nodes }
     requires keys { digest.now.keys ≡ table.now.table.keys }
@@ -185,7 +184,6 @@ fn push_newer(
     row: &[Entry],
     turns: Turns,
 ) -> Result<(), Fault>
-    requires precise { digest_kind turns.mode ≡ DigestKind.Precise }
     requires kind { IsOfKind DigestKind.Precise digest.now }
     requires limit { turns.nodes ≤ MOST_NODES }
     requires told { digest.now.nodes ≡ turns.nodes }
@@ -213,17 +211,17 @@ fn push_newer(
 
 // A candidate with its numbers.
 fn candidate_of(item: Item, turns: Turns) -> Candidate
-    requires precise { digest_kind turns.mode ≡ DigestKind.Precise }
     requires limit { turns.nodes ≤ MOST_NODES }
     requires owner { item.owner < turns.nodes }
     requires rotation { turns.rotation < turns.nodes }
     ensures item { result.item ≡ item }
     ensures set { IsSet turns.mode turns.nodes turns.rotation result }
 {
+    let first = turns.mode.first();
     Candidate {
-        first: age_first(turns.mode, item.entry.born),
+        first: age_first(first, item.entry.born),
         turn: turn_of(item.owner, turns),
-        second: age_first(turns.mode, item.entry.version),
+        second: age_first(first, item.entry.version),
         item,
     }
 }
@@ -243,14 +241,12 @@ fn turn_of(owner: u32, turns: Turns) -> u32
 }
 
 // A round or a version as a number that is smaller where it comes first.
-fn age_first(mode: Mode, age: u32) -> u32
-    requires { digest_kind mode ≡ DigestKind.Precise }
-    ensures { result ≡ age_first mode age }
+fn age_first(first: First, age: u32) -> u32
+    ensures { result ≡ age_first first age }
 {
-    match mode {
-        Mode::PreciseOldest => age,
-        Mode::PreciseNewest => u32::MAX - age,
-        Mode::ScuttleBreadth | Mode::ScuttleDepth => unreachable!(),
+    match first {
+        First::Oldest => age,
+        First::Newest => u32::MAX - age,
     }
 }
 

@@ -12,10 +12,10 @@ use Rattle.model.specs.Order.{rank_among, owner_count}
 use Rattle.bench_types.specs.Sums.{sum_below}
 use Rattle.version_tables.specs.inner.Offers.{Offers, IsHistory, offered_sum, rank_above}
 use Rattle.planes.specs.Planes.{Cells, count_above}
-use Rattle.version_tables.specs.inner.Levels.{item_number}
+use Rattle.version_tables.specs.inner.Firsts.{item_number}
 use Rattle.bench_types.proofs.Sums.{sum_below-same}
 use Rattle.version_tables.proofs.Offers.{offered-sum, number-of_version, versions-rise}
-use Rattle.version_tables.proofs.Levels.{candidate-number, candidate-below, alike, d_number}
+use Rattle.version_tables.proofs.CandidateNumbers.{candidate-number, candidate-below, alike, d_number}
 
 -- a sum to which one index alone adds
 pub sum_below-none : (n : ℕ) (f : ℕ → ℕ) → ((i : ℕ) → i < n → f i ≡ 0) → sum_below n f ≡ 0
@@ -83,8 +83,8 @@ module _ (mode : Mode) (from to : Table) (proper : IsProper from) (lists : ℕ �
           versions_as_numbers : (d : Item) → Contains cs d → d.owner ≡ c.owner → ltb d.entry.version c.entry.version ≡ ltb (item_number cells d) (item_number cells c)
           versions_as_numbers d in_d same =
               let d_is = (candidate-number mode from to proper lists histories cells low offers d in_d).1 in
-              let c_is = d_number mode from to proper lists histories cells low offers 0 0 d c in_d in_c same in
-              let one = alike mode from to proper lists histories cells low offers 0 0 d c in_d in_c same in
+              let c_is = d_number mode from to proper lists histories cells low offers d c in_d in_c same in
+              let one = alike mode from to proper lists histories cells low offers d c in_d in_c same in
               elim (cases_lt (item_number cells d) (item_number cells c)) [
                 | inl before ↦
                     lt-ltb d.entry.version c.entry.version (versions-rise (lists d.owner) (histories d.owner) (item_number cells d) (item_number cells c) d.entry c.entry d_is c_is one before)

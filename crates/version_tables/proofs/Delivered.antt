@@ -1,16 +1,17 @@
 -- From an offer's marks to the marks of a delta between two tables.
 -- Serves `either`, `marks_sent`, `told_to` and `Merged`.
-use Rattle.std.proofs.Common.{◌≡◌, ℕ, ◌*◌, ◌<◌, ◌≤◌, max, true, cond, List, length, get_or, map, inl, inr, refl, sym, ap, ◌∙◌, subst, arith}
+use Rattle.std.proofs.Common.{◌≡◌, ℕ, ◌*◌, ◌<◌, ◌≤◌, max, Bool, true, cond, List, length, get_or, map, inl, inr, refl, sym, ap, ◌∙◌, subst, arith}
 use Rattle.std.specs.Prelude.{nat_lt, nat_le, ◌&&◌}
 use Rattle.std.proofs.lemmas.Bool.{cases_lt, cases_eq, lt-ltb, le-ltb, le-leb, eq-eqb, ne_eqb}
 use Rattle.std.proofs.lemmas.List.{length-map}
 use Rattle.bench_types.specs.declared.entries.Entry.{Entry}
 use Rattle.bench_types.specs.declared.exchanges.Budget.{Budget}
+use Rattle.bench_types.specs.declared.exchanges.First.{First}
+use Rattle.bench_types.specs.declared.exchanges.First.TheVariants.{Oldest, Newest}
 use Rattle.bench_types.specs.declared.exchanges.Mode.{Mode}
-use Rattle.bench_types.specs.declared.exchanges.Mode.TheVariants.{ScuttleBreadth, ScuttleDepth, PreciseOldest, PreciseNewest}
 use Rattle.bench_types.specs.declared.exchanges.DigestKind.{DigestKind}
 use Rattle.bench_types.specs.declared.exchanges.DigestKind.TheVariants.{Scuttle, Precise}
-use Rattle.bench_types.specs.Mode.{digest_kind}
+use Rattle.bench_types.specs.Mode.{digest_kind, first_sent}
 use Rattle.bench_types.specs.Budget.{amount_of}
 use Rattle.model.specs.Table.{Table}
 use Rattle.model.specs.Candidates.{candidates}
@@ -25,27 +26,24 @@ use Rattle.version_tables.specs.Views.{VersionTableView, HistoriesView, table_in
 use Rattle.version_tables.specs.inner.Deltas.{is_taken_at, AreMarksOf}
 use Rattle.version_tables.specs.inner.Histories.{IsWrittenSoFar, FitsHistories}
 use Rattle.version_tables.specs.Laid.{AreNumbers}
-use Rattle.version_tables.specs.inner.Marked.{HasShape, LetAll, ShareLevel, KeepsLow, AreMarked, AreOffered, low_list, high_list}
-use Rattle.version_tables.specs.inner.OfferInMemory.{cells_in, low_in, high_in, weights_in, count_in, IsOffer}
+use Rattle.version_tables.specs.inner.Firsts.{by_first}
+use Rattle.version_tables.specs.inner.Marked.{LetAll, ShareLevel, KeepsLow, AreMarked, AreOffered}
+use Rattle.version_tables.specs.inner.OfferInMemory.{cells_in, low_in, high_in, count_in, IsOffer}
 use Rattle.version_tables.specs.inner.Offers.{IsHistory, Offers, offered_by, told_by, told_number}
-use Rattle.version_tables.specs.inner.Plans.{weight_on, count_on}
-use Rattle.version_tables.specs.inner.LevelMarks.{lets_through, NumbersDiffer}
+use Rattle.version_tables.specs.inner.Plans.{weight_on}
+use Rattle.version_tables.specs.inner.LevelMarks.{lets_through, NumbersDiffer, HasShape}
 use Rattle.version_tables.specs.inner.Taken.{is_taken}
 use Rattle.version_tables.specs.inner.Told.{AreKnown}
-use Rattle.version_tables.specs.inner.Weights.{number_shares, weight_between, one_each}
-use Rattle.version_tables.proofs.Levels.{candidate-below, candidate-key, candidate-number}
+use Rattle.version_tables.specs.inner.Weights.{number_shares, weight_between, weight_through, one_each}
+use Rattle.version_tables.proofs.CandidateNumbers.{candidate-below, candidate-key, candidate-number}
 use Rattle.version_tables.proofs.Fitting.{fits-upto, fits-below, fits-cells}
-use Rattle.version_tables.proofs.Lifts.{weight_by, lets, count-sent, count-cut, are-sent, shared-sent, whole-sent}
+use Rattle.version_tables.proofs.Lifts.{lets, count-sent, count-cut, are-sent, shared-sent, whole-sent}
 use Rattle.version_tables.proofs.Numbers.{numbered-some}
 use Rattle.version_tables.proofs.Told.{told-offers, offered-is, offered-upto}
 
--- the marks of a delta, by its mode
+-- the marks of a delta
 module _ (s p low mark high : ℕ) where
-  -- what a receiver takes, where all that it holds is up to the low mark
-  taken-plain : p ≤ low → is_taken p s low mark ≡ (nat_lt low s && nat_le s mark)
-  taken-plain le = ap (λ m. nat_lt m s && nat_le s mark) (omega (arith, le))
-
-  -- and where what isn't ahead of it was left out
+  -- what a receiver takes, where what isn't ahead of it was left out
   taken-oldest : is_taken p s low mark ≡ (nat_lt low (number_ahead s p low) && nat_le (number_ahead s p low) mark)
   taken-oldest = elim (cases_lt (max p low) s) [
     | inl above ↦
@@ -77,46 +75,38 @@ module _ (s p low mark high : ℕ) where
         | inr not_past ↦ (λ i. (le-ltb (max p mark) s (omega (arith, not_past)) i) && true) ∙ (λ i. true && sym (le-ltb mark s (omega (arith, not_past))) i)
       ]
 
--- a list of marks for each kind of end
-pub taken-by : (mode : Mode) (sender receiver : Cells) (low mark high : List ℕ) (owner key : ℕ)
-    → (digest_kind mode ≡ Scuttle → receiver owner key ≤ get_or low owner 0)
-    → (mode ≡ PreciseNewest → get_or low owner 0 ≤ get_or mark owner 0)
-    → sender owner key ≤ get_or high owner 0
-    → is_taken (receiver owner key) (sender owner key) (get_or (low_list mode low mark) owner 0) (get_or (high_list mode mark high) owner 0)
-    ≡ (nat_lt (get_or low owner 0) (offered_by (digest_kind mode) sender receiver (λ r. get_or low r 0) owner key)
-    && lets_through mode (get_or mark owner 0) (offered_by (digest_kind mode) sender receiver (λ r. get_or low r 0) owner key))
-taken-by ScuttleBreadth sender receiver low mark high owner key told above upto = taken-plain (sender owner key) (receiver owner key) (get_or low owner 0) (get_or mark owner 0) (get_or high owner 0) (told refl)
-taken-by ScuttleDepth sender receiver low mark high owner key told above upto = taken-plain (sender owner key) (receiver owner key) (get_or low owner 0) (get_or mark owner 0) (get_or high owner 0) (told refl)
-taken-by PreciseOldest sender receiver low mark high owner key told above upto = taken-oldest (sender owner key) (receiver owner key) (get_or low owner 0) (get_or mark owner 0) (get_or high owner 0)
-taken-by PreciseNewest sender receiver low mark high owner key told above upto =
-    taken-newest (sender owner key) (receiver owner key) (get_or low owner 0) (get_or mark owner 0) (get_or high owner 0) (above refl) upto
+-- that leaves nothing out where all that it holds is up to the low mark
+plain-ahead : (s p low : ℕ) (lets : ℕ → Bool) → p ≤ low → (nat_lt low (number_ahead s p low) && lets (number_ahead s p low)) ≡ (nat_lt low s && lets s)
+plain-ahead s p low lets le = elim (cases_lt (max p low) s) [
+  | inl above ↦ (λ i. nat_lt low (cond (lt-ltb (max p low) s above i) s 0) && lets (cond (lt-ltb (max p low) s above i) s 0))
+  | inr not_above ↦
+      (λ i. nat_lt low (cond (le-ltb (max p low) s (omega (arith, not_above)) i) s 0) && lets (cond (le-ltb (max p low) s (omega (arith, not_above)) i) s 0))
+      ∙ (λ i. (le-ltb low 0 (omega arith) i) && lets 0)
+      ∙ (λ i. (sym (le-ltb low s (omega (arith, not_above, le))) i) && lets s)
+]
 
--- weights on marks, by the parts of an offer
-on-weights : {N : Type 0} (mode : Mode) (number : N → ℕ) (offer : Offer N) (mark : ℕ → ℕ)
-    → weight_on mode number offer mark ≡ weight_by mode (weights_in offer) (cells_in number offer) offer.nodes offer.keys (low_in number offer) (high_in number offer) mark
-on-weights ScuttleBreadth number offer mark = refl
-on-weights ScuttleDepth number offer mark = refl
-on-weights PreciseOldest number offer mark = refl
-on-weights PreciseNewest number offer mark = refl
+taken-ahead : (first : First) (s p low mark high : ℕ) → (first ≡ Newest → low ≤ mark) → s ≤ high
+    → is_taken p s (by_first first low mark) (by_first first mark high) ≡ (nat_lt low (number_ahead s p low) && lets_through first mark (number_ahead s p low))
+taken-ahead Oldest s p low mark high above upto = taken-oldest s p low mark high
+taken-ahead Newest s p low mark high above upto = taken-newest s p low mark high (above refl) upto
 
-on-counts : {N : Type 0} (mode : Mode) (number : N → ℕ) (offer : Offer N) (mark : ℕ → ℕ)
-    → count_on mode number offer mark ≡ weight_by mode one_each (cells_in number offer) offer.nodes offer.keys (low_in number offer) (high_in number offer) mark
-on-counts ScuttleBreadth number offer mark = refl
-on-counts ScuttleDepth number offer mark = refl
-on-counts PreciseOldest number offer mark = refl
-on-counts PreciseNewest number offer mark = refl
+taken-by : (kind : DigestKind) (first : First) (sender receiver : Cells) (low : ℕ → ℕ) (mark high owner key : ℕ)
+    → (kind ≡ Scuttle → receiver owner key ≤ low owner) → (first ≡ Newest → low owner ≤ mark) → sender owner key ≤ high
+    → is_taken (receiver owner key) (sender owner key) (by_first first (low owner) mark) (by_first first mark high)
+    ≡ (nat_lt (low owner) (offered_by kind sender receiver low owner key) && lets_through first mark (offered_by kind sender receiver low owner key))
+taken-by Scuttle first sender receiver low mark high owner key told above upto =
+    taken-ahead first (sender owner key) (receiver owner key) (low owner) mark high above upto
+    ∙ plain-ahead (sender owner key) (receiver owner key) (low owner) (lets_through first mark) (told refl)
+taken-by Precise first sender receiver low mark high owner key told above upto = taken-ahead first (sender owner key) (receiver owner key) (low owner) mark high above upto
 
-low-size : (mode : Mode) (low mark : List ℕ) (n : ℕ) → length low ≡ n → length mark ≡ n → length (low_list mode low mark) ≡ n
-low-size ScuttleBreadth low mark n one other = one
-low-size ScuttleDepth low mark n one other = one
-low-size PreciseOldest low mark n one other = one
-low-size PreciseNewest low mark n one other = other
+-- one of two lists, at a place
+by_first-at : (first : First) (xs ys : List ℕ) (r : ℕ) → get_or (by_first first xs ys) r 0 ≡ by_first first (get_or xs r 0) (get_or ys r 0)
+by_first-at Oldest xs ys r = refl
+by_first-at Newest xs ys r = refl
 
-high-size : (mode : Mode) (mark high : List ℕ) (n : ℕ) → length mark ≡ n → length high ≡ n → length (high_list mode mark high) ≡ n
-high-size ScuttleBreadth mark high n one other = one
-high-size ScuttleDepth mark high n one other = one
-high-size PreciseOldest mark high n one other = one
-high-size PreciseNewest mark high n one other = other
+by_first-size : (first : First) (xs ys : List ℕ) (n : ℕ) → length xs ≡ n → length ys ≡ n → length (by_first first xs ys) ≡ n
+by_first-size Oldest xs ys n one other = one
+by_first-size Newest xs ys n one other = other
 
 module _ {N : Type 0} (number : N → ℕ) (most : ℕ) (written : ℕ → List Entry) (from to : VersionTableView) (kept_from : IsKept written from) (kept_to : IsKept written to)
     (h : HistoriesView) (so_far : (owner : ℕ) → IsWrittenSoFar (written owner) most h.rounds (all_writes h.lists owner))
@@ -128,6 +118,9 @@ module _ {N : Type 0} (number : N → ℕ) (most : ℕ) (written : ℕ → List 
     → cells_in number offer owner key ≡ offered_by (digest_kind mode) (cell from.cells from.nodes) (cell to.cells to.nodes) (low_in number offer) owner key) where
   abbrev kind : DigestKind
   kind = digest_kind mode
+
+  abbrev first : First
+  first = first_sent mode
 
   abbrev lists : ℕ → List Entry
   lists = all_writes h.lists
@@ -220,14 +213,14 @@ module _ {N : Type 0} (number : N → ℕ) (most : ℕ) (written : ℕ → List 
     abbrev weights : ℕ → ℕ → ℕ
     weights = number_shares budget lists
 
-    on-marks : weight_on mode number offer m ≡ weight_by mode weights cells from.nodes from.keys low high m
-    on-marks = on-weights mode number offer m ∙ (λ i. weight_by mode (number_shares (offer_budget i) (all_writes (offer_lists i))) cells (offer_nodes i) (offer_keys i) low high m)
+    on-marks : weight_on first number offer m ≡ weight_through first weights cells from.nodes from.keys low high m
+    on-marks = λ i. weight_through first (number_shares (offer_budget i) (all_writes (offer_lists i))) cells (offer_nodes i) (offer_keys i) low high m
 
     amounts : amount_of offer.budget ≡ amount_of budget
     amounts = ap amount_of offer_budget
 
-    keeps : KeepsLow mode from.nodes low m
-    keeps = subst (λ n. KeepsLow mode n low m) offer_nodes marked.above
+    keeps : KeepsLow first from.nodes low m
+    keeps = subst (λ n. KeepsLow first n low m) offer_nodes marked.above
 
     below : (r : ℕ) → r < from.nodes → r < offer.nodes
     below r lt = omega (arith, lt, offer_nodes)
@@ -240,7 +233,7 @@ module _ {N : Type 0} (number : N → ℕ) (most : ℕ) (written : ℕ → List 
         (subst (λ k. HasShape mode (all_writes offer.lists.now) cells from.nodes k low near far) offer_keys
         (subst (λ n. HasShape mode (all_writes offer.lists.now) cells n offer.keys low near far) offer_nodes shape))
 
-    has-whole : LetAll mode number offer m → HasSet (candidates mode F T) (lets F T fits_from.proper lists histories cells low high covered mode offers m) (delta_between mode rotation budget F T)
+    has-whole : LetAll first number offer m → HasSet (candidates mode F T) (lets F T fits_from.proper lists histories cells low high covered mode offers m) (delta_between mode rotation budget F T)
     has-whole all =
         whole-sent F T fits_from.proper lists histories cells low high covered mode offers rotation in_nodes budget m keeps
         (λ c in_c. all.all c.owner c.entry.key (below c.owner (candidate-below mode F T fits_from.proper c in_c)) (omega (arith, candidate-key mode F T fits_from.proper c in_c, offer_keys))
@@ -281,22 +274,23 @@ module _ {N : Type 0} (number : N → ℕ) (most : ℕ) (written : ℕ → List 
               )
         ]
 
-    keeps-low : (owner : ℕ) → owner < from.nodes → mode ≡ PreciseNewest → low owner ≤ m owner
-    keeps-low owner lt is_newest = (subst (λ k. KeepsLow k from.nodes low m) is_newest keeps) owner lt
+    keeps-low : (owner : ℕ) → owner < from.nodes → first ≡ Newest → low owner ≤ m owner
+    keeps-low owner lt is_newest = (subst (λ f. KeepsLow f from.nodes low m) is_newest keeps) owner lt
 
     taken-is : (owner key : ℕ) → owner < from.nodes → key < from.keys
-        → is_taken_at from to (low_list mode (map number offer.low.now) mark) (high_list mode mark (map number offer.high.now)) owner key ≡ (nat_lt (low owner) (cells owner key) && lets_through mode (m owner) (cells owner key))
+        → is_taken_at from to (by_first first (map number offer.low.now) mark) (by_first first mark (map number offer.high.now)) owner key ≡ (nat_lt (low owner) (cells owner key) && lets_through first (m owner) (cells owner key))
     taken-is owner key in_nodes' in_keys =
-        taken-by mode sender receiver (map number offer.low.now) mark (map number offer.high.now) owner key (told-upto owner key in_nodes' in_keys) (keeps-low owner in_nodes') (sender-high owner key in_nodes' in_keys)
-        ∙ (λ i. nat_lt (low owner) (sym (cells_are owner key in_nodes' in_keys) i) && lets_through mode (m owner) (sym (cells_are owner key in_nodes' in_keys) i))
+        (λ i. is_taken (receiver owner key) (sender owner key) (by_first-at first (map number offer.low.now) mark owner i) (by_first-at first mark (map number offer.high.now) owner i))
+        ∙ taken-by kind first sender receiver low (m owner) (high owner) owner key (told-upto owner key in_nodes' in_keys) (keeps-low owner in_nodes') (sender-high owner key in_nodes' in_keys)
+        ∙ (λ i. nat_lt (low owner) (sym (cells_are owner key in_nodes' in_keys) i) && lets_through first (m owner) (sym (cells_are owner key in_nodes' in_keys) i))
 
     pub delta-marks : length mark ≡ from.nodes
-        → AreMarksOf (record { mode = mode; budget = budget }) rotation written from to (low_list mode (map number offer.low.now) mark) (high_list mode mark (map number offer.high.now)) sent cut
+        → AreMarksOf (record { mode = mode; budget = budget }) rotation written from to (by_first first (map number offer.low.now) mark) (by_first first mark (map number offer.high.now)) sent cut
     delta-marks mark_size = record {
-      low_count = low-size mode (map number offer.low.now) mark from.nodes (low_is.size ∙ sym fits_from.nodes) mark_size;
-      high_count = high-size mode mark (map number offer.high.now) from.nodes mark_size (ap length offer_high ∙ kept_from.greatest_count);
+      low_count = by_first-size first (map number offer.low.now) mark from.nodes (low_is.size ∙ sym fits_from.nodes) mark_size;
+      high_count = by_first-size first mark (map number offer.high.now) from.nodes mark_size (ap length offer_high ∙ kept_from.greatest_count);
       marks = are-sent F T fits_from.proper lists histories cells low high covered mode offers rotation in_nodes budget m keeps has
-          (is_taken_at from to (low_list mode (map number offer.low.now) mark) (high_list mode mark (map number offer.high.now))) taken-is;
+          (is_taken_at from to (by_first first (map number offer.low.now) mark) (by_first first mark (map number offer.high.now))) taken-is;
       count = sent-is;
       left = omega (arith, sent-is, marked.left, all-of, count-cut F T fits_from.proper lists histories cells low high covered mode offers rotation in_nodes budget m keeps has);
     }
@@ -306,7 +300,7 @@ module _ {N : Type 0} (number : N → ℕ) (most : ℕ) (written : ℕ → List 
 
         sent-is : sent ≡ length (delta_between mode rotation budget F T).items
         sent-is =
-            marked.count ∙ on-counts mode number offer m ∙ (λ i. weight_by mode one_each cells (offer_nodes i) (offer_keys i) low high m)
+            marked.count ∙ (λ i. weight_through first one_each cells (offer_nodes i) (offer_keys i) low high m)
             ∙ sym (count-sent F T fits_from.proper lists histories cells low high covered mode offers rotation in_nodes budget m keeps has)
 
 -- a receiver's greatest numbers are known

@@ -120,8 +120,8 @@ module _ {N : Type 0} (number : N → ℕ) (most : ℕ) (offer : Offer N) (is : 
     pub layers-far : (owner : ℕ) → owner < offer.nodes → IsLayerMark cells offer.keys owner (low owner) (so_far.layers + 1) (far owner)
     layers-far = far_layered
 
-    pub layers-farther : (owner : ℕ) → owner < offer.nodes → (low owner ≤ near owner) × (near owner ≤ far owner)
-    layers-farther owner lt = ((so_far.layered owner lt).above, elim (so_far.next owner lt) [ inl none ↦ omega (arith, none.1) | inr some ↦ omega (arith, some.above) ])
+    pub layers-farther : (owner : ℕ) → owner < offer.nodes → (low owner ≤ near owner) × (low owner ≤ far owner) × (near owner ≤ far owner)
+    layers-farther owner lt = ((so_far.layered owner lt).above, (far_layered owner lt).above, elim (so_far.next owner lt) [ inl none ↦ omega (arith, none.1) | inr some ↦ omega (arith, some.above) ])
 
 -- each owner's next mark is counted where it is raised
 pub steps-raised : {N : Type 0} (number : N → ℕ) (most : ℕ) (offer : Offer N) → IsOffer number most offer → (near : ℕ → ℕ) (items old new : List N) (count : ℕ) → old ≡ items

@@ -9,7 +9,7 @@ pub mod Delivered
 pub mod MarkedLaws
 pub mod RoundMarks
 pub mod Starts
-pub mod Levels
+pub mod CandidateNumbers
 pub mod StopMarks
 pub mod Columns
 pub mod Layers
@@ -29,7 +29,7 @@ pub mod Counted
 pub mod Parts
 pub mod Whole
 pub mod Clearing
-pub mod Modes
+pub mod Firsts
 pub mod WeightLaws
 pub mod OfferWeights
 pub mod LayerSteps

@@ -1,17 +1,19 @@
 -- From marks over numbers to the delta that they are.
 -- Serves `Delivered`.
 use Rattle.std.proofs.Common.{◌≡◌, ℕ, ◌+◌, ◌<◌, ◌≤◌, Bool, true, false, cond, not, ltb, leb, List, [], ◌∷◌, length, Some, inl, inr, refl, sym, ap, ◌∙◌, subst, arith}
-use Rattle.std.specs.Prelude.{nat_lt, nat_le, ◌&&◌, count_by, Contains}
+use Rattle.std.specs.Prelude.{nat_lt, ◌&&◌, count_by, Contains}
 use Rattle.std.specs.List.{sum_by}
-use Rattle.std.proofs.lemmas.Bool.{cases_lt, lt-ltb, le-ltb, le-leb, lt-leb, both_ways}
+use Rattle.std.proofs.lemmas.Bool.{cases_lt, lt-ltb, le-ltb, le-leb, both_ways}
 use Rattle.std.proofs.lemmas.List.Sums.{sum_by-cons}
 use Rattle.std.proofs.lemmas.Option.{same_Some}
 use Rattle.bench_types.specs.declared.entries.Entry.{Entry}
 use Rattle.bench_types.specs.declared.entries.Item.{Item}
 use Rattle.bench_types.specs.declared.exchanges.Budget.{Budget}
 use Rattle.bench_types.specs.declared.exchanges.Mode.{Mode}
-use Rattle.bench_types.specs.declared.exchanges.Mode.TheVariants.{ScuttleBreadth, ScuttleDepth, PreciseOldest, PreciseNewest}
+use Rattle.bench_types.specs.declared.exchanges.First.{First}
+use Rattle.bench_types.specs.declared.exchanges.First.TheVariants.{Oldest, Newest}
 use Rattle.bench_types.specs.Budget.{amount_of}
+use Rattle.bench_types.specs.Mode.{first_sent}
 use Rattle.model.specs.Table.{Table, entry_at, items_of, IsProper}
 use Rattle.model.proofs.Items.{Contains-items_of}
 use Rattle.model.specs.Candidates.{candidates}
@@ -19,27 +21,20 @@ use Rattle.model.specs.Deltas.{DeltaView, delta_between, item_share}
 use Rattle.model.specs.Order.{rotated}
 use Rattle.model.proofs.Members.{Contains-filter}
 use Rattle.model.specs.Numbers.{write_numbered}
-use Rattle.planes.specs.Planes.{Cells, count_above, HasNoneAbove}
+use Rattle.planes.specs.Planes.{Cells, HasNoneAbove}
 use Rattle.bench_types.proofs.Sums.{sum_below-same}
 use Rattle.version_tables.specs.SentSets.{HasSet}
-use Rattle.version_tables.specs.inner.Levels.{comes_first, item_number}
-use Rattle.version_tables.specs.inner.Marked.{HasShape, KeepsLow}
+use Rattle.version_tables.specs.inner.Firsts.{comes_first, item_number}
+use Rattle.version_tables.specs.inner.Marked.{KeepsLow}
 use Rattle.version_tables.specs.inner.Offers.{IsHistory, Offers, is_lacked}
-use Rattle.version_tables.specs.inner.LevelMarks.{lets_through, AreLevelMarks, StopAt, IsRunMark, size_through_marks}
+use Rattle.version_tables.specs.inner.LevelMarks.{lets_through, HasShape, StopAt, size_through_marks}
 use Rattle.version_tables.specs.inner.Taken.{AreSent}
-use Rattle.version_tables.specs.inner.Weights.{share_or_none, number_shares, weight_between, one_each}
+use Rattle.version_tables.specs.inner.Weights.{share_or_none, number_shares, weight_between, weight_through, one_each}
 use Rattle.version_tables.proofs.Columns.{where_true, where_none}
 use Rattle.version_tables.proofs.DeltaMarks.{marks-sent, all-sent}
-use Rattle.version_tables.proofs.LevelMarks.{breadth-marks, depth-marks, oldest-marks, newest-marks}
-use Rattle.version_tables.proofs.Levels.{candidate-below, candidate-key, candidate-number}
+use Rattle.version_tables.proofs.LevelMarks.{level-marks}
+use Rattle.version_tables.proofs.CandidateNumbers.{candidate-key, candidate-number}
 use Rattle.version_tables.proofs.Offers.{offered-sum}
-
--- what marks let through, by their mode
-abbrev pub weight_by : Mode → (ℕ → ℕ → ℕ) → Cells → ℕ → ℕ → (ℕ → ℕ) → (ℕ → ℕ) → (ℕ → ℕ) → ℕ
-weight_by ScuttleBreadth weights cells nodes keys low high mark = weight_between weights cells nodes keys low mark
-weight_by ScuttleDepth weights cells nodes keys low high mark = weight_between weights cells nodes keys low mark
-weight_by PreciseOldest weights cells nodes keys low high mark = weight_between weights cells nodes keys low mark
-weight_by PreciseNewest weights cells nodes keys low high mark = weight_between weights cells nodes keys mark high
 
 -- what is above both of two marks
 both-above : (low mark high number x : ℕ) → low ≤ mark → number ≤ high → where_true (ltb low number) (where_true (ltb mark number) x) ≡ where_true (ltb mark number) (where_true (leb number high) x)
@@ -63,73 +58,30 @@ count-others p (x ∷ xs) =
     one true = refl
     one false = refl
 
--- what marks let through, as an order
-lets-fails : (mark number : ℕ) → nat_le number mark ≡ false → mark < number
-lets-fails mark number fails = elim (cases_lt mark number) [ inl lt ↦ lt | inr le ↦ absurd (both_ways (nat_le number mark) fails (le-leb number mark le)) ]
-
-lets-holds : (mark number : ℕ) → nat_le number mark ≡ true → number ≤ mark
-lets-holds mark number holds = elim (cases_lt mark number) [ inl lt ↦ absurd (both_ways (nat_le number mark) (lt-leb number mark lt) holds) | inr le ↦ le ]
-
-above-fails : (mark number : ℕ) → nat_lt mark number ≡ false → number ≤ mark
-above-fails mark number fails = elim (cases_lt mark number) [ inl lt ↦ absurd (both_ways (nat_lt mark number) fails (lt-ltb mark number lt)) | inr le ↦ le ]
-
-above-holds : (mark number : ℕ) → nat_lt mark number ≡ true → mark < number
-above-holds mark number holds = elim (cases_lt mark number) [ inl lt ↦ lt | inr le ↦ absurd (both_ways (nat_lt mark number) (le-ltb mark number le) holds) ]
-
 module _ (from to : Table) (proper : IsProper from) (lists : ℕ → List Entry) (histories : (owner : ℕ) → IsHistory (lists owner)) (cells : Cells) (low high : ℕ → ℕ)
     (covered : (owner : ℕ) → owner < from.nodes → HasNoneAbove cells from.keys owner (high owner)) where
   -- sizes by marks are weights
-  sizes-weigh : (mode : Mode) (weights : ℕ → ℕ → ℕ) (mark : ℕ → ℕ) → KeepsLow mode from.nodes low mark
-      → size_through_marks mode from cells low (λ owner key. weights owner (cells owner key)) mark ≡ weight_by mode weights cells from.nodes from.keys low high mark
-  sizes-weigh ScuttleBreadth weights mark above = refl
-  sizes-weigh ScuttleDepth weights mark above = refl
-  sizes-weigh PreciseOldest weights mark above = refl
-  sizes-weigh PreciseNewest weights mark above = sum_below-same from.nodes _ _ (λ owner in_nodes. sum_below-same from.keys _ _ (λ key in_keys.
+  sizes-weigh : (first : First) (weights : ℕ → ℕ → ℕ) (mark : ℕ → ℕ) → KeepsLow first from.nodes low mark
+      → size_through_marks first from cells low (λ owner key. weights owner (cells owner key)) mark ≡ weight_through first weights cells from.nodes from.keys low high mark
+  sizes-weigh Oldest weights mark above = refl
+  sizes-weigh Newest weights mark above = sum_below-same from.nodes _ _ (λ owner in_nodes. sum_below-same from.keys _ _ (λ key in_keys.
       both-above (low owner) (mark owner) (high owner) (cells owner key) (weights owner (cells owner key)) (above owner in_nodes) (covered owner in_nodes key in_keys)))
-
-  -- near and far marks of a mode's level, by a candidate of the level
-  level-marks : (mode : Mode) (offers : Offers mode from to lists cells low) (near far : ℕ → ℕ) → HasShape mode lists cells from.nodes from.keys low near far
-      → (next : Item) → Contains (candidates mode from to) next → lets_through mode (near next.owner) (item_number cells next) ≡ false → lets_through mode (far next.owner) (item_number cells next) ≡ true
-      → AreLevelMarks mode (candidates mode from to) cells next near far
-  level-marks ScuttleBreadth offers near far shape next in_next outside inside =
-      breadth-marks from to proper lists histories cells low near far offers shape.0 shape.1.0 shape.1.1 next in_next (lets-fails (near next.owner) (item_number cells next) outside) (lets-holds (far next.owner) (item_number cells next) inside)
-  level-marks ScuttleDepth offers near far shape next in_next outside inside =
-      depth-marks from to proper lists histories cells low near far offers shape.0 shape.1.0 shape.1.1 next in_next
-      (run-size (count_above cells from.keys next.owner (low next.owner)) shape.0 (shape.1.0 next.owner below) (shape.1.1 next.owner below))
-    where
-      below : next.owner < from.nodes
-      below = candidate-below ScuttleDepth from to proper next in_next
-
-      key_below : next.entry.key < from.keys
-      key_below = candidate-key ScuttleDepth from to proper next in_next
-
-      run-size : (count size : ℕ) → IsRunMark cells from.keys next.owner (low next.owner) (size + 1) (near next.owner) → IsRunMark cells from.keys next.owner (low next.owner) size (far next.owner)
-          → count_above cells from.keys next.owner (low next.owner) ≡ size + 1
-      run-size count size near_is far_is = elim (cases_lt (size + 1) (count_above cells from.keys next.owner (low next.owner))) [
-        | inl longer ↦ absurd (omega (arith, near_is.all longer next.entry.key key_below, lets-fails (near next.owner) (item_number cells next) outside))
-        | inr not_longer ↦ elim (cases_lt size (count_above cells from.keys next.owner (low next.owner))) [
-          | inl enough ↦ omega (arith, not_longer, enough)
-          | inr shorter ↦
-              absurd (omega (arith, far_is.none (omega (arith, shorter)), lets-holds (far next.owner) (item_number cells next) inside, (candidate-number ScuttleDepth from to proper lists histories cells low offers next in_next).0))
-        ]
-      ]
-  level-marks PreciseOldest offers near far shape next in_next outside inside =
-      oldest-marks from to proper lists histories cells low near far offers shape.0 shape.1.0 shape.1.1 next in_next (lets-fails (near next.owner) (item_number cells next) outside) (lets-holds (far next.owner) (item_number cells next) inside)
-  level-marks PreciseNewest offers near far shape next in_next outside inside =
-      newest-marks from to proper lists histories cells low near far offers shape.0 shape.1.0 shape.1.1 next in_next (above-holds (far next.owner) (item_number cells next) inside) (above-fails (near next.owner) (item_number cells next) outside)
 
   module _ (mode : Mode) (offers : Offers mode from to lists cells low) where
     abbrev cs : List Item
     cs = candidates mode from to
 
+    abbrev first : First
+    first = first_sent mode
+
     abbrev pub lets : (ℕ → ℕ) → Item → Bool
-    lets mark c = lets_through mode (mark c.owner) (item_number cells c)
+    lets mark c = lets_through first (mark c.owner) (item_number cells c)
 
     -- how many marks let through
-    counted-by : (mark : ℕ → ℕ) → KeepsLow mode from.nodes low mark → count_by (lets mark) cs ≡ weight_by mode one_each cells from.nodes from.keys low high mark
+    counted-by : (mark : ℕ → ℕ) → KeepsLow first from.nodes low mark → count_by (lets mark) cs ≡ weight_through first one_each cells from.nodes from.keys low high mark
     counted-by mark above =
-        offered-sum mode from to proper lists cells low offers (λ c. cond (lets mark c) 1 0) (λ owner key. cond (lets_through mode (mark owner) (cells owner key)) 1 0) (λ c in_c. refl)
-        ∙ sizes-weigh mode one_each mark above
+        offered-sum mode from to proper lists cells low offers (λ c. cond (lets mark c) 1 0) (λ owner key. cond (lets_through first (mark owner) (cells owner key)) 1 0) (λ c in_c. refl)
+        ∙ sizes-weigh first one_each mark above
 
     all-counted : sum_by (λ c. 1) cs ≡ weight_between one_each cells from.nodes from.keys low high
     all-counted =
@@ -147,18 +99,18 @@ module _ (from to : Table) (proper : IsProper from) (lists : ℕ → List Entry)
     number-is c in_c = candidate-number mode from to proper lists histories cells low offers c in_c
 
     -- the delta that marks let through, as it is taken
-    module _ (rotation : ℕ) (in_nodes : rotation < from.nodes) (budget : Budget) (mark : ℕ → ℕ) (above : KeepsLow mode from.nodes low mark)
+    module _ (rotation : ℕ) (in_nodes : rotation < from.nodes) (budget : Budget) (mark : ℕ → ℕ) (above : KeepsLow first from.nodes low mark)
         (has : HasSet cs (lets mark) (delta_between mode rotation budget from to)) where
       abbrev delta : DeltaView
       delta = delta_between mode rotation budget from to
 
-      pub count-sent : length delta.items ≡ weight_by mode one_each cells from.nodes from.keys low high mark
+      pub count-sent : length delta.items ≡ weight_through first one_each cells from.nodes from.keys low high mark
       count-sent = has.count ∙ counted-by mark above
 
       pub count-cut : length delta.items + delta.cut ≡ weight_between one_each cells from.nodes from.keys low high
       count-cut = omega (arith, has.count, has.cut, count-others (lets mark) cs, all-counted)
 
-      pub are-sent : (sent : ℕ → ℕ → Bool) → ((owner key : ℕ) → owner < from.nodes → key < from.keys → sent owner key ≡ (nat_lt (low owner) (cells owner key) && lets_through mode (mark owner) (cells owner key)))
+      pub are-sent : (sent : ℕ → ℕ → Bool) → ((owner key : ℕ) → owner < from.nodes → key < from.keys → sent owner key ≡ (nat_lt (low owner) (cells owner key) && lets_through first (mark owner) (cells owner key)))
           → AreSent from delta.items sent
       are-sent sent is = record {
         held = λ owner key in_nodes in_keys holds.
@@ -180,7 +132,7 @@ module _ (from to : Table) (proper : IsProper from) (lists : ℕ → List Entry)
           lt-of m n holds = elim (cases_lt m n) [ inl lt ↦ lt | inr fails ↦ absurd (both_ways (nat_lt m n) (le-ltb m n fails) holds) ]
 
           low-of : (owner key : ℕ) → owner < from.nodes → key < from.keys → sent owner key ≡ true → low owner < cells owner key
-          low-of owner key in_nodes in_keys holds = lt-of (low owner) (cells owner key) (both-left (nat_lt (low owner) (cells owner key)) (lets_through mode (mark owner) (cells owner key)) (sym (is owner key in_nodes in_keys) ∙ holds))
+          low-of owner key in_nodes in_keys holds = lt-of (low owner) (cells owner key) (both-left (nat_lt (low owner) (cells owner key)) (lets_through first (mark owner) (cells owner key)) (sym (is owner key in_nodes in_keys) ∙ holds))
 
           into : (owner key : ℕ) (e : Entry) → entry_at from owner key ≡ Some e → sent owner key ≡ true → Contains delta.items (record { owner = owner; entry = e })
           into owner key e held holds =
@@ -189,7 +141,7 @@ module _ (from to : Table) (proper : IsProper from) (lists : ℕ → List Entry)
               let same : found.0 ≡ e = same_Some found.0 e (sym found.1 ∙ held) in
               (has.members (record { owner = owner; entry = e })).1 (
                 subst (λ x. Contains cs (record { owner = owner; entry = x })) same found.2,
-                ap (λ k. lets_through mode (mark owner) (cells owner k)) place.keyed ∙ both-right (nat_lt (low owner) (cells owner key)) (lets_through mode (mark owner) (cells owner key)) (sym (is owner key place.owner_below place.key_below) ∙ holds),
+                ap (λ k. lets_through first (mark owner) (cells owner k)) place.keyed ∙ both-right (nat_lt (low owner) (cells owner key)) (lets_through first (mark owner) (cells owner key)) (sym (is owner key place.owner_below place.key_below) ∙ holds),
               )
 
           out_of : (owner key : ℕ) (e : Entry) → entry_at from owner key ≡ Some e → Contains delta.items (record { owner = owner; entry = e }) → sent owner key ≡ true
@@ -199,7 +151,7 @@ module _ (from to : Table) (proper : IsProper from) (lists : ℕ → List Entry)
               let number = ap (cells owner) place.keyed in
               let lt = (number-is (record { owner = owner; entry = e }) parts.0).0 in
               is owner key place.owner_below place.key_below
-              ∙ (λ i. (lt-ltb (low owner) (cells owner key) (omega (arith, lt, number)) i) && ((sym (ap (λ k. lets_through mode (mark owner) (cells owner k)) place.keyed) ∙ parts.1) i))
+              ∙ (λ i. (lt-ltb (low owner) (cells owner key) (omega (arith, lt, number)) i) && ((sym (ap (λ k. lets_through first (mark owner) (cells owner k)) place.keyed) ∙ parts.1) i))
 
     module _ (rotation : ℕ) (in_nodes : rotation < from.nodes) (budget : Budget) where
       abbrev weights : ℕ → ℕ → ℕ
@@ -209,15 +161,15 @@ module _ (from to : Table) (proper : IsProper from) (lists : ℕ → List Entry)
       sizes_are c in_c = ap (share_or_none budget) (sym (number-is c in_c).1)
 
       -- marks that share out a level up to a number that doesn't fit give the delta
-      module _ (near far mark : ℕ → ℕ) (shape : HasShape mode lists cells from.nodes from.keys low near far) (above : KeepsLow mode from.nodes low mark)
+      module _ (near far mark : ℕ → ℕ) (shape : HasShape mode lists cells from.nodes from.keys low near far) (above : KeepsLow first from.nodes low mark)
           (beyond_near : (r : ℕ) → from.nodes ≤ r → mark r ≡ near r) (beyond_far : (r : ℕ) → from.nodes ≤ r → mark r ≡ far r)
           (owner key : ℕ) (owner_below : owner < from.nodes) (key_below : key < from.keys) (offered : low owner < cells owner key)
-          (outside : lets_through mode (near owner) (cells owner key) ≡ false) (inside : lets_through mode (far owner) (cells owner key) ≡ true)
+          (outside : lets_through first (near owner) (cells owner key) ≡ false) (inside : lets_through first (far owner) (cells owner key) ≡ true)
           (passed : (r : ℕ) → r < from.nodes → rotated from.nodes rotation r < rotated from.nodes rotation owner → mark r ≡ far r)
           (waiting : (r : ℕ) → r < from.nodes → rotated from.nodes rotation owner < rotated from.nodes rotation r → mark r ≡ near r)
-          (own : (k : ℕ) → k < from.keys → low owner < cells owner k → lets_through mode (mark owner) (cells owner k) ≡ comes_first mode (cells owner k) (cells owner key))
-          (within : weight_by mode weights cells from.nodes from.keys low high mark ≤ amount_of budget)
-          (beyond : amount_of budget < weight_by mode weights cells from.nodes from.keys low high mark + weights owner (cells owner key)) where
+          (own : (k : ℕ) → k < from.keys → low owner < cells owner k → lets_through first (mark owner) (cells owner k) ≡ comes_first first (cells owner k) (cells owner key))
+          (within : weight_through first weights cells from.nodes from.keys low high mark ≤ amount_of budget)
+          (beyond : amount_of budget < weight_through first weights cells from.nodes from.keys low high mark + weights owner (cells owner key)) where
         abbrev entry : Entry
         entry = (there owner key owner_below key_below offered).0
 
@@ -230,29 +182,29 @@ module _ (from to : Table) (proper : IsProper from) (lists : ℕ → List Entry)
         keyed : entry.key ≡ key
         keyed = (proper.in_place owner key entry (there owner key owner_below key_below offered).1).keyed
 
-        stops : StopAt mode from.nodes rotation cs cells next near far mark
+        stops : StopAt first from.nodes rotation cs cells next near far mark
         stops = record {
           passed = λ r turn. elim (cases_lt r from.nodes) [ inl below ↦ passed r below turn | inr past ↦ beyond_far r (omega (arith, past)) ];
           waiting = λ r turn. elim (cases_lt r from.nodes) [ inl below ↦ waiting r below turn | inr past ↦ beyond_near r (omega (arith, past)) ];
           own = λ c in_c same.
               let lt : low owner < cells owner c.entry.key = subst (λ o. low o < cells o c.entry.key) same (number-is c in_c).0 in
-              subst (λ o. lets_through mode (mark o) (cells o c.entry.key) ≡ comes_first mode (cells o c.entry.key) (cells owner entry.key)) (sym same)
-              (own c.entry.key (candidate-key mode from to proper c in_c) lt ∙ ap (λ k. comes_first mode (cells owner c.entry.key) (cells owner k)) (sym keyed));
+              subst (λ o. lets_through first (mark o) (cells o c.entry.key) ≡ comes_first first (cells o c.entry.key) (cells owner entry.key)) (sym same)
+              (own c.entry.key (candidate-key mode from to proper c in_c) lt ∙ ap (λ k. comes_first first (cells owner c.entry.key) (cells owner k)) (sym keyed));
         }
 
         pub shared-sent : HasSet cs (lets mark) (delta_between mode rotation budget from to)
         shared-sent =
             marks-sent mode from to proper lists histories cells low offers rotation in_nodes budget (λ o k. weights o (cells o k)) sizes_are next near far mark in_next
-            (level-marks mode offers near far shape next in_next
-            (subst (λ k. lets_through mode (near owner) (cells owner k) ≡ false) (sym keyed) outside)
-            (subst (λ k. lets_through mode (far owner) (cells owner k) ≡ true) (sym keyed) inside))
+            (level-marks mode from to proper lists histories cells low offers next in_next mode near far shape
+            (subst (λ k. lets_through first (near owner) (cells owner k) ≡ false) (sym keyed) outside)
+            (subst (λ k. lets_through first (far owner) (cells owner k) ≡ true) (sym keyed) inside))
             stops
-            (omega (arith, within, sizes-weigh mode weights mark above))
-            (omega (arith, beyond, sizes-weigh mode weights mark above, ap (λ k. weights owner (cells owner k)) keyed))
+            (omega (arith, within, sizes-weigh first weights mark above))
+            (omega (arith, beyond, sizes-weigh first weights mark above, ap (λ k. weights owner (cells owner k)) keyed))
 
       -- and marks that let all through, where it fits
-      pub whole-sent : (mark : ℕ → ℕ) → KeepsLow mode from.nodes low mark → ((c : Item) → Contains cs c → lets mark c ≡ true)
-          → weight_by mode weights cells from.nodes from.keys low high mark ≤ amount_of budget → HasSet cs (lets mark) (delta_between mode rotation budget from to)
+      pub whole-sent : (mark : ℕ → ℕ) → KeepsLow first from.nodes low mark → ((c : Item) → Contains cs c → lets mark c ≡ true)
+          → weight_through first weights cells from.nodes from.keys low high mark ≤ amount_of budget → HasSet cs (lets mark) (delta_between mode rotation budget from to)
       whole-sent mark above all within =
           all-sent mode from to proper lists histories cells low offers rotation in_nodes budget (λ o k. weights o (cells o k)) sizes_are mark all
-          (omega (arith, within, sizes-weigh mode weights mark above))
+          (omega (arith, within, sizes-weigh first weights mark above))

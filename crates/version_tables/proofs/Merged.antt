@@ -9,15 +9,15 @@ use Rattle.std.proofs.lemmas.List.{get_or-set_same, get_or-set_other, length-set
 use Rattle.bench_types.specs.declared.entries.Entry.{Entry}
 use Rattle.bench_types.specs.declared.exchanges.Budget.{Budget}
 use Rattle.bench_types.specs.declared.exchanges.Budget.TheVariants.{Entries, Bytes}
-use Rattle.bench_types.specs.declared.exchanges.DigestKind.TheVariants.{Scuttle, Precise}
+use Rattle.bench_types.specs.declared.exchanges.DigestKind.TheVariants.{Scuttle}
 use Rattle.bench_types.specs.declared.exchanges.Exchange.{Exchange}
-use Rattle.bench_types.specs.declared.exchanges.Fate.TheVariants as fate
+use Rattle.bench_types.specs.declared.exchanges.First.{First}
+use Rattle.bench_types.specs.declared.exchanges.First.TheVariants.{Oldest, Newest}
 use Rattle.bench_types.specs.declared.exchanges.Mode.{Mode}
-use Rattle.bench_types.specs.declared.exchanges.Mode.TheVariants.{ScuttleBreadth, ScuttleDepth, PreciseOldest, PreciseNewest}
 use Rattle.bench_types.specs.declared.exchanges.Record.{Record}
 use Rattle.bench_types.specs.declared.exchanges.Rules.{Rules}
 use Rattle.bench_types.specs.Budget.{amount_of, largest_share}
-use Rattle.bench_types.specs.Mode.{digest_kind}
+use Rattle.bench_types.specs.Mode.{digest_kind, first_sent}
 use Rattle.bench_types.proofs.Sums.{sum_below-le}
 use Rattle.model.specs.Deltas.{DeltaView}
 use Rattle.model.specs.Digests.{digest_size}
@@ -34,7 +34,8 @@ use Rattle.version_tables.specs.Views.{VersionTableView, HistoriesView, table_in
 use Rattle.version_tables.specs.inner.Deltas.{delta_of_views, is_taken_at, AreMarksOf}
 use Rattle.version_tables.specs.inner.Histories.{bases_in, IsWrittenSoFar, FitsHistories}
 use Rattle.version_tables.specs.inner.LevelMarks.{NumbersDiffer}
-use Rattle.version_tables.specs.inner.Marked.{whole_marks, low_list, high_list, AreMarked}
+use Rattle.version_tables.specs.inner.Firsts.{by_first}
+use Rattle.version_tables.specs.inner.Marked.{AreMarked}
 use Rattle.version_tables.specs.inner.Merged.{HasMerged, IsMerged, MayMerge, MayTakeAll, StaysMerged}
 use Rattle.version_tables.specs.inner.OfferInMemory.{cells_in, low_in, high_in, weights_in, weight_in, count_in, IsOffer}
 use Rattle.version_tables.specs.inner.Offers.{offered_by, told_by, told_number}
@@ -45,23 +46,19 @@ use Rattle.version_tables.proofs.Columns.{sum_below-none}
 use Rattle.version_tables.proofs.Delivered.{offer-is, delta-marks}
 use Rattle.version_tables.proofs.ExchangedViews.{all_sent_case}
 use Rattle.version_tables.proofs.Fitting.{fits-below}
-use Rattle.version_tables.proofs.MarkedLaws.{whole-marked}
+use Rattle.version_tables.proofs.MarkedLaws.{whole-size, whole-marked}
 use Rattle.version_tables.proofs.RoundMarks.{count-newest}
 use Rattle.version_tables.proofs.TakenViews.{becomes_applied, becomes_one}
 use Rattle.version_tables.proofs.WeightLaws.{part, part-cases, weight_of-none, weight_of-split, weight_between-most, count_between-most}
 
--- the modes of a scuttle digest have one kind of marks
-scuttle-or : (mode : Mode) → digest_kind mode ≡ Scuttle → (P : Mode → Type 0) → P ScuttleBreadth → P ScuttleDepth → P mode
-scuttle-or ScuttleBreadth is P breadth depth = breadth
-scuttle-or ScuttleDepth is P breadth depth = depth
-scuttle-or PreciseOldest is P breadth depth = absurd (no is)
-  where
-    no : Precise ≡ Scuttle → ⊥
-    no h = cc
-scuttle-or PreciseNewest is P breadth depth = absurd (no is)
-  where
-    no : Precise ≡ Scuttle → ⊥
-    no h = cc
+-- marks that let all through are the high ones, or from the newest on the low ones, beside which are the others
+low-whole : (first : First) (low high : List ℕ) → by_first first low (by_first first high low) ≡ low
+low-whole Oldest low high = refl
+low-whole Newest low high = refl
+
+high-whole : (first : First) (low high : List ℕ) → by_first first (by_first first high low) high ≡ high
+high-whole Oldest low high = refl
+high-whole Newest low high = refl
 
 -- of numbers that differ no more are between two marks than these are apart
 module _ (cells : Cells) (owner : ℕ) where
@@ -261,19 +258,21 @@ module _ (written : ℕ → List Entry) (rules : Rules) (rotation most : ℕ) (h
           ∙ (λ i. nat_lt (sym (low-at r) i) (cell (sym (map-id from.cells) i) from.nodes r k))
 
   module _ (sent : ℕ) (sent-is : sent ≡ total_above from.nodes from.keys from.cells to.greatest) where
-    whole-high : map id from.greatest ≡ whole_marks mode id offer
-    whole-high = scuttle-or mode scuttle (λ m. map id from.greatest ≡ whole_marks m id offer) refl refl
+    abbrev first : First
+    first = first_sent mode
+
+    abbrev whole : List ℕ
+    whole = by_first first (map id from.greatest) (map id told)
 
     marks-told : AreMarksOf rules rotation written from to told from.greatest sent 0
     marks-told =
-        subst (λ xs. AreMarksOf rules rotation written from to xs from.greatest sent 0) (map-id told)
-        (scuttle-or mode scuttle (λ m. AreMarksOf rules rotation written from to (low_list m (map id told) from.greatest) (high_list m from.greatest (map id from.greatest)) sent 0 → AreMarksOf rules rotation written from to (map id told) from.greatest sent 0)
-        (λ are. are) (λ are. are)
+        subst (λ xs. AreMarksOf rules rotation written from to xs from.greatest sent 0) (low-whole first (map id told) (map id from.greatest) ∙ map-id told)
+        (subst (λ xs. AreMarksOf rules rotation written from to (by_first first (map id told) whole) xs sent 0) (high-whole first (map id told) (map id from.greatest) ∙ map-id from.greatest)
         (delta-marks id most written from to from_kept to_kept h so_far from_fits to_fits nodes keys mode offer refl refl refl (map-id from.greatest) low-is from_kept.cell_count cells-are
-        rules.budget refl rotation in_nodes from.greatest sent 0
-        (subst (λ xs. AreMarked mode rotation id offer (λ r. get_or xs r 0) sent 0) (map-id from.greatest)
-        (whole-marked id most offer is-offer rotation sent (sent-is ∙ same-total) within mode from.greatest whole-high))
-        from_kept.greatest_count))
+        rules.budget refl rotation in_nodes whole sent 0
+        (subst (λ xs. AreMarked mode rotation id offer (λ r. get_or xs r 0) sent 0) (map-id whole)
+        (whole-marked id most offer is-offer rotation sent (sent-is ∙ same-total) within mode whole (map-id whole)))
+        (whole-size id most offer is-offer first whole (map-id whole))))
 
     -- the receiver's own greatest numbers are such marks too
     same-sent : (owner key : ℕ) → owner < from.nodes → key < from.keys → is_taken_at from to to.greatest from.greatest owner key ≡ is_taken_at from to told from.greatest owner key

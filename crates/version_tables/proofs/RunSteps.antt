@@ -13,8 +13,8 @@ use Rattle.version_tables.specs.inner.OfferInMemory.{cells_in, low_in, high_in, 
 use Rattle.bench_types.specs.declared.limits.TheConstants.{MOST_KEYS}
 use Rattle.version_tables.specs.declared.weights.Level.{Level}
 use Rattle.version_tables.specs.declared.weights.Step.{Step}
-use Rattle.version_tables.specs.inner.Plans.{IsMarkFrom, AreMarksFrom, AreNextRuns, AreRuns, AreRunsSoFar}
-use Rattle.version_tables.specs.inner.LevelMarks.{IsRunMark}
+use Rattle.version_tables.specs.inner.Plans.{IsMarkFrom, AreMarksFrom, AreNextRuns, AreRunsSoFar}
+use Rattle.version_tables.specs.inner.LevelMarks.{IsRunMark, AreRuns}
 use Rattle.version_tables.specs.inner.Weights.{weight_of}
 use Rattle.version_tables.proofs.Columns.{where_true, sum_below-none}
 use Rattle.version_tables.proofs.OfferWeights.{offer-weighs_none, offer-counts_none}
@@ -165,14 +165,14 @@ module _ {N : Type 0} (number : N → ℕ) (most : ℕ) (offer : Offer N) (is : 
   run-marks size mark from owner lt = run-mark cells offer.keys owner (low owner) (high_in number offer owner) (is.covered owner lt) size (mark owner) (from owner lt)
 
   -- the level at which they end
-  pub runs-of_level : (level : Level N) (size count added : ℕ) → AreRunsSoFar number offer (marks number level.near.items) (marks number level.far.items) size count added → 0 < size → AreRuns number offer level
+  pub runs-of_level : (level : Level N) (size count added : ℕ) → AreRunsSoFar number offer (marks number level.near.items) (marks number level.far.items) size count added → 0 < size → AreRuns cells offer.nodes offer.keys low (marks number level.near.items) (marks number level.far.items)
   runs-of_level level size count added so_far some = record {
     size = size - 1;
-    near = run-marks (size - 1 + 1) (marks number level.near.items) (subst (λ n. AreMarksFrom number offer n (marks number level.near.items)) {x = size + 1} {y = size - 1 + 1 + 1} (omega (arith, some)) so_far.longer);
-    far = run-marks (size - 1) (marks number level.far.items) (subst (λ n. AreMarksFrom number offer n (marks number level.far.items)) {x = size} {y = size - 1 + 1} (omega (arith, some)) so_far.next);
+    near_is = run-marks (size - 1 + 1) (marks number level.near.items) (subst (λ n. AreMarksFrom number offer n (marks number level.near.items)) {x = size + 1} {y = size - 1 + 1 + 1} (omega (arith, some)) so_far.longer);
+    far_is = run-marks (size - 1) (marks number level.far.items) (subst (λ n. AreMarksFrom number offer n (marks number level.far.items)) {x = size} {y = size - 1 + 1} (omega (arith, some)) so_far.next);
   }
 
-  pub runs-farther : (near far : ℕ → ℕ) (size count added : ℕ) → AreRunsSoFar number offer near far size count added → 0 < size → (owner : ℕ) → owner < offer.nodes → (low owner ≤ near owner) × (near owner ≤ far owner)
+  pub runs-farther : (near far : ℕ → ℕ) (size count added : ℕ) → AreRunsSoFar number offer near far size count added → 0 < size → (owner : ℕ) → owner < offer.nodes → (low owner ≤ near owner) × (low owner ≤ far owner) × (near owner ≤ far owner)
   runs-farther near far size count added so_far some owner lt = elim (cases_lt (owner_count_in number offer owner) size) [
     | inl shorter ↦ omega (arith, (so_far.longer owner lt).none (omega (arith, shorter)), (so_far.next owner lt).none shorter)
     | inr no_shorter ↦ elim (cases_lt size (owner_count_in number offer owner)) [

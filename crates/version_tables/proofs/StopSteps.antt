@@ -1,12 +1,15 @@
 -- An owner's numbers gone over one after another.
 -- Serves `Offer::next_down`, `Offer::next_up` and `Offer::stop_from`.
-use Rattle.std.proofs.Common.{◌≡◌, ◌≢◌, ℕ, zero, suc, ◌+◌, ◌-◌, ◌<◌, ◌≤◌, ◌⊎◌, Bool, true, false, not, min, max, inl, inr, refl, sym, ap, ◌∙◌, subst, arith}
+use Rattle.std.proofs.Common.{◌≡◌, ◌≢◌, ℕ, zero, suc, ◌+◌, ◌-◌, ◌<◌, ◌≤◌, ◌⊎◌, min, max, inl, inr, refl, sym, ap, ◌∙◌, subst, arith}
 use Rattle.std.proofs.lemmas.Bool.{cases_lt}
+use Rattle.bench_types.specs.declared.exchanges.First.{First}
+use Rattle.bench_types.specs.declared.exchanges.First.TheVariants.{Oldest, Newest}
 use Rattle.planes.specs.Planes.{Cells}
 use Rattle.bench_types.specs.Sums.{sum_below}
+use Rattle.version_tables.specs.inner.Firsts.{by_first}
 use Rattle.version_tables.specs.inner.LevelMarks.{NumbersDiffer}
-use Rattle.version_tables.specs.inner.Stops.{weight_from, HasBetween, HasNext, IsNext, IsNextUp, IsNextDown, IsOn, IsPast, IsStopFrom}
-use Rattle.version_tables.specs.inner.Weights.{weight_of}
+use Rattle.version_tables.specs.inner.Stops.{HasBetween, HasNext, IsNext, IsNextUp, IsNextDown, IsOn, IsPast, IsStopFrom}
+use Rattle.version_tables.specs.inner.Weights.{weight_of, weight_from}
 use Rattle.version_tables.proofs.WeightLaws.{part, part-in, part-low, part-high, part-cases, weight_of-none, weight_of-split, count_between-most}
 
 -- a single number of an owner lies between two marks
@@ -90,82 +93,79 @@ module _ (weight : ℕ → ℕ) (cells : Cells) (keys owner : ℕ) (differ : Num
       )
 
   -- a mark past the next number lets through that one more, from the newest on too
-  pub past-next : (newest : Bool) (near mark far next past : ℕ) → IsOn newest near mark → IsNext newest cells keys owner mark far next → IsPast newest next past
-      → weight_from newest weight cells keys owner near past ≡ weight_from newest weight cells keys owner near mark + weight next
-  past-next false near mark far next past on is same = ap (weight_of weight cells keys owner near) same ∙ up-next near mark far next on is
-  past-next true near mark far next past on is under = down-next far mark near next past on is under
+  pub past-next : (first : First) (near mark far next past : ℕ) → IsOn first near mark → IsNext first cells keys owner mark far next → IsPast first next past
+      → weight_from first weight cells keys owner near past ≡ weight_from first weight cells keys owner near mark + weight next
+  past-next Oldest near mark far next past on is same = ap (weight_of weight cells keys owner near) same ∙ up-next near mark far next on is
+  past-next Newest near mark far next past on is under = down-next far mark near next past on is under
 
-  pub past-rest : (newest : Bool) (mark far next past : ℕ) → IsNext newest cells keys owner mark far next → IsPast newest next past
-      → weight_from newest weight cells keys owner mark far ≡ weight next + weight_from newest weight cells keys owner past far
-  past-rest false mark far next past is same = up-rest mark far next is ∙ ap (λ m. weight next + weight_of weight cells keys owner m far) (sym same)
-  past-rest true mark far next past is under = down-rest far mark next past is under
+  pub past-rest : (first : First) (mark far next past : ℕ) → IsNext first cells keys owner mark far next → IsPast first next past
+      → weight_from first weight cells keys owner mark far ≡ weight next + weight_from first weight cells keys owner past far
+  past-rest Oldest mark far next past is same = up-rest mark far next is ∙ ap (λ m. weight next + weight_of weight cells keys owner m far) (sym same)
+  past-rest Newest mark far next past is under = down-rest far mark next past is under
 
 -- from the oldest or the newest on
 module _ (cells : Cells) (keys owner : ℕ) where
-  pub some-next : (newest : Bool) (weight : ℕ → ℕ) (near far : ℕ) → 0 < weight_from newest weight cells keys owner near far → HasNext newest cells keys owner near far
-  some-next false weight near far some = has-between weight cells keys owner near far some
-  some-next true weight near far some = has-between weight cells keys owner far near some
+  pub some-next : (first : First) (weight : ℕ → ℕ) (near far : ℕ) → 0 < weight_from first weight cells keys owner near far → HasNext first cells keys owner near far
+  some-next first weight near far some = has-between weight cells keys owner (by_first first near far) (by_first first far near) some
 
-  pub none-from : (newest : Bool) (weight : ℕ → ℕ) (near : ℕ) → weight_from newest weight cells keys owner near near ≡ 0
-  none-from false weight near = weight_of-none weight cells keys owner near near (omega arith)
-  none-from true weight near = weight_of-none weight cells keys owner near near (omega arith)
+  pub none-from : (first : First) (weight : ℕ → ℕ) (near : ℕ) → weight_from first weight cells keys owner near near ≡ 0
+  none-from first weight near = weight_of-none weight cells keys owner (by_first first near near) (by_first first near near) (omega arith)
 
-  pub few-from : (newest : Bool) (near far : ℕ) → weight_from newest (λ _. 1) cells keys owner near far ≤ keys
-  few-from false near far = count_between-most cells keys owner near far
-  few-from true near far = count_between-most cells keys owner far near
+  pub few-from : (first : First) (near far : ℕ) → weight_from first (λ _. 1) cells keys owner near far ≤ keys
+  few-from first near far = count_between-most cells keys owner (by_first first near far) (by_first first far near)
 
-  pub next-held : (newest : Bool) (near far next : ℕ) → IsNext newest cells keys owner near far next → (key : ℕ) × (key < keys) × (cells owner key ≡ next) × (0 < next)
-  next-held false near far next is = (is.key, is.in_keys, is.is, omega (arith, is.above))
-  next-held true near far next is = (is.key, is.in_keys, is.is, omega (arith, is.above))
+  pub next-held : (first : First) (near far next : ℕ) → IsNext first cells keys owner near far next → (key : ℕ) × (key < keys) × (cells owner key ≡ next) × (0 < next)
+  next-held Oldest near far next is = (is.key, is.in_keys, is.is, omega (arith, is.above))
+  next-held Newest near far next is = (is.key, is.in_keys, is.is, omega (arith, is.above))
 
-  pub past-on : (newest : Bool) (near mark far next past : ℕ) → IsOn newest near mark → IsNext newest cells keys owner mark far next → IsPast newest next past → IsOn newest near past
-  past-on false near mark far next past on is same = omega (arith, on, is.above, same)
-  past-on true near mark far next past on is under = omega (arith, on, is.upto, under)
+  pub past-on : (first : First) (near mark far next past : ℕ) → IsOn first near mark → IsNext first cells keys owner mark far next → IsPast first next past → IsOn first near past
+  past-on Oldest near mark far next past on is same = omega (arith, on, is.above, same)
+  past-on Newest near mark far next past on is under = omega (arith, on, is.upto, under)
 
-pub on-start : (newest : Bool) (near : ℕ) → IsOn newest near near
-on-start false near = omega arith
-on-start true near = omega arith
+pub on-start : (first : First) (near : ℕ) → IsOn first near near
+on-start Oldest near = omega arith
+on-start Newest near = omega arith
 
 -- where an owner's part stops, as far as its numbers were gone over: those up to the mark fit, and the next one is known
-pub record IsStopSoFar (newest : Bool) (weight : ℕ → ℕ) (cells : Cells) (keys owner near far room mark number taken left sent : ℕ) : Type 0 where
-  pub next : IsNext newest cells keys owner mark far number
-  pub on : IsOn newest near mark
+pub record IsStopSoFar (first : First) (weight : ℕ → ℕ) (cells : Cells) (keys owner near far room mark number taken left sent : ℕ) : Type 0 where
+  pub next : IsNext first cells keys owner mark far number
+  pub on : IsOn first near mark
   pub takes : taken ≡ weight number
-  pub rest : room ≡ left + weight_from newest weight cells keys owner near mark
-  pub beyond : left < weight_from newest weight cells keys owner mark far
-  pub count : sent ≡ weight_from newest (λ _. 1) cells keys owner near mark
+  pub rest : room ≡ left + weight_from first weight cells keys owner near mark
+  pub beyond : left < weight_from first weight cells keys owner mark far
+  pub count : sent ≡ weight_from first (λ _. 1) cells keys owner near mark
 
-module _ (newest : Bool) (weight : ℕ → ℕ) (cells : Cells) (keys owner near far room : ℕ) where
-  pub stop-first : (number taken : ℕ) → IsNext newest cells keys owner near far number → taken ≡ weight number → room < weight_from newest weight cells keys owner near far
-      → IsStopSoFar newest weight cells keys owner near far room near number taken room 0
+module _ (first : First) (weight : ℕ → ℕ) (cells : Cells) (keys owner near far room : ℕ) where
+  pub stop-first : (number taken : ℕ) → IsNext first cells keys owner near far number → taken ≡ weight number → room < weight_from first weight cells keys owner near far
+      → IsStopSoFar first weight cells keys owner near far room near number taken room 0
   stop-first number taken next takes beyond = record {
     next = next;
-    on = on-start newest near;
+    on = on-start first near;
     takes = takes;
-    rest = omega (arith, none-from cells keys owner newest weight near);
+    rest = omega (arith, none-from cells keys owner first weight near);
     beyond = beyond;
-    count = sym (none-from cells keys owner newest (λ _. 1) near);
+    count = sym (none-from cells keys owner first (λ _. 1) near);
   }
 
-  module _ (mark number taken left sent : ℕ) (so_far : IsStopSoFar newest weight cells keys owner near far room mark number taken left sent) where
-    module _ (differ : NumbersDiffer cells keys owner) (past : ℕ) (is : IsPast newest number past) (fits : taken ≤ left) where
-      past_beyond : left - taken < weight_from newest weight cells keys owner past far
-      past_beyond = omega (arith, past-rest weight cells keys owner differ newest mark far number past so_far.next is, so_far.beyond, so_far.takes, fits)
+  module _ (mark number taken left sent : ℕ) (so_far : IsStopSoFar first weight cells keys owner near far room mark number taken left sent) where
+    module _ (differ : NumbersDiffer cells keys owner) (past : ℕ) (is : IsPast first number past) (fits : taken ≤ left) where
+      past_beyond : left - taken < weight_from first weight cells keys owner past far
+      past_beyond = omega (arith, past-rest weight cells keys owner differ first mark far number past so_far.next is, so_far.beyond, so_far.takes, fits)
 
-      pub stop-more : HasNext newest cells keys owner past far
-      stop-more = some-next cells keys owner newest weight past far (omega (arith, past_beyond))
+      pub stop-more : HasNext first cells keys owner past far
+      stop-more = some-next cells keys owner first weight past far (omega (arith, past_beyond))
 
-      pub stop-next : (other takes : ℕ) → IsNext newest cells keys owner past far other → takes ≡ weight other → IsStopSoFar newest weight cells keys owner near far room past other takes (left - taken) (sent + 1)
+      pub stop-next : (other takes : ℕ) → IsNext first cells keys owner past far other → takes ≡ weight other → IsStopSoFar first weight cells keys owner near far room past other takes (left - taken) (sent + 1)
       stop-next other takes next weighs = record {
         next = next;
-        on = past-on cells keys owner newest near mark far number past so_far.on so_far.next is;
+        on = past-on cells keys owner first near mark far number past so_far.on so_far.next is;
         takes = weighs;
-        rest = omega (arith, so_far.rest, past-next weight cells keys owner differ newest near mark far number past so_far.on so_far.next is, so_far.takes, fits);
+        rest = omega (arith, so_far.rest, past-next weight cells keys owner differ first near mark far number past so_far.on so_far.next is, so_far.takes, fits);
         beyond = past_beyond;
-        count = ap (λ n. n + 1) so_far.count ∙ sym (past-next (λ _. 1) cells keys owner differ newest near mark far number past so_far.on so_far.next is);
+        count = ap (λ n. n + 1) so_far.count ∙ sym (past-next (λ _. 1) cells keys owner differ first near mark far number past so_far.on so_far.next is);
       }
 
-    pub stop-found : left < taken → IsStopFrom newest weight cells keys owner near far room mark sent
+    pub stop-found : left < taken → IsStopFrom first weight cells keys owner near far room mark sent
     stop-found over = record {
       number = number;
       next = so_far.next;
@@ -176,83 +176,79 @@ module _ (newest : Bool) (weight : ℕ → ℕ) (cells : Cells) (keys owner near
     }
 
 -- a number is beyond a near mark, which it is in one of the two directions
-abbrev pub IsBeyond : Bool → ℕ → ℕ → Type 0
-IsBeyond false near number = near < number
-IsBeyond true near number = number ≤ near
-
-one-beyond : (newest : Bool) (near number : ℕ) → IsBeyond newest near number → IsBeyond (not newest) near number → ⊥
-one-beyond false near number over under = omega (arith, over, under)
-one-beyond true near number under over = omega (arith, over, under)
+abbrev pub IsBeyond : First → ℕ → ℕ → Type 0
+IsBeyond Oldest near number = near < number
+IsBeyond Newest near number = number ≤ near
 
 -- the nearer of two numbers
-abbrev pub nearer_of : Bool → ℕ → ℕ → ℕ
-nearer_of false m n = min m n
-nearer_of true m n = max m n
+abbrev pub nearer_of : First → ℕ → ℕ → ℕ
+nearer_of Oldest m n = min m n
+nearer_of Newest m n = max m n
 
-on-through : (newest : Bool) (a b c : ℕ) → IsOn newest a b → IsOn newest b c → IsOn newest a c
-on-through false a b c ab bc = omega (arith, ab, bc)
-on-through true a b c ab bc = omega (arith, ab, bc)
+on-through : (first : First) (a b c : ℕ) → IsOn first a b → IsOn first b c → IsOn first a c
+on-through Oldest a b c ab bc = omega (arith, ab, bc)
+on-through Newest a b c ab bc = omega (arith, ab, bc)
 
-nearer-on : (newest : Bool) (m n nearer : ℕ) → nearer ≡ nearer_of newest m n → IsOn newest nearer m × IsOn newest nearer n
-nearer-on false m n nearer is = (omega (arith, is), omega (arith, is))
-nearer-on true m n nearer is = (omega (arith, is), omega (arith, is))
+nearer-on : (first : First) (m n nearer : ℕ) → nearer ≡ nearer_of first m n → IsOn first nearer m × IsOn first nearer n
+nearer-on Oldest m n nearer is = (omega (arith, is), omega (arith, is))
+nearer-on Newest m n nearer is = (omega (arith, is), omega (arith, is))
 
-nearer-one : (newest : Bool) (m n nearer : ℕ) → nearer ≡ nearer_of newest m n → (nearer ≡ m) ⊎ (nearer ≡ n)
-nearer-one false m n nearer is = elim (cases_lt n m) [ inl lower ↦ inr (omega (arith, is, lower)) | inr no_lower ↦ inl (omega (arith, is, no_lower)) ]
-nearer-one true m n nearer is = elim (cases_lt m n) [ inl higher ↦ inr (omega (arith, is, higher)) | inr no_higher ↦ inl (omega (arith, is, no_higher)) ]
+nearer-one : (first : First) (m n nearer : ℕ) → nearer ≡ nearer_of first m n → (nearer ≡ m) ⊎ (nearer ≡ n)
+nearer-one Oldest m n nearer is = elim (cases_lt n m) [ inl lower ↦ inr (omega (arith, is, lower)) | inr no_lower ↦ inl (omega (arith, is, no_lower)) ]
+nearer-one Newest m n nearer is = elim (cases_lt m n) [ inl higher ↦ inr (omega (arith, is, higher)) | inr no_higher ↦ inl (omega (arith, is, no_higher)) ]
 
 -- the nearest of the numbers gone over, or the far mark where none is beyond the near one
-pub record IsNextSoFar (newest : Bool) (cells : Cells) (keys owner near far next : ℕ) : Type 0 where
-  pub to_far : IsOn newest next far
-  pub nearest : (k : ℕ) → k < keys → IsBeyond newest near (cells owner k) → IsOn newest next (cells owner k)
-  pub held : (next ≡ far) ⊎ ((k : ℕ) × (k < keys) × (cells owner k ≡ next) × IsBeyond newest near next)
+pub record IsNextSoFar (first : First) (cells : Cells) (keys owner near far next : ℕ) : Type 0 where
+  pub to_far : IsOn first next far
+  pub nearest : (k : ℕ) → k < keys → IsBeyond first near (cells owner k) → IsOn first next (cells owner k)
+  pub held : (next ≡ far) ⊎ ((k : ℕ) × (k < keys) × (cells owner k ≡ next) × IsBeyond first near next)
 
-pub next-first : (newest : Bool) (cells : Cells) (owner near far : ℕ) → IsNextSoFar newest cells 0 owner near far far
-next-first newest cells owner near far = record { to_far = on-start newest far; nearest = λ k lt _. absurd (omega (arith, lt)); held = inl refl }
+pub next-first : (first : First) (cells : Cells) (owner near far : ℕ) → IsNextSoFar first cells 0 owner near far far
+next-first first cells owner near far = record { to_far = on-start first far; nearest = λ k lt _. absurd (omega (arith, lt)); held = inl refl }
 
-module _ (newest : Bool) (cells : Cells) (key owner near far next nearer : ℕ) (so_far : IsNextSoFar newest cells key owner near far next) where
+module _ (first : First) (cells : Cells) (key owner near far next nearer : ℕ) (so_far : IsNextSoFar first cells key owner near far next) where
   abbrev IsHeld : ℕ → Type 0
-  IsHeld n = (n ≡ far) ⊎ ((k : ℕ) × (k < key + 1) × (cells owner k ≡ n) × IsBeyond newest near n)
+  IsHeld n = (n ≡ far) ⊎ ((k : ℕ) × (k < key + 1) × (cells owner k ≡ n) × IsBeyond first near n)
 
   still_held : IsHeld next
   still_held = elim so_far.held [ inl none ↦ inl none | inr some ↦ inr (some.0, omega (arith, some.1), some.2, some.3) ]
 
-  pub next-here : IsBeyond newest near (cells owner key) → nearer ≡ nearer_of newest next (cells owner key) → IsNextSoFar newest cells (key + 1) owner near far nearer
+  pub next-here : IsBeyond first near (cells owner key) → nearer ≡ nearer_of first next (cells owner key) → IsNextSoFar first cells (key + 1) owner near far nearer
   next-here beyond is =
-      let on = nearer-on newest next (cells owner key) nearer is in
+      let on = nearer-on first next (cells owner key) nearer is in
       record {
-        to_far = on-through newest nearer next far on.0 so_far.to_far;
+        to_far = on-through first nearer next far on.0 so_far.to_far;
         nearest = λ k lt over. elim (cases_lt k key) [
-          | inl before ↦ on-through newest nearer next (cells owner k) on.0 (so_far.nearest k before over)
-          | inr here ↦ subst (λ j. IsOn newest nearer (cells owner j)) {x = key} {y = k} (omega (arith, lt, here)) on.1
+          | inl before ↦ on-through first nearer next (cells owner k) on.0 (so_far.nearest k before over)
+          | inr here ↦ subst (λ j. IsOn first nearer (cells owner j)) {x = key} {y = k} (omega (arith, lt, here)) on.1
         ];
-        held = elim (nearer-one newest next (cells owner key) nearer is) [
-          | inr here ↦ inr (key, omega arith, sym here, subst (IsBeyond newest near) (sym here) beyond)
+        held = elim (nearer-one first next (cells owner key) nearer is) [
+          | inr here ↦ inr (key, omega arith, sym here, subst (IsBeyond first near) (sym here) beyond)
           | inl stays ↦ subst IsHeld (sym stays) still_held
         ];
       }
 
-  pub next-past : IsBeyond (not newest) near (cells owner key) → nearer ≡ next → IsNextSoFar newest cells (key + 1) owner near far nearer
-  next-past short same = subst (IsNextSoFar newest cells (key + 1) owner near far) (sym same) (record {
+  pub next-past : (IsBeyond first near (cells owner key) → ⊥) → nearer ≡ next → IsNextSoFar first cells (key + 1) owner near far nearer
+  next-past short same = subst (IsNextSoFar first cells (key + 1) owner near far) (sym same) (record {
     to_far = so_far.to_far;
     nearest = λ k lt over. elim (cases_lt k key) [
       | inl before ↦ so_far.nearest k before over
-      | inr here ↦ absurd (one-beyond newest near (cells owner key) (subst (λ j. IsBeyond newest near (cells owner j)) {x = k} {y = key} (omega (arith, lt, here)) over) short)
+      | inr here ↦ absurd (short (subst (λ j. IsBeyond first near (cells owner j)) {x = k} {y = key} (omega (arith, lt, here)) over))
     ];
     held = still_held;
   })
 
-pub next-found : (newest : Bool) (cells : Cells) (key keys owner near far next : ℕ) → key ≡ keys → IsNextSoFar newest cells key owner near far next → HasNext newest cells keys owner near far → IsNext newest cells keys owner near far next
-next-found newest cells key keys owner near far next all so_far has = found newest (subst (λ n. IsNextSoFar newest cells n owner near far next) all so_far) has
+pub next-found : (first : First) (cells : Cells) (key keys owner near far next : ℕ) → key ≡ keys → IsNextSoFar first cells key owner near far next → HasNext first cells keys owner near far → IsNext first cells keys owner near far next
+next-found first cells key keys owner near far next all so_far has = found first (subst (λ n. IsNextSoFar first cells n owner near far next) all so_far) has
   where
-    found : (newest : Bool) → IsNextSoFar newest cells keys owner near far next → HasNext newest cells keys owner near far → IsNext newest cells keys owner near far next
-    found false so_far has = elim so_far.held [
+    found : (first : First) → IsNextSoFar first cells keys owner near far next → HasNext first cells keys owner near far → IsNext first cells keys owner near far next
+    found Oldest so_far has = elim so_far.held [
       | inr some ↦ record { key = some.0; in_keys = some.1; is = some.2; above = some.3; upto = so_far.to_far; no_less = so_far.nearest }
       | inl all ↦
           let same : cells owner has.key ≡ next = omega (arith, all, has.upto, so_far.nearest has.key has.in_keys has.above) in
           record { key = has.key; in_keys = has.in_keys; is = same; above = omega (arith, same, has.above); upto = so_far.to_far; no_less = so_far.nearest }
     ]
-    found true so_far has = elim so_far.held [
+    found Newest so_far has = elim so_far.held [
       | inr some ↦ record { key = some.0; in_keys = some.1; is = some.2; above = omega (arith, has.above, so_far.nearest has.key has.in_keys has.upto); upto = some.3; no_more = so_far.nearest }
       | inl all ↦ absurd (omega (arith, all, has.above, so_far.nearest has.key has.in_keys has.upto))
     ]

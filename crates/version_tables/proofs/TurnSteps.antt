@@ -1,12 +1,12 @@
 -- The owners' turns in a level.
--- Serves `Offer::pass_turns`, `Offer::share_into`, `Offer::stop` and `Offer::weight_of_part`.
-use Rattle.std.proofs.Common.{◌≡◌, ◌≢◌, ℕ, zero, suc, ◌+◌, ◌-◌, ◌*◌, ◌<◌, ◌≤◌, true, false, ltb, leb, List, length, get_or, set, map, inl, inr, refl, sym, ap, ◌∙◌, subst, arith}
+-- Serves `Offer::pass_turns`, `Offer::share_into`, `Offer::weight_of_part` and `RoundMarks`.
+use Rattle.std.proofs.Common.{◌≡◌, ◌≢◌, ℕ, zero, suc, ◌+◌, ◌-◌, ◌*◌, ◌<◌, ◌≤◌, true, false, List, length, get_or, set, map, inl, inr, refl, sym, ap, ◌∙◌, subst, arith}
 use Rattle.std.proofs.lemmas.List.{get_or-set_same, get_or-set_other, length-map, map-set}
 use Rattle.bench_types.specs.declared.exchanges.Budget.TheVariants.{Entries}
 use Rattle.bench_types.specs.declared.limits.TheConstants.{MOST_NODES, MOST_KEYS, MOST_ENTRY_SIZE}
 use Rattle.std.proofs.lemmas.Bool.{cases_lt, cases_eq, lt-ltb, le-ltb, le-leb, lt-leb, leb-false, ltb-true}
-use Rattle.bench_types.specs.declared.exchanges.Mode.{Mode}
-use Rattle.bench_types.specs.declared.exchanges.Mode.TheVariants.{ScuttleBreadth, ScuttleDepth, PreciseOldest, PreciseNewest}
+use Rattle.bench_types.specs.declared.exchanges.First.{First}
+use Rattle.bench_types.specs.declared.exchanges.First.TheVariants.{Oldest, Newest}
 use Rattle.bench_types.specs.Budget.{amount_of}
 use Rattle.model.specs.OwnerListView.{all_writes}
 use Rattle.planes.specs.Planes.{Cells, HasNoneAbove}
@@ -15,13 +15,14 @@ use Rattle.bench_types.proofs.Sums.{sum_below-same, sum_below-plus}
 use Rattle.model.specs.Order.{rotated}
 use Rattle.model.proofs.Apart.{rotated-injective, rotated-is}
 use Rattle.version_tables.specs.declared.weights.Offer.{Offer}
+use Rattle.version_tables.specs.inner.Firsts.{by_first}
 use Rattle.version_tables.specs.inner.OfferInMemory.{cells_in, low_in, high_in, marks, weights_in, IsOffer}
 use Rattle.version_tables.specs.inner.Plans.{weight_on, count_on, AreFarther}
 use Rattle.version_tables.specs.inner.LevelMarks.{lets_through}
 use Rattle.version_tables.specs.inner.Sharing.{AreShared}
-use Rattle.version_tables.specs.inner.Stops.{IsStopFrom}
-use Rattle.version_tables.specs.inner.Turns.{part_between, AreTurnsPassed, IsStop}
-use Rattle.version_tables.specs.inner.Weights.{weight_of, weight_between, one_each}
+use Rattle.version_tables.specs.inner.Stops.{IsOn, IsStopFrom}
+use Rattle.version_tables.specs.inner.Turns.{AreTurnsPassed, IsStop}
+use Rattle.version_tables.specs.inner.Weights.{weight_of, weight_from, weight_through, one_each}
 use Rattle.version_tables.proofs.WeightLaws.{part, part-in, part-low, part-high, weight_of-split, weight_of-same, weight_of-most, number_share-one, count_between-most}
 use Rattle.version_tables.proofs.OfferWeights.{offer-few, share-most}
 use Rattle.model.specs.Numbers.{write_numbered}
@@ -54,39 +55,22 @@ split-covered weight cells keys owner low mark high le covered =
 
 -- where an owner's part stops
 module _ (weight : ℕ → ℕ) (cells : Cells) (keys owner near far room mark sent : ℕ) where
-  module _ (up : IsStopFrom false weight cells keys owner near far room mark sent) where
-    abbrev at : ℕ
-    at = cells owner up.next.key
-
-    up_outside : leb at near ≡ false
-    up_outside = lt-leb at near (omega (arith, up.next.is, up.next.above, up.on))
-
-    up_inside : leb at far ≡ true
-    up_inside = le-leb at far (omega (arith, up.next.is, up.next.upto))
-
-    up_own : (k : ℕ) → k < keys → leb (cells owner k) mark ≡ ltb (cells owner k) at
-    up_own k lt = elim (cases_lt mark (cells owner k)) [
-      | inl over ↦ lt-leb (cells owner k) mark over ∙ sym (le-ltb (cells owner k) at (omega (arith, up.next.is, up.next.no_less k lt over)))
-      | inr within ↦ le-leb (cells owner k) mark (omega (arith, within)) ∙ sym (lt-ltb (cells owner k) at (omega (arith, up.next.is, up.next.above, within)))
-    ]
-
-    up_between : ((0 ≤ near) × (near ≤ mark)) × ((0 ≤ mark) × (mark ≤ far))
-    up_between = ((omega arith, omega (arith, up.on)), (omega arith, omega (arith, up.next.above, up.next.upto)))
-
-    up_beyond : room < weight_of weight cells keys owner near mark + weight at
-    up_beyond = omega (arith, up.beyond, ap weight up.next.is)
-
-    pub stop-breadth : IsStop ScuttleBreadth weight cells keys owner near far room mark sent
-    stop-breadth = record { key = up.next.key; in_keys = up.next.in_keys; outside = up_outside; inside = up_inside; own = up_own; between = up_between; within = up.within; beyond = up_beyond; count = up.count }
-
-    pub stop-depth : IsStop ScuttleDepth weight cells keys owner near far room mark sent
-    stop-depth = record { key = up.next.key; in_keys = up.next.in_keys; outside = up_outside; inside = up_inside; own = up_own; between = up_between; within = up.within; beyond = up_beyond; count = up.count }
-
-    pub stop-oldest : IsStop PreciseOldest weight cells keys owner near far room mark sent
-    stop-oldest = record { key = up.next.key; in_keys = up.next.in_keys; outside = up_outside; inside = up_inside; own = up_own; between = up_between; within = up.within; beyond = up_beyond; count = up.count }
-
-  pub stop-newest : IsStopFrom true weight cells keys owner near far room mark sent → IsStop PreciseNewest weight cells keys owner near far room mark sent
-  stop-newest down = record {
+  pub stop-at : (first : First) → IsStopFrom first weight cells keys owner near far room mark sent → IsStop first weight cells keys owner near far room mark sent
+  stop-at Oldest up = record {
+    key = up.next.key;
+    in_keys = up.next.in_keys;
+    outside = lt-leb (cells owner up.next.key) near (omega (arith, up.next.is, up.next.above, up.on));
+    inside = le-leb (cells owner up.next.key) far (omega (arith, up.next.is, up.next.upto));
+    own = λ k lt. elim (cases_lt mark (cells owner k)) [
+      | inl over ↦ lt-leb (cells owner k) mark over ∙ sym (le-ltb (cells owner k) (cells owner up.next.key) (omega (arith, up.next.is, up.next.no_less k lt over)))
+      | inr within ↦ le-leb (cells owner k) mark (omega (arith, within)) ∙ sym (lt-ltb (cells owner k) (cells owner up.next.key) (omega (arith, up.next.is, up.next.above, within)))
+    ];
+    between = (up.on, omega (arith, up.next.above, up.next.upto));
+    within = up.within;
+    beyond = omega (arith, up.beyond, ap weight up.next.is);
+    count = up.count;
+  }
+  stop-at Newest down = record {
     key = down.next.key;
     in_keys = down.next.in_keys;
     outside = le-ltb near (cells owner down.next.key) (omega (arith, down.next.is, down.next.upto, down.on));
@@ -95,67 +79,39 @@ module _ (weight : ℕ → ℕ) (cells : Cells) (keys owner near far room mark s
       | inl over ↦ lt-ltb mark (cells owner k) over ∙ sym (lt-ltb (cells owner down.next.key) (cells owner k) (omega (arith, down.next.is, down.next.upto, over)))
       | inr within ↦ le-ltb mark (cells owner k) (omega (arith, within)) ∙ sym (le-ltb (cells owner down.next.key) (cells owner k) (omega (arith, down.next.is, down.next.no_more k lt (omega (arith, within)))))
     ];
-    between = ((omega arith, omega (arith, down.on)), (omega arith, omega (arith, down.next.above, down.next.upto)));
+    between = (down.on, omega (arith, down.next.above, down.next.upto));
     within = down.within;
     beyond = omega (arith, down.beyond, ap weight down.next.is);
     count = down.count;
   }
 
--- what marks let through, by any weights
-abbrev pub weight_through : Mode → (ℕ → ℕ → ℕ) → Cells → ℕ → ℕ → (ℕ → ℕ) → (ℕ → ℕ) → (ℕ → ℕ) → ℕ
-weight_through ScuttleBreadth weights cells nodes keys low high mark = weight_between weights cells nodes keys low mark
-weight_through ScuttleDepth weights cells nodes keys low high mark = weight_between weights cells nodes keys low mark
-weight_through PreciseOldest weights cells nodes keys low high mark = weight_between weights cells nodes keys low mark
-weight_through PreciseNewest weights cells nodes keys low high mark = weight_between weights cells nodes keys mark high
-
 module _ (weights : ℕ → ℕ → ℕ) (cells : Cells) (nodes keys : ℕ) (low high : ℕ → ℕ) (mark next : ℕ → ℕ) where
   -- marks that are the same for each owner
-  pub through-same : (mode : Mode) → ((r : ℕ) → r < nodes → next r ≡ mark r) → weight_through mode weights cells nodes keys low high next ≡ weight_through mode weights cells nodes keys low high mark
-  through-same ScuttleBreadth same = sum_below-same nodes _ _ (λ r lt. ap (weight_of (weights r) cells keys r (low r)) (same r lt))
-  through-same ScuttleDepth same = sum_below-same nodes _ _ (λ r lt. ap (weight_of (weights r) cells keys r (low r)) (same r lt))
-  through-same PreciseOldest same = sum_below-same nodes _ _ (λ r lt. ap (weight_of (weights r) cells keys r (low r)) (same r lt))
-  through-same PreciseNewest same = sum_below-same nodes _ _ (λ r lt. ap (λ m. weight_of (weights r) cells keys r m (high r)) (same r lt))
+  pub through-same : (first : First) → ((r : ℕ) → r < nodes → next r ≡ mark r) → weight_through first weights cells nodes keys low high next ≡ weight_through first weights cells nodes keys low high mark
+  through-same first same = sum_below-same nodes _ _ (λ r lt. ap (λ m. weight_of (weights r) cells keys r (by_first first (low r) m) (by_first first m (high r))) (same r lt))
 
   -- and marks that differ for one
   module _ (owner : ℕ) (in_nodes : owner < nodes) (others : (r : ℕ) → r < nodes → r ≢ owner → next r ≡ mark r) where
-    up_changed : (low owner ≤ mark owner) × (mark owner ≤ next owner) → weight_between weights cells nodes keys low next ≡ weight_between weights cells nodes keys low mark + weight_of (weights owner) cells keys owner (mark owner) (next owner)
-    up_changed ordered =
+    pub through-changed : (first : First) → HasNoneAbove cells keys owner (high owner) → AreFarther first (low owner) (mark owner) (next owner)
+        → weight_through first weights cells nodes keys low high next ≡ weight_through first weights cells nodes keys low high mark + weight_from first (weights owner) cells keys owner (mark owner) (next owner)
+    through-changed Oldest covered ordered =
         sum_below-changed nodes owner _ _ _ in_nodes (λ r lt ne. ap (weight_of (weights r) cells keys r (low r)) (others r lt ne))
-        (weight_of-split (weights owner) cells keys owner (low owner) (mark owner) (next owner) ordered.0 ordered.1)
-
-    pub through-changed : (mode : Mode) → HasNoneAbove cells keys owner (high owner) → AreFarther mode (low owner) (mark owner) (next owner)
-        → weight_through mode weights cells nodes keys low high next ≡ weight_through mode weights cells nodes keys low high mark + part_between mode (weights owner) cells keys owner (mark owner) (next owner)
-    through-changed ScuttleBreadth covered ordered = up_changed ordered
-    through-changed ScuttleDepth covered ordered = up_changed ordered
-    through-changed PreciseOldest covered ordered = up_changed ordered
-    through-changed PreciseNewest covered ordered =
+        (weight_of-split (weights owner) cells keys owner (low owner) (mark owner) (next owner) ordered.0 ordered.2)
+    through-changed Newest covered ordered =
         sum_below-changed nodes owner _ _ _ in_nodes (λ r lt ne. ap (λ m. weight_of (weights r) cells keys r m (high r)) (others r lt ne))
-        (split-covered (weights owner) cells keys owner (next owner) (mark owner) (high owner) ordered.1 covered)
+        (split-covered (weights owner) cells keys owner (next owner) (mark owner) (high owner) ordered.2 covered)
 
 -- the marks of a level as they are
-above-low : (mode : Mode) (low near far mark : ℕ) → AreFarther mode low near far → AreFarther mode 0 near mark → AreFarther mode 0 mark far → low ≤ mark
-above-low ScuttleBreadth low near far mark level on upto = omega (arith, level.0, on.1)
-above-low ScuttleDepth low near far mark level on upto = omega (arith, level.0, on.1)
-above-low PreciseOldest low near far mark level on upto = omega (arith, level.0, on.1)
-above-low PreciseNewest low near far mark level on upto = omega (arith, level.0, upto.1)
+above-low : (first : First) (low near far mark : ℕ) → AreFarther first low near far → IsOn first near mark → IsOn first mark far → low ≤ mark
+above-low Oldest low near far mark level on upto = omega (arith, level.0, on)
+above-low Newest low near far mark level on upto = omega (arith, level.1, upto)
 
-farther-stop : (mode : Mode) (low near far mark : ℕ) → AreFarther mode low near far → AreFarther mode 0 near mark → AreFarther mode 0 mark far → AreFarther mode low near mark
-farther-stop ScuttleBreadth low near far mark level on upto = (level.0, on.1)
-farther-stop ScuttleDepth low near far mark level on upto = (level.0, on.1)
-farther-stop PreciseOldest low near far mark level on upto = (level.0, on.1)
-farther-stop PreciseNewest low near far mark level on upto = (omega (arith, level.0, upto.1), on.1)
+farther-stop : (first : First) (low near far mark : ℕ) → AreFarther first low near far → IsOn first near mark → IsOn first mark far → AreFarther first low near mark
+farther-stop first low near far mark level on upto = (level.0, above-low first low near far mark level on upto, on)
 
-offered-by : (mode : Mode) (low near far number : ℕ) → AreFarther mode low near far → lets_through mode near number ≡ false → lets_through mode far number ≡ true → low < number
-offered-by ScuttleBreadth low near far number level outside inside = omega (arith, level.0, leb-false number near outside)
-offered-by ScuttleDepth low near far number level outside inside = omega (arith, level.0, leb-false number near outside)
-offered-by PreciseOldest low near far number level outside inside = omega (arith, level.0, leb-false number near outside)
-offered-by PreciseNewest low near far number level outside inside = omega (arith, level.0, ltb-true far number inside)
-
-level-ends : (mode : Mode) (low near far : ℕ) → AreFarther mode low near far → (low ≤ near) × (low ≤ far)
-level-ends ScuttleBreadth low near far level = (level.0, omega (arith, level.0, level.1))
-level-ends ScuttleDepth low near far level = (level.0, omega (arith, level.0, level.1))
-level-ends PreciseOldest low near far level = (level.0, omega (arith, level.0, level.1))
-level-ends PreciseNewest low near far level = (omega (arith, level.0, level.1), level.0)
+offered-by : (first : First) (low near far number : ℕ) → AreFarther first low near far → lets_through first near number ≡ false → lets_through first far number ≡ true → low < number
+offered-by Oldest low near far number level outside inside = omega (arith, level.0, leb-false number near outside)
+offered-by Newest low near far number level outside inside = omega (arith, level.1, ltb-true far number inside)
 
 module _ {N : Type 0} (number : N → ℕ) (most : ℕ) (offer : Offer N) (is : IsOffer number most offer) where
   abbrev cells : Cells
@@ -164,46 +120,25 @@ module _ {N : Type 0} (number : N → ℕ) (most : ℕ) (offer : Offer N) (is : 
   abbrev low : ℕ → ℕ
   low = low_in number offer
 
-  abbrev through : Mode → (ℕ → ℕ → ℕ) → (ℕ → ℕ) → ℕ
-  through mode weights mark = weight_through mode weights cells offer.nodes offer.keys low (high_in number offer) mark
+  module _ (first : First) (owner : ℕ) (in_nodes : owner < offer.nodes) (mark next : ℕ → ℕ) (others : (r : ℕ) → r < offer.nodes → r ≢ owner → next r ≡ mark r) (ordered : AreFarther first (low owner) (mark owner) (next owner)) where
+    weight-changed : weight_on first number offer next ≡ weight_on first number offer mark + weight_from first (weights_in offer owner) cells offer.keys owner (mark owner) (next owner)
+    weight-changed = through-changed (weights_in offer) cells offer.nodes offer.keys low (high_in number offer) mark next owner in_nodes others first (is.covered owner in_nodes) ordered
 
-  weight-through : (mode : Mode) (mark : ℕ → ℕ) → weight_on mode number offer mark ≡ through mode (weights_in offer) mark
-  weight-through ScuttleBreadth mark = refl
-  weight-through ScuttleDepth mark = refl
-  weight-through PreciseOldest mark = refl
-  weight-through PreciseNewest mark = refl
+    count-changed : count_on first number offer next ≡ count_on first number offer mark + weight_from first (λ _. 1) cells offer.keys owner (mark owner) (next owner)
+    count-changed = through-changed one_each cells offer.nodes offer.keys low (high_in number offer) mark next owner in_nodes others first (is.covered owner in_nodes) ordered
 
-  count-through : (mode : Mode) (mark : ℕ → ℕ) → count_on mode number offer mark ≡ through mode one_each mark
-  count-through ScuttleBreadth mark = refl
-  count-through ScuttleDepth mark = refl
-  count-through PreciseOldest mark = refl
-  count-through PreciseNewest mark = refl
-
-  module _ (mode : Mode) (owner : ℕ) (in_nodes : owner < offer.nodes) (mark next : ℕ → ℕ) (others : (r : ℕ) → r < offer.nodes → r ≢ owner → next r ≡ mark r) (ordered : AreFarther mode (low owner) (mark owner) (next owner)) where
-    weight-changed : weight_on mode number offer next ≡ weight_on mode number offer mark + part_between mode (weights_in offer owner) cells offer.keys owner (mark owner) (next owner)
-    weight-changed =
-        weight-through mode next
-        ∙ through-changed (weights_in offer) cells offer.nodes offer.keys low (high_in number offer) mark next owner in_nodes others mode (is.covered owner in_nodes) ordered
-        ∙ ap (λ n. n + part_between mode (weights_in offer owner) cells offer.keys owner (mark owner) (next owner)) (sym (weight-through mode mark))
-
-    count-changed : count_on mode number offer next ≡ count_on mode number offer mark + part_between mode (λ _. 1) cells offer.keys owner (mark owner) (next owner)
-    count-changed =
-        count-through mode next
-        ∙ through-changed one_each cells offer.nodes offer.keys low (high_in number offer) mark next owner in_nodes others mode (is.covered owner in_nodes) ordered
-        ∙ ap (λ n. n + part_between mode (λ _. 1) cells offer.keys owner (mark owner) (next owner)) (sym (count-through mode mark))
-
-  module _ (mode : Mode) (rotation : ℕ) (in_rotation : rotation < offer.nodes) (near far : ℕ → ℕ) (level : (r : ℕ) → r < offer.nodes → AreFarther mode (low r) (near r) (far r)) where
+  module _ (first : First) (rotation : ℕ) (in_rotation : rotation < offer.nodes) (near far : ℕ → ℕ) (level : (r : ℕ) → r < offer.nodes → AreFarther first (low r) (near r) (far r)) where
     -- before the first turn
-    pub turns-first : (room whole : ℕ) → weight_on mode number offer near + room ≡ amount_of offer.budget → whole ≡ count_on mode number offer near → AreTurnsPassed mode number offer rotation near far near 0 room whole
+    pub turns-first : (room whole : ℕ) → weight_on first number offer near + room ≡ amount_of offer.budget → whole ≡ count_on first number offer near → AreTurnsPassed first number offer rotation near far near 0 room whole
     turns-first room whole rest counted = record { passed = λ r lt before. absurd (omega (arith, before)); waiting = λ r lt _. refl; left = rest; count = counted }
 
-    module _ (mark : ℕ → ℕ) (turn left sent : ℕ) (so_far : AreTurnsPassed mode number offer rotation near far mark turn left sent) where
+    module _ (mark : ℕ → ℕ) (turn left sent : ℕ) (so_far : AreTurnsPassed first number offer rotation near far mark turn left sent) where
       -- one more owner's part
       pub turns-next : (owner weight count : ℕ) (next : ℕ → ℕ) → owner < offer.nodes → rotated offer.nodes rotation owner ≡ turn → weight ≤ left
-          → weight ≡ part_between mode (weights_in offer owner) cells offer.keys owner (near owner) (far owner)
-          → count ≡ part_between mode (λ _. 1) cells offer.keys owner (near owner) (far owner)
+          → weight ≡ weight_from first (weights_in offer owner) cells offer.keys owner (near owner) (far owner)
+          → count ≡ weight_from first (λ _. 1) cells offer.keys owner (near owner) (far owner)
           → next owner ≡ far owner → ((r : ℕ) → r < offer.nodes → r ≢ owner → next r ≡ mark r)
-          → AreTurnsPassed mode number offer rotation near far next (turn + 1) (left - weight) (sent + count)
+          → AreTurnsPassed first number offer rotation near far next (turn + 1) (left - weight) (sent + count)
       turns-next owner weight count next in_nodes its fits weighs counts here others = record {
         passed = λ r lt before. elim (cases_eq r owner) [
           | inl same ↦ ap next same ∙ here ∙ ap far (sym same)
@@ -213,29 +148,27 @@ module _ {N : Type 0} (number : N → ℕ) (most : ℕ) (offer : Offer N) (is : 
           ])
         ];
         waiting = λ r lt later. others r lt (λ same. omega (arith, its, later, ap (rotated offer.nodes rotation) same)) ∙ so_far.waiting r lt (omega (arith, later));
-        left = omega (arith, so_far.left, fits, weight-changed mode owner in_nodes mark next others ordered, weighs, parts (weights_in offer owner));
-        count = ap (λ n. n + count) so_far.count ∙ ap (λ n. count_on mode number offer mark + n) (counts ∙ sym (parts (λ _. 1))) ∙ sym (count-changed mode owner in_nodes mark next others ordered);
+        left = omega (arith, so_far.left, fits, weight-changed first owner in_nodes mark next others ordered, weighs, parts (weights_in offer owner));
+        count = ap (λ n. n + count) so_far.count ∙ ap (λ n. count_on first number offer mark + n) (counts ∙ sym (parts (λ _. 1))) ∙ sym (count-changed first owner in_nodes mark next others ordered);
       }
         where
           from_near : mark owner ≡ near owner
           from_near = so_far.waiting owner in_nodes (omega (arith, its))
 
-          ordered : AreFarther mode (low owner) (mark owner) (next owner)
-          ordered = subst (AreFarther mode (low owner) (mark owner)) (sym here) (subst (λ m. AreFarther mode (low owner) m (far owner)) (sym from_near) (level owner in_nodes))
+          ordered : AreFarther first (low owner) (mark owner) (next owner)
+          ordered = subst (AreFarther first (low owner) (mark owner)) (sym here) (subst (λ m. AreFarther first (low owner) m (far owner)) (sym from_near) (level owner in_nodes))
 
-          parts : (weight : ℕ → ℕ) → part_between mode weight cells offer.keys owner (mark owner) (next owner) ≡ part_between mode weight cells offer.keys owner (near owner) (far owner)
-          parts weight = λ i. part_between mode weight cells offer.keys owner (from_near i) (here i)
+          parts : (weight : ℕ → ℕ) → weight_from first weight cells offer.keys owner (mark owner) (next owner) ≡ weight_from first weight cells offer.keys owner (near owner) (far owner)
+          parts weight = λ i. weight_from first weight cells offer.keys owner (from_near i) (here i)
 
       -- not all owners have their turns
-      pub turns-end : amount_of offer.budget < weight_on mode number offer far → offer.nodes ≤ turn → ⊥
+      pub turns-end : amount_of offer.budget < weight_on first number offer far → offer.nodes ≤ turn → ⊥
       turns-end beyond all =
           omega (
             arith,
             so_far.left,
             beyond,
-            weight-through mode far,
-            weight-through mode mark,
-            through-same (weights_in offer) cells offer.nodes offer.keys low (high_in number offer) far mark mode (λ r lt. so_far.passed r lt (omega (arith, all, rotated-below r lt))),
+            through-same (weights_in offer) cells offer.nodes offer.keys low (high_in number offer) far mark first (λ r lt. so_far.passed r lt (omega (arith, all, rotated-below r lt))),
           )
         where
           rotated-below : (r : ℕ) → r < offer.nodes → rotated offer.nodes rotation r < offer.nodes
@@ -243,49 +176,49 @@ module _ {N : Type 0} (number : N → ℕ) (most : ℕ) (offer : Offer N) (is : 
 
       -- the owner whose part doesn't fit stops at a number
       pub turns-shared : (owner stop_mark stop_sent : ℕ) (next : ℕ → ℕ) → owner < offer.nodes → rotated offer.nodes rotation owner ≡ turn
-          → IsStop mode (weights_in offer owner) cells offer.keys owner (near owner) (far owner) left stop_mark stop_sent
+          → IsStop first (weights_in offer owner) cells offer.keys owner (near owner) (far owner) left stop_mark stop_sent
           → next owner ≡ stop_mark → ((r : ℕ) → r < offer.nodes → r ≢ owner → next r ≡ mark r)
-          → AreShared mode rotation number offer near far next (sent + stop_sent)
+          → AreShared first rotation number offer near far next (sent + stop_sent)
       turns-shared owner stop_mark stop_sent next in_nodes its stop here others = record {
         owner = owner;
         key = stop.key;
         owner_below = in_nodes;
         key_below = stop.in_keys;
-        offered = offered-by mode (low owner) (near owner) (far owner) (cells owner stop.key) (level owner in_nodes) stop.outside stop.inside;
+        offered = offered-by first (low owner) (near owner) (far owner) (cells owner stop.key) (level owner in_nodes) stop.outside stop.inside;
         outside = stop.outside;
         inside = stop.inside;
         passed = λ r lt before. others r lt (λ same. omega (arith, before, ap (rotated offer.nodes rotation) same)) ∙ so_far.passed r lt (omega (arith, before, its));
         waiting = λ r lt later. others r lt (λ same. omega (arith, later, ap (rotated offer.nodes rotation) same)) ∙ so_far.waiting r lt (omega (arith, later, its));
-        own = λ k lt _. ap (λ m. lets_through mode m (cells owner k)) here ∙ stop.own k lt;
+        own = λ k lt _. ap (λ m. lets_through first m (cells owner k)) here ∙ stop.own k lt;
         above = λ r lt. elim (cases_eq r owner) [
           | inl same ↦ omega (
             arith,
             ap low same,
             ap next same,
             here,
-            above-low mode (low owner) (near owner) (far owner) stop_mark (level owner in_nodes) stop.between.0 stop.between.1,
+            above-low first (low owner) (near owner) (far owner) stop_mark (level owner in_nodes) stop.between.0 stop.between.1,
           )
           | inr other ↦ elim (cases_lt (rotated offer.nodes rotation r) turn) [
-            | inl before ↦ omega (arith, others r lt other, so_far.passed r lt before, (level-ends mode (low r) (near r) (far r) (level r lt)).1)
-            | inr later ↦ omega (arith, others r lt other, so_far.waiting r lt (omega (arith, later)), (level-ends mode (low r) (near r) (far r) (level r lt)).0)
+            | inl before ↦ omega (arith, others r lt other, so_far.passed r lt before, (level r lt).1)
+            | inr later ↦ omega (arith, others r lt other, so_far.waiting r lt (omega (arith, later)), (level r lt).0)
           ]
         ];
-        count = ap (λ n. n + stop_sent) so_far.count ∙ ap (λ n. count_on mode number offer mark + n) (stop.count ∙ sym (parts (λ _. 1))) ∙ sym (count-changed mode owner in_nodes mark next others ordered);
-        within = omega (arith, so_far.left, stop.within, weight-changed mode owner in_nodes mark next others ordered, parts (weights_in offer owner));
-        beyond = omega (arith, so_far.left, stop.beyond, weight-changed mode owner in_nodes mark next others ordered, parts (weights_in offer owner));
+        count = ap (λ n. n + stop_sent) so_far.count ∙ ap (λ n. count_on first number offer mark + n) (stop.count ∙ sym (parts (λ _. 1))) ∙ sym (count-changed first owner in_nodes mark next others ordered);
+        within = omega (arith, so_far.left, stop.within, weight-changed first owner in_nodes mark next others ordered, parts (weights_in offer owner));
+        beyond = omega (arith, so_far.left, stop.beyond, weight-changed first owner in_nodes mark next others ordered, parts (weights_in offer owner));
       }
         where
           from_near : mark owner ≡ near owner
           from_near = so_far.waiting owner in_nodes (omega (arith, its))
 
-          ordered : AreFarther mode (low owner) (mark owner) (next owner)
+          ordered : AreFarther first (low owner) (mark owner) (next owner)
           ordered =
-              subst (AreFarther mode (low owner) (mark owner)) (sym here)
-              (subst (λ m. AreFarther mode (low owner) m stop_mark) (sym from_near)
-              (farther-stop mode (low owner) (near owner) (far owner) stop_mark (level owner in_nodes) stop.between.0 stop.between.1))
+              subst (AreFarther first (low owner) (mark owner)) (sym here)
+              (subst (λ m. AreFarther first (low owner) m stop_mark) (sym from_near)
+              (farther-stop first (low owner) (near owner) (far owner) stop_mark (level owner in_nodes) stop.between.0 stop.between.1))
 
-          parts : (weight : ℕ → ℕ) → part_between mode weight cells offer.keys owner (mark owner) (next owner) ≡ part_between mode weight cells offer.keys owner (near owner) stop_mark
-          parts weight = λ i. part_between mode weight cells offer.keys owner (from_near i) (here i)
+          parts : (weight : ℕ → ℕ) → weight_from first weight cells offer.keys owner (mark owner) (next owner) ≡ weight_from first weight cells offer.keys owner (near owner) stop_mark
+          parts weight = λ i. weight_from first weight cells offer.keys owner (from_near i) (here i)
 
 -- entries that are counted take as much as they are
 module _ {N : Type 0} (number : N → ℕ) (most : ℕ) (offer : Offer N) (is : IsOffer number most offer) (owner : ℕ) (in_nodes : owner < offer.nodes) (n : ℕ) (counted : offer.budget ≡ Entries n) where
@@ -294,11 +227,8 @@ module _ {N : Type 0} (number : N → ℕ) (most : ℕ) (offer : Offer N) (is : 
       weight_of-same (weights_in offer owner) (λ _. 1) (cells_in number offer) offer.keys owner low high
       (λ key in_keys above upto. number_share-one offer.budget n (all_writes offer.lists.now owner) (cells_in number offer owner key) counted (omega (arith, above)) (is.written owner key in_nodes in_keys))
 
-  pub part-entries : (mode : Mode) (near far : ℕ) → part_between mode (λ _. 1) (cells_in number offer) offer.keys owner near far ≡ part_between mode (weights_in offer owner) (cells_in number offer) offer.keys owner near far
-  part-entries ScuttleBreadth near far = sym (counted-one near far)
-  part-entries ScuttleDepth near far = sym (counted-one near far)
-  part-entries PreciseOldest near far = sym (counted-one near far)
-  part-entries PreciseNewest near far = sym (counted-one far near)
+  pub part-entries : (first : First) (near far : ℕ) → weight_from first (λ _. 1) (cells_in number offer) offer.keys owner near far ≡ weight_from first (weights_in offer owner) (cells_in number offer) offer.keys owner near far
+  part-entries first near far = sym (counted-one (by_first first near far) (by_first first far near))
 
 -- marks of which one is put
 module _ {N : Type 0} (number : N → ℕ) (xs : List N) (i : ℕ) (x : N) where
@@ -311,32 +241,18 @@ module _ {N : Type 0} (number : N → ℕ) (xs : List N) (i : ℕ) (x : N) where
   put-other r other = ap (λ ys. get_or ys r 0) (map-set number xs i x) ∙ get_or-set_other (map number xs) i r (number x) 0 other
 
 -- so many at most
-pub part-few : (mode : Mode) (cells : Cells) (keys owner near far : ℕ) → part_between mode (λ _. 1) cells keys owner near far ≤ keys
-part-few ScuttleBreadth cells keys owner near far = count_between-most cells keys owner near far
-part-few ScuttleDepth cells keys owner near far = count_between-most cells keys owner near far
-part-few PreciseOldest cells keys owner near far = count_between-most cells keys owner near far
-part-few PreciseNewest cells keys owner near far = count_between-most cells keys owner far near
+pub part-few : (first : First) (cells : Cells) (keys owner near far : ℕ) → weight_from first (λ _. 1) cells keys owner near far ≤ keys
+part-few first cells keys owner near far = count_between-most cells keys owner (by_first first near far) (by_first first far near)
 
-pub count_on-few : {N : Type 0} (mode : Mode) (number : N → ℕ) (most : ℕ) (offer : Offer N) → IsOffer number most offer → (mark : ℕ → ℕ) → count_on mode number offer mark ≤ MOST_NODES * MOST_KEYS
-count_on-few ScuttleBreadth number most offer is mark = offer-few number most offer is (low_in number offer) mark
-count_on-few ScuttleDepth number most offer is mark = offer-few number most offer is (low_in number offer) mark
-count_on-few PreciseOldest number most offer is mark = offer-few number most offer is (low_in number offer) mark
-count_on-few PreciseNewest number most offer is mark = offer-few number most offer is mark (high_in number offer)
+pub count_on-few : {N : Type 0} (first : First) (number : N → ℕ) (most : ℕ) (offer : Offer N) → IsOffer number most offer → (mark : ℕ → ℕ) → count_on first number offer mark ≤ MOST_NODES * MOST_KEYS
+count_on-few first number most offer is mark =
+    offer-few number most offer is (λ owner. by_first first (low_in number offer owner) (mark owner)) (λ owner. by_first first (mark owner) (high_in number offer owner))
 
 -- a part without numbers weighs nothing
-pub part-none : {N : Type 0} (offer : Offer N) (mode : Mode) (cells : Cells) (keys owner near far : ℕ) → part_between mode (λ _. 1) cells keys owner near far ≡ 0 → part_between mode (weights_in offer owner) cells keys owner near far ≡ 0
-part-none offer mode cells keys owner near far none = by_mode mode none
-  where
-    nothing : (low high : ℕ) → weight_of (λ _. 1) cells keys owner low high ≡ 0 → weight_of (weights_in offer owner) cells keys owner low high ≡ 0
-    nothing low high empty =
-        omega (
-          arith,
-          weight_of-most (weights_in offer owner) MOST_ENTRY_SIZE cells keys owner low high (λ n. share-most offer.budget (write_numbered (all_writes offer.lists.now owner) n)),
-          ap (λ n. n * MOST_ENTRY_SIZE) empty,
-        )
-
-    by_mode : (m : Mode) → part_between m (λ _. 1) cells keys owner near far ≡ 0 → part_between m (weights_in offer owner) cells keys owner near far ≡ 0
-    by_mode ScuttleBreadth empty = nothing near far empty
-    by_mode ScuttleDepth empty = nothing near far empty
-    by_mode PreciseOldest empty = nothing near far empty
-    by_mode PreciseNewest empty = nothing far near empty
+pub part-none : {N : Type 0} (offer : Offer N) (first : First) (cells : Cells) (keys owner near far : ℕ) → weight_from first (λ _. 1) cells keys owner near far ≡ 0 → weight_from first (weights_in offer owner) cells keys owner near far ≡ 0
+part-none offer first cells keys owner near far none =
+    omega (
+      arith,
+      weight_of-most (weights_in offer owner) MOST_ENTRY_SIZE cells keys owner (by_first first near far) (by_first first far near) (λ n. share-most offer.budget (write_numbered (all_writes offer.lists.now owner) n)),
+      ap (λ n. n * MOST_ENTRY_SIZE) none,
+    )

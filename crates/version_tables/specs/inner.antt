@@ -1,6 +1,6 @@
 pub mod Grids
 pub mod Offers
-pub mod Levels
+pub mod Firsts
 pub mod LevelMarks
 pub mod Taken
 pub mod Merged

@@ -2,7 +2,6 @@
 
 ghost use Rattle.std.specs.Prelude.{◌≡◌, ℕ, ◌+◌, ◌<◌, ◌≤◌, IfOk, IsOkUnless, length, map, nat_lt, slice_index, if◌then◌else◌};
 ghost use Rattle.bench_types.specs.Budget.{amount_of};
-ghost use Rattle.bench_types.specs.declared.exchanges.Mode.TheVariants.{ScuttleBreadth};
 ghost use Rattle.bench_types.specs.declared.faults.Fault.TheVariants.{OutOfMemory};
 ghost use Rattle.bench_types.specs.declared.limits.TheConstants.{MOST_NODES};
 ghost use Rattle.planes.specs.Elementwise.{AreChanged};

@@ -4,13 +4,14 @@ ghost use Rattle.std.specs.Prelude.{◌≡◌, ◌<◌, length, map, slice_index
 ghost use Rattle.bench_types.specs.declared.exchanges.DigestKind.TheVariants.{Precise};
 ghost use Rattle.bench_types.specs.declared.faults.Fault.TheVariants.{OutOfMemory};
 ghost use Rattle.bench_types.specs.Budget.{IsLawfulBudget};
-ghost use Rattle.bench_types.specs.Mode.{digest_kind};
+ghost use Rattle.bench_types.specs.Mode.{digest_kind, first_sent};
 ghost use Rattle.model.specs.OwnerListView.{all_writes};
 ghost use Rattle.planes.specs.Planes.{cell, number_ahead, total_above, HasEach, HasEachPlace};
 ghost use Rattle.version_tables.specs.Views.{table_in, IsKept};
 ghost use Rattle.version_tables.specs.inner.Deltas.{AreMarksOf};
 ghost use Rattle.version_tables.specs.inner.Histories.{FitsHistories};
-ghost use Rattle.version_tables.specs.inner.Marked.{high_list, low_list, AreOffered};
+ghost use Rattle.version_tables.specs.inner.Firsts.{by_first};
+ghost use Rattle.version_tables.specs.inner.Marked.{AreOffered};
 ghost use Rattle.version_tables.specs.inner.Offers.{told_number};
 
 use crate::histories::Histories;
@@ -19,7 +20,7 @@ use crate::rounds::Ends;
 use crate::tables::{VersionTable, Written};
 use crate::told_marks::told;
 use crate::weights::Offer;
-use bench_types::{DigestKind, Fault, Mode, Rules};
+use bench_types::{DigestKind, Fault, First, Rules};
 use model::DeltaCounts;
 use planes::{Masked, Number};
 use std::alloc::Global;
@@ -65,7 +66,7 @@ pub(crate) fn delta<N: Number, H: Written>(
     let marked = marks_sent(
         alloc, sender, receiver, histories, rules, rotation, &low, offered,
     )?;
-    let marks = marks_of(alloc, rules.mode, low, sender.greatest(), marked)?;
+    let marks = marks_of(alloc, rules.mode.first(), low, sender.greatest(), marked)?;
     Ok(marks)
 }
 
@@ -94,8 +95,9 @@ fn marks_sent<N: Number, H: Written>(
     requires found { offered.found ≡ total_above sender.now.nodes sender.now.keys (map N.number offered.cells.now)
         (map N.number low.now) }
     ensures marks { IfOk result (λ m. AreMarksOf rules.now rotation H.lists sender.now receiver.now
-        (low_list rules.now.mode (map N.number low.now) (map N.number m.mark.items))
-        (high_list rules.now.mode (map N.number m.mark.items) sender.now.greatest) m.counts.sent m.counts.cut) }
+        (by_first (first_sent rules.now.mode) (map N.number low.now) (map N.number m.mark.items))
+        (by_first (first_sent rules.now.mode) (map N.number m.mark.items) sender.now.greatest) m.counts.sent
+        m.counts.cut) }
     ensures only { IsOkUnless result OutOfMemory }
 {
     let offer = Offer {
@@ -219,26 +221,26 @@ fn either<'a, N: Number, H: Written>(
 // The two marks of each owner.
 fn marks_of<N: Number>(
     alloc: Global,
-    mode: Mode,
+    first: First,
     low: Vec<N>,
     high: &[N],
     marked: Marked<N>,
 ) -> Result<DeltaMarks<N>, Fault>
     ensures low { IfOk result (λ d. map N.number d.low.items
-        ≡ low_list mode (map N.number low.items) (map N.number marked.mark.items)) }
+        ≡ by_first first (map N.number low.items) (map N.number marked.mark.items)) }
     ensures high { IfOk result (λ d. map N.number d.high.items
-        ≡ high_list mode (map N.number marked.mark.items) (map N.number high.now)) }
+        ≡ by_first first (map N.number marked.mark.items) (map N.number high.now)) }
     ensures counts { IfOk result (λ d. d.counts ≡ marked.counts) }
     ensures only { IsOkUnless result OutOfMemory }
 {
     let Marked { mark, counts } = marked;
-    match mode {
-        Mode::ScuttleBreadth | Mode::ScuttleDepth | Mode::PreciseOldest => Ok(DeltaMarks {
+    match first {
+        First::Oldest => Ok(DeltaMarks {
             low,
             high: mark,
             counts,
         }),
-        Mode::PreciseNewest => Ok(DeltaMarks {
+        First::Newest => Ok(DeltaMarks {
             low: mark,
             high: Vec::from_slice(alloc, high)?,
             counts,

@@ -2,7 +2,9 @@
 
 ghost use Rattle.std.specs.Prelude.{◌≡◌, ℕ, ◌<◌, ◌≤◌, length, map, IfOk, IsOkUnless};
 ghost use Rattle.bench_types.specs.declared.faults.Fault.TheVariants.{OutOfMemory};
-ghost use Rattle.version_tables.specs.inner.Marked.{HasShapeIn, AreMarked, whole_marks};
+ghost use Rattle.bench_types.specs.Mode.{first_sent};
+ghost use Rattle.version_tables.specs.inner.Firsts.{by_first};
+ghost use Rattle.version_tables.specs.inner.Marked.{HasShapeIn, AreMarked};
 ghost use Rattle.version_tables.specs.inner.OfferInMemory.{marks, IsCountOffered, IsOffer, IsTooLarge};
 ghost use Rattle.version_tables.specs.inner.Plans.{IsLevel};
 ghost use Rattle.version_tables.specs.inner.RoundLevels.{AreEndsOf};
@@ -11,14 +13,13 @@ use crate::breadths::breadth;
 use crate::depths::depth;
 use crate::rounds::{Ends, rounds};
 use crate::sharing::share;
-use crate::stops::First;
 use crate::weights::{Level, Offer};
-use bench_types::{Fault, Mode};
+use bench_types::{Fault, First, Mode};
 use model::DeltaCounts;
 use planes::Number;
 use std::alloc::Global;
 
-/// Marks of what is sent: all numbers up to them, or in the mode that sends the newest first all above them.
+/// Marks of what is sent: all numbers up to them, or where the newest goes first all above them.
 #[derive(Drop)]
 pub(crate) struct Marked<N: Number> {
     pub(crate) mark: Vec<N>,
@@ -45,8 +46,9 @@ pub(crate) fn planned<N: Number>(
         m.counts.cut) }
     ensures only { IsOkUnless result OutOfMemory }
 {
+    let first = mode.first();
     if offer.fits(found, offer.low, offer.high) {
-        let mark = whole_mark(alloc, offer, mode)?;
+        let mark = whole_mark(alloc, offer, first)?;
         let counts = DeltaCounts {
             sent: found,
             cut: 0,
@@ -54,7 +56,7 @@ pub(crate) fn planned<N: Number>(
         return Ok(Marked { mark, counts });
     }
     let level = level_of(alloc, offer, mode, ends, found)?;
-    let share = share(alloc, offer, &level, mode, rotation)?;
+    let share = share(alloc, offer, &level, first, rotation)?;
     let cut = found - share.sent;
     let counts = DeltaCounts {
         sent: share.sent,
@@ -67,15 +69,14 @@ pub(crate) fn planned<N: Number>(
 }
 
 // The marks that let all through.
-fn whole_mark<N: Number>(alloc: Global, offer: &Offer<N>, mode: Mode) -> Result<Vec<N>, Fault>
-    ensures marks { IfOk result (λ v. map N.number v.items ≡ whole_marks mode N.number offer.now) }
+fn whole_mark<N: Number>(alloc: Global, offer: &Offer<N>, first: First) -> Result<Vec<N>, Fault>
+    ensures marks { IfOk result (λ v. map N.number v.items
+        ≡ by_first first (map N.number offer.now.high.now) (map N.number offer.now.low.now)) }
     ensures only { IsOkUnless result OutOfMemory }
 {
-    match mode {
-        Mode::ScuttleBreadth | Mode::ScuttleDepth | Mode::PreciseOldest => {
-            Ok(Vec::from_slice(alloc, offer.high)?)
-        }
-        Mode::PreciseNewest => Ok(Vec::from_slice(alloc, offer.low)?),
+    match first {
+        First::Oldest => Ok(Vec::from_slice(alloc, offer.high)?),
+        First::Newest => Ok(Vec::from_slice(alloc, offer.low)?),
     }
 }
 
@@ -90,7 +91,7 @@ fn level_of<N: Number>(
     requires offer { IsTooLarge N.number N.most offer.now }
     requires ends { AreEndsOf N.number offer.now ends }
     requires found { IsCountOffered N.number offer.now found }
-    ensures level { IfOk result (λ l. IsLevel mode N.number offer.now l) }
+    ensures level { IfOk result (λ l. IsLevel (first_sent mode) N.number offer.now l) }
     ensures shape { IfOk result
         (λ l. HasShapeIn mode N.number offer.now (marks N.number l.near.items) (marks N.number l.far.items)) }
     ensures only { IsOkUnless result OutOfMemory }

@@ -4,16 +4,16 @@ ghost use Rattle.std.specs.Prelude.{◌≡◌, ℕ, ◌+◌, ◌*◌, ◌<◌, �
 ghost use Rattle.bench_types.specs.Budget.{amount_of};
 ghost use Rattle.bench_types.specs.declared.faults.Fault.TheVariants.{OutOfMemory};
 ghost use Rattle.bench_types.specs.declared.limits.TheConstants.{MOST_NODES};
+ghost use Rattle.model.specs.OwnerListView.{all_writes};
 ghost use Rattle.planes.specs.Planes.{cell, HasEach};
 ghost use Rattle.planes.specs.Elementwise.{AreChanged};
-ghost use Rattle.version_tables.specs.inner.OfferInMemory.{marks, IsCountOffered, IsOffer, IsTooLarge};
+ghost use Rattle.version_tables.specs.inner.LevelMarks.{AreRounds};
+ghost use Rattle.version_tables.specs.inner.OfferInMemory.{low_in, marks, IsCountOffered, IsOffer, IsTooLarge};
 ghost use Rattle.version_tables.specs.inner.Plans.{weight_on, count_on, IsLevel};
-ghost use Rattle.version_tables.specs.inner.RoundLevels.{round_mode, round_at, end_mark, round_mark, AreEndsOf, AreFewAndEnough, AreRounds};
-ghost use Rattle.version_tables.specs.inner.Stops.{is_newest};
+ghost use Rattle.version_tables.specs.inner.RoundLevels.{round_at, end_mark, round_mark, AreEndsOf, AreFewAndEnough};
 
-use crate::stops::First;
 use crate::weights::{Level, Offer};
-use bench_types::Fault;
+use bench_types::{Fault, First};
 use planes::Number;
 use std::alloc::Global;
 
@@ -49,8 +49,9 @@ pub(crate) fn rounds<N: Number>(
     requires offer { IsTooLarge N.number N.most offer.now }
     requires ends { AreEndsOf N.number offer.now ends }
     requires found { IsCountOffered N.number offer.now found }
-    ensures level { IfOk result (IsLevel (round_mode (is_newest first)) N.number offer.now) }
-    ensures rounds { IfOk result (AreRounds (is_newest first) N.number offer.now) }
+    ensures level { IfOk result (IsLevel first N.number offer.now) }
+    ensures rounds { IfOk result (λ l. AreRounds first (all_writes offer.now.lists.now) offer.now.nodes
+        (low_in N.number offer.now) (marks N.number l.near.items) (marks N.number l.far.items)) }
     ensures only { IsOkUnless result OutOfMemory }
 {
     let few = few_rounds(alloc, offer, ends, found, first)?;
@@ -74,8 +75,8 @@ fn few_rounds<N: Number>(
     requires offer { IsTooLarge N.number N.most offer.now }
     requires ends { AreEndsOf N.number offer.now ends }
     requires found { IsCountOffered N.number offer.now found }
-    ensures few { IfOk result (λ few. AreFewAndEnough (is_newest first) N.number offer.now
-        (round_mark (is_newest first) ends.entry.rounds (map N.number ends.entry.numbers.now) offer.now.nodes
+    ensures few { IfOk result (λ few. AreFewAndEnough first N.number offer.now
+        (round_mark first ends.entry.rounds (map N.number ends.entry.numbers.now) offer.now.nodes
         (marks N.number offer.now.low.now))
         ends.entry.rounds few.rounds (few.rounds + 1) few.whole) }
     ensures only { IsOkUnless result OutOfMemory }
@@ -106,9 +107,9 @@ fn look<N: Number>(offer: &Offer<N>, mark: &[N], found: u32, first: First) -> Fo
     requires above { (r : ℕ) → r < offer.now.nodes → marks N.number offer.now.low.now r ≤ marks N.number mark.now r }
     requires found { IsCountOffered N.number offer.now found }
     ensures count { result.count
-        ≡ count_on (round_mode (is_newest first)) N.number offer.now (marks N.number mark.now) }
+        ≡ count_on first N.number offer.now (marks N.number mark.now) }
     ensures fits { IsTrue result.fits
-        ↔ (weight_on (round_mode (is_newest first)) N.number offer.now (marks N.number mark.now)
+        ↔ (weight_on first N.number offer.now (marks N.number mark.now)
         ≤ amount_of offer.now.budget) }
 {
     let above = planes::total_above(offer.cells, offer.nodes, offer.keys, mark, offer.high);
@@ -139,7 +140,7 @@ impl<'a, N: Number> Ends<'a, N> {
         requires count { count ≤ self.now.rounds }
         ensures marks { IfOk result (λ v. HasEach offer.now.nodes
             (λ r n. n
-            ≡ round_mark (is_newest first) self.now.rounds (map N.number self.now.numbers.now) offer.now.nodes
+            ≡ round_mark first self.now.rounds (map N.number self.now.numbers.now) offer.now.nodes
             (marks N.number offer.now.low.now) count r)
             (map N.number v.items)) }
         ensures only { IsOkUnless result OutOfMemory }

@@ -9,11 +9,11 @@ ghost use Rattle.planes.specs.Planes.{HasEach};
 ghost use Rattle.version_tables.specs.inner.OfferInMemory.{cells_in, marks, weights_in, IsOffer};
 ghost use Rattle.version_tables.specs.inner.Plans.{weight_on, IsLevel};
 ghost use Rattle.version_tables.specs.inner.Sharing.{AreShared};
-ghost use Rattle.version_tables.specs.inner.Turns.{part_between, AreTurnsOf, AreKnownCounts, AreTurnsPassed, IsStop};
+ghost use Rattle.version_tables.specs.inner.Turns.{AreTurnsOf, AreKnownCounts, AreTurnsPassed};
+ghost use Rattle.version_tables.specs.inner.Weights.{weight_from};
 
-use crate::stops::{First, Stop};
 use crate::weights::{Level, Offer, Share, number_at};
-use bench_types::{Budget, Fault, Mode};
+use bench_types::{Budget, Fault, First};
 use planes::{Number, all_of, count_some_between};
 use std::alloc::Global;
 
@@ -31,7 +31,7 @@ const MANY: usize = 64;
 // A level that the owners share out in turn from the rotation on.
 #[derive(Drop)]
 struct Turns<'a, N: Number> {
-    mode: Mode,
+    first: First,
     rotation: usize,
     level: &'a Level<N>,
 }
@@ -53,87 +53,66 @@ fn owner_of_turn(turn: usize, nodes: usize, rotation: usize) -> usize
 
 impl<'a, N: Number> Offer<'a, N> {
     // What an owner's part of a level takes, which has so many numbers.
-    fn weight_of_part(&self, mode: Mode, owner: usize, near: N, far: N, count: u32) -> u32
+    fn weight_of_part(&self, first: First, owner: usize, near: N, far: N, count: u32) -> u32
         requires offer { IsOffer N.number N.most self.now }
         requires owner { owner < self.now.nodes }
-        requires count { count ≡ part_between mode (λ _. 1) (cells_in N.number self.now) self.now.keys owner
+        requires count { count ≡ weight_from first (λ _. 1) (cells_in N.number self.now) self.now.keys owner
             (N.number near) (N.number far) }
-        ensures { result ≡ part_between mode (weights_in self.now owner) (cells_in N.number self.now) self.now.keys
+        ensures { result ≡ weight_from first (weights_in self.now owner) (cells_in N.number self.now) self.now.keys
             owner (N.number near) (N.number far) }
     {
         match self.budget {
             Budget::Entries(_) => count,
             Budget::Bytes(_) if count == 0 => 0,
-            Budget::Bytes(_) => match mode {
-                Mode::PreciseNewest => self.weight_of(owner, far, near),
-                Mode::ScuttleBreadth | Mode::ScuttleDepth | Mode::PreciseOldest => {
-                    self.weight_of(owner, near, far)
-                }
+            Budget::Bytes(_) => match first {
+                First::Oldest => self.weight_of(owner, near, far),
+                First::Newest => self.weight_of(owner, far, near),
             },
         }
     }
 
-    // Where an owner's part stops that doesn't fit.
-    fn stop(&self, mode: Mode, owner: usize, near: N, far: N, room: u32) -> Stop<N>
-        requires offer { IsOffer N.number N.most self.now }
-        requires owner { owner < self.now.nodes }
-        requires beyond { room < part_between mode (weights_in self.now owner) (cells_in N.number self.now)
-            self.now.keys owner (N.number near) (N.number far) }
-        ensures { IsStop mode (weights_in self.now owner) (cells_in N.number self.now) self.now.keys owner
-            (N.number near) (N.number far) room (N.number result.mark) result.sent }
-    {
-        match mode {
-            Mode::PreciseNewest => self.stop_from(First::Newest, owner, near, far, room),
-            Mode::ScuttleBreadth | Mode::ScuttleDepth | Mode::PreciseOldest => {
-                self.stop_from(First::Oldest, owner, near, far, room)
-            }
-        }
-    }
-
     // What is sent whole takes so much.
-    fn weight_of_whole(&self, mode: Mode, level: &Level<N>) -> u32
+    fn weight_of_whole(&self, first: First, level: &Level<N>) -> u32
         requires offer { IsOffer N.number N.most self.now }
-        requires level { IsLevel mode N.number self.now level.now }
-        ensures { result ≡ weight_on mode N.number self.now (marks N.number level.now.near.items) }
+        requires level { IsLevel first N.number self.now level.now }
+        ensures { result ≡ weight_on first N.number self.now (marks N.number level.now.near.items) }
     {
-        match mode {
-            Mode::PreciseNewest => self.weight(level.whole, &level.near, self.high),
-            Mode::ScuttleBreadth | Mode::ScuttleDepth | Mode::PreciseOldest => {
-                self.weight(level.whole, self.low, &level.near)
-            }
+        match first {
+            First::Oldest => self.weight(level.whole, self.low, &level.near),
+            First::Newest => self.weight(level.whole, &level.near, self.high),
         }
     }
 
     // How many numbers the parts of some owners have, from a first one on.
-    fn count_parts(&self, mode: Mode, level: &Level<N>, first: usize, counts: &mut [N])
+    fn count_parts(&self, first: First, level: &Level<N>, start: usize, counts: &mut [N])
         requires offer { IsOffer N.number N.most self.now }
-        requires level { IsLevel mode N.number self.now level.now }
-        requires part { first + length counts.old ≤ self.now.nodes }
-        ensures { HasEach (length counts.old) (λ r n. n ≡ part_between mode (λ _. 1) (cells_in N.number self.now)
-            self.now.keys (first + r) (marks N.number level.now.near.items (first + r))
-            (marks N.number level.now.far.items (first + r))) (map N.number counts.new) }
+        requires level { IsLevel first N.number self.now level.now }
+        requires part { start + length counts.old ≤ self.now.nodes }
+        ensures { HasEach (length counts.old) (λ r n. n ≡ weight_from first (λ _. 1) (cells_in N.number self.now)
+            self.now.keys (start + r) (marks N.number level.now.near.items (start + r))
+            (marks N.number level.now.far.items (start + r))) (map N.number counts.new) }
     {
-        match mode {
-            Mode::PreciseNewest => {
+        match first {
+            First::Oldest => {
                 count_some_between(
                     counts,
                     self.cells,
                     self.nodes,
                     self.keys,
-                    first,
-                    &level.far,
+                    start,
                     &level.near,
+                    &level.far,
                 );
             }
-            Mode::ScuttleBreadth | Mode::ScuttleDepth | Mode::PreciseOldest => {
+            First::Newest => {
                 count_some_between(
                     counts,
                     self.cells,
                     self.nodes,
                     self.keys,
-                    first,
-                    &level.near,
+                    start,
                     &level.far,
+                    &level.near,
                 );
             }
         }
@@ -144,12 +123,12 @@ impl<'a, N: Number> Offer<'a, N> {
         requires offer { IsOffer N.number N.most self.now }
         requires turns { AreTurnsOf N.number self.now turns.now }
         requires owner { owner < self.now.nodes }
-        requires counts { AreKnownCounts turns.now.mode N.number N.most self.now turns.now.level.now
+        requires counts { AreKnownCounts turns.now.first N.number N.most self.now turns.now.level.now
             (map N.number counts.old) }
-        ensures count { result ≡ part_between turns.now.mode (λ _. 1) (cells_in N.number self.now) self.now.keys owner
+        ensures count { result ≡ weight_from turns.now.first (λ _. 1) (cells_in N.number self.now) self.now.keys owner
             (marks N.number turns.now.level.now.near.items owner)
             (marks N.number turns.now.level.now.far.items owner) }
-        ensures counts { AreKnownCounts turns.now.mode N.number N.most self.now turns.now.level.now
+        ensures counts { AreKnownCounts turns.now.first N.number N.most self.now turns.now.level.now
             (map N.number counts.new) }
     {
         let known = number_at(counts, owner);
@@ -158,7 +137,7 @@ impl<'a, N: Number> Offer<'a, N> {
         }
         let end = (owner + MANY).min(self.nodes);
         let some = &mut counts[owner..end];
-        self.count_parts(turns.mode, turns.level, owner, some);
+        self.count_parts(turns.first, turns.level, owner, some);
         number_at(counts, owner).widen()
     }
 
@@ -166,17 +145,17 @@ impl<'a, N: Number> Offer<'a, N> {
     fn pass_turns(&self, turns: &Turns<N>, counts: &mut [N], mark: &mut [N], room: u32) -> Passed
         requires offer { IsOffer N.number N.most self.now }
         requires turns { AreTurnsOf N.number self.now turns.now }
-        requires counts { AreKnownCounts turns.now.mode N.number N.most self.now turns.now.level.now
+        requires counts { AreKnownCounts turns.now.first N.number N.most self.now turns.now.level.now
             (map N.number counts.old) }
         requires mark { mark.old ≡ turns.now.level.now.near.items }
-        requires room { weight_on turns.now.mode N.number self.now
+        requires room { weight_on turns.now.first N.number self.now
             (marks N.number turns.now.level.now.near.items) + room ≡ amount_of self.now.budget }
         ensures owner { result.owner < self.now.nodes }
         ensures size { length mark.new ≡ self.now.nodes }
-        ensures passed { AreTurnsPassed turns.now.mode N.number self.now turns.now.rotation
+        ensures passed { AreTurnsPassed turns.now.first N.number self.now turns.now.rotation
             (marks N.number turns.now.level.now.near.items) (marks N.number turns.now.level.now.far.items)
             (marks N.number mark.new) (rotated self.now.nodes turns.now.rotation result.owner) result.left result.sent }
-        ensures beyond { result.left < part_between turns.now.mode (weights_in self.now result.owner)
+        ensures beyond { result.left < weight_from turns.now.first (weights_in self.now result.owner)
             (cells_in N.number self.now) self.now.keys result.owner
             (marks N.number turns.now.level.now.near.items result.owner)
             (marks N.number turns.now.level.now.far.items result.owner) }
@@ -188,7 +167,7 @@ impl<'a, N: Number> Offer<'a, N> {
             let near = number_at(&turns.level.near, owner);
             let far = number_at(&turns.level.far, owner);
             let count = self.count_of_part(turns, counts, owner);
-            let weight = self.weight_of_part(turns.mode, owner, near, far, count);
+            let weight = self.weight_of_part(turns.first, owner, near, far, count);
             if left < weight {
                 return Passed { owner, left, sent };
             }
@@ -203,20 +182,20 @@ impl<'a, N: Number> Offer<'a, N> {
     fn share_into(&self, turns: &Turns<N>, counts: &mut [N], mark: &mut [N]) -> u32
         requires offer { IsOffer N.number N.most self.now }
         requires turns { AreTurnsOf N.number self.now turns.now }
-        requires counts { AreKnownCounts turns.now.mode N.number N.most self.now turns.now.level.now
+        requires counts { AreKnownCounts turns.now.first N.number N.most self.now turns.now.level.now
             (map N.number counts.old) }
         requires mark { mark.old ≡ turns.now.level.now.near.items }
         ensures size { length mark.new ≡ self.now.nodes }
-        ensures shared { AreShared turns.now.mode turns.now.rotation N.number self.now
+        ensures shared { AreShared turns.now.first turns.now.rotation N.number self.now
             (marks N.number turns.now.level.now.near.items) (marks N.number turns.now.level.now.far.items)
             (marks N.number mark.new) result }
     {
-        let room = self.budget.amount() - self.weight_of_whole(turns.mode, turns.level);
+        let room = self.budget.amount() - self.weight_of_whole(turns.first, turns.level);
         let passed = self.pass_turns(turns, counts, mark, room);
         let owner = passed.owner;
         let near = number_at(&turns.level.near, owner);
         let far = number_at(&turns.level.far, owner);
-        let stop = self.stop(turns.mode, owner, near, far, passed.left);
+        let stop = self.stop_from(turns.first, owner, near, far, passed.left);
         mark[owner] = stop.mark;
         passed.sent + stop.sent
     }
@@ -227,21 +206,21 @@ pub(crate) fn share<N: Number>(
     alloc: Global,
     offer: &Offer<N>,
     level: &Level<N>,
-    mode: Mode,
+    first: First,
     rotation: usize,
 ) -> Result<Share<N>, Fault>
     requires offer { IsOffer N.number N.most offer.now }
-    requires level { IsLevel mode N.number offer.now level.now }
+    requires level { IsLevel first N.number offer.now level.now }
     requires rotation { rotation < offer.now.nodes }
     ensures size { IfOk result (λ s. length s.mark.items ≡ offer.now.nodes) }
-    ensures shared { IfOk result (λ s. AreShared mode rotation N.number offer.now (marks N.number level.now.near.items)
+    ensures shared { IfOk result (λ s. AreShared first rotation N.number offer.now (marks N.number level.now.near.items)
         (marks N.number level.now.far.items) (marks N.number s.mark.items) s.sent) }
     ensures only { IsOkUnless result OutOfMemory }
 {
     let mut counts = all_of(alloc, offer.nodes, N::greatest())?;
     let mut mark = Vec::from_slice(alloc, &level.near)?;
     let turns = Turns {
-        mode,
+        first,
         rotation,
         level,
     };

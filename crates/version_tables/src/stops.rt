@@ -2,17 +2,12 @@
 
 ghost use Rattle.std.specs.Prelude.{◌≡◌, ℕ, ◌+◌, ◌-◌, ◌*◌, ◌<◌, ◌≤◌, length};
 ghost use Rattle.version_tables.specs.inner.OfferInMemory.{cells_in, weights_in, IsOffer};
-ghost use Rattle.version_tables.specs.inner.Stops.{is_newest, weight_from, HasBetween, HasNext, IsNext, IsNextUp, IsNextDown, IsPast, IsStopFrom};
+ghost use Rattle.version_tables.specs.inner.Stops.{HasBetween, HasNext, IsNext, IsNextUp, IsNextDown, IsPast, IsStopFrom};
+ghost use Rattle.version_tables.specs.inner.Weights.{weight_from};
 
 use crate::weights::Offer;
+use bench_types::First;
 use planes::Number;
-
-/// What is sent first.
-#[derive(Clone, Copy)]
-pub(crate) enum First {
-    Oldest,
-    Newest,
-}
 
 /// The mark where an owner's part stops, and how many numbers it lets through of it.
 #[derive(Clone, Copy)]
@@ -62,9 +57,9 @@ impl<'a, N: Number> Offer<'a, N> {
     fn next(&self, first: First, owner: usize, near: N, far: N) -> N
         requires offer { IsOffer N.number N.most self.now }
         requires owner { owner < self.now.nodes }
-        requires some { HasNext (is_newest first) (cells_in N.number self.now) self.now.keys owner
+        requires some { HasNext first (cells_in N.number self.now) self.now.keys owner
             (N.number near) (N.number far) }
-        ensures { IsNext (is_newest first) (cells_in N.number self.now) self.now.keys owner
+        ensures { IsNext first (cells_in N.number self.now) self.now.keys owner
             (N.number near) (N.number far) (N.number result) }
     {
         match first {
@@ -84,9 +79,9 @@ impl<'a, N: Number> Offer<'a, N> {
     ) -> Stop<N>
         requires offer { IsOffer N.number N.most self.now }
         requires owner { owner < self.now.nodes }
-        requires beyond { room < weight_from (is_newest first) (weights_in self.now owner) (cells_in N.number self.now)
+        requires beyond { room < weight_from first (weights_in self.now owner) (cells_in N.number self.now)
             self.now.keys owner (N.number near) (N.number far) }
-        ensures { IsStopFrom (is_newest first) (weights_in self.now owner) (cells_in N.number self.now)
+        ensures { IsStopFrom first (weights_in self.now owner) (cells_in N.number self.now)
             self.now.keys owner (N.number near) (N.number far) room (N.number result.mark) result.sent }
     {
         let mut mark = near;
@@ -109,7 +104,7 @@ impl<'a, N: Number> Offer<'a, N> {
 fn mark_past<N: Number>(first: First, number: N) -> N
     requires some { 0 < N.number number }
     requires fits { N.number number ≤ N.most }
-    ensures { IsPast (is_newest first) (N.number number) (N.number result) }
+    ensures { IsPast first (N.number number) (N.number result) }
 {
     match first {
         First::Oldest => number,

@@ -6,8 +6,10 @@ use Rattle.std.specs.Ordering.{nat_cmp, ordering_then}
 use Rattle.std.specs.declared.cmp.Ordering.{Ordering}
 use Rattle.bench_types.specs.declared.entries.Item.{Item}
 use Rattle.bench_types.specs.declared.exchanges.Budget.{Budget}
+use Rattle.bench_types.specs.declared.exchanges.First.{First}
+use Rattle.bench_types.specs.declared.exchanges.First.TheVariants.{Oldest, Newest}
 use Rattle.bench_types.specs.declared.exchanges.Mode.{Mode}
-use Rattle.bench_types.specs.declared.exchanges.Mode.TheVariants.{ScuttleBreadth, ScuttleDepth, PreciseOldest, PreciseNewest}
+use Rattle.bench_types.specs.Mode.{first_sent}
 use Rattle.reconcile.specs.declared.candidates.Candidate.{Candidate}
 use Rattle.model.specs.Deltas.{DeltaView}
 use Rattle.reconcile.specs.inner.Parcels.{first_within}
@@ -23,17 +25,15 @@ abbrev pub reversed : ℕ → ℕ
 reversed n = 4294967295 - n
 
 -- a round or a version as a number that is smaller where it comes first
-abbrev pub age_first : Mode → ℕ → ℕ
-age_first ScuttleBreadth age = age
-age_first ScuttleDepth age = age
-age_first PreciseOldest age = age
-age_first PreciseNewest age = reversed age
+abbrev pub age_first : First → ℕ → ℕ
+age_first Oldest age = age
+age_first Newest age = reversed age
 
 -- a candidate with its numbers
 pub record IsSet (mode : Mode) (nodes rotation : ℕ) (c : Candidate) : Type 0 where
-  pub first : c.first ≡ age_first mode c.item.entry.born
+  pub first : c.first ≡ age_first (first_sent mode) c.item.entry.born
   pub turn : c.turn ≡ rotated nodes rotation c.item.owner
-  pub second : c.second ≡ age_first mode c.item.entry.version
+  pub second : c.second ≡ age_first (first_sent mode) c.item.entry.version
   pub version_fits : c.item.entry.version < 2 ^ 32
   pub born_fits : c.item.entry.born < 2 ^ 32
 

@@ -1,16 +1,18 @@
 -- Levels of what is offered, as marks: near marks let through whole levels, and far marks one level more, which doesn't
 -- fit. Source: this project.
 use Rattle.std.specs.Prelude.{◌≡◌, ◌⊎◌, ℕ, ◌+◌, ◌*◌, ◌<◌, ◌≤◌, nat_eq, nat_lt, length, if◌then◌else◌}
-use Rattle.bench_types.specs.declared.exchanges.Mode.{Mode}
-use Rattle.bench_types.specs.declared.exchanges.Mode.TheVariants.{ScuttleBreadth, ScuttleDepth, PreciseOldest, PreciseNewest}
+use Rattle.bench_types.specs.declared.exchanges.First.{First}
+use Rattle.bench_types.specs.declared.exchanges.First.TheVariants.{Oldest}
 use Rattle.bench_types.specs.Budget.{amount_of}
 use Rattle.planes.specs.Planes.{Cells, HasNoneAbove, IsLeastAbove}
 use Rattle.bench_types.specs.Sums.{sum_below}
 use Rattle.version_tables.specs.declared.weights.Offer.{Offer}
 use Rattle.version_tables.specs.declared.weights.Level.{Level}
 use Rattle.version_tables.specs.declared.weights.Step.{Step}
-use Rattle.version_tables.specs.inner.OfferInMemory.{cells_in, low_in, high_in, owner_count_in, marks, weight_in, count_in}
-use Rattle.version_tables.specs.inner.LevelMarks.{IsLayerMark, IsRunMark}
+use Rattle.version_tables.specs.inner.OfferInMemory.{cells_in, low_in, high_in, owner_count_in, marks, weights_in, weight_in, count_in}
+use Rattle.version_tables.specs.inner.LevelMarks.{IsLayerMark, AreLayers, AreRuns}
+use Rattle.version_tables.specs.inner.Stops.{IsOn}
+use Rattle.version_tables.specs.inner.Weights.{weight_through, one_each}
 
 -- a mark goes on to the owner's next number, or stays where there is none
 abbrev pub IsNextMark : Cells → ℕ → ℕ → ℕ → ℕ → Type 0
@@ -21,65 +23,42 @@ IsNextMark cells keys owner mark next =
 abbrev pub raised : ℕ → (ℕ → ℕ) → (ℕ → ℕ) → ℕ
 raised nodes mark next = sum_below nodes (λ owner. if nat_lt (mark owner) (next owner) then 1 else 0)
 
--- what marks let through: what is up to them, or in `PreciseNewest` above them
-abbrev pub weight_on : {N : Type 0} → Mode → (N → ℕ) → Offer N → (ℕ → ℕ) → ℕ
-weight_on ScuttleBreadth number offer mark = weight_in number offer (low_in number offer) mark
-weight_on ScuttleDepth number offer mark = weight_in number offer (low_in number offer) mark
-weight_on PreciseOldest number offer mark = weight_in number offer (low_in number offer) mark
-weight_on PreciseNewest number offer mark = weight_in number offer mark (high_in number offer)
+-- what marks let through takes so much of the budget, and is so many numbers
+abbrev pub weight_on : {N : Type 0} → First → (N → ℕ) → Offer N → (ℕ → ℕ) → ℕ
+weight_on first number offer mark =
+    weight_through first (weights_in offer) (cells_in number offer) offer.nodes offer.keys (low_in number offer)
+    (high_in number offer) mark
 
-abbrev pub count_on : {N : Type 0} → Mode → (N → ℕ) → Offer N → (ℕ → ℕ) → ℕ
-count_on ScuttleBreadth number offer mark = count_in number offer (low_in number offer) mark
-count_on ScuttleDepth number offer mark = count_in number offer (low_in number offer) mark
-count_on PreciseOldest number offer mark = count_in number offer (low_in number offer) mark
-count_on PreciseNewest number offer mark = count_in number offer mark (high_in number offer)
+abbrev pub count_on : {N : Type 0} → First → (N → ℕ) → Offer N → (ℕ → ℕ) → ℕ
+count_on first number offer mark =
+    weight_through first one_each (cells_in number offer) offer.nodes offer.keys (low_in number offer)
+    (high_in number offer) mark
 
--- far marks let through all that near marks do
-abbrev pub AreFarther : Mode → ℕ → ℕ → ℕ → Type 0
-AreFarther ScuttleBreadth low near far = (low ≤ near) × (near ≤ far)
-AreFarther ScuttleDepth low near far = (low ≤ near) × (near ≤ far)
-AreFarther PreciseOldest low near far = (low ≤ near) × (near ≤ far)
-AreFarther PreciseNewest low near far = (low ≤ far) × (far ≤ near)
+-- far marks, which let through all that near marks do; none is below the low one
+abbrev pub AreFarther : First → ℕ → ℕ → ℕ → Type 0
+AreFarther first low near far = (low ≤ near) × (low ≤ far) × IsOn first near far
 
 -- near marks, which let through so many, and far marks, which are the first that let through more than fits
-pub record IsLevel {N : Type 0} (mode : Mode) (number : N → ℕ) (offer : Offer N) (level : Level N) : Type 0 where
+pub record IsLevel {N : Type 0} (first : First) (number : N → ℕ) (offer : Offer N) (level : Level N) : Type 0 where
   pub near : length level.near.items ≡ offer.nodes
   pub far : length level.far.items ≡ offer.nodes
   pub farther : (owner : ℕ) → owner < offer.nodes
-      → AreFarther mode (low_in number offer owner) (marks number level.near.items owner)
+      → AreFarther first (low_in number offer owner) (marks number level.near.items owner)
       (marks number level.far.items owner)
-  pub whole : level.whole ≡ count_on mode number offer (marks number level.near.items)
-  pub within : weight_on mode number offer (marks number level.near.items) ≤ amount_of offer.budget
-  pub beyond : amount_of offer.budget < weight_on mode number offer (marks number level.far.items)
-
--- near marks let through so many layers, and far marks one more
-pub record AreLayers {N : Type 0} (number : N → ℕ) (offer : Offer N) (level : Level N) : Type 0 where
-  pub layers : ℕ
-  pub near : (owner : ℕ) → owner < offer.nodes
-      → IsLayerMark (cells_in number offer) offer.keys owner (low_in number offer owner) layers
-      (marks number level.near.items owner)
-  pub far : (owner : ℕ) → owner < offer.nodes
-      → IsLayerMark (cells_in number offer) offer.keys owner (low_in number offer owner) (layers + 1)
-      (marks number level.far.items owner)
-
--- near marks let through the runs that are longer than one length, and far marks those of that length too
-pub record AreRuns {N : Type 0} (number : N → ℕ) (offer : Offer N) (level : Level N) : Type 0 where
-  pub size : ℕ
-  pub near : (owner : ℕ) → owner < offer.nodes
-      → IsRunMark (cells_in number offer) offer.keys owner (low_in number offer owner) (size + 1)
-      (marks number level.near.items owner)
-  pub far : (owner : ℕ) → owner < offer.nodes
-      → IsRunMark (cells_in number offer) offer.keys owner (low_in number offer owner) size
-      (marks number level.far.items owner)
+  pub whole : level.whole ≡ count_on first number offer (marks number level.near.items)
+  pub within : weight_on first number offer (marks number level.near.items) ≤ amount_of offer.budget
+  pub beyond : amount_of offer.budget < weight_on first number offer (marks number level.far.items)
 
 -- a level of layers, and one of runs
 pub record IsLevelOfLayers {N : Type 0} (number : N → ℕ) (offer : Offer N) (level : Level N) : Type 0 where
-  pub is_level : IsLevel ScuttleBreadth number offer level
-  pub of_layers : AreLayers number offer level
+  pub is_level : IsLevel Oldest number offer level
+  pub of_layers : AreLayers (cells_in number offer) offer.nodes offer.keys (low_in number offer)
+      (marks number level.near.items) (marks number level.far.items)
 
 pub record IsLevelOfRuns {N : Type 0} (number : N → ℕ) (offer : Offer N) (level : Level N) : Type 0 where
-  pub is_level : IsLevel ScuttleDepth number offer level
-  pub of_runs : AreRuns number offer level
+  pub is_level : IsLevel Oldest number offer level
+  pub of_runs : AreRuns (cells_in number offer) offer.nodes offer.keys (low_in number offer)
+      (marks number level.near.items) (marks number level.far.items)
 
 -- layers as far as they were gone over: the first fit, and the next is known
 pub record AreLayersSoFar {N : Type 0} (number : N → ℕ) (offer : Offer N) (near far : ℕ → ℕ)

@@ -1,22 +1,15 @@
 -- Levels of rounds, as marks. Source: this project.
-use Rattle.std.specs.Prelude.{◌≡◌, ℕ, ◌+◌, ◌-◌, ◌<◌, ◌≤◌, Bool, true, false, max, map, List, if◌then◌else◌}
-use Rattle.bench_types.specs.declared.exchanges.Mode.{Mode}
-use Rattle.bench_types.specs.declared.exchanges.Mode.TheVariants.{PreciseOldest, PreciseNewest}
+use Rattle.std.specs.Prelude.{◌≡◌, ℕ, ◌-◌, ◌<◌, ◌≤◌, max, map, List}
+use Rattle.bench_types.specs.declared.exchanges.First.{First}
+use Rattle.bench_types.specs.declared.exchanges.First.TheVariants.{Oldest, Newest}
 use Rattle.bench_types.specs.Budget.{amount_of}
 use Rattle.model.specs.OwnerListView.{all_writes}
 use Rattle.planes.specs.Planes.{cell}
 use Rattle.version_tables.specs.declared.rounds.Ends.{Ends}
 use Rattle.version_tables.specs.declared.weights.Offer.{Offer}
-use Rattle.version_tables.specs.declared.weights.Level.{Level}
 use Rattle.version_tables.specs.inner.Histories.{AreMadeBy}
-use Rattle.version_tables.specs.inner.OfferInMemory.{marks}
 use Rattle.version_tables.specs.inner.Plans.{weight_on, count_on}
 use Rattle.version_tables.specs.inner.RoundEnds.{AreEnds}
-use Rattle.version_tables.specs.inner.LevelMarks.{IsRoundMark}
-
-abbrev pub round_mode : Bool → Mode
-round_mode true = PreciseNewest
-round_mode false = PreciseOldest
 
 -- where the rounds end in which all that is offered was written
 pub record AreEndsOf {N : Type 0} (number : N → ℕ) (offer : Offer N) (ends : Ends N) : Type 0 where
@@ -24,31 +17,22 @@ pub record AreEndsOf {N : Type 0} (number : N → ℕ) (offer : Offer N) (ends :
   pub made : (owner : ℕ) → AreMadeBy ends.rounds (all_writes offer.lists.now owner)
 
 -- the round that so many rounds from the oldest on end with, or before which so many from the newest on begin
-abbrev pub round_at : Bool → ℕ → ℕ → ℕ
-round_at newest rounds count = if newest then rounds - count else count
+abbrev pub round_at : First → ℕ → ℕ → ℕ
+round_at Oldest rounds count = count
+round_at Newest rounds count = rounds - count
 
 -- an owner's mark at a round's end, but none below its low mark
 abbrev pub end_mark : List ℕ → ℕ → (ℕ → ℕ) → ℕ → ℕ → ℕ
 end_mark ends nodes low round owner = max (low owner) (cell ends nodes owner round)
 
-abbrev pub round_mark : Bool → ℕ → List ℕ → ℕ → (ℕ → ℕ) → ℕ → ℕ → ℕ
-round_mark newest rounds ends nodes low count owner = end_mark ends nodes low (round_at newest rounds count) owner
+abbrev pub round_mark : First → ℕ → List ℕ → ℕ → (ℕ → ℕ) → ℕ → ℕ → ℕ
+round_mark first rounds ends nodes low count owner = end_mark ends nodes low (round_at first rounds count) owner
 
 -- a few rounds fit, which have so many numbers, and enough rounds don't
-pub record AreFewAndEnough {N : Type 0} (newest : Bool) (number : N → ℕ) (offer : Offer N) (mark : ℕ → ℕ → ℕ)
+pub record AreFewAndEnough {N : Type 0} (first : First) (number : N → ℕ) (offer : Offer N) (mark : ℕ → ℕ → ℕ)
     (rounds few enough whole : ℕ) : Type 0 where
   pub below : few < enough
   pub bound : enough ≤ rounds
-  pub counted : whole ≡ count_on (round_mode newest) number offer (mark few)
-  pub within : weight_on (round_mode newest) number offer (mark few) ≤ amount_of offer.budget
-  pub beyond : amount_of offer.budget < weight_on (round_mode newest) number offer (mark enough)
-
--- near and far marks part each owner's writes by two rounds, one after the other
-pub record AreRounds {N : Type 0} (newest : Bool) (number : N → ℕ) (offer : Offer N) (level : Level N) : Type 0 where
-  pub round : ℕ
-  pub near : (owner : ℕ) → owner < offer.nodes
-      → IsRoundMark (all_writes offer.lists.now owner) (marks number offer.low.now owner)
-      (if newest then round + 1 else round) (marks number level.near.items owner)
-  pub far : (owner : ℕ) → owner < offer.nodes
-      → IsRoundMark (all_writes offer.lists.now owner) (marks number offer.low.now owner)
-      (if newest then round else round + 1) (marks number level.far.items owner)
+  pub counted : whole ≡ count_on first number offer (mark few)
+  pub within : weight_on first number offer (mark few) ≤ amount_of offer.budget
+  pub beyond : amount_of offer.budget < weight_on first number offer (mark enough)

@@ -1,54 +1,48 @@
 -- The owners' turns in a level, from the rotation on. Source: this project.
 use Rattle.std.specs.Prelude.{◌≡◌, ◌⊎◌, ℕ, ◌+◌, ◌<◌, ◌≤◌, List, true, false}
-use Rattle.bench_types.specs.declared.exchanges.Mode.{Mode}
-use Rattle.bench_types.specs.declared.exchanges.Mode.TheVariants.{ScuttleBreadth, ScuttleDepth, PreciseOldest, PreciseNewest}
+use Rattle.bench_types.specs.declared.exchanges.First.{First}
 use Rattle.bench_types.specs.Budget.{amount_of}
 use Rattle.planes.specs.Planes.{Cells, HasEach}
 use Rattle.model.specs.Order.{rotated}
 use Rattle.version_tables.specs.declared.sharing.Turns.{Turns}
 use Rattle.version_tables.specs.declared.weights.Level.{Level}
 use Rattle.version_tables.specs.declared.weights.Offer.{Offer}
-use Rattle.version_tables.specs.inner.Levels.{comes_first}
+use Rattle.version_tables.specs.inner.Firsts.{comes_first}
 use Rattle.version_tables.specs.inner.OfferInMemory.{cells_in, marks}
-use Rattle.version_tables.specs.inner.Plans.{weight_on, count_on, AreFarther, IsLevel}
+use Rattle.version_tables.specs.inner.Plans.{weight_on, count_on, IsLevel}
 use Rattle.version_tables.specs.inner.LevelMarks.{lets_through}
-use Rattle.version_tables.specs.inner.Weights.{weight_of}
-
--- what an owner's part between a near and a far mark weighs
-abbrev pub part_between : Mode → (ℕ → ℕ) → Cells → ℕ → ℕ → ℕ → ℕ → ℕ
-part_between ScuttleBreadth weight cells keys owner near far = weight_of weight cells keys owner near far
-part_between ScuttleDepth weight cells keys owner near far = weight_of weight cells keys owner near far
-part_between PreciseOldest weight cells keys owner near far = weight_of weight cells keys owner near far
-part_between PreciseNewest weight cells keys owner near far = weight_of weight cells keys owner far near
+use Rattle.version_tables.specs.inner.Stops.{IsOn}
+use Rattle.version_tables.specs.inner.Weights.{weight_from}
 
 -- how many numbers each owner's part of a level has, or the most where that isn't known
-abbrev pub AreKnownCounts : {N : Type 0} → Mode → (N → ℕ) → ℕ → Offer N → Level N → List ℕ → Type 0
-AreKnownCounts mode number most offer level counts =
-    HasEach offer.nodes (λ r n. (n ≡ most) ⊎ (n ≡ part_between mode (λ _. 1) (cells_in number offer) offer.keys r
+abbrev pub AreKnownCounts : {N : Type 0} → First → (N → ℕ) → ℕ → Offer N → Level N → List ℕ → Type 0
+AreKnownCounts first number most offer level counts =
+    HasEach offer.nodes (λ r n. (n ≡ most) ⊎ (n ≡ weight_from first (λ _. 1) (cells_in number offer) offer.keys r
     (marks number level.near.items r) (marks number level.far.items r))) counts
 
 -- a level that is shared out in turn from a rotation on
 pub record AreTurnsOf {N : Type 0} (number : N → ℕ) (offer : Offer N) (turns : Turns N) : Type 0 where
   pub rotation : turns.rotation < offer.nodes
-  pub level : IsLevel turns.mode number offer turns.level.now
+  pub level : IsLevel turns.first number offer turns.level.now
 
 -- owners whose turn has come have the far mark, and the others the near one
-pub record AreTurnsPassed {N : Type 0} (mode : Mode) (number : N → ℕ) (offer : Offer N) (rotation : ℕ)
+pub record AreTurnsPassed {N : Type 0} (first : First) (number : N → ℕ) (offer : Offer N) (rotation : ℕ)
     (near far mark : ℕ → ℕ) (turn room sent : ℕ) : Type 0 where
   pub passed : (r : ℕ) → r < offer.nodes → rotated offer.nodes rotation r < turn → mark r ≡ far r
   pub waiting : (r : ℕ) → r < offer.nodes → turn ≤ rotated offer.nodes rotation r → mark r ≡ near r
-  pub left : weight_on mode number offer mark + room ≡ amount_of offer.budget
-  pub count : sent ≡ count_on mode number offer mark
+  pub left : weight_on first number offer mark + room ≡ amount_of offer.budget
+  pub count : sent ≡ count_on first number offer mark
 
 -- an owner's mark that stops at the first number of its part that doesn't fit into some room
-pub record IsStop (mode : Mode) (weight : ℕ → ℕ) (cells : Cells) (keys owner near far room mark sent : ℕ) : Type 0 where
+pub record IsStop (first : First) (weight : ℕ → ℕ) (cells : Cells)
+    (keys owner near far room mark sent : ℕ) : Type 0 where
   pub key : ℕ
   pub in_keys : key < keys
-  pub outside : lets_through mode near (cells owner key) ≡ false
-  pub inside : lets_through mode far (cells owner key) ≡ true
+  pub outside : lets_through first near (cells owner key) ≡ false
+  pub inside : lets_through first far (cells owner key) ≡ true
   pub own : (k : ℕ) → k < keys
-      → lets_through mode mark (cells owner k) ≡ comes_first mode (cells owner k) (cells owner key)
-  pub between : AreFarther mode 0 near mark × AreFarther mode 0 mark far
-  pub within : part_between mode weight cells keys owner near mark ≤ room
-  pub beyond : room < part_between mode weight cells keys owner near mark + weight (cells owner key)
-  pub count : sent ≡ part_between mode (λ _. 1) cells keys owner near mark
+      → lets_through first mark (cells owner k) ≡ comes_first first (cells owner k) (cells owner key)
+  pub between : IsOn first near mark × IsOn first mark far
+  pub within : weight_from first weight cells keys owner near mark ≤ room
+  pub beyond : room < weight_from first weight cells keys owner near mark + weight (cells owner key)
+  pub count : sent ≡ weight_from first (λ _. 1) cells keys owner near mark

@@ -95,7 +95,7 @@ returns-clause-level g c =
       };
       of_layers = record {
         layers = c.loop-alloc.invariant.so_far.layers;
-        near = c.loop-alloc.invariant.so_far.layered;
-        far = layers-far g.N.Number.number g.N.Number.most c.args.offer.now c.requires.offer.is_offer (marks g.N.Number.number c.loop-alloc.near.items) (marks g.N.Number.number c.loop-alloc.far.items) c.loop-alloc.whole c.loop-alloc.more c.loop-alloc.invariant.so_far;
+        near_is = c.loop-alloc.invariant.so_far.layered;
+        far_is = layers-far g.N.Number.number g.N.Number.most c.args.offer.now c.requires.offer.is_offer (marks g.N.Number.number c.loop-alloc.near.items) (marks g.N.Number.number c.loop-alloc.far.items) c.loop-alloc.whole c.loop-alloc.more c.loop-alloc.invariant.so_far;
       };
     }

@@ -8,7 +8,8 @@ use Rattle.model.specs.OwnerListView.{all_writes}
 use Rattle.planes.specs.Planes.{cell, number_ahead, total_above, HasEach, HasEachPlace}
 use Rattle.version_tables.specs.Views.{VersionTableView, table_in}
 use Rattle.version_tables.specs.inner.Deltas.{delta_of_views, is_taken_at, AreMarksOf}
-use Rattle.version_tables.specs.inner.Marked.{low_list, high_list, AreOffered}
+use Rattle.version_tables.specs.inner.Firsts.{by_first}
+use Rattle.version_tables.specs.inner.Marked.{AreOffered}
 use Rattle.version_tables.specs.inner.Offers.{told_number}
 use Rattle.version_tables.specs.inner.Taken.{AreSent}
 use Rattle.version_tables.proofs.deltas.delta.Goals as goal
@@ -71,9 +72,8 @@ same_marks rules rotation written from to low high low' high' sent cut sent' cut
 pub returns-clause-delta : goal.returns-clause-delta
 returns-clause-delta g c =
     let number = g.N.Number.number in
-    let mode = c.args.rules.now.mode in
     let marked = c.in_ok-marked.marked in
     same_marks c.args.rules.now c.args.rotation g.H.Written.lists c.args.sender.now c.args.receiver.now _ _ _ _ _ _ _ _
-    (c.in_ok-marks.ensures.low ∙ ap (λ low. low_list mode (map number low) (map number marked.mark.items)) (sym c.deref-3.ensures.value))
-    (c.in_ok-marks.ensures.high ∙ ap (high_list mode (map number marked.mark.items)) c.greatest.ensures.value)
+    (c.in_ok-marks.ensures.low ∙ (λ i. by_first (c.first.ensures i) (map number (sym c.deref-3.ensures.value i)) (map number marked.mark.items)))
+    (c.in_ok-marks.ensures.high ∙ (λ i. by_first (c.first.ensures i) (map number marked.mark.items) (c.greatest.ensures.value i)))
     (ap (λ (n : DeltaCounts). n.sent) c.in_ok-marks.ensures.counts) (ap (λ (n : DeltaCounts). n.cut) c.in_ok-marks.ensures.counts) c.in_ok-marked.ensures.marks

@@ -1,8 +1,9 @@
 use Rattle.std.proofs.Common.{refl, sym, ap, ◌∙◌, subst, map}
 use Rattle.std.proofs.lemmas.List.{length-map}
+use Rattle.bench_types.specs.Mode.{first_sent}
 use Rattle.planes.specs.Planes.{cell, total_above}
 use Rattle.version_tables.specs.inner.Deltas.{AreMarksOf}
-use Rattle.version_tables.specs.inner.Marked.{low_list, high_list}
+use Rattle.version_tables.specs.inner.Firsts.{by_first}
 use Rattle.version_tables.specs.inner.OfferInMemory.{marks}
 use Rattle.version_tables.proofs.RoundMarks.{count-newest}
 use Rattle.version_tables.proofs.Delivered.{offer-is, delta-marks}
@@ -27,8 +28,8 @@ planned-requires-clause-found g c κs within =
 pub returns-clause-marks : goal.returns-clause-marks
 returns-clause-marks g c =
     subst (λ highs. AreMarksOf c.args.rules.now c.args.rotation g.H.Written.lists c.args.sender.now c.args.receiver.now
-    (low_list c.args.rules.now.mode (map g.N.Number.number c.args.low.now) (map g.N.Number.number c.in_ok-marked.marked.mark.items))
-    (high_list c.args.rules.now.mode (map g.N.Number.number c.in_ok-marked.marked.mark.items) highs) c.in_ok-marked.marked.counts.sent c.in_ok-marked.marked.counts.cut)
+    (by_first (first_sent c.args.rules.now.mode) (map g.N.Number.number c.args.low.now) (map g.N.Number.number c.in_ok-marked.marked.mark.items))
+    (by_first (first_sent c.args.rules.now.mode) (map g.N.Number.number c.in_ok-marked.marked.mark.items) highs) c.in_ok-marked.marked.counts.sent c.in_ok-marked.marked.counts.cut)
     c.greatest.ensures.value
     (delta-marks g.N.Number.number g.N.Number.most g.H.Written.lists c.args.sender.now c.args.receiver.now c.nodes.ensures.kept c.requires.kept c.args.histories.now c.lists.ensures.so_far
     c.requires.sender c.requires.receiver c.requires.nodes c.requires.keys c.args.rules.now.mode

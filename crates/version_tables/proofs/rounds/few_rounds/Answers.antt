@@ -4,15 +4,14 @@ use Rattle.std.proofs.lemmas.Bool.{cases_lt, both_ways}
 use Rattle.bench_types.specs.Budget.{amount_of}
 use Rattle.version_tables.specs.inner.OfferInMemory.{marks}
 use Rattle.version_tables.specs.inner.Plans.{weight_on}
-use Rattle.version_tables.specs.inner.RoundLevels.{round_mode, round_mark, AreFewAndEnough}
-use Rattle.version_tables.specs.inner.Stops.{is_newest}
+use Rattle.version_tables.specs.inner.RoundLevels.{round_mark, AreFewAndEnough}
 use Rattle.version_tables.proofs.RoundMarks.{begun, further, nearer}
 use Rattle.version_tables.proofs.rounds.few_rounds.Goals as goal
 use Rattle.version_tables.proofs.rounds.few_rounds.Goals.{then-found_there, else-found_there}
 
 pub loop-few-init : goal.loop-few-init
 loop-few-init g c = record {
-  found = begun g.N.Number.number g.N.Number.most c.args.offer.now c.requires.offer.is_offer c.args.ends.rounds (map g.N.Number.number c.args.ends.numbers.now) c.requires.ends.are_ends c.requires.ends.made (is_newest c.args.first) c.requires.offer.beyond;
+  found = begun g.N.Number.number g.N.Number.most c.args.offer.now c.requires.offer.is_offer c.args.ends.rounds (map g.N.Number.number c.args.ends.numbers.now) c.requires.ends.are_ends c.requires.ends.made c.args.first c.requires.offer.beyond;
   step = omega arith;
 }
 
@@ -20,14 +19,14 @@ pub loop-few-preserved : goal.loop-few-preserved
 loop-few-preserved g c =
     let number = g.N.Number.number in
     let there : ℕ → ℕ = marks number c.deref.result.now in
-    let at : ℕ → ℕ → ℕ = λ k owner. round_mark (is_newest c.args.first) c.args.ends.rounds (map number c.args.ends.numbers.now) c.args.offer.now.nodes (marks number c.args.offer.now.low.now) k owner in
+    let at : ℕ → ℕ → ℕ = λ k owner. round_mark c.args.first c.args.ends.rounds (map number c.args.ends.numbers.now) c.args.offer.now.nodes (marks number c.args.offer.now.low.now) k owner in
     let marks_are : (owner : ℕ) → owner < c.args.offer.now.nodes → there owner ≡ at (c.loop-few.few + c.min-by.result) owner =
     λ owner lt. ap (λ xs. get_or (map number xs) owner 0) c.deref.ensures.value ∙ c.in_ok-mark.ensures.marks.each owner lt in
     let some : 0 < c.min-by.result = omega (arith, c.min-by.ensures, c.loop-few.invariant.step, c.loop-few-test.true) in
     let less : c.loop-few.few + c.min-by.result < c.loop-few.enough = omega (arith, c.min-by.ensures, c.loop-few-test.true) in
     elim c.if-found_there.branch [
       | then-found_there w ↦ record {
-        found = further number g.N.Number.most c.args.offer.now c.requires.offer.is_offer c.args.ends.rounds (map number c.args.ends.numbers.now) c.requires.ends.are_ends c.requires.ends.made (is_newest c.args.first)
+        found = further number g.N.Number.most c.args.offer.now c.requires.offer.is_offer c.args.ends.rounds (map number c.args.ends.numbers.now) c.requires.ends.are_ends c.requires.ends.made c.args.first
             c.loop-few.few c.loop-few.enough c.loop-few.whole c.if-found_there.few c.if-found_there.enough c.if-found_there.whole there c.loop-few.invariant.found
             (omega (arith, w.few-is, less)) w.enough-is
             (λ owner lt. marks_are owner lt ∙ ap (λ k. at k owner) (sym w.few-is))
@@ -36,11 +35,11 @@ loop-few-preserved g c =
         step = omega (arith, w.step-is, some);
       }
       | else-found_there w ↦ record {
-        found = nearer number g.N.Number.most c.args.offer.now c.requires.offer.is_offer c.args.ends.rounds (map number c.args.ends.numbers.now) c.requires.ends.are_ends c.requires.ends.made (is_newest c.args.first)
+        found = nearer number g.N.Number.most c.args.offer.now c.requires.offer.is_offer c.args.ends.rounds (map number c.args.ends.numbers.now) c.requires.ends.are_ends c.requires.ends.made c.args.first
             c.loop-few.few c.loop-few.enough c.loop-few.whole c.if-found_there.few c.if-found_there.enough c.if-found_there.whole there c.loop-few.invariant.found
             (omega (arith, w.enough-is, some)) (omega (arith, w.enough-is, less)) w.few-is w.whole-is
             (λ owner lt. marks_are owner lt ∙ ap (λ k. at k owner) (sym w.enough-is))
-            (elim (cases_lt (amount_of c.args.offer.now.budget) (weight_on (round_mode (is_newest c.args.first)) number c.args.offer.now there)) [
+            (elim (cases_lt (amount_of c.args.offer.now.budget) (weight_on c.args.first number c.args.offer.now there)) [
               | inl over ↦ over
               | inr fits ↦ absurd (both_ways c.look-found_there.result.fits w.if-found_there.false (c.look-found_there.ensures.fits.1 (omega (arith, fits))))
             ]);
@@ -91,5 +90,5 @@ loop-few-smaller g c =
 
 pub returns-clause-few : goal.returns-clause-few
 returns-clause-few g c =
-    subst (λ enough. AreFewAndEnough (is_newest c.args.first) g.N.Number.number c.args.offer.now (round_mark (is_newest c.args.first) c.args.ends.rounds (map g.N.Number.number c.args.ends.numbers.now) c.args.offer.now.nodes (marks g.N.Number.number c.args.offer.now.low.now)) c.args.ends.rounds c.loop-few.few enough c.loop-few.whole)
+    subst (λ enough. AreFewAndEnough c.args.first g.N.Number.number c.args.offer.now (round_mark c.args.first c.args.ends.rounds (map g.N.Number.number c.args.ends.numbers.now) c.args.offer.now.nodes (marks g.N.Number.number c.args.offer.now.low.now)) c.args.ends.rounds c.loop-few.few enough c.loop-few.whole)
     {x = c.loop-few.enough} {y = c.loop-few.few + 1} (omega (arith, c.loop-few-test.false, c.loop-few.invariant.found.below)) c.loop-few.invariant.found

@@ -1,18 +1,17 @@
 use Rattle.std.proofs.Common.{refl, sym, map, ◌∙◌, arith}
 use Rattle.std.proofs.lemmas.List.{length-map}
-use Rattle.version_tables.specs.inner.Stops.{is_newest}
 use Rattle.version_tables.proofs.RoundMarks.{rounds-level, rounds-parts}
 use Rattle.version_tables.proofs.rounds.rounds.Goals as goal
 
 pub returns-clause-level : goal.returns-clause-level
 returns-clause-level g c =
-    rounds-level g.N.Number.number g.N.Number.most c.args.offer.now c.requires.offer.is_offer c.args.ends.rounds (map g.N.Number.number c.args.ends.numbers.now) c.requires.ends.are_ends c.requires.ends.made (is_newest c.args.first)
+    rounds-level g.N.Number.number g.N.Number.most c.args.offer.now c.requires.offer.is_offer c.args.ends.rounds (map g.N.Number.number c.args.ends.numbers.now) c.requires.ends.are_ends c.requires.ends.made c.args.first
     (record { near = c.in_ok-near.near; far = c.in_ok-far.far; whole = c.in_ok-few.few.whole }) c.in_ok-few.few.rounds c.in_ok-few.few.whole c.in_ok-few.ensures.few refl
     c.in_ok-near.ensures.marks c.in_ok-far.ensures.marks
 
 pub returns-clause-rounds : goal.returns-clause-rounds
 returns-clause-rounds g c =
-    rounds-parts g.N.Number.number g.N.Number.most c.args.offer.now c.requires.offer.is_offer c.args.ends.rounds (map g.N.Number.number c.args.ends.numbers.now) c.requires.ends.are_ends c.requires.ends.made (is_newest c.args.first)
+    rounds-parts g.N.Number.number g.N.Number.most c.args.offer.now c.requires.offer.is_offer c.args.ends.rounds (map g.N.Number.number c.args.ends.numbers.now) c.requires.ends.are_ends c.requires.ends.made c.args.first
     (record { near = c.in_ok-near.near; far = c.in_ok-far.far; whole = c.in_ok-few.few.whole }) c.in_ok-few.few.rounds c.in_ok-few.few.whole c.in_ok-few.ensures.few refl
     c.in_ok-near.ensures.marks c.in_ok-far.ensures.marks
 

@@ -14,7 +14,7 @@ share_into-sent-requires-clause-turns g c κs out = record {
 pub share_into-sent-requires-clause-counts : goal.share_into-sent-requires-clause-counts
 share_into-sent-requires-clause-counts g c κs out =
     let numbers = c.in_ok-counts.ensures.numbers in
-    subst (λ xs. AreKnownCounts c.args.mode g.N.Number.number g.N.Number.most c.args.offer.now c.args.level.now (map g.N.Number.number xs)) (sym c.deref_mut.ensures.value)
+    subst (λ xs. AreKnownCounts c.args.first g.N.Number.number g.N.Number.most c.args.offer.now c.args.level.now (map g.N.Number.number xs)) (sym c.deref_mut.ensures.value)
     (record { size = numbers.size; each = λ r lt. inl (numbers.each r lt ∙ c.greatest.ensures) })
 
 pub share_into-sent-requires-clause-mark : goal.share_into-sent-requires-clause-mark
@@ -27,6 +27,6 @@ returns-clause-size g c =
 pub returns-clause-shared : goal.returns-clause-shared
 returns-clause-shared g c =
     let number = g.N.Number.number in
-    subst (λ xs. AreShared c.args.mode c.args.rotation number c.args.offer.now (marks number c.args.level.now.near.items) (marks number c.args.level.now.far.items) (marks number xs) c.share_into-sent.result)
+    subst (λ xs. AreShared c.args.first c.args.rotation number c.args.offer.now (marks number c.args.level.now.near.items) (marks number c.args.level.now.far.items) (marks number xs) c.share_into-sent.result)
     (sym (with_items_is c.in_ok-mark.mark c.share_into-sent.new.mark (c.share_into-sent.auto.mark ∙ c.deref_mut-2.ensures.len)))
     c.share_into-sent.ensures.shared

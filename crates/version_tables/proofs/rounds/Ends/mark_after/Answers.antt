@@ -5,7 +5,6 @@ use Rattle.bench_types.specs.declared.limits.TheConstants.{MOST_NODES}
 use Rattle.planes.specs.Planes.{HasEach}
 use Rattle.version_tables.specs.inner.OfferInMemory.{marks}
 use Rattle.version_tables.specs.inner.RoundLevels.{round_at, end_mark}
-use Rattle.version_tables.specs.inner.Stops.{is_newest}
 use Rattle.version_tables.proofs.rounds.Ends.mark_after.Given as given
 use Rattle.version_tables.proofs.rounds.Ends.mark_after.Goals as goal
 use Rattle.version_tables.proofs.rounds.Ends.mark_after.Goals.{in-Oldest, in-Newest}
@@ -26,10 +25,10 @@ returns-clause-marks g c =
     let ends = map number c.args.self.now.numbers.now in
     let low = marks number offer.low.now in
     let size = ap length c.deref_mut.ensures.value ∙ ap length c.in_ok-mark.ensures.items ∙ c.requires.offer.low in
-    let round : c.match-first.round ≡ round_at (is_newest c.args.first) c.args.self.now.rounds c.args.count =
+    let round : c.match-first.round ≡ round_at c.args.first c.args.self.now.rounds c.args.count =
     elim c.match-first.branch [
-      | in-Newest w ↦ w.round-is ∙ (λ i. round_at (is_newest (sym w.in-Newest.is i)) c.args.self.now.rounds c.args.count)
-      | in-Oldest w ↦ w.round-is ∙ (λ i. round_at (is_newest (sym w.in-Oldest.is i)) c.args.self.now.rounds c.args.count)
+      | in-Newest w ↦ w.round-is ∙ (λ i. round_at (sym w.in-Newest.is i) c.args.self.now.rounds c.args.count)
+      | in-Oldest w ↦ w.round-is ∙ (λ i. round_at (sym w.in-Oldest.is i) c.args.self.now.rounds c.args.count)
     ]
     in
     let whole = with_items_is c.in_ok-mark.mark c.raise_to_end.new.marks (c.raise_to_end.auto.marks ∙ c.deref_mut.ensures.len) in

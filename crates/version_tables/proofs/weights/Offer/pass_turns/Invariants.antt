@@ -6,6 +6,6 @@ use Rattle.version_tables.proofs.weights.Offer.pass_turns.Given as goal
 abbrev pub invariant-loop-turn : goal.invariant-loop-turn
 invariant-loop-turn g l = record {
   size : length l.mark ≡ l.self.nodes;
-  counts : AreKnownCounts l.turns.mode g.N.Number.number g.N.Number.most l.self l.turns.level.now (map g.N.Number.number l.counts);
-  so_far : AreTurnsPassed l.turns.mode g.N.Number.number l.self l.turns.rotation (marks g.N.Number.number l.turns.level.now.near.items) (marks g.N.Number.number l.turns.level.now.far.items) (marks g.N.Number.number l.mark) l.turn l.left l.sent;
+  counts : AreKnownCounts l.turns.first g.N.Number.number g.N.Number.most l.self l.turns.level.now (map g.N.Number.number l.counts);
+  so_far : AreTurnsPassed l.turns.first g.N.Number.number l.self l.turns.rotation (marks g.N.Number.number l.turns.level.now.near.items) (marks g.N.Number.number l.turns.level.now.far.items) (marks g.N.Number.number l.mark) l.turn l.left l.sent;
 }

@@ -34,7 +34,7 @@ do for [figure = 1:2] {
     set yrange [*:*]
     stats ARG1 skip 1 using (in_view(10 - figure)) nooutput
     set yrange [STATS_min:STATS_max > STATS_min ? STATS_max : STATS_min + 1]
-    plot for [i = 1:4] ARG1 using (strcol(1) eq word(modes, i) ? column(2) : NaN):(column(10 - figure)) \
+    plot for [i = 1:words(modes)] ARG1 using (strcol(1) eq word(modes, i) ? column(2) : NaN):(column(10 - figure)) \
         with lines linewidth 2 title word(modes, i)
 }
 unset multiplot

@@ -1,6 +1,5 @@
 //! What comes of a text.
 
-ghost use Rattle.std.specs.Prelude.{◌≤◌};
 ghost use Rattle.model.specs.Runs.{AreWorkers};
 
 use crate::stored::compare_part;

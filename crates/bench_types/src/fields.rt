@@ -1,6 +1,6 @@
 //! The names of a scenario's fields and tables.
 
-ghost use Rattle.std.specs.Prelude.{◌≡◌, ◌≤◌, length, Some};
+ghost use Rattle.std.specs.Prelude.{◌≡◌, Some};
 ghost use Rattle.bench_types.specs.Field.{field_name, field_text, table_name, table_of};
 
 use std::fmt;

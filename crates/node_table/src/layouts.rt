@@ -3,8 +3,7 @@
 //! item changes one block alone. The entries of an owner are of one generation, and while all are of
 //! generation 0 the generations take no walk and no memory that is touched.
 
-ghost use Rattle.std.specs.Prelude.{◌≡◌, ◌≢◌, ◌⊎◌, ◌+◌, ◌^◌, ◌<◌, ◌≤◌, [], ◌∷◌, IsOk, OnOk, OnErr, length, nat_lt, slice_index, take, vec_len, vec_capacity};
-ghost use Rattle.bench_types.specs.Mark.{mark_of};
+ghost use Rattle.std.specs.Prelude.{◌≡◌, ◌⊎◌, ◌+◌, ◌^◌, ◌<◌, ◌≤◌, IsOk, OnOk, OnErr, length, nat_lt, slice_index, take, vec_len, vec_capacity};
 ghost use Rattle.model.specs.Table.{mark_at, generation_held, greatest_mark, taken, without_others, without_all};
 ghost use Rattle.model.specs.Table.{IsItemInPlace};
 ghost use Rattle.node_table.specs.Entries.{AreAbove};

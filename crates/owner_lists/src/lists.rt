@@ -1,6 +1,6 @@
 //! All that one owner wrote, in order.
 
-ghost use Rattle.std.specs.Prelude.{◌≡◌, ℕ, ◌+◌, ◌^◌, ◌-◌, ◌<◌, ◌≤◌, ◌==◌, nat_le, None, Some, ◌++◌, ◌∷◌, [], Result, Ok, Err, OnOk, OnErr, IfOk, IfErr, IsOkUnless, List, length, find, take, drop, slice_index_or, vec_len, vec_capacity};
+ghost use Rattle.std.specs.Prelude.{◌≡◌, ◌+◌, ◌^◌, ◌-◌, ◌<◌, ◌≤◌, ◌==◌, nat_le, None, Some, ◌++◌, ◌∷◌, [], Result, Ok, Err, OnOk, OnErr, IfOk, IfErr, IsOkUnless, length, find, take, drop, slice_index_or, vec_len, vec_capacity};
 ghost use Rattle.std.specs.FinMap.{put as put_entry};
 ghost use Rattle.std.specs.Ordering.{nat_cmp};
 ghost use Rattle.model.specs.OwnerListView.{has_mark, MarksRise};

@@ -1,6 +1,6 @@
 //! Loops over all planes of a table that compare its numbers with the last ones.
 
-ghost use Rattle.std.specs.Prelude.{◌≡◌, ℕ, ◌<◌, ◌≤◌, length, map, min, nat_lt, slice_index, IfOk, IsOkUnless, if◌then◌else◌};
+ghost use Rattle.std.specs.Prelude.{◌≡◌, ◌<◌, ◌≤◌, length, map, min, nat_lt, slice_index, IfOk, IsOkUnless, if◌then◌else◌};
 ghost use Rattle.bench_types.specs.declared.faults.Fault.TheVariants.{OutOfMemory};
 ghost use Rattle.bench_types.specs.declared.limits.TheConstants.{MOST_NODES};
 ghost use Rattle.planes.specs.Elementwise.{AreChanged};

@@ -4,7 +4,7 @@ use std::marker::Model;
 
 /// The number of a write: its place, from 1, among all writes of its owner; 0 for none.
 pub trait Number: Copy + Send + Sync {
-    ghost use Rattle.std.specs.Prelude.{◌≡◌, ℕ, ◌+◌, ◌-◌, ◌<◌, ◌≤◌, Bool, nat_lt, nat_le, max, min, if◌then◌else◌};
+    ghost use Rattle.std.specs.Prelude.{◌≡◌, ℕ, ◌+◌, ◌-◌, ◌<◌, ◌≤◌, nat_lt, nat_le, max, min, if◌then◌else◌};
     ghost use Rattle.bench_types.specs.declared.limits.TheConstants.{MOST_NODES, MOST_KEYS};
 
     // The number that it is.

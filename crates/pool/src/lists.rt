@@ -1,6 +1,6 @@
 //! Carrying out the exchanges of a list on tables with entries.
 
-ghost use Rattle.std.specs.Prelude.{◌≤◌, IfOk, IfErr};
+ghost use Rattle.std.specs.Prelude.{IfOk, IfErr};
 ghost use Rattle.bench_types.specs.Budget.{IsLawfulBudget};
 ghost use Rattle.model.specs.Tables.{IsCluster};
 ghost use Rattle.node_table.specs.NodeTableView.{kept_table, tables_in};

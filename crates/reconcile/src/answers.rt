@@ -1,6 +1,6 @@
 //! What answers a digest.
 
-ghost use Rattle.std.specs.Prelude.{◌≡◌, ◌^◌, ◌<◌, ◌≤◌, All, length, IfOk, IsOkUnless};
+ghost use Rattle.std.specs.Prelude.{◌≡◌, ◌^◌, ◌<◌, All, length, IfOk, IsOkUnless};
 ghost use Rattle.bench_types.specs.declared.faults.Fault.TheVariants.{OutOfMemory};
 ghost use Rattle.bench_types.specs.Budget.{IsLawfulBudget};
 ghost use Rattle.bench_types.specs.Mode.{digest_kind};

@@ -11,7 +11,7 @@ ghost use Rattle.reconcile.specs.Answers.{answer_of};
 ghost use Rattle.model.specs.Deltas.{AreWithin};
 ghost use Rattle.reconcile.specs.Digests.{IsOfKind};
 ghost use Rattle.reconcile.specs.inner.Newer.{AreCandidates};
-ghost use Rattle.model.specs.Order.{rank_among, owner_count};
+ghost use Rattle.model.specs.Order.{rank_among};
 ghost use Rattle.reconcile.specs.inner.Suffixes.{items_of_suffixes, entries_ranked, ranked, of_length, AddsLayer, AreLayered, AreSuffixes, IsTurned, OwnersRise, lengths_first};
 
 use crate::deltas::Delta;

@@ -1,6 +1,6 @@
 //! The list of a first round, carried out by workers.
 
-ghost use Rattle.std.specs.Prelude.{◌≡◌, ◌≤◌, IfOk};
+ghost use Rattle.std.specs.Prelude.{IfOk};
 ghost use Rattle.node_table.specs.NodeTableView.{tables_in};
 ghost use Rattle.model.specs.Tables.{IsCluster};
 

@@ -1,6 +1,5 @@
 //! The lines of the report, the trace and the comparison.
 
-ghost use Rattle.std.specs.Prelude.{◌≡◌, IfOk};
 
 use bench_types::{Fault, Mode, Push, Record, Row};
 use fixtures::{list_of, row, sent};

@@ -1,6 +1,6 @@
 //! Texts that are read, and the list of a round.
 
-ghost use Rattle.std.specs.Prelude.{◌≡◌, ◌≤◌, IfOk};
+ghost use Rattle.std.specs.Prelude.{◌≡◌, IfOk};
 ghost use Rattle.round_plan.specs.Words.{run_words_of};
 
 use bench_types::{Budget, Exchange, Fault, Field, Mode, TableName};

@@ -9,7 +9,7 @@ use std::thread::Threads;
 /// they have written, and what tables need of it. Its calls carry both through the rounds. Where a call answers
 /// an error, it is lack of memory (`OutOfMemory`).
 pub trait RoundHistories<T: MemoryTable>: Exchanging<T> + Drop {
-    ghost use Rattle.std.specs.Prelude.{◌≡◌, ℕ, ◌+◌, ◌-◌, ◌^◌, ◌<◌, ◌≤◌, List, length, map, IfOk, OnOk, IsOkUnless};
+    ghost use Rattle.std.specs.Prelude.{◌≡◌, ℕ, ◌+◌, ◌-◌, ◌<◌, ◌≤◌, List, length, map, IfOk, OnOk, IsOkUnless};
     ghost use denote.Param.Send.{IsSync};
     ghost use Rattle.bench_types.specs.declared.entries.Entry.{Entry};
     ghost use Rattle.bench_types.specs.declared.faults.Fault.TheVariants.{OutOfMemory};

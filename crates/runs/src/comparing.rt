@@ -1,6 +1,6 @@
 //! The modes beside each other, from bytes to bytes.
 
-ghost use Rattle.std.specs.Prelude.{◌≡◌, ◌≤◌, [], true, false, IfOk, OnOk, IfErr};
+ghost use Rattle.std.specs.Prelude.{◌≡◌, [], true, false, IfOk, OnOk, IfErr};
 ghost use Rattle.bench_types.specs.Output.{IsWritten};
 ghost use Rattle.bench_types.specs.Mode.{modes};
 ghost use Rattle.runs.specs.inner.Writes.{AreWrittenIn};

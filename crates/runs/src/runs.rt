@@ -1,6 +1,6 @@
 //! A whole run, from bytes to bytes.
 
-ghost use Rattle.std.specs.Prelude.{◌≡◌, ◌≤◌, true, false, Ok, IfOk, OnOk, IfErr, IsOkUnless};
+ghost use Rattle.std.specs.Prelude.{◌≡◌, true, Ok, IfOk, OnOk, IfErr, IsOkUnless};
 ghost use Rattle.simulation.specs.Simulation.{MayWriteAll};
 ghost use Rattle.runs.specs.Inputs.{IsRead, IsInputFault};
 ghost use Rattle.scenario.specs.Settings.{IsLawfulScenario};

@@ -2,7 +2,7 @@
 
 ghost use Rattle.std.specs.Prelude.{◌≡◌, ◌≤◌, IfOk};
 ghost use Rattle.toml.specs.View.{view, table_view};
-ghost use Rattle.scenario.specs.Budgets.{is_in_entries, budget_field, entries_at, is_too_small, bytes_of, bytes_at, budget_at};
+ghost use Rattle.scenario.specs.Budgets.{is_in_entries, budget_field, is_too_small, bytes_of, budget_at};
 ghost use Rattle.scenario.specs.Settings.{IsBudgetOf};
 
 use crate::fields::{number_at, number_of, value_at};

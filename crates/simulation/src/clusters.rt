@@ -1,19 +1,14 @@
 //! All nodes' tables and the histories of their owners, and how a round changes them.
 
-ghost use Rattle.std.specs.Prelude.{◌≡◌, ℕ, ◌+◌, ◌-◌, ◌^◌, ◌<◌, ◌≤◌, All, length, map, IfOk, IfErr, OnOk, IsOkUnless};
+ghost use Rattle.std.specs.Prelude.{◌≡◌, ◌+◌, ◌-◌, ◌<◌, ◌≤◌, All, map, IfOk, IfErr, OnOk, IsOkUnless};
 ghost use Rattle.bench_types.specs.declared.faults.Fault.TheVariants.{OutOfMemory};
-ghost use Rattle.bench_types.specs.Entry.{AreNextAfter};
 ghost use Rattle.scenario.specs.Settings.{IsLawfulScenario};
-ghost use Rattle.model.specs.Table.{IsProper};
-ghost use Rattle.model.specs.OwnerListView.{all_writes, written, list_of_owner};
-ghost use Rattle.model.specs.Writes.{AreBornBy};
+ghost use Rattle.model.specs.OwnerListView.{written, list_of_owner};
 ghost use Rattle.model.specs.Tables.{AreProper};
 ghost use Rattle.model.specs.Runs.{AreWorkers, IsFaultOfWorkers};
 ghost use Rattle.round_plan.specs.Words.{run_words_of, AreWordsOf};
-ghost use Rattle.round_plan.specs.Writes.{born_in};
-ghost use Rattle.round_tables.specs.Histories.{own_list, StandsBeside};
-ghost use Rattle.simulation.specs.Rounds.{opening_tables, after_restart, begun, rules_of, tables_after};
-ghost use Rattle.simulation.specs.Simulation.{MayWriteAll};
+ghost use Rattle.round_tables.specs.Histories.{own_list};
+ghost use Rattle.simulation.specs.Rounds.{opening_tables, after_restart, begun, rules_of};
 ghost use Rattle.simulation.specs.Standing.{IsOwner, StandAfterRound};
 ghost use Rattle.simulation.specs.inner.Insides.{tables_of, HasPlayed, IsAfterRound};
 ghost use Rattle.simulation.specs.inner.Steps.{begun_table, IsRoundOf, IsNodeBefore, MayWriteOwn, OthersStay, HasWritten, HasRestarted};

@@ -1,6 +1,6 @@
 //! What a pass over the tables sees of the copies of all owners, key by key.
 
-ghost use Rattle.std.specs.Prelude.{◌≡◌, ℕ, ◌+◌, ◌*◌, ◌^◌, ◌<◌, ◌≤◌, None, All, IfOk, IfSome, OnOk, length, slice_index, slice_index_or, vec_len};
+ghost use Rattle.std.specs.Prelude.{◌≡◌, ℕ, ◌+◌, ◌*◌, ◌<◌, ◌≤◌, None, IfOk, IfSome, OnOk, length, slice_index, slice_index_or};
 ghost use Rattle.bench_types.specs.declared.limits.TheConstants.{MOST_NODES, MOST_KEYS};
 ghost use Rattle.model.specs.Table.{entry_at, generation_held, IsProper};
 ghost use Rattle.node_table.specs.NodeTableView.{tables_in};
@@ -11,7 +11,7 @@ ghost use Rattle.owner_lists.specs.Latest.{write_of, KeysRise};
 ghost use Rattle.owner_lists.specs.inner.Keys.{IsFrontForKey};
 ghost use Rattle.model.specs.declared.writes.Write.{Write};
 ghost use Rattle.staleness.specs.declared.copies.Copies.{Copies};
-ghost use Rattle.staleness.specs.inner.Copies.{generations_in, least_known, at_least, version_known, with_version, with_copy, seen_in, no_copies, current_of, copies_from, merged, MayCountOne, MayCountBoth, HaveRoom, IsRowSeen, AreSeen, AreSeenOnce, AreAdded};
+ghost use Rattle.staleness.specs.inner.Copies.{generations_in, least_known, at_least, version_known, with_version, seen_in, no_copies, current_of, copies_from, merged, MayCountOne, MayCountBoth, HaveRoom, IsRowSeen, AreSeen, AreSeenOnce, AreAdded};
 
 use node_table::NodeTable;
 use owner_lists::{OwnerList, Write};

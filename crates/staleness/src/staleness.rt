@@ -10,7 +10,7 @@ ghost use Rattle.model.specs.Table.{entry_at};
 ghost use Rattle.bench_types.specs.Sums.{most_below};
 ghost use Rattle.model.specs.Figures.{writes_of_owner, staleness_at, rounds_behind, figures_of};
 ghost use Rattle.bench_types.specs.Sums.{sum_below};
-ghost use Rattle.staleness.specs.inner.Copies.{generations_in, version_known, version_staleness, copies_of, key_staleness, owner_staleness, owners_staleness, copy_leftover, node_leftover, nodes_leftover};
+ghost use Rattle.staleness.specs.inner.Copies.{generations_in, version_known, version_staleness, copies_of, key_staleness, owner_staleness, owners_staleness, node_leftover, nodes_leftover};
 ghost use Rattle.node_table.specs.NodeTableView.{tables_in};
 ghost use Rattle.model.specs.Tables.{table_of_node, IsCluster};
 ghost use Rattle.staleness.specs.inner.Parts.{AreCountable, AreFewTriples, IsCounted, AreCounted, AreAllSeen, MayBegin, IsSeenInPart, AreSeenInParts, found_at};

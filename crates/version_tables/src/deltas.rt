@@ -14,7 +14,7 @@ ghost use Rattle.version_tables.specs.inner.Firsts.{by_first};
 ghost use Rattle.version_tables.specs.inner.Marked.{AreOffered};
 ghost use Rattle.version_tables.specs.inner.Offers.{told_number};
 
-use crate::histories::Histories;
+use crate::histories::{Histories, Owners};
 use crate::marked::{Marked, planned};
 use crate::rounds::Ends;
 use crate::tables::{VersionTable, Written};
@@ -146,8 +146,10 @@ fn told_to<N: Number, H: Written>(
         kind,
         node,
         receiver.greatest(),
-        histories.lists(),
-        histories.bases(),
+        Owners {
+            lists: histories.lists(),
+            bases: histories.bases(),
+        },
     )
 }
 

@@ -6,23 +6,20 @@ ghost use Rattle.bench_types.specs.Budget.{IsLawfulBudget};
 ghost use Rattle.bench_types.specs.Mode.{digest_kind};
 ghost use Rattle.model.specs.Exchanging.{MayBeExchanged, MakesOf};
 ghost use Rattle.model.specs.OwnerListView.{all_writes};
-ghost use Rattle.planes.specs.Planes.{HasEach};
 ghost use Rattle.model.specs.Digests.{digest_size};
 ghost use Rattle.version_tables.specs.Views.{table_in, IsKept, VersionTableView};
-ghost use Rattle.version_tables.specs.inner.Histories.{bases_in, FitsHistories, IsReadyExchange};
+ghost use Rattle.version_tables.specs.inner.Histories.{bases_in, AreOwners, FitsHistories, IsReadyExchange};
 ghost use Rattle.version_tables.specs.inner.Merged.{MayMerge};
-ghost use Rattle.version_tables.specs.inner.Offers.{IsNumberedHistory};
 ghost use Rattle.version_tables.specs.inner.Taken.{HasTakenUnless, StaysOne};
 
 use crate::deltas::{DeltaMarks, delta};
 use crate::digests::digest_size;
-use crate::histories::Histories;
+use crate::histories::{Histories, Owners};
 use crate::merging::{may_merge, merge};
 use crate::tables::{VersionTable, Written};
 use crate::taking::take_unless;
 use bench_types::{Exchange, Fault, Record, Rules};
 use model::{DeltaCounts, sent_back, sent_before_an_answer, sent_both};
-use owner_lists::OwnerList;
 use planes::Number;
 use std::alloc::Global;
 
@@ -134,16 +131,17 @@ fn exchange_deltas<N: Number, H: Written>(
         return Ok(sent_back(digest1, digest2, back.counts));
     }
     let forth = delta(alloc, initiator, responder, histories, rules, plan.rotation)?;
-    let lists = histories.lists();
-    let bases = histories.bases();
+    let owners = Owners {
+        lists: histories.lists(),
+        bases: histories.bases(),
+    };
     take_both(
         alloc,
         initiator,
         responder,
         &back,
         &forth,
-        bases,
-        lists,
+        owners,
         is_nothing(back.counts.sent),
         plan.lost3 | is_nothing(forth.counts.sent),
     )?;
@@ -163,8 +161,7 @@ fn take_both<N: Number, H: Written>(
     responder: &mut VersionTable<N, H>,
     back: &DeltaMarks<N>,
     forth: &DeltaMarks<N>,
-    bases: &[N],
-    lists: &[OwnerList],
+    owners: Owners<N>,
     nothing_back: bool,
     nothing_forth: bool,
 ) -> Result<(), Fault>
@@ -174,20 +171,18 @@ fn take_both<N: Number, H: Written>(
     requires back_high { length (map N.number back.now.high.items) ≡ initiator.old.nodes }
     requires forth_low { length (map N.number forth.now.low.items) ≡ initiator.old.nodes }
     requires forth_high { length (map N.number forth.now.high.items) ≡ initiator.old.nodes }
-    requires bases { HasEach initiator.old.nodes (λ r n. n ≡ bases_in lists.now r) (map N.number bases.now) }
-    requires lists { length lists.now ≡ initiator.old.nodes }
-    requires numbered { (owner : ℕ) → IsNumberedHistory (all_writes lists.now owner) }
-    requires initiator { StaysOne H.lists (all_writes lists.now) (bases_in lists.now) initiator.old responder.old.cells
+    requires owners { AreOwners N.number initiator.old.nodes owners }
+    requires initiator { StaysOne H.lists (all_writes owners.lists.now) (bases_in owners.lists.now) initiator.old responder.old.cells
         (map N.number back.now.low.items) (map N.number back.now.high.items) }
     requires responder { (after : VersionTableView)
-        → HasTakenUnless nothing_back (all_writes lists.now) (bases_in lists.now) initiator.old responder.old.cells
+        → HasTakenUnless nothing_back (all_writes owners.lists.now) (bases_in owners.lists.now) initiator.old responder.old.cells
         (map N.number back.now.low.items) (map N.number back.now.high.items) after
-        → StaysOne H.lists (all_writes lists.now) (bases_in lists.now) responder.old after.cells
+        → StaysOne H.lists (all_writes owners.lists.now) (bases_in owners.lists.now) responder.old after.cells
         (map N.number forth.now.low.items) (map N.number forth.now.high.items) }
-    ensures initiator { OnOk result (HasTakenUnless nothing_back (all_writes lists.now) (bases_in lists.now)
+    ensures initiator { OnOk result (HasTakenUnless nothing_back (all_writes owners.lists.now) (bases_in owners.lists.now)
         initiator.old responder.old.cells (map N.number back.now.low.items) (map N.number back.now.high.items)
         initiator.new) }
-    ensures responder { OnOk result (HasTakenUnless nothing_forth (all_writes lists.now) (bases_in lists.now)
+    ensures responder { OnOk result (HasTakenUnless nothing_forth (all_writes owners.lists.now) (bases_in owners.lists.now)
         responder.old initiator.new.cells (map N.number forth.now.low.items) (map N.number forth.now.high.items)
         responder.new) }
     ensures initiator_stays { OnErr result (initiator.new ≡ initiator.old) }
@@ -203,8 +198,7 @@ fn take_both<N: Number, H: Written>(
         came_back,
         back,
         &initiator_before,
-        bases,
-        lists,
+        owners,
     );
     let came_forth = initiator.cells();
     take_unless(
@@ -213,8 +207,7 @@ fn take_both<N: Number, H: Written>(
         came_forth,
         forth,
         &responder_before,
-        bases,
-        lists,
+        owners,
     );
     Ok(())
 }

@@ -162,6 +162,13 @@ impl<N: Number, H: Written> Histories<N, H> {
     }
 }
 
+/// The owners' writes, and how many of each are of earlier generations.
+#[derive(Clone, Copy)]
+pub(crate) struct Owners<'a, N: Number> {
+    pub(crate) lists: &'a [OwnerList],
+    pub(crate) bases: &'a [N],
+}
+
 // The lists of so many owners that have written nothing.
 fn no_lists(alloc: Global, nodes: usize) -> Result<Vec<OwnerList>, Fault>
     ensures count { IfOk result (λ v. length v.items ≡ nodes) }

@@ -2,13 +2,14 @@
 
 ghost use Rattle.std.specs.Prelude.{◌≡◌, ◌==◌, ℕ, ◌<◌, length, map, slice_index, if◌then◌else◌};
 ghost use Rattle.model.specs.OwnerListView.{all_writes, entries_of};
-ghost use Rattle.planes.specs.Planes.{cell, ArePlanesChanged, HasEach, IsGrid};
+ghost use Rattle.planes.specs.Planes.{cell, ArePlanesChanged, IsGrid};
 ghost use Rattle.version_tables.specs.inner.Offers.{IsNumberedHistory};
-ghost use Rattle.version_tables.specs.inner.Histories.{bases_in};
+ghost use Rattle.version_tables.specs.inner.Histories.{bases_in, AreOwners};
 ghost use Rattle.version_tables.specs.inner.Taken.{drop_start, number_kept, HasTakenUnless, IsTaken, MayTake, StaysOne};
 
 use crate::deltas::DeltaMarks;
 use crate::generations::start_of;
+use crate::histories::Owners;
 use crate::tables::{VersionTable, Written};
 use owner_lists::OwnerList;
 use planes::Number;
@@ -68,24 +69,26 @@ fn drop_older<N: Number>(
     keys: usize,
     before: &[N],
     greatest: &[N],
-    bases: &[N],
-    lists: &[OwnerList],
+    owners: Owners<N>,
 )
     requires grid { IsGrid nodes keys (length cells.old) }
     requires before { length before.now ≡ nodes }
     requires greatest { length greatest.now ≡ nodes }
-    requires bases { length bases.now ≡ nodes }
-    requires lists { length lists.now ≡ nodes }
-    requires numbered { (owner : ℕ) → IsNumberedHistory (all_writes lists.now owner) }
-    ensures { ArePlanesChanged (λ r k x y. y ≡ number_kept (drop_start (all_writes lists.now r)
-        (slice_index (map N.number before.now) r) (slice_index (map N.number bases.now) r)
+    requires owners { AreOwners N.number nodes owners }
+    ensures { ArePlanesChanged (λ r k x y. y ≡ number_kept (drop_start (all_writes owners.lists.now r)
+        (slice_index (map N.number before.now) r) (slice_index (map N.number owners.bases.now) r)
         (slice_index (map N.number greatest.now) r)) x) nodes keys (map N.number cells.old) (map N.number cells.new) }
 {
-    if planes::total_upto(before, nodes, 1, bases) == 0 {
+    if planes::total_upto(before, nodes, 1, owners.bases) == 0 {
         return;
     }
     for owner in 0..nodes {
-        let start = drop_from(&lists[owner], before[owner], bases[owner], greatest[owner]);
+        let start = drop_from(
+            &owners.lists[owner],
+            before[owner],
+            owners.bases[owner],
+            greatest[owner],
+        );
         drop_owner(cells, nodes, keys, owner, start);
     }
 }
@@ -100,22 +103,19 @@ fn take_numbers<N: Number>(
     sent: &[N],
     marks: &DeltaMarks<N>,
     before: &[N],
-    bases: &[N],
-    lists: &[OwnerList],
+    owners: Owners<N>,
 )
     requires may { MayTake N.number nodes keys cells.old greatest.old sent.now
         marks.now.low.items marks.now.high.items }
     requires before { map N.number before.now ≡ map N.number greatest.old }
-    requires bases { HasEach nodes (λ r n. n ≡ bases_in lists.now r) (map N.number bases.now) }
-    requires lists { length lists.now ≡ nodes }
-    requires numbered { (owner : ℕ) → IsNumberedHistory (all_writes lists.now owner) }
-    ensures { IsTaken (all_writes lists.now) (bases_in lists.now) nodes keys (map N.number cells.old)
+    requires owners { AreOwners N.number nodes owners }
+    ensures { IsTaken (all_writes owners.lists.now) (bases_in owners.lists.now) nodes keys (map N.number cells.old)
         (map N.number greatest.old) (map N.number sent.now)
         (map N.number marks.now.low.items) (map N.number marks.now.high.items)
         (map N.number cells.new) (map N.number greatest.new) }
 {
     planes::take(cells, greatest, sent, nodes, keys, &marks.low, &marks.high);
-    drop_older(cells, nodes, keys, before, greatest, bases, lists);
+    drop_older(cells, nodes, keys, before, greatest, owners);
 }
 
 /// Takes what marks let through of a sender's numbers, and drops of each owner what is of older generations than its
@@ -126,19 +126,16 @@ pub(crate) fn take_unless<N: Number, H: Written>(
     sent: &[N],
     marks: &DeltaMarks<N>,
     before: &[N],
-    bases: &[N],
-    lists: &[OwnerList],
+    owners: Owners<N>,
 )
     requires sent { length sent.now ≡ length table.old.cells }
     requires low { length marks.now.low.items ≡ table.old.nodes }
     requires high { length marks.now.high.items ≡ table.old.nodes }
     requires before { map N.number before.now ≡ table.old.greatest }
-    requires bases { HasEach table.old.nodes (λ r n. n ≡ bases_in lists.now r) (map N.number bases.now) }
-    requires lists { length lists.now ≡ table.old.nodes }
-    requires numbered { (owner : ℕ) → IsNumberedHistory (all_writes lists.now owner) }
-    requires stays { StaysOne H.lists (all_writes lists.now) (bases_in lists.now) table.old (map N.number sent.now)
+    requires owners { AreOwners N.number table.old.nodes owners }
+    requires stays { StaysOne H.lists (all_writes owners.lists.now) (bases_in owners.lists.now) table.old (map N.number sent.now)
         (map N.number marks.now.low.items) (map N.number marks.now.high.items) }
-    ensures { HasTakenUnless nothing (all_writes lists.now) (bases_in lists.now) table.old (map N.number sent.now)
+    ensures { HasTakenUnless nothing (all_writes owners.lists.now) (bases_in owners.lists.now) table.old (map N.number sent.now)
         (map N.number marks.now.low.items) (map N.number marks.now.high.items) table.new }
 {
     if nothing {
@@ -154,7 +151,6 @@ pub(crate) fn take_unless<N: Number, H: Written>(
         sent,
         marks,
         before,
-        bases,
-        lists,
+        owners,
     );
 }

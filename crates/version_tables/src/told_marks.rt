@@ -10,6 +10,7 @@ ghost use Rattle.version_tables.specs.inner.Offers.{start_of, told_by, told_numb
 ghost use Rattle.version_tables.specs.inner.Told.{AreKnown, IsEarlierStart};
 
 use crate::generations::start_of;
+use crate::histories::Owners;
 use bench_types::{DigestKind, Fault};
 use owner_lists::OwnerList;
 use planes::Number;
@@ -22,18 +23,17 @@ pub(crate) fn told<N: Number>(
     kind: DigestKind,
     node: usize,
     greatest: &[N],
-    lists: &[OwnerList],
-    bases: &[N],
+    owners: Owners<N>,
 ) -> Result<Vec<N>, Fault>
-    requires node { node < length lists.now }
-    requires known { AreKnown N.most lists.now (map N.number greatest.now) (map N.number bases.now) }
-    ensures told { IfOk result (λ v. HasEach (length lists.now)
-        (λ r n. n ≡ told_number kind N.most node (all_writes lists.now) (slice_index (map N.number greatest.now)) r)
+    requires node { node < length owners.lists.now }
+    requires known { AreKnown N.most owners.lists.now (map N.number greatest.now) (map N.number owners.bases.now) }
+    ensures told { IfOk result (λ v. HasEach (length owners.lists.now)
+        (λ r n. n ≡ told_number kind N.most node (all_writes owners.lists.now) (slice_index (map N.number greatest.now)) r)
         (map N.number v.items)) }
     ensures only { IsOkUnless result OutOfMemory }
 {
     let mut told = Vec::from_slice(alloc, greatest)?;
-    put_told(&mut told, kind, node, lists, bases);
+    put_told(&mut told, kind, node, owners);
     Ok(told)
 }
 
@@ -42,58 +42,57 @@ fn put_told<N: Number>(
     numbers: &mut [N],
     kind: DigestKind,
     node: usize,
-    lists: &[OwnerList],
-    bases: &[N],
+    owners: Owners<N>,
 )
-    requires node { node < length lists.now }
-    requires known { AreKnown N.most lists.now (map N.number numbers.old) (map N.number bases.now) }
-    ensures { AreChanged (λ r x y. y ≡ told_number kind N.most node (all_writes lists.now) (λ _. x) r)
+    requires node { node < length owners.lists.now }
+    requires known { AreKnown N.most owners.lists.now (map N.number numbers.old) (map N.number owners.bases.now) }
+    ensures { AreChanged (λ r x y. y ≡ told_number kind N.most node (all_writes owners.lists.now) (λ _. x) r)
         (map N.number numbers.old) (map N.number numbers.new) }
 {
-    put_marks(numbers, kind, lists, bases);
+    put_marks(numbers, kind, owners);
     numbers[node] = N::greatest();
 }
 
 // The same, but for the receiver itself.
-fn put_marks<N: Number>(numbers: &mut [N], kind: DigestKind, lists: &[OwnerList], bases: &[N])
-    requires { AreKnown N.most lists.now (map N.number numbers.old) (map N.number bases.now) }
-    ensures { AreChanged (λ r x y. y ≡ told_by kind (all_writes lists.now r) x)
+fn put_marks<N: Number>(numbers: &mut [N], kind: DigestKind, owners: Owners<N>)
+    requires { AreKnown N.most owners.lists.now (map N.number numbers.old) (map N.number owners.bases.now) }
+    ensures { AreChanged (λ r x y. y ≡ told_by kind (all_writes owners.lists.now r) x)
         (map N.number numbers.old) (map N.number numbers.new) }
 {
     match kind {
         DigestKind::Scuttle => {}
-        DigestKind::Precise => put_starts(numbers, lists, bases),
+        DigestKind::Precise => put_starts(numbers, owners),
     }
 }
 
 // Puts in place of each number where the generation of that write starts.
-fn put_starts<N: Number>(numbers: &mut [N], lists: &[OwnerList], bases: &[N])
-    requires { AreKnown N.most lists.now (map N.number numbers.old) (map N.number bases.now) }
-    ensures { AreChanged (λ r x y. y ≡ start_of (all_writes lists.now r) x)
+fn put_starts<N: Number>(numbers: &mut [N], owners: Owners<N>)
+    requires { AreKnown N.most owners.lists.now (map N.number numbers.old) (map N.number owners.bases.now) }
+    ensures { AreChanged (λ r x y. y ≡ start_of (all_writes owners.lists.now r) x)
         (map N.number numbers.old) (map N.number numbers.new) }
 {
-    put_earlier_starts(numbers, lists, bases);
-    planes::lower(numbers, bases);
+    put_earlier_starts(numbers, owners);
+    planes::lower(numbers, owners.bases);
 }
 
 // Puts the starts of earlier generations. Most often there are none, which one fast loop tells.
-fn put_earlier_starts<N: Number>(numbers: &mut [N], lists: &[OwnerList], bases: &[N])
-    requires { AreKnown N.most lists.now (map N.number numbers.old) (map N.number bases.now) }
-    ensures { AreChanged (λ r x y. IsEarlierStart (all_writes lists.now r) (slice_index (map N.number bases.now) r) x y)
+fn put_earlier_starts<N: Number>(numbers: &mut [N], owners: Owners<N>)
+    requires { AreKnown N.most owners.lists.now (map N.number numbers.old) (map N.number owners.bases.now) }
+    ensures { AreChanged (λ r x y. IsEarlierStart (all_writes owners.lists.now r) (slice_index (map N.number owners.bases.now) r) x y)
         (map N.number numbers.old) (map N.number numbers.new) }
 {
-    if planes::total_upto(numbers, numbers.len(), 1, bases) > 0 {
-        put_each_start(numbers, lists, bases);
+    if planes::total_upto(numbers, numbers.len(), 1, owners.bases) > 0 {
+        put_each_start(numbers, owners);
     }
 }
 
-fn put_each_start<N: Number>(numbers: &mut [N], lists: &[OwnerList], bases: &[N])
-    requires { AreKnown N.most lists.now (map N.number numbers.old) (map N.number bases.now) }
-    ensures { AreChanged (λ r x y. IsEarlierStart (all_writes lists.now r) (slice_index (map N.number bases.now) r) x y)
+fn put_each_start<N: Number>(numbers: &mut [N], owners: Owners<N>)
+    requires { AreKnown N.most owners.lists.now (map N.number numbers.old) (map N.number owners.bases.now) }
+    ensures { AreChanged (λ r x y. IsEarlierStart (all_writes owners.lists.now r) (slice_index (map N.number owners.bases.now) r) x y)
         (map N.number numbers.old) (map N.number numbers.new) }
 {
     for r in 0..numbers.len() {
-        numbers[r] = earlier_start(&lists[r], numbers[r], bases[r]);
+        numbers[r] = earlier_start(&owners.lists[r], numbers[r], owners.bases[r]);
     }
 }
 

@@ -1,6 +1,6 @@
 //! Carrying out the exchanges of a list.
 
-ghost use Rattle.std.specs.Prelude.{◌≤◌, map, IfOk, IfErr};
+ghost use Rattle.std.specs.Prelude.{map, IfOk, IfErr};
 ghost use Rattle.model.specs.Runs.{AreWorkers, MayCarryOut, AreExchanged, IsFaultOfWorkers};
 
 use crate::gates::Gate;

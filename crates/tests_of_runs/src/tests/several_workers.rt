@@ -1,6 +1,5 @@
 //! Steps with several workers come to what they come to with one.
 
-ghost use Rattle.std.specs.Prelude.{◌≤◌};
 ghost use Rattle.model.specs.Runs.{AreWorkers};
 
 use crate::tests::comparing::expect;

@@ -1,5 +1,5 @@
 -- What the owners wrote so far, beside all that they write in the run. Source: this project.
-use Rattle.std.specs.Prelude.{◌≡◌, ℕ, ◌+◌, ◌<◌, ◌≤◌, List, length, Contains, Some}
+use Rattle.std.specs.Prelude.{◌≡◌, ℕ, ◌+◌, ◌<◌, ◌≤◌, List, length, map, Contains, Some}
 use Rattle.bench_types.specs.declared.entries.Entry.{Entry}
 use Rattle.bench_types.specs.declared.exchanges.Exchange.{Exchange}
 use Rattle.bench_types.specs.declared.exchanges.Rules.{Rules}
@@ -12,6 +12,7 @@ use Rattle.model.specs.OwnerListView.{OwnerListView, all_writes, AreWrites, list
 use Rattle.model.specs.Numbers.{write_numbered}
 use Rattle.planes.specs.Planes.{HasEach, cell}
 use Rattle.version_tables.specs.Views.{HistoriesView}
+use Rattle.version_tables.specs.declared.histories.Owners.{Owners}
 use Rattle.version_tables.specs.inner.Offers.{IsHistory, IsNumberedHistory}
 use Rattle.version_tables.specs.inner.RoundEnds.{AreEnds}
 
@@ -45,6 +46,12 @@ pub record AreHistories (written : ℕ → List Entry) (most : ℕ) (lists : Lis
   pub so_far : (owner : ℕ) → IsWrittenSoFar (written owner) most rounds (all_writes lists owner)
   pub ended : AreEnds (all_writes lists) (length lists) rounds ends
   pub reached : (owner round : ℕ) → owner < length lists → round ≤ rounds → cell ends (length lists) owner round ≤ length (all_writes lists owner)
+
+-- as many owners as nodes, whose writes are numbered, and of each how many it made before its generation
+pub record AreOwners {N : Type 0} (number : N → ℕ) (nodes : ℕ) (owners : Owners N) : Type 0 where
+  pub count : length owners.lists.now ≡ nodes
+  pub bases : HasEach nodes (λ r n. n ≡ bases_in owners.lists.now r) (map number owners.bases.now)
+  pub numbered : (owner : ℕ) → IsNumberedHistory (all_writes owners.lists.now owner)
 
 -- what a table owes to the histories: its entries were written, and no later than in the last round
 pub record FitsHistories (h : HistoriesView) (t : Table) : Type 0 where

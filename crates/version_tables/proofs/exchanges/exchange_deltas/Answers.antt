@@ -18,18 +18,18 @@ take_both-requires-clause-cells g c = λ κs out.
 
 pub take_both-requires-clause-initiator : goal.take_both-requires-clause-initiator
 take_both-requires-clause-initiator g c = λ κs out.
-    stays_back g.H.Written.lists c.args.rules.now c.args.plan.now g.N.Number.most c.args.histories.now c.lists-lists.ensures.so_far c.bases-bases.ensures.writes c.args.initiator.now c.args.responder.now c.requires.kept c.digest_size-digest2.ensures.kept
-    c.requires.may.initiator_fits c.requires.may.responder_fits c.requires.may.tables.nodes c.requires.may.tables.keys _ _ _ _ _ _ _ _ c.in_ok-back.ensures.delta c.in_ok-forth.ensures.delta c.lists-lists.result.now c.lists-lists.ensures.value
+    stays_back g.H.Written.lists c.args.rules.now c.args.plan.now g.N.Number.most c.args.histories.now c.lists.ensures.so_far c.bases.ensures.writes c.args.initiator.now c.args.responder.now c.requires.kept c.digest_size-digest2.ensures.kept
+    c.requires.may.initiator_fits c.requires.may.responder_fits c.requires.may.tables.nodes c.requires.may.tables.keys _ _ _ _ _ _ _ _ c.in_ok-back.ensures.delta c.in_ok-forth.ensures.delta c.lists.result.now c.lists.ensures.value
 
 pub take_both-requires-clause-responder : goal.take_both-requires-clause-responder
 take_both-requires-clause-responder g c = λ κs out.
-    stays_forth g.H.Written.lists c.args.rules.now c.args.plan.now g.N.Number.most c.args.histories.now c.lists-lists.ensures.so_far c.bases-bases.ensures.writes c.args.initiator.now c.args.responder.now c.requires.kept c.digest_size-digest2.ensures.kept
-    c.requires.may.initiator_fits c.requires.may.responder_fits c.requires.may.tables.nodes c.requires.may.tables.keys _ _ _ _ _ _ _ _ c.in_ok-back.ensures.delta c.in_ok-forth.ensures.delta c.lists-lists.result.now c.lists-lists.ensures.value c.is_nothing.result
+    stays_forth g.H.Written.lists c.args.rules.now c.args.plan.now g.N.Number.most c.args.histories.now c.lists.ensures.so_far c.bases.ensures.writes c.args.initiator.now c.args.responder.now c.requires.kept c.digest_size-digest2.ensures.kept
+    c.requires.may.initiator_fits c.requires.may.responder_fits c.requires.may.tables.nodes c.requires.may.tables.keys _ _ _ _ _ _ _ _ c.in_ok-back.ensures.delta c.in_ok-forth.ensures.delta c.lists.result.now c.lists.ensures.value c.is_nothing.result
 
 pub returns-clause-ok : goal.returns-clause-ok
 returns-clause-ok g c =
-    exchange_whole g.H.Written.lists c.args.rules.now c.args.plan.now g.N.Number.most c.args.histories.now c.lists-lists.ensures.so_far c.bases-bases.ensures.writes c.args.initiator.now c.args.responder.now c.requires.kept c.digest_size-digest2.ensures.kept
-    c.requires.may.initiator_fits c.requires.may.responder_fits c.requires.may.tables.nodes c.requires.may.tables.keys _ _ _ _ _ _ _ _ c.in_ok-back.ensures.delta c.in_ok-forth.ensures.delta c.lists-lists.result.now c.lists-lists.ensures.value
+    exchange_whole g.H.Written.lists c.args.rules.now c.args.plan.now g.N.Number.most c.args.histories.now c.lists.ensures.so_far c.bases.ensures.writes c.args.initiator.now c.args.responder.now c.requires.kept c.digest_size-digest2.ensures.kept
+    c.requires.may.initiator_fits c.requires.may.responder_fits c.requires.may.tables.nodes c.requires.may.tables.keys _ _ _ _ _ _ _ _ c.in_ok-back.ensures.delta c.in_ok-forth.ensures.delta c.lists.result.now c.lists.ensures.value
     c.args.digest1 c.digest_size-digest2.result c.requires.digest1 c.digest_size-digest2.ensures.size c.requires.came c.if-plan.false _ _ c.is_nothing.ensures (ap (λ b. c.args.plan.now.lost3 || b) c.is_nothing-2.ensures)
     c.take_both.new.initiator c.take_both.new.responder c.in_ok-take_both.ensures.initiator c.in_ok-take_both.ensures.responder c.sent_both.result c.sent_both.ensures
 
@@ -84,15 +84,13 @@ take_both-requires-clause-forth_low g c κs out = c.in_ok-forth.ensures.delta.lo
 pub take_both-requires-clause-forth_high : goal.take_both-requires-clause-forth_high
 take_both-requires-clause-forth_high g c κs out = c.in_ok-forth.ensures.delta.high_count
 
-pub take_both-requires-clause-bases : goal.take_both-requires-clause-bases
-take_both-requires-clause-bases g c κs out =
-    let bases = map g.N.Number.number c.bases-bases.result.now in
+pub take_both-requires-clause-owners : goal.take_both-requires-clause-owners
+take_both-requires-clause-owners g c κs out =
+    let bases = map g.N.Number.number c.bases.result.now in
     let lists = c.args.histories.now.lists in
-    subst (λ nodes. HasEach nodes (λ r n. n ≡ bases_in c.lists-lists.result.now r) bases) (sym c.requires.may.initiator_fits.nodes)
-    (subst (λ ls. HasEach (length lists) (λ r n. n ≡ bases_in ls r) bases) (sym c.lists-lists.ensures.value) c.bases-bases.ensures.value)
-
-pub take_both-requires-clause-lists : goal.take_both-requires-clause-lists
-take_both-requires-clause-lists g c κs out = ap length c.lists-lists.ensures.value ∙ sym c.requires.may.initiator_fits.nodes
-
-pub take_both-requires-clause-numbered : goal.take_both-requires-clause-numbered
-take_both-requires-clause-numbered g c κs out = λ owner. subst (λ ls. IsNumberedHistory (all_writes ls owner)) (sym c.lists-lists.ensures.value) (c.lists-lists.ensures.so_far owner).numbered
+    record {
+      count = ap length c.lists.ensures.value ∙ sym c.requires.may.initiator_fits.nodes;
+      bases = subst (λ nodes. HasEach nodes (λ r n. n ≡ bases_in c.lists.result.now r) bases) (sym c.requires.may.initiator_fits.nodes)
+      (subst (λ ls. HasEach (length lists) (λ r n. n ≡ bases_in ls r) bases) (sym c.lists.ensures.value) c.bases.ensures.value);
+      numbered = λ owner. subst (λ ls. IsNumberedHistory (all_writes ls owner)) (sym c.lists.ensures.value) (c.lists.ensures.so_far owner).numbered;
+    }

@@ -1,34 +1,33 @@
 use Rattle.std.proofs.Common.{◌≡◌, ℕ, Bool, true, false, List, length, map, ap, sym, subst, ◌∙◌}
 use Rattle.std.proofs.lemmas.List.{length-map}
 use Rattle.bench_types.specs.declared.entries.Entry.{Entry}
-use Rattle.planes.specs.Planes.{HasEach}
 use Rattle.version_tables.specs.Views.{VersionTableView}
 use Rattle.model.specs.OwnerListView.{all_writes}
-use Rattle.version_tables.specs.inner.Histories.{bases_in}
+use Rattle.version_tables.specs.inner.Histories.{bases_in, AreOwners}
 use Rattle.version_tables.specs.inner.Taken.{HasTakenUnless, StaysOne}
 use Rattle.version_tables.proofs.exchanges.take_both.Goals as goal
 
 pub take_unless-requires-2-clause-stays : goal.take_unless-requires-2-clause-stays
 take_unless-requires-2-clause-stays g c = λ κs out.
-    subst (λ sent. StaysOne g.H.Written.lists (all_writes c.args.lists.now) (bases_in c.args.lists.now) c.args.responder.now sent (map g.N.Number.number c.args.forth.now.low.items) (map g.N.Number.number c.args.forth.now.high.items))
+    subst (λ sent. StaysOne g.H.Written.lists (all_writes c.args.owners.lists.now) (bases_in c.args.owners.lists.now) c.args.responder.now sent (map g.N.Number.number c.args.forth.now.low.items) (map g.N.Number.number c.args.forth.now.high.items))
     (sym c.cells-came_forth.ensures.value)
     (c.requires.responder c.take_unless.new.table
-    (subst (λ sent. HasTakenUnless c.args.nothing_back (all_writes c.args.lists.now) (bases_in c.args.lists.now) c.args.initiator.now sent (map g.N.Number.number c.args.back.now.low.items) (map g.N.Number.number c.args.back.now.high.items) c.take_unless.new.table)
+    (subst (λ sent. HasTakenUnless c.args.nothing_back (all_writes c.args.owners.lists.now) (bases_in c.args.owners.lists.now) c.args.initiator.now sent (map g.N.Number.number c.args.back.now.low.items) (map g.N.Number.number c.args.back.now.high.items) c.take_unless.new.table)
     c.cells-came_back.ensures.value c.take_unless.ensures))
 
 pub take_unless-requires-clause-stays : goal.take_unless-requires-clause-stays
 take_unless-requires-clause-stays g c = λ κs out.
-    subst (λ sent. StaysOne g.H.Written.lists (all_writes c.args.lists.now) (bases_in c.args.lists.now) c.args.initiator.now sent (map g.N.Number.number c.args.back.now.low.items) (map g.N.Number.number c.args.back.now.high.items))
+    subst (λ sent. StaysOne g.H.Written.lists (all_writes c.args.owners.lists.now) (bases_in c.args.owners.lists.now) c.args.initiator.now sent (map g.N.Number.number c.args.back.now.low.items) (map g.N.Number.number c.args.back.now.high.items))
     (sym c.cells-came_back.ensures.value) c.requires.initiator
 
 pub returns-clause-initiator : goal.returns-clause-initiator
 returns-clause-initiator g c =
-    subst (λ sent. HasTakenUnless c.args.nothing_back (all_writes c.args.lists.now) (bases_in c.args.lists.now) c.args.initiator.now sent (map g.N.Number.number c.args.back.now.low.items) (map g.N.Number.number c.args.back.now.high.items) c.take_unless.new.table)
+    subst (λ sent. HasTakenUnless c.args.nothing_back (all_writes c.args.owners.lists.now) (bases_in c.args.owners.lists.now) c.args.initiator.now sent (map g.N.Number.number c.args.back.now.low.items) (map g.N.Number.number c.args.back.now.high.items) c.take_unless.new.table)
     c.cells-came_back.ensures.value c.take_unless.ensures
 
 pub returns-clause-responder : goal.returns-clause-responder
 returns-clause-responder g c =
-    subst (λ sent. HasTakenUnless c.args.nothing_forth (all_writes c.args.lists.now) (bases_in c.args.lists.now) c.args.responder.now sent (map g.N.Number.number c.args.forth.now.low.items) (map g.N.Number.number c.args.forth.now.high.items) c.take_unless-2.new.table)
+    subst (λ sent. HasTakenUnless c.args.nothing_forth (all_writes c.args.owners.lists.now) (bases_in c.args.owners.lists.now) c.args.responder.now sent (map g.N.Number.number c.args.forth.now.low.items) (map g.N.Number.number c.args.forth.now.high.items) c.take_unless-2.new.table)
     c.cells-came_forth.ensures.value c.take_unless-2.ensures
 
 pub take_unless-requires-clause-sent : goal.take_unless-requires-clause-sent
@@ -64,9 +63,6 @@ pub take_unless-requires-2-clause-high : goal.take_unless-requires-2-clause-high
 take_unless-requires-2-clause-high g c = λ κs out.
     sym (length-map c.args.forth.now.high.items g.N.Number.number) ∙ c.requires.forth_high ∙ sym c.requires.nodes
 
-pub take_unless-requires-2-clause-bases : goal.take_unless-requires-2-clause-bases
-take_unless-requires-2-clause-bases g c = λ κs out.
-    subst (λ n. HasEach n (λ r m. m ≡ bases_in c.args.lists.now r) (map g.N.Number.number c.args.bases.now)) (sym c.requires.nodes) c.requires.bases
-
-pub take_unless-requires-2-clause-lists : goal.take_unless-requires-2-clause-lists
-take_unless-requires-2-clause-lists g c = λ κs out. c.requires.lists ∙ sym c.requires.nodes
+pub take_unless-requires-2-clause-owners : goal.take_unless-requires-2-clause-owners
+take_unless-requires-2-clause-owners g c = λ κs out.
+    subst (λ n. AreOwners g.N.Number.number n c.args.owners) (sym c.requires.nodes) c.requires.owners

@@ -1,5 +1,6 @@
 use Rattle.std.proofs.Common.{ℕ, ◌≡◌, false, subst, ◌+◌, ◌*◌, ◌<◌, arith, map, slice_index, sym, ap, ◌∙◌, nat_lt, nat_le}
 use Rattle.std.specs.Prelude.{◌&&◌}
+use Rattle.std.proofs.lemmas.List.{length-map}
 use Rattle.model.specs.OwnerListView.{all_writes}
 use Rattle.planes.specs.Planes.{cell}
 use Rattle.planes.proofs.Elementwise.{number-at}
@@ -14,28 +15,28 @@ use Rattle.version_tables.proofs.taking.drop_older.Goals as goal
 pub returns-then-total_upto-eq0 : goal.returns-then-total_upto-eq0
 returns-then-total_upto-eq0 g c =
     planes-stay _ c.args.nodes c.args.keys (map g.N.Number.number c.args.cells.now)
-    (λ r k x lt. sym (kept-all x) ∙ ap (λ n. number_kept n x) (sym (no_start (all_writes c.args.lists.now r) (slice_index (map g.N.Number.number c.args.before.now) r) (slice_index (map g.N.Number.number c.args.bases.now) r) (slice_index (map g.N.Number.number c.args.greatest.now) r)
+    (λ r k x lt. sym (kept-all x) ∙ ap (λ n. number_kept n x) (sym (no_start (all_writes c.args.owners.lists.now r) (slice_index (map g.N.Number.number c.args.before.now) r) (slice_index (map g.N.Number.number c.args.owners.bases.now) r) (slice_index (map g.N.Number.number c.args.greatest.now) r)
     (none r lt))))
   where
-    none : (r : ℕ) → r < c.args.nodes → (nat_lt 0 (slice_index (map g.N.Number.number c.args.before.now) r) && nat_le (slice_index (map g.N.Number.number c.args.before.now) r) (slice_index (map g.N.Number.number c.args.bases.now) r)) ≡ false
+    none : (r : ℕ) → r < c.args.nodes → (nat_lt 0 (slice_index (map g.N.Number.number c.args.before.now) r) && nat_le (slice_index (map g.N.Number.number c.args.before.now) r) (slice_index (map g.N.Number.number c.args.owners.bases.now) r)) ≡ false
     none r lt =
-        subst (λ i. (nat_lt 0 (slice_index (map g.N.Number.number c.args.before.now) i) && nat_le (slice_index (map g.N.Number.number c.args.before.now) i) (slice_index (map g.N.Number.number c.args.bases.now) r)) ≡ false) {x = 0 * c.args.nodes + r} {y = r} (omega arith)
-        (total-none c.args.nodes (λ r k. nat_lt 0 (cell (map g.N.Number.number c.args.before.now) c.args.nodes r k) && nat_le (cell (map g.N.Number.number c.args.before.now) c.args.nodes r k) (slice_index (map g.N.Number.number c.args.bases.now) r)) (omega (arith, c.total_upto.ensures, c.if-total_upto-eq0.true)) r lt)
+        subst (λ i. (nat_lt 0 (slice_index (map g.N.Number.number c.args.before.now) i) && nat_le (slice_index (map g.N.Number.number c.args.before.now) i) (slice_index (map g.N.Number.number c.args.owners.bases.now) r)) ≡ false) {x = 0 * c.args.nodes + r} {y = r} (omega arith)
+        (total-none c.args.nodes (λ r k. nat_lt 0 (cell (map g.N.Number.number c.args.before.now) c.args.nodes r k) && nat_le (cell (map g.N.Number.number c.args.before.now) c.args.nodes r k) (slice_index (map g.N.Number.number c.args.owners.bases.now) r)) (omega (arith, c.total_upto.ensures, c.if-total_upto-eq0.true)) r lt)
 
 -- what an owner's numbers are dropped up to
-starts : (g : given.Over) (c : goal.After-cells-1 g) → c.drop_from-start.result ≡ drop_start (all_writes c.args.lists.now c.loop-owner.owner)
-    (slice_index (map g.N.Number.number c.args.before.now) c.loop-owner.owner) (slice_index (map g.N.Number.number c.args.bases.now) c.loop-owner.owner) (slice_index (map g.N.Number.number c.args.greatest.now) c.loop-owner.owner)
+starts : (g : given.Over) (c : goal.After-cells-1 g) → c.drop_from-start.result ≡ drop_start (all_writes c.args.owners.lists.now c.loop-owner.owner)
+    (slice_index (map g.N.Number.number c.args.before.now) c.loop-owner.owner) (slice_index (map g.N.Number.number c.args.owners.bases.now) c.loop-owner.owner) (slice_index (map g.N.Number.number c.args.greatest.now) c.loop-owner.owner)
 starts g c =
     c.drop_from-start.ensures
     ∙ (λ i. drop_start
-    (sym (all_writes-here c.args.lists.now c.loop-owner.owner c.index-lists-owner.result (omega (arith, c.requires.lists, c.loop-owner-test.true)) c.index-lists-owner.is) i)
+    (sym (all_writes-here c.args.owners.lists.now c.loop-owner.owner c.index-lists-owner.result (omega (arith, c.requires.owners.count, c.loop-owner-test.true)) c.index-lists-owner.is) i)
     (number-at g.N.Number.number c.args.before.now c.loop-owner.owner c.index-before-owner.result (omega (arith, c.requires.before, c.loop-owner-test.true)) c.index-before-owner.is i)
-    (number-at g.N.Number.number c.args.bases.now c.loop-owner.owner c.index-bases-owner.result (omega (arith, c.requires.bases, c.loop-owner-test.true)) c.index-bases-owner.is i)
+    (number-at g.N.Number.number c.args.owners.bases.now c.loop-owner.owner c.index-bases-owner.result (omega (arith, c.requires.owners.bases.size, length-map c.args.owners.bases.now g.N.Number.number, c.loop-owner-test.true)) c.index-bases-owner.is i)
     (number-at g.N.Number.number c.args.greatest.now c.loop-owner.owner c.index-greatest-owner.result (omega (arith, c.requires.greatest, c.loop-owner-test.true)) c.index-greatest-owner.is i))
 
 pub drop_from-start-requires-after_bounds : goal.drop_from-start-requires-after_bounds
 drop_from-start-requires-after_bounds g c =
-    λ κs out. subst IsNumberedHistory (all_writes-here c.args.lists.now c.loop-owner.owner c.index-lists-owner.result (omega (arith, c.requires.lists, c.loop-owner-test.true)) c.index-lists-owner.is) (c.requires.numbered c.loop-owner.owner)
+    λ κs out. subst IsNumberedHistory (all_writes-here c.args.owners.lists.now c.loop-owner.owner c.index-lists-owner.result (omega (arith, c.requires.owners.count, c.loop-owner-test.true)) c.index-lists-owner.is) (c.requires.owners.numbered c.loop-owner.owner)
 
 pub loop-owner-init : goal.loop-owner-init
 loop-owner-init g c = owners-none _ c.args.nodes c.args.keys (map g.N.Number.number c.args.cells.now)
@@ -43,12 +44,12 @@ loop-owner-init g c = owners-none _ c.args.nodes c.args.keys (map g.N.Number.num
 pub loop-owner-preserved : goal.loop-owner-preserved
 loop-owner-preserved g c =
     owners-next
-    (λ r k. number_kept (drop_start (all_writes c.args.lists.now r) (slice_index (map g.N.Number.number c.args.before.now) r) (slice_index (map g.N.Number.number c.args.bases.now) r) (slice_index (map g.N.Number.number c.args.greatest.now) r)))
+    (λ r k. number_kept (drop_start (all_writes c.args.owners.lists.now r) (slice_index (map g.N.Number.number c.args.before.now) r) (slice_index (map g.N.Number.number c.args.owners.bases.now) r) (slice_index (map g.N.Number.number c.args.greatest.now) r)))
     c.args.nodes c.args.keys (map g.N.Number.number c.args.cells.now) c.loop-owner.owner (λ r k x. number_kept c.drop_from-start.result x) (map g.N.Number.number c.loop-owner.cells) _ c.loop-owner.invariant c.drop_owner.ensures
     (λ k x. ap (λ n. number_kept n x) (starts g c))
 
 pub returns : goal.returns
 returns g c =
     owners-all
-    (λ r k. number_kept (drop_start (all_writes c.args.lists.now r) (slice_index (map g.N.Number.number c.args.before.now) r) (slice_index (map g.N.Number.number c.args.bases.now) r) (slice_index (map g.N.Number.number c.args.greatest.now) r)))
+    (λ r k. number_kept (drop_start (all_writes c.args.owners.lists.now r) (slice_index (map g.N.Number.number c.args.before.now) r) (slice_index (map g.N.Number.number c.args.owners.bases.now) r) (slice_index (map g.N.Number.number c.args.greatest.now) r)))
     c.args.nodes c.args.keys (map g.N.Number.number c.args.cells.now) c.loop-owner.owner (map g.N.Number.number c.loop-owner.cells) c.loop-owner-test.false c.loop-owner.invariant

@@ -10,9 +10,9 @@ pub returns : goal.returns
 returns g c =
     let number = g.N.Number.number in
     let marks = c.args.marks.now in
-    subst (λ highs. IsTaken (all_writes c.args.lists.now) (bases_in c.args.lists.now) c.args.nodes c.args.keys (map number c.args.cells.now) (map number c.args.greatest.now) (map number c.args.sent.now)
+    subst (λ highs. IsTaken (all_writes c.args.owners.lists.now) (bases_in c.args.owners.lists.now) c.args.nodes c.args.keys (map number c.args.cells.now) (map number c.args.greatest.now) (map number c.args.sent.now)
     (map number marks.low.items) (map number highs) (map number c.drop_older.new.cells) (map number c.take.new.greatest)) c.deref-2.ensures.value
-    (subst (λ lows. IsTaken (all_writes c.args.lists.now) (bases_in c.args.lists.now) c.args.nodes c.args.keys (map number c.args.cells.now) (map number c.args.greatest.now) (map number c.args.sent.now)
+    (subst (λ lows. IsTaken (all_writes c.args.owners.lists.now) (bases_in c.args.owners.lists.now) c.args.nodes c.args.keys (map number c.args.cells.now) (map number c.args.greatest.now) (map number c.args.sent.now)
     (map number lows) (map number c.deref-2.result.now) (map number c.drop_older.new.cells) (map number c.take.new.greatest)) c.deref.ensures.value
     (record {
       cell_count = c.drop_older.ensures.size ∙ c.take.ensures.cells.size;
@@ -20,7 +20,7 @@ returns g c =
       raised = c.take.ensures.greatest.each;
       kept = λ owner key in_nodes in_keys.
           c.drop_older.ensures.each owner key in_nodes in_keys
-          ∙ (λ i. number_kept (drop_start (all_writes c.args.lists.now owner) (slice_index (c.requires.before i) owner) (c.requires.bases.each owner in_nodes i) (slice_index (map number c.take.new.greatest) owner))
+          ∙ (λ i. number_kept (drop_start (all_writes c.args.owners.lists.now owner) (slice_index (c.requires.before i) owner) (c.requires.owners.bases.each owner in_nodes i) (slice_index (map number c.take.new.greatest) owner))
           (c.take.ensures.cells.each owner key in_nodes in_keys i));
     }))
 
@@ -41,5 +41,3 @@ drop_older-requires-clause-before g c κs out =
 pub drop_older-requires-clause-greatest : goal.drop_older-requires-clause-greatest
 drop_older-requires-clause-greatest g c κs out = sym (length-map c.take.new.greatest g.N.Number.number) ∙ c.take.ensures.greatest.size
 
-pub drop_older-requires-clause-bases : goal.drop_older-requires-clause-bases
-drop_older-requires-clause-bases g c κs out = sym (length-map c.args.bases.now g.N.Number.number) ∙ c.requires.bases.size

@@ -1,10 +1,10 @@
 use Rattle.std.proofs.Common.{◌≡◌, length, map, ap, subst, sym, ◌∙◌}
 use Rattle.std.specs.Vec.{with_items}
 use Rattle.std.proofs.lemmas.List.{length-map, with_items_is}
-use Rattle.planes.specs.Planes.{AreCovered, HasEach}
+use Rattle.planes.specs.Planes.{AreCovered}
 use Rattle.model.specs.OwnerListView.{all_writes}
 use Rattle.version_tables.specs.Views.{VersionTableView}
-use Rattle.version_tables.specs.inner.Histories.{bases_in}
+use Rattle.version_tables.specs.inner.Histories.{bases_in, AreOwners}
 use Rattle.version_tables.specs.inner.Taken.{IsTaken}
 use Rattle.version_tables.proofs.Laid.{seen}
 use Rattle.version_tables.proofs.TakenNumbers.{take-stays, has-taken}
@@ -15,31 +15,31 @@ module _ (g : given.Over) (c : goal.After-table-2-1 g) where
   abbrev old : VersionTableView
   old = seen c.table.view_is
 
-  taken : IsTaken (all_writes c.args.lists.now) (bases_in c.args.lists.now) old.nodes old.keys old.cells old.greatest
+  taken : IsTaken (all_writes c.args.owners.lists.now) (bases_in c.args.owners.lists.now) old.nodes old.keys old.cells old.greatest
       (map g.N.Number.number c.args.sent.now) (map g.N.Number.number c.args.marks.now.low.items) (map g.N.Number.number c.args.marks.now.high.items)
       (map g.N.Number.number (with_items c.table.inside.cells c.take_numbers.new.cells).items) (map g.N.Number.number (with_items c.table.inside.greatest c.take_numbers.new.greatest).items)
   taken =
-      subst (λ xs. IsTaken (all_writes c.args.lists.now) (bases_in c.args.lists.now) old.nodes old.keys old.cells old.greatest (map g.N.Number.number c.args.sent.now) (map g.N.Number.number c.args.marks.now.low.items) (map g.N.Number.number c.args.marks.now.high.items)
+      subst (λ xs. IsTaken (all_writes c.args.owners.lists.now) (bases_in c.args.owners.lists.now) old.nodes old.keys old.cells old.greatest (map g.N.Number.number c.args.sent.now) (map g.N.Number.number c.args.marks.now.low.items) (map g.N.Number.number c.args.marks.now.high.items)
       (map g.N.Number.number xs) (map g.N.Number.number (with_items c.table.inside.greatest c.take_numbers.new.greatest).items))
       (sym (with_items_is c.table.inside.cells c.take_numbers.new.cells (c.take_numbers.auto.cells ∙ c.deref_mut.ensures.len)))
-      (subst (λ ys. IsTaken (all_writes c.args.lists.now) (bases_in c.args.lists.now) old.nodes old.keys old.cells old.greatest (map g.N.Number.number c.args.sent.now) (map g.N.Number.number c.args.marks.now.low.items) (map g.N.Number.number c.args.marks.now.high.items)
+      (subst (λ ys. IsTaken (all_writes c.args.owners.lists.now) (bases_in c.args.owners.lists.now) old.nodes old.keys old.cells old.greatest (map g.N.Number.number c.args.sent.now) (map g.N.Number.number c.args.marks.now.low.items) (map g.N.Number.number c.args.marks.now.high.items)
       (map g.N.Number.number c.take_numbers.new.cells) (map g.N.Number.number ys))
       (sym (with_items_is c.table.inside.greatest c.take_numbers.new.greatest (c.take_numbers.auto.greatest ∙ c.deref_mut-2.ensures.len)))
-      (subst (λ xs. IsTaken (all_writes c.args.lists.now) (bases_in c.args.lists.now) old.nodes old.keys (map g.N.Number.number xs) old.greatest (map g.N.Number.number c.args.sent.now) (map g.N.Number.number c.args.marks.now.low.items) (map g.N.Number.number c.args.marks.now.high.items)
+      (subst (λ xs. IsTaken (all_writes c.args.owners.lists.now) (bases_in c.args.owners.lists.now) old.nodes old.keys (map g.N.Number.number xs) old.greatest (map g.N.Number.number c.args.sent.now) (map g.N.Number.number c.args.marks.now.low.items) (map g.N.Number.number c.args.marks.now.high.items)
       (map g.N.Number.number c.take_numbers.new.cells) (map g.N.Number.number c.take_numbers.new.greatest))
       c.deref_mut.ensures.value
-      (subst (λ ys. IsTaken (all_writes c.args.lists.now) (bases_in c.args.lists.now) old.nodes old.keys (map g.N.Number.number c.deref_mut.result.now) (map g.N.Number.number ys) (map g.N.Number.number c.args.sent.now) (map g.N.Number.number c.args.marks.now.low.items) (map g.N.Number.number c.args.marks.now.high.items)
+      (subst (λ ys. IsTaken (all_writes c.args.owners.lists.now) (bases_in c.args.owners.lists.now) old.nodes old.keys (map g.N.Number.number c.deref_mut.result.now) (map g.N.Number.number ys) (map g.N.Number.number c.args.sent.now) (map g.N.Number.number c.args.marks.now.low.items) (map g.N.Number.number c.args.marks.now.high.items)
       (map g.N.Number.number c.take_numbers.new.cells) (map g.N.Number.number c.take_numbers.new.greatest))
       c.deref_mut-2.ensures.value
       c.take_numbers.ensures)))
 
 pub invariant_of-table : goal.invariant_of-table
 invariant_of-table g c =
-    take-stays (all_writes c.args.lists.now) (bases_in c.args.lists.now) _ _ _ (old g c) c.args.table.now c.table.view_is _ _ (taken g c) g.H.Written.lists c.requires.stays
+    take-stays (all_writes c.args.owners.lists.now) (bases_in c.args.owners.lists.now) _ _ _ (old g c) c.args.table.now c.table.view_is _ _ (taken g c) g.H.Written.lists c.requires.stays
 
 pub returns : goal.returns
 returns g c =
-    has-taken (all_writes c.args.lists.now) (bases_in c.args.lists.now) (map g.N.Number.number c.args.sent.now) (map g.N.Number.number c.args.marks.now.low.items) (map g.N.Number.number c.args.marks.now.high.items)
+    has-taken (all_writes c.args.owners.lists.now) (bases_in c.args.owners.lists.now) (map g.N.Number.number c.args.sent.now) (map g.N.Number.number c.args.marks.now.low.items) (map g.N.Number.number c.args.marks.now.high.items)
     (old g c) c.args.table.now c.table.view_is _ _ (taken g c) c.args.nothing c.if-nothing.false
 
 pub take_numbers-requires-clause-may : goal.take_numbers-requires-clause-may
@@ -65,9 +65,6 @@ pub take_numbers-requires-clause-before : goal.take_numbers-requires-clause-befo
 take_numbers-requires-clause-before g c κs out =
     c.requires.before ∙ sym (ap (λ (v : VersionTableView). v.greatest) c.table.view_is) ∙ sym (ap (map g.N.Number.number) c.deref_mut-2.ensures.value)
 
-pub take_numbers-requires-clause-bases : goal.take_numbers-requires-clause-bases
-take_numbers-requires-clause-bases g c κs out =
-    subst (λ nodes. HasEach nodes (λ r n. n ≡ bases_in c.args.lists.now r) (map g.N.Number.number c.args.bases.now)) (sym (ap (λ (v : VersionTableView). v.nodes) c.table.view_is)) c.requires.bases
-
-pub take_numbers-requires-clause-lists : goal.take_numbers-requires-clause-lists
-take_numbers-requires-clause-lists g c κs out = c.requires.lists ∙ sym (ap (λ (v : VersionTableView). v.nodes) c.table.view_is)
+pub take_numbers-requires-clause-owners : goal.take_numbers-requires-clause-owners
+take_numbers-requires-clause-owners g c κs out =
+    subst (λ nodes. AreOwners g.N.Number.number nodes c.args.owners) (sym (ap (λ (v : VersionTableView). v.nodes) c.table.view_is)) c.requires.owners

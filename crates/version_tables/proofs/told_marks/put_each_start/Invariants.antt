@@ -6,5 +6,5 @@ use Rattle.version_tables.proofs.told_marks.put_each_start.Given as goal
 
 abbrev pub invariant-loop-r : goal.invariant-loop-r
 invariant-loop-r g l =
-    AreChangedUpto (λ r x y. IsEarlierStart (all_writes l.lists r) (slice_index (map g.N.Number.number l.bases) r) x y)
+    AreChangedUpto (λ r x y. IsEarlierStart (all_writes l.owners.lists.now r) (slice_index (map g.N.Number.number l.owners.bases.now) r) x y)
     (map g.N.Number.number l.initial.numbers) (map g.N.Number.number l.numbers) l.r

@@ -7,12 +7,12 @@ pub returns : goal.returns
 returns g c = record {
   size = c.lower.ensures.least.size ∙ c.put_earlier_starts.ensures.size;
   each = λ r lt.
-      let within : r < length c.args.lists.now = omega (arith, lt, c.requires.count) in
+      let within : r < length c.args.owners.lists.now = omega (arith, lt, c.requires.count) in
       let base = c.requires.based.each r within in
-      start-lowered _ (get_or (map g.N.Number.number c.args.bases.now) r 0) (get_or (map g.N.Number.number c.args.numbers.now) r 0) (get_or (map g.N.Number.number c.put_earlier_starts.new.numbers) r 0) _
+      start-lowered _ (get_or (map g.N.Number.number c.args.owners.bases.now) r 0) (get_or (map g.N.Number.number c.args.numbers.now) r 0) (get_or (map g.N.Number.number c.put_earlier_starts.new.numbers) r 0) _
       (c.put_earlier_starts.ensures.each r lt)
       (λ behind.
-      start-own (list_of_owner c.args.lists.now r) (get_or (map g.N.Number.number c.args.numbers.now) r 0) (c.requires.writes r) (omega (arith, behind, base)) (c.requires.within r within)
+      start-own (list_of_owner c.args.owners.lists.now r) (get_or (map g.N.Number.number c.args.numbers.now) r 0) (c.requires.writes r) (omega (arith, behind, base)) (c.requires.within r within)
       ∙ sym base)
       (c.lower.ensures.least.each r (omega (arith, lt, c.put_earlier_starts.ensures.size)));
 }

@@ -172,18 +172,20 @@ fn take_both<N: Number, H: Written>(
     requires forth_low { length (map N.number forth.now.low.items) ≡ initiator.old.nodes }
     requires forth_high { length (map N.number forth.now.high.items) ≡ initiator.old.nodes }
     requires owners { AreOwners N.number initiator.old.nodes owners }
-    requires initiator { StaysOne H.lists (all_writes owners.lists.now) (bases_in owners.lists.now) initiator.old responder.old.cells
-        (map N.number back.now.low.items) (map N.number back.now.high.items) }
+    requires initiator { StaysOne H.lists (all_writes owners.lists.now) (bases_in owners.lists.now) initiator.old
+        responder.old.cells (map N.number back.now.low.items) (map N.number back.now.high.items) }
     requires responder { (after : VersionTableView)
-        → HasTakenUnless nothing_back (all_writes owners.lists.now) (bases_in owners.lists.now) initiator.old responder.old.cells
-        (map N.number back.now.low.items) (map N.number back.now.high.items) after
+        → HasTakenUnless nothing_back (all_writes owners.lists.now) (bases_in owners.lists.now) initiator.old
+        responder.old.cells (map N.number back.now.low.items) (map N.number back.now.high.items) after
         → StaysOne H.lists (all_writes owners.lists.now) (bases_in owners.lists.now) responder.old after.cells
         (map N.number forth.now.low.items) (map N.number forth.now.high.items) }
-    ensures initiator { OnOk result (HasTakenUnless nothing_back (all_writes owners.lists.now) (bases_in owners.lists.now)
-        initiator.old responder.old.cells (map N.number back.now.low.items) (map N.number back.now.high.items)
+    ensures initiator { OnOk result (HasTakenUnless nothing_back (all_writes owners.lists.now)
+        (bases_in owners.lists.now) initiator.old responder.old.cells
+        (map N.number back.now.low.items) (map N.number back.now.high.items)
         initiator.new) }
-    ensures responder { OnOk result (HasTakenUnless nothing_forth (all_writes owners.lists.now) (bases_in owners.lists.now)
-        responder.old initiator.new.cells (map N.number forth.now.low.items) (map N.number forth.now.high.items)
+    ensures responder { OnOk result (HasTakenUnless nothing_forth (all_writes owners.lists.now)
+        (bases_in owners.lists.now) responder.old initiator.new.cells
+        (map N.number forth.now.low.items) (map N.number forth.now.high.items)
         responder.new) }
     ensures initiator_stays { OnErr result (initiator.new ≡ initiator.old) }
     ensures responder_stays { OnErr result (responder.new ≡ responder.old) }

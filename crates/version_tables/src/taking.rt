@@ -133,10 +133,10 @@ pub(crate) fn take_unless<N: Number, H: Written>(
     requires high { length marks.now.high.items ≡ table.old.nodes }
     requires before { map N.number before.now ≡ table.old.greatest }
     requires owners { AreOwners N.number table.old.nodes owners }
-    requires stays { StaysOne H.lists (all_writes owners.lists.now) (bases_in owners.lists.now) table.old (map N.number sent.now)
-        (map N.number marks.now.low.items) (map N.number marks.now.high.items) }
-    ensures { HasTakenUnless nothing (all_writes owners.lists.now) (bases_in owners.lists.now) table.old (map N.number sent.now)
-        (map N.number marks.now.low.items) (map N.number marks.now.high.items) table.new }
+    requires stays { StaysOne H.lists (all_writes owners.lists.now) (bases_in owners.lists.now) table.old
+        (map N.number sent.now) (map N.number marks.now.low.items) (map N.number marks.now.high.items) }
+    ensures { HasTakenUnless nothing (all_writes owners.lists.now) (bases_in owners.lists.now) table.old
+        (map N.number sent.now) (map N.number marks.now.low.items) (map N.number marks.now.high.items) table.new }
 {
     if nothing {
         return;

@@ -28,7 +28,8 @@ pub(crate) fn told<N: Number>(
     requires node { node < length owners.lists.now }
     requires known { AreKnown N.most owners.lists.now (map N.number greatest.now) (map N.number owners.bases.now) }
     ensures told { IfOk result (λ v. HasEach (length owners.lists.now)
-        (λ r n. n ≡ told_number kind N.most node (all_writes owners.lists.now) (slice_index (map N.number greatest.now)) r)
+        (λ r n. n
+        ≡ told_number kind N.most node (all_writes owners.lists.now) (slice_index (map N.number greatest.now)) r)
         (map N.number v.items)) }
     ensures only { IsOkUnless result OutOfMemory }
 {
@@ -38,12 +39,7 @@ pub(crate) fn told<N: Number>(
 }
 
 // Puts what is told in place of each greatest number.
-fn put_told<N: Number>(
-    numbers: &mut [N],
-    kind: DigestKind,
-    node: usize,
-    owners: Owners<N>,
-)
+fn put_told<N: Number>(numbers: &mut [N], kind: DigestKind, node: usize, owners: Owners<N>)
     requires node { node < length owners.lists.now }
     requires known { AreKnown N.most owners.lists.now (map N.number numbers.old) (map N.number owners.bases.now) }
     ensures { AreChanged (λ r x y. y ≡ told_number kind N.most node (all_writes owners.lists.now) (λ _. x) r)
@@ -78,8 +74,8 @@ fn put_starts<N: Number>(numbers: &mut [N], owners: Owners<N>)
 // Puts the starts of earlier generations. Most often there are none, which one fast loop tells.
 fn put_earlier_starts<N: Number>(numbers: &mut [N], owners: Owners<N>)
     requires { AreKnown N.most owners.lists.now (map N.number numbers.old) (map N.number owners.bases.now) }
-    ensures { AreChanged (λ r x y. IsEarlierStart (all_writes owners.lists.now r) (slice_index (map N.number owners.bases.now) r) x y)
-        (map N.number numbers.old) (map N.number numbers.new) }
+    ensures { AreChanged (λ r x y. IsEarlierStart (all_writes owners.lists.now r)
+        (slice_index (map N.number owners.bases.now) r) x y) (map N.number numbers.old) (map N.number numbers.new) }
 {
     if planes::total_upto(numbers, numbers.len(), 1, owners.bases) > 0 {
         put_each_start(numbers, owners);
@@ -88,8 +84,8 @@ fn put_earlier_starts<N: Number>(numbers: &mut [N], owners: Owners<N>)
 
 fn put_each_start<N: Number>(numbers: &mut [N], owners: Owners<N>)
     requires { AreKnown N.most owners.lists.now (map N.number numbers.old) (map N.number owners.bases.now) }
-    ensures { AreChanged (λ r x y. IsEarlierStart (all_writes owners.lists.now r) (slice_index (map N.number owners.bases.now) r) x y)
-        (map N.number numbers.old) (map N.number numbers.new) }
+    ensures { AreChanged (λ r x y. IsEarlierStart (all_writes owners.lists.now r)
+        (slice_index (map N.number owners.bases.now) r) x y) (map N.number numbers.old) (map N.number numbers.new) }
 {
     for r in 0..numbers.len() {
         numbers[r] = earlier_start(&owners.lists[r], numbers[r], owners.bases[r]);

@@ -91,6 +91,6 @@ take_both-requires-clause-owners g c κs out =
     record {
       count = ap length c.lists.ensures.value ∙ sym c.requires.may.initiator_fits.nodes;
       bases = subst (λ nodes. HasEach nodes (λ r n. n ≡ bases_in c.lists.result.now r) bases) (sym c.requires.may.initiator_fits.nodes)
-      (subst (λ ls. HasEach (length lists) (λ r n. n ≡ bases_in ls r) bases) (sym c.lists.ensures.value) c.bases.ensures.value);
+          (subst (λ ls. HasEach (length lists) (λ r n. n ≡ bases_in ls r) bases) (sym c.lists.ensures.value) c.bases.ensures.value);
       numbered = λ owner. subst (λ ls. IsNumberedHistory (all_writes ls owner)) (sym c.lists.ensures.value) (c.lists.ensures.so_far owner).numbered;
     }

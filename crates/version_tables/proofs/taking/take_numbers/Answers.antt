@@ -40,4 +40,3 @@ drop_older-requires-clause-before g c κs out =
 
 pub drop_older-requires-clause-greatest : goal.drop_older-requires-clause-greatest
 drop_older-requires-clause-greatest g c κs out = sym (length-map c.take.new.greatest g.N.Number.number) ∙ c.take.ensures.greatest.size
-

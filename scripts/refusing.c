@@ -1,8 +1,10 @@
 /* Preloaded before a program (LD_PRELOAD), this refuses some of its calls of the C library. Two variables say which:
 
      REFUSED  CALL HOW FIRST LAST: the calls FIRST to LAST of a kind, counted from 1 and from the begin of main. CALL is
-              growth, read, write or thread. HOW is fails, or short: a read or write of one byte.
-     TOLD     the number of an open file, which is told at the end how often each was called, and how many were refused
+              growth, read, write or thread, or main: a growth of the thread that begins main. HOW is fails, or short: a
+              read or write of one byte.
+     TOLD     the number of an open file, which is told at the end how often each was called, and how many were refused;
+              and then, of each thread that this one starts, how many growths it had made before and after the call
 
    What comes before main, and what the threads of a program do in turn, is counted as it comes. */
 #define _GNU_SOURCE
@@ -20,12 +22,15 @@
 extern void *__libc_malloc(size_t), *__libc_calloc(size_t, size_t), *__libc_realloc(void *, size_t);
 extern void *__libc_memalign(size_t, size_t);
 
-enum call { GROWTH, READ, WRITE, THREAD, CALLS };
-static const char *const names[CALLS] = {"growth", "read", "write", "thread"};
+enum call { GROWTH, READ, WRITE, THREAD, MAIN, CALLS };
+static const char *const names[CALLS] = {"growth", "read", "write", "thread", "main"};
 static atomic_long made[CALLS], refused;
 static enum call which = CALLS;
 static long first, last;
 static bool counts, is_short;
+static pthread_t begins_main;
+static long around_starts[128];
+static int told_of_starts;
 
 __attribute__((constructor)) static void begin(void) {
     char call[8], how[8];
@@ -34,6 +39,7 @@ __attribute__((constructor)) static void begin(void) {
         for (which = 0; which < CALLS && strcmp(call, names[which]); which++) {}
         is_short = strcmp(how, "short") == 0;
     }
+    begins_main = pthread_self();
     counts = true;
 }
 
@@ -45,15 +51,22 @@ static bool is_refused(enum call call) {
     return is;
 }
 
+static bool is_in_main(void) { return counts && pthread_equal(pthread_self(), begins_main); }
+
+static bool lacks_memory(void) {
+    bool is = is_in_main() && is_refused(MAIN);
+    return is_refused(GROWTH) || is;
+}
+
 static void *no_memory(void) { return errno = ENOMEM, NULL; }
 
-void *malloc(size_t size) { return is_refused(GROWTH) ? no_memory() : __libc_malloc(size); }
-void *calloc(size_t n, size_t size) { return is_refused(GROWTH) ? no_memory() : __libc_calloc(n, size); }
-void *realloc(void *old, size_t size) { return is_refused(GROWTH) ? no_memory() : __libc_realloc(old, size); }
-void *aligned_alloc(size_t align, size_t size) { return is_refused(GROWTH) ? no_memory() : __libc_memalign(align, size); }
+void *malloc(size_t size) { return lacks_memory() ? no_memory() : __libc_malloc(size); }
+void *calloc(size_t n, size_t size) { return lacks_memory() ? no_memory() : __libc_calloc(n, size); }
+void *realloc(void *old, size_t size) { return lacks_memory() ? no_memory() : __libc_realloc(old, size); }
+void *aligned_alloc(size_t align, size_t size) { return lacks_memory() ? no_memory() : __libc_memalign(align, size); }
 
 int posix_memalign(void **at, size_t align, size_t size) {
-    return is_refused(GROWTH) || !(*at = __libc_memalign(align, size)) ? ENOMEM : 0;
+    return lacks_memory() || !(*at = __libc_memalign(align, size)) ? ENOMEM : 0;
 }
 
 static ssize_t moved(enum call call, int file, void *bytes, size_t count) {
@@ -66,16 +79,28 @@ ssize_t read(int file, void *bytes, size_t count) { return moved(READ, file, byt
 ssize_t write(int file, const void *bytes, size_t count) { return moved(WRITE, file, (void *)bytes, count); }
 ssize_t __write(int file, const void *bytes, size_t count) { return write(file, bytes, count); }
 
+static void note_start(void) {
+    if (is_in_main() && told_of_starts < 128) around_starts[told_of_starts++] = made[MAIN];
+}
+
 int pthread_create(pthread_t *made_thread, const pthread_attr_t *how, void *(*run)(void *), void *with) {
     if (is_refused(THREAD)) return EAGAIN;
     int (*create)(pthread_t *, const pthread_attr_t *, void *(*)(void *), void *) = dlsym(RTLD_NEXT, "pthread_create");
-    return create(made_thread, how, run, with);
+    note_start();
+    int answer = create(made_thread, how, run, with);
+    note_start();
+    return answer;
 }
 
 void _exit(int status) {
     const char *told = getenv("TOLD");
+    counts = false;
     if (told) {
-        dprintf(atoi(told), "%ld %ld %ld %ld %ld\n", made[GROWTH], made[READ], made[WRITE], made[THREAD], refused);
+        int file = atoi(told);
+        for (enum call call = 0; call < CALLS; call++) dprintf(file, "%ld ", made[call]);
+        dprintf(file, "%ld", refused);
+        for (int at = 0; at < told_of_starts; at++) dprintf(file, " %ld", around_starts[at]);
+        dprintf(file, "\n");
     }
     syscall(SYS_exit_group, status);
     __builtin_unreachable();

@@ -9,12 +9,15 @@ use std::fmt::Display;
 use std::io;
 use std::process::ExitCode;
 
-// What a program ends with where an answer is wrong, where a call was refused twice, and where printing failed.
+// What a program ends with where an answer is wrong, where a call was refused memory or a thread twice, and where
+// printing failed.
 const WRONG: u8 = 1;
 
-const GIVEN_UP: u8 = 3;
+const NO_MEMORY: u8 = 3;
 
 const NOT_PRINTED: u8 = 4;
+
+const NO_THREAD: u8 = 5;
 
 /// Why a program ends before its end.
 #[derive(Debug, Drop)]
@@ -114,7 +117,8 @@ pub fn end(rt: &impl Print, done: Result<(), Failure>) -> ExitCode {
     let status = match done {
         Ok(()) => return ExitCode::SUCCESS,
         Err(Failure::Wrong(name)) => told(println!(rt; "wrong: {name}"), WRONG),
-        Err(Failure::Fault(Fault::OutOfMemory | Fault::NoThread)) => GIVEN_UP,
+        Err(Failure::Fault(Fault::OutOfMemory)) => NO_MEMORY,
+        Err(Failure::Fault(Fault::NoThread)) => NO_THREAD,
         Err(Failure::Fault(fault)) => told(println!(rt; "wrong: {fault}"), WRONG),
         Err(Failure::NotPrinted) => NOT_PRINTED,
     };

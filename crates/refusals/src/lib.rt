@@ -2,7 +2,7 @@
 //!
 //! A program prints the name of each call once all of its answers were right, and so the same whichever growth is
 //! refused. The name of a call that was refused goes to standard error. Where the second try is refused too the
-//! program gives up, with a status of its own.
+//! program gives up, with a status for lack of memory and one for a thread that couldn't be started.
 #![tactic(auto)]
 
 mod failures;

@@ -14,6 +14,24 @@ pub(crate) struct Case {
     pub(crate) first: FirstRound,
 }
 
+/// A scenario and its rows.
+#[derive(Clone, Copy)]
+pub(crate) struct Rounds {
+    pub(crate) name: &'static str,
+    pub(crate) scenario: &'static str,
+    pub(crate) rows: &'static [Row],
+}
+
+impl Case {
+    pub(crate) fn rounds(&self) -> Rounds {
+        Rounds {
+            name: self.name,
+            scenario: self.texts.scenario,
+            rows: self.rows,
+        }
+    }
+}
+
 /// The nodes that write in the first round, and what is exchanged then.
 #[derive(Drop)]
 pub(crate) struct FirstRound {
@@ -29,8 +47,71 @@ pub(crate) struct FirstRound {
 /// that were written in one round.
 pub(crate) const CASES: [Case; 4] = [DOWN, CUT, RING, FORGETFUL];
 
-/// Eight pairs of nodes that share none.
-pub(crate) const EIGHT_PAIRS: FirstRound = FirstRound {
+/// A list that is tried alone, and whether its workers wait for each other in their first exchanges.
+#[derive(Drop)]
+pub(crate) struct LoneList {
+    pub(crate) name: &'static str,
+    pub(crate) first: FirstRound,
+    pub(crate) gathers: bool,
+}
+
+/// Where one of the workers that wait can't be started, none begins a second exchange.
+pub(crate) const LISTS: [LoneList; 2] = [
+    LoneList {
+        name: "eight pairs",
+        first: EIGHT_PAIRS,
+        gathers: true,
+    },
+    LoneList {
+        name: "branches",
+        first: BRANCHES,
+        gathers: false,
+    },
+];
+
+/// A ring whose figures are over 33 * 33 * 64 numbers, so that threads share them.
+pub(crate) const MANY_NUMBERS: Rounds = Rounds {
+    name: "many numbers",
+    scenario: "format = 1\nnodes = 33\nkeys = 64\nrounds = 1\nseed = 0\nmode = \"scuttle-breadth\"\n\
+        budget = 33\npeers = \"ring\"\nrotation = \"none\"\nchoice = \"cycle\"\nloss_ppm = 0\nwrites = 1\n",
+    rows: &[row!(1, 33, 0, 0, 591, 0, 465, 1, 0)],
+};
+
+// Each of the first three exchanges makes two others ready. At first one alone is, so a deque has room for one. Of two
+// workers one must let its deque grow, however they steal: both fit in only where the other steals the first of them
+// at once. So each worker has one of the second and the third exchange, and who puts its own back first finds the
+// other still at work.
+const BRANCHES: FirstRound = FirstRound {
+    writers: Writers {
+        nodes: 8,
+        keys: 1,
+        writers: 8,
+    },
+    budget: Budget::Entries(10),
+    pairs: &[(0, 1), (0, 2), (1, 3), (0, 4), (2, 5), (1, 6), (3, 7)],
+    records: &[
+        sent!(1, 1, 1, 1, 0, 0),
+        sent!(2, 1, 1, 2, 0, 0),
+        sent!(2, 1, 1, 2, 0, 0),
+        sent!(3, 1, 1, 3, 0, 0),
+        sent!(3, 1, 1, 3, 0, 0),
+        sent!(3, 1, 1, 3, 0, 0),
+        sent!(3, 1, 1, 3, 0, 0),
+    ],
+    held: &[
+        &[0, 1, 2, 4],
+        &[0, 1, 3, 6],
+        &[0, 1, 2, 5],
+        &[0, 1, 3, 7],
+        &[0, 1, 2, 4],
+        &[0, 1, 2, 5],
+        &[0, 1, 3, 6],
+        &[0, 1, 3, 7],
+    ],
+};
+
+// Eight pairs of nodes that share none.
+const EIGHT_PAIRS: FirstRound = FirstRound {
     writers: Writers {
         nodes: 16,
         keys: 1,

@@ -4,7 +4,7 @@ ghost use Rattle.std.specs.Prelude.{IfOk};
 ghost use Rattle.node_table.specs.NodeTableView.{tables_in};
 ghost use Rattle.model.specs.Tables.{IsCluster};
 
-use crate::cases::{Case, EIGHT_PAIRS, FirstRound};
+use crate::cases::{Case, FirstRound, LoneList};
 use crate::counting::Counter;
 use crate::trials::Trial;
 use bench_types::limits::{MOST_KEYS, MOST_NODES};
@@ -95,14 +95,15 @@ pub(crate) fn try_list<R: Print + Eprint + AllocGlobal + Threads + Wait + Sync>(
     try_exchanges(rt, case.name, &case.first, team, &Counter::new())
 }
 
-/// The same of eight pairs, where the workers wait for each other in their first exchanges: where one can't be started,
-/// none begins a second.
-pub(crate) fn try_starts<R: Print + Eprint + AllocGlobal + Threads + Wait + Sync>(
+/// The same of a list alone.
+pub(crate) fn try_lone<R: Print + Eprint + AllocGlobal + Threads + Wait + Sync>(
     rt: &R,
+    list: &LoneList,
     team: Team,
 ) -> Result<(), Failure> {
-    let gate = Counter::gathering(team.workers());
-    try_exchanges(rt, "eight pairs", &EIGHT_PAIRS, team, &gate)
+    let gathered = if list.gathers { team.workers() } else { 0 };
+    let gate = Counter::gathering(gathered);
+    try_exchanges(rt, list.name, &list.first, team, &gate)
 }
 
 fn try_exchanges<R: Print + Eprint + AllocGlobal + Threads + Wait + Sync>(

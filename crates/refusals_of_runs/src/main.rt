@@ -1,8 +1,9 @@
 //! Goes through four scenarios with 1, 2 and 4 workers, step by step, list by list and text by text, and where memory
 //! or a thread is refused goes through them again: what stands after the refusal is what is promised, and the second
-//! answer is right. So it does with a list of eight pairs. It prints the calls whose answers were right, and so the
-//! same whichever growth is refused. `scripts/try_refusals` refuses each in turn, of one line that is printed at a
-//! time: standard input then names the line by three digits, its call, the place of its case and the workers.
+//! answer is right. So it does with a list of eight pairs and one in which a deque must grow, and by one worker with a
+//! step whose figures are worked out in threads. It prints the calls whose answers were right, and so the same
+//! whichever growth is refused. `scripts/try_refusals` refuses each in turn, of one line that is printed at a time:
+//! standard input then names the line by three digits, its call, the place of its case and the workers.
 #![tactic(auto)]
 
 mod cases;
@@ -13,7 +14,7 @@ mod texts;
 mod trials;
 
 use bench_types::{Failed, Pull, Source};
-use cases::{CASES, Case};
+use cases::{CASES, Case, LISTS, MANY_NUMBERS};
 use fixtures::Team;
 use refusals::{Failure, end, pass};
 use std::process::ExitCode;
@@ -80,26 +81,55 @@ impl Choice {
     }
 }
 
+// Whether it is to be tried: where nothing is named, all is.
+fn is_chosen(choice: Option<Choice>, call: Call, place: usize, team: Team) -> bool {
+    match choice {
+        Some(choice) => choice.is(call, place, team),
+        None => true,
+    }
+}
+
 fn try_all<R: Print + Eprint + Input + AllocGlobal + Threads + Wait + Sync>(
     rt: &R,
 ) -> Result<(), Failure> {
     let choice = Choice::from_input(rt)?;
+    try_cases(rt, choice)?;
+    try_lists(rt, choice)?;
+    if is_chosen(choice, Call::Step, CASES.len() + LISTS.len(), Team::One) {
+        steps::try_steps(rt, MANY_NUMBERS, Team::One)?;
+    }
+    for call in ["read_all", "check_input", "Sim::new"] {
+        pass(rt, call)?;
+    }
+    Ok(())
+}
+
+fn try_cases<R: Print + Eprint + AllocGlobal + Threads + Wait + Sync>(
+    rt: &R,
+    choice: Option<Choice>,
+) -> Result<(), Failure> {
     for (place, case) in CASES.iter().enumerate() {
         for team in Team::ALL {
             for call in Call::ALL {
-                if choice.is_none_or(|choice| choice.is(call, place, team)) {
+                if is_chosen(choice, call, place, team) {
                     try_call(rt, call, case, team)?;
                 }
             }
         }
     }
-    for team in Team::ALL {
-        if choice.is_none_or(|choice| choice.is(Call::RunList, CASES.len(), team)) {
-            lists::try_starts(rt, team)?;
+    Ok(())
+}
+
+fn try_lists<R: Print + Eprint + AllocGlobal + Threads + Wait + Sync>(
+    rt: &R,
+    choice: Option<Choice>,
+) -> Result<(), Failure> {
+    for (place, list) in LISTS.iter().enumerate() {
+        for team in Team::ALL {
+            if is_chosen(choice, Call::RunList, CASES.len() + place, team) {
+                lists::try_lone(rt, list, team)?;
+            }
         }
-    }
-    for call in ["read_all", "check_input", "Sim::new"] {
-        pass(rt, call)?;
     }
     Ok(())
 }
@@ -113,7 +143,7 @@ fn try_call<R: Print + Eprint + AllocGlobal + Threads + Wait + Sync>(
     match call {
         Call::Step => {
             texts::try_input(rt, case)?;
-            steps::try_steps(rt, case, team)
+            steps::try_steps(rt, case.rounds(), team)
         }
         Call::RunList => lists::try_list(rt, case, team),
         Call::Run => texts::try_job(rt, Job::Run, case, team),

@@ -1,6 +1,6 @@
 //! Simulations, step by step.
 
-use crate::cases::Case;
+use crate::cases::Rounds;
 use crate::counting::Counter;
 use crate::trials::Trial;
 use bench::Sim;
@@ -11,18 +11,18 @@ use scenario::{Partition, Scenario, read};
 use std::sync::Wait;
 use std::thread::Threads;
 
-fn scenario_of<R: Eprint + AllocGlobal>(rt: &R, case: &Case) -> Result<Scenario, Failure> {
+fn scenario_of<R: Eprint + AllocGlobal>(rt: &R, rounds: Rounds) -> Result<Scenario, Failure> {
     let alloc = rt.alloc();
-    Ok(retried!(rt, "read", read(alloc, case.texts.scenario.as_bytes())))
+    Ok(retried!(rt, "read", read(alloc, rounds.scenario.as_bytes())))
 }
 
-// Whether a scenario is that of a case.
-fn is_of_case<R: Eprint + AllocGlobal>(
+// Whether a scenario is that of these rounds.
+fn is_of_rounds<R: Eprint + AllocGlobal>(
     rt: &R,
     scenario: &Scenario,
-    case: &Case,
+    rounds: Rounds,
 ) -> Result<bool, Failure> {
-    let wanted = scenario_of(rt, case)?;
+    let wanted = scenario_of(rt, rounds)?;
     Ok(
         are_alike(scenario, &wanted)
             && are_same_partitions(scenario.partitions(), wanted.partitions())
@@ -50,12 +50,16 @@ fn are_same_partitions(some: &[Partition], others: &[Partition]) -> bool {
 }
 
 // The simulation of a scenario, which comes back where memory is refused.
-fn open<R: Eprint + AllocGlobal>(rt: &R, case: &Case, scenario: Scenario) -> Result<Sim, Failure> {
+fn open<R: Eprint + AllocGlobal>(
+    rt: &R,
+    rounds: Rounds,
+    scenario: Scenario,
+) -> Result<Sim, Failure> {
     match Sim::new(rt.alloc(), scenario) {
         Ok(sim) => Ok(sim),
         Err((fault, scenario)) => {
             refused(rt, "Sim::new", fault)?;
-            check(is_of_case(rt, &scenario, case)?, "Sim::new")?;
+            check(is_of_rounds(rt, &scenario, rounds)?, "Sim::new")?;
             Ok(Sim::new(rt.alloc(), scenario).map_err(|(fault, _)| fault)?)
         }
     }
@@ -65,11 +69,11 @@ fn open<R: Eprint + AllocGlobal>(rt: &R, case: &Case, scenario: Scenario) -> Res
 fn play<R: Threads + Wait + Sync>(
     rt: &R,
     sim: &mut Sim,
-    case: &Case,
+    rounds: Rounds,
     team: Team,
     gate: &Counter,
 ) -> Result<(), Failure> {
-    for row in case.rows {
+    for row in rounds.rows {
         let round = sim.step(rt, team.workers(), gate)?;
         check(
             round.row() == *row && round.records().len() == row.exchanges as usize,
@@ -102,18 +106,18 @@ fn check_broken<R: Threads + Wait + Sync>(
 fn play_at_last<R: Eprint + AllocGlobal + Threads + Wait + Sync>(
     rt: &R,
     mut sim: Sim,
-    case: &Case,
+    rounds: Rounds,
     trial: Trial,
 ) -> Result<(), Failure> {
     let team = trial.team;
     let gate = Counter::new();
-    let Err(failure) = play(rt, &mut sim, case, team, &gate) else {
+    let Err(failure) = play(rt, &mut sim, rounds, team, &gate) else {
         return Ok(());
     };
     refused_with(rt, trial, team.workers(), failure)?;
     let counts = gate.counts();
     check_broken(rt, &mut sim, team, &gate)?;
-    play_again(rt, sim.into_scenario(), case, team)?;
+    play_again(rt, sim.into_scenario(), rounds, team)?;
     check(gate.counts() == counts, "step")
 }
 
@@ -121,25 +125,25 @@ fn play_at_last<R: Eprint + AllocGlobal + Threads + Wait + Sync>(
 fn play_again<R: Eprint + AllocGlobal + Threads + Wait + Sync>(
     rt: &R,
     scenario: Scenario,
-    case: &Case,
+    rounds: Rounds,
     team: Team,
 ) -> Result<(), Failure> {
-    check(is_of_case(rt, &scenario, case)?, "into_scenario")?;
-    let mut sim = open(rt, case, scenario)?;
-    play(rt, &mut sim, case, team, &Counter::new())
+    check(is_of_rounds(rt, &scenario, rounds)?, "into_scenario")?;
+    let mut sim = open(rt, rounds, scenario)?;
+    play(rt, &mut sim, rounds, team, &Counter::new())
 }
 
 pub(crate) fn try_steps<R: Print + Eprint + AllocGlobal + Threads + Wait + Sync>(
     rt: &R,
-    case: &Case,
+    rounds: Rounds,
     team: Team,
 ) -> Result<(), Failure> {
     let trial = Trial {
         call: "step",
-        case: case.name,
+        case: rounds.name,
         team,
     };
-    let sim = open(rt, case, scenario_of(rt, case)?)?;
-    play_at_last(rt, sim, case, trial)?;
+    let sim = open(rt, rounds, scenario_of(rt, rounds)?)?;
+    play_at_last(rt, sim, rounds, trial)?;
     pass(rt, trial)
 }

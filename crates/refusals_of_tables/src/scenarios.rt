@@ -4,7 +4,7 @@ ghost use Rattle.std.specs.Prelude.{◌≡◌, IfOk};
 ghost use Rattle.round_plan.specs.Words.{run_words_of};
 
 use bench_types::{Budget, Exchange, Fault, Field, Mode, TableName};
-use fixtures::{changed, changed_in_bytes};
+use fixtures::{between, changed, changed_in_bytes};
 use refusals::{Failure, check, pass, refused, retried};
 use round_plan::{RoundList, RunWords, round_list, round_list_by};
 use scenario::{Scenario, read};
@@ -27,6 +27,9 @@ const FIRST: Exchange = Exchange {
     lost3: false,
     rotation: 3,
 };
+
+// So many nodes that threads share the list of a round, in which each meets the next one.
+const LONG_RING: [(&str, &str); 1] = [("nodes = 2", "nodes = 2048")];
 
 // What makes of them two that are parted, one of which then forgets.
 const FORGETFUL: [(&str, &str); 2] = [
@@ -137,6 +140,30 @@ fn check_list(list: &RoundList, name: &'static str) -> Result<(), Failure> {
     check(list.get(0) == Some(FIRST), name)
 }
 
+fn check_long_ring(list: &RoundList) -> Result<(), Failure> {
+    check(
+        (list.nodes(), list.len(), list.unreached()) == (2048, 2048, 0),
+        "round_list",
+    )?;
+    check(
+        list.exchanges().iter().zip(0..2048).all(|(exchange, node)| *exchange
+            == between(node, node.wrapping_add(1) % 2048)),
+        "round_list",
+    )
+}
+
+fn try_long_ring<R: Eprint + AllocGlobal + Threads + Sync>(rt: &R) -> Result<(), Failure> {
+    let alloc = rt.alloc();
+    let text = retried!(
+        rt,
+        "changed",
+        changed(alloc, &LONG_RING, "").map_err(Fault::from)
+    );
+    let scenario = accepted(rt, text.as_str())?;
+    let list = retried!(rt, "round_list", round_list(rt, alloc, &scenario, 1));
+    check_long_ring(&list)
+}
+
 // The words before the first round.
 fn run_words<R: Eprint + AllocGlobal>(rt: &R, scenario: &Scenario) -> Result<RunWords, Failure>
     ensures { IfOk result (λ words. words ≡ run_words_of scenario.now 0) }
@@ -171,6 +198,7 @@ pub(crate) fn try_scenarios<R: Print + Eprint + AllocGlobal + Threads + Sync>(
     try_read(rt)?;
     pass(rt, "read")?;
     try_round_list(rt, &ten_nodes)?;
+    try_long_ring(rt)?;
     pass(rt, "round_list")?;
     try_round_list_by(rt, &ten_nodes)?;
     pass(rt, "round_list_by")

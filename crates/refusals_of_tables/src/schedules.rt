@@ -3,14 +3,14 @@
 ghost use Rattle.std.specs.Prelude.{◌≡◌, IfOk};
 
 use bench_types::{Budget, Fault, Item, Mode, Record, Rules};
-use fixtures::{Writers, holds, item, list_of, sent, tables_of};
+use fixtures::{Writers, between, holds, item, list_of, sent, tables_of};
 use node_table::NodeTable;
 use planner::{After, Deps, Event, Schedule, play};
 use refusals::{Failure, check, pass, refused, retried};
 use round_plan::RoundList;
 
-/// Two pairs of nodes, and then one node of each pair with one of the other.
-pub(crate) const CROSSING: &[(u32, u32)] = &[(0, 1), (2, 3), (1, 2), (0, 3)];
+// Two pairs of nodes, and then one node of each pair with one of the other.
+const CROSSING: [(u32, u32); 4] = [(0, 1), (2, 3), (1, 2), (0, 3)];
 
 // How many exchanges each of them waits for, and which wait for it.
 const WAITING: [(u32, Option<u32>, Option<u32>); 4] = [
@@ -59,14 +59,18 @@ const LEFT: &[Item] = &[
     item!(3, 0, 1, 7, 1),
 ];
 
-/// Whether these are the dependencies of the crossing list.
-pub(crate) fn are_crossing(deps: &Deps) -> bool {
+// Whether these are the dependencies of the crossing list, and that list.
+fn are_crossing(deps: &Deps) -> bool {
     if deps.len() != 4 || deps.first_ready() != [0, 1].as_slice() {
         return false;
     }
     for i in 0..4 {
+        let (initiator, responder) = CROSSING[i as usize];
         let (pending, first, second) = WAITING[i as usize];
-        if deps.pending(i) != pending || deps.after(i) != (After { first, second }) {
+        if deps.exchange(i) != between(initiator, responder)
+            || deps.pending(i) != pending
+            || deps.after(i) != (After { first, second })
+        {
             return false;
         }
     }
@@ -77,7 +81,7 @@ pub(crate) fn crossing<R: Eprint + AllocGlobal>(rt: &R) -> Result<RoundList, Fai
     ensures { IfOk result (λ list. list.nodes ≡ 4) }
 {
     let alloc = rt.alloc();
-    Ok(retried!(rt, "RoundList::of", list_of(alloc, 4, CROSSING)))
+    Ok(retried!(rt, "RoundList::of", list_of(alloc, 4, &CROSSING)))
 }
 
 pub(crate) fn deps_of<R: Eprint + AllocGlobal>(rt: &R, list: &RoundList) -> Result<Deps, Failure>

@@ -179,12 +179,12 @@ fn take_both<N: Number, H: Written>(
         responder.old.cells (map N.number back.now.low.items) (map N.number back.now.high.items) after
         → StaysOne H.lists (all_writes owners.lists.now) (bases_in owners.lists.now) responder.old after.cells
         (map N.number forth.now.low.items) (map N.number forth.now.high.items) }
-    ensures initiator { OnOk result (HasTakenUnless nothing_back (all_writes owners.lists.now)
-        (bases_in owners.lists.now) initiator.old responder.old.cells
+    ensures initiator { OnOk result (HasTakenUnless nothing_back (all_writes owners.entry.lists.now)
+        (bases_in owners.entry.lists.now) initiator.old responder.old.cells
         (map N.number back.now.low.items) (map N.number back.now.high.items)
         initiator.new) }
-    ensures responder { OnOk result (HasTakenUnless nothing_forth (all_writes owners.lists.now)
-        (bases_in owners.lists.now) responder.old initiator.new.cells
+    ensures responder { OnOk result (HasTakenUnless nothing_forth (all_writes owners.entry.lists.now)
+        (bases_in owners.entry.lists.now) responder.old initiator.new.cells
         (map N.number forth.now.low.items) (map N.number forth.now.high.items)
         responder.new) }
     ensures initiator_stays { OnErr result (initiator.new ≡ initiator.old) }

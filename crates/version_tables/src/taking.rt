@@ -75,20 +75,16 @@ fn drop_older<N: Number>(
     requires before { length before.now ≡ nodes }
     requires greatest { length greatest.now ≡ nodes }
     requires owners { AreOwners N.number nodes owners }
-    ensures { ArePlanesChanged (λ r k x y. y ≡ number_kept (drop_start (all_writes owners.lists.now r)
-        (slice_index (map N.number before.now) r) (slice_index (map N.number owners.bases.now) r)
+    ensures { ArePlanesChanged (λ r k x y. y ≡ number_kept (drop_start (all_writes owners.entry.lists.now r)
+        (slice_index (map N.number before.now) r) (slice_index (map N.number owners.entry.bases.now) r)
         (slice_index (map N.number greatest.now) r)) x) nodes keys (map N.number cells.old) (map N.number cells.new) }
 {
-    if planes::total_upto(before, nodes, 1, owners.bases) == 0 {
+    let Owners { lists, bases } = owners;
+    if planes::total_upto(before, nodes, 1, bases) == 0 {
         return;
     }
     for owner in 0..nodes {
-        let start = drop_from(
-            &owners.lists[owner],
-            before[owner],
-            owners.bases[owner],
-            greatest[owner],
-        );
+        let start = drop_from(&lists[owner], before[owner], bases[owner], greatest[owner]);
         drop_owner(cells, nodes, keys, owner, start);
     }
 }
@@ -109,8 +105,8 @@ fn take_numbers<N: Number>(
         marks.now.low.items marks.now.high.items }
     requires before { map N.number before.now ≡ map N.number greatest.old }
     requires owners { AreOwners N.number nodes owners }
-    ensures { IsTaken (all_writes owners.lists.now) (bases_in owners.lists.now) nodes keys (map N.number cells.old)
-        (map N.number greatest.old) (map N.number sent.now)
+    ensures { IsTaken (all_writes owners.entry.lists.now) (bases_in owners.entry.lists.now) nodes keys
+        (map N.number cells.old) (map N.number greatest.old) (map N.number sent.now)
         (map N.number marks.now.low.items) (map N.number marks.now.high.items)
         (map N.number cells.new) (map N.number greatest.new) }
 {
@@ -135,7 +131,7 @@ pub(crate) fn take_unless<N: Number, H: Written>(
     requires owners { AreOwners N.number table.old.nodes owners }
     requires stays { StaysOne H.lists (all_writes owners.lists.now) (bases_in owners.lists.now) table.old
         (map N.number sent.now) (map N.number marks.now.low.items) (map N.number marks.now.high.items) }
-    ensures { HasTakenUnless nothing (all_writes owners.lists.now) (bases_in owners.lists.now) table.old
+    ensures { HasTakenUnless nothing (all_writes owners.entry.lists.now) (bases_in owners.entry.lists.now) table.old
         (map N.number sent.now) (map N.number marks.now.low.items) (map N.number marks.now.high.items) table.new }
 {
     if nothing {

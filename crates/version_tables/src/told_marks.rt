@@ -27,9 +27,9 @@ pub(crate) fn told<N: Number>(
 ) -> Result<Vec<N>, Fault>
     requires node { node < length owners.lists.now }
     requires known { AreKnown N.most owners.lists.now (map N.number greatest.now) (map N.number owners.bases.now) }
-    ensures told { IfOk result (λ v. HasEach (length owners.lists.now)
+    ensures told { IfOk result (λ v. HasEach (length owners.entry.lists.now)
         (λ r n. n
-        ≡ told_number kind N.most node (all_writes owners.lists.now) (slice_index (map N.number greatest.now)) r)
+        ≡ told_number kind N.most node (all_writes owners.entry.lists.now) (slice_index (map N.number greatest.now)) r)
         (map N.number v.items)) }
     ensures only { IsOkUnless result OutOfMemory }
 {
@@ -42,7 +42,7 @@ pub(crate) fn told<N: Number>(
 fn put_told<N: Number>(numbers: &mut [N], kind: DigestKind, node: usize, owners: Owners<N>)
     requires node { node < length owners.lists.now }
     requires known { AreKnown N.most owners.lists.now (map N.number numbers.old) (map N.number owners.bases.now) }
-    ensures { AreChanged (λ r x y. y ≡ told_number kind N.most node (all_writes owners.lists.now) (λ _. x) r)
+    ensures { AreChanged (λ r x y. y ≡ told_number kind N.most node (all_writes owners.entry.lists.now) (λ _. x) r)
         (map N.number numbers.old) (map N.number numbers.new) }
 {
     put_marks(numbers, kind, owners);
@@ -52,7 +52,7 @@ fn put_told<N: Number>(numbers: &mut [N], kind: DigestKind, node: usize, owners:
 // The same, but for the receiver itself.
 fn put_marks<N: Number>(numbers: &mut [N], kind: DigestKind, owners: Owners<N>)
     requires { AreKnown N.most owners.lists.now (map N.number numbers.old) (map N.number owners.bases.now) }
-    ensures { AreChanged (λ r x y. y ≡ told_by kind (all_writes owners.lists.now r) x)
+    ensures { AreChanged (λ r x y. y ≡ told_by kind (all_writes owners.entry.lists.now r) x)
         (map N.number numbers.old) (map N.number numbers.new) }
 {
     match kind {
@@ -64,7 +64,7 @@ fn put_marks<N: Number>(numbers: &mut [N], kind: DigestKind, owners: Owners<N>)
 // Puts in place of each number where the generation of that write starts.
 fn put_starts<N: Number>(numbers: &mut [N], owners: Owners<N>)
     requires { AreKnown N.most owners.lists.now (map N.number numbers.old) (map N.number owners.bases.now) }
-    ensures { AreChanged (λ r x y. y ≡ start_of (all_writes owners.lists.now r) x)
+    ensures { AreChanged (λ r x y. y ≡ start_of (all_writes owners.entry.lists.now r) x)
         (map N.number numbers.old) (map N.number numbers.new) }
 {
     put_earlier_starts(numbers, owners);
@@ -74,8 +74,9 @@ fn put_starts<N: Number>(numbers: &mut [N], owners: Owners<N>)
 // Puts the starts of earlier generations. Most often there are none, which one fast loop tells.
 fn put_earlier_starts<N: Number>(numbers: &mut [N], owners: Owners<N>)
     requires { AreKnown N.most owners.lists.now (map N.number numbers.old) (map N.number owners.bases.now) }
-    ensures { AreChanged (λ r x y. IsEarlierStart (all_writes owners.lists.now r)
-        (slice_index (map N.number owners.bases.now) r) x y) (map N.number numbers.old) (map N.number numbers.new) }
+    ensures { AreChanged (λ r x y. IsEarlierStart (all_writes owners.entry.lists.now r)
+        (slice_index (map N.number owners.entry.bases.now) r) x y) (map N.number numbers.old)
+        (map N.number numbers.new) }
 {
     if planes::total_upto(numbers, numbers.len(), 1, owners.bases) > 0 {
         put_each_start(numbers, owners);
@@ -84,11 +85,13 @@ fn put_earlier_starts<N: Number>(numbers: &mut [N], owners: Owners<N>)
 
 fn put_each_start<N: Number>(numbers: &mut [N], owners: Owners<N>)
     requires { AreKnown N.most owners.lists.now (map N.number numbers.old) (map N.number owners.bases.now) }
-    ensures { AreChanged (λ r x y. IsEarlierStart (all_writes owners.lists.now r)
-        (slice_index (map N.number owners.bases.now) r) x y) (map N.number numbers.old) (map N.number numbers.new) }
+    ensures { AreChanged (λ r x y. IsEarlierStart (all_writes owners.entry.lists.now r)
+        (slice_index (map N.number owners.entry.bases.now) r) x y) (map N.number numbers.old)
+        (map N.number numbers.new) }
 {
+    let Owners { lists, bases } = owners;
     for r in 0..numbers.len() {
-        numbers[r] = earlier_start(&owners.lists[r], numbers[r], owners.bases[r]);
+        numbers[r] = earlier_start(&lists[r], numbers[r], bases[r]);
     }
 }
 

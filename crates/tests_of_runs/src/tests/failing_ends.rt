@@ -288,12 +288,15 @@ fn flushes_of_a_comparison_that_fail(rt: HostRuntime) {
     }
 }
 
-// What `check` prints.
+// What `check` prints, to a writer that answers so many flushes.
+fn expect_printed(rt: &(impl Abort + AllocGlobal), flushes: usize, wanted: Result<(), Fault>) {
+    let mut writer = Push::new(Drip::new(rt.alloc(), Taking { flushes, ..ALL }));
+    expect(rt, write_text(&mut writer, b"ok\n"), wanted);
+    expect(rt, writer.into_inner().taken.as_slice(), b"ok\n");
+}
+
 #[test]
 fn flushes_of_a_text_that_fail(rt: HostRuntime) {
-    for (flushes, wanted) in [(0, Err(Fault::WriteFailed)), (1, Ok(()))] {
-        let mut writer = Push::new(Drip::new(rt.alloc(), Taking { flushes, ..ALL }));
-        expect(&rt, write_text(&mut writer, b"ok\n"), wanted);
-        expect(&rt, writer.into_inner().taken.as_slice(), b"ok\n");
-    }
+    expect_printed(&rt, 0, Err(Fault::WriteFailed));
+    expect_printed(&rt, 1, Ok(()));
 }

@@ -1,6 +1,5 @@
 //! The lines of the report, the trace and the comparison.
 
-
 use bench_types::{Fault, Mode, Push, Record, Row};
 use fixtures::{list_of, row, sent};
 use refusals::{Failure, check, pass, refused, retried};

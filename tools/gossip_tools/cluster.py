@@ -29,6 +29,14 @@ BYTES = ("entry", "delta", "digest")
 USUAL = {"digest": "0", "loss": "0", "fanout": "1", "rounds": None, "seed": "1", "mode": TEXTS["mode"][0],
          "count": "bytes"}
 USUAL_ROUNDS = 60
+# What is asked of the wrong tool, or in another way.
+ELSEWHERE = {
+    **{name: f" For {name}= there is gossip_scenario, and gossip_sweep runs what that prints."
+       for name in ("fanout", "rounds", "seed", "mode")},
+    **{name: f" For {name}= there is gossip_advise." for name in ("shared", "interval", "restarts", "forget", "split")},
+    **{name: " How many runs go at once is said in front of the call, as JOBS=2."
+       for name in ("--jobs", "-j", "jobs", "JOBS")},
+}
 NEEDED = ("nodes", "keys", "writes", "entry", "delta")
 
 
@@ -72,7 +80,8 @@ def told(words, usual, call):
     for word in words:
         name, given, text = word.partition("=")
         if not given or name not in names or name in values:
-            raise Refused(f"'{word}' isn't one of {', '.join(names)}, each once with = and its value.")
+            more = "" if name in names else ELSEWHERE.get(name, "")
+            raise Refused(f"'{word}' isn't one of {', '.join(names)}, each once with = and its value.{more}")
         values[name] = text
     for name in NEEDED:
         if name not in values:

@@ -128,8 +128,8 @@ def first_answer(it, stages):
     print(*answer.first_words(few), sep="\n", flush=True)
     if not few.suffices:
         print(flush=True)
-        stages.plan("knee", budgets=it.of_last_try())
-        last = answer.Decision(it, stages.carry_out("knee", budgets=it.of_last_try()), rules.MANY_WINDOW)
+        stages.plan("knee", budgets=it.few_budgets())
+        last = answer.Decision(it, stages.carry_out("knee", budgets=it.few_budgets()), rules.MANY_WINDOW)
         stages.plan("knee", *study.HEALED)
         return last
     for stage in study.HEALED:

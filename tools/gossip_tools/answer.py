@@ -68,8 +68,11 @@ class Decision:
         return f"{in_rounds(self.worst)}, {in_time(self.worst, self.study.told['interval'])}{more}"
 
     def to_knee(self):
-        """The bytes with which nodes * writes entries fit, and what they would bring, in words."""
+        """The bytes with which nodes * writes entries fit, and what they would bring, in words. Empty where they do
+        fit."""
         it = self.study
+        if self.budget >= it.knee:
+            return ""
         at_knee, with_digest = it.knee, it.told["shared"] == "yes" and it.told["digest"]
         said = (f"delta={it.packet(self.mode)} has room for nodes * writes = {it.whole(at_knee)} entries"
                 f"{' and the digest' if with_digest else ''}, the knee")
@@ -132,7 +135,7 @@ def first_words(decision):
         return [f"First answer, from {few} rounds: {decision.takes()}.",
                 f"Worst staleness {decision.staleness()}."]
     return [f"First answer, from {few} rounds: no budget that fits is enough, still rising after {few} rounds.",
-            f"The most that fits: {decision.takes()}.", f"{decision.to_knee()}.",
+            f"The most that fits: {decision.takes()}.", *([f"{decision.to_knee()}."] if decision.to_knee() else []),
             f"Whether it levels off later is seen from {rules.MANY_ROUNDS} rounds now."]
 
 
@@ -156,8 +159,9 @@ def warnings(decision):
     shared = it.told["shared"] == "yes" and it.told["digest"]
     own = "a delta in packets of its own (shared=no), " if shared else ""
     if not decision.suffices:
-        said.append("`greatest` still rises in the second half of the window, in each mode. A larger packet, "
-                    f"{own}a shorter entry or fewer writes would help.")
+        larger = f"A larger packet, {own}a shorter entry or fewer" if decision.to_knee() else "Less loss or fewer"
+        said.append("`greatest` still rises in the second half of the window, in each mode. "
+                    f"{larger} writes would help.")
     elif decision.budget < it.knee:
         said.append(f"The budget is below the knee, so copies lag more than they have to. {decision.to_knee()}. Else "
                     f"{own}a shorter entry or fewer writes would help.")
@@ -248,7 +252,8 @@ def in_words(decision, healing):
     lines = [f"{takes} {decision.takes()}.", "", f"  worst staleness     {decision.staleness()}{in_window}",
              f"  share cut           {span(decision.cut, 2)} % of what was lacking"]
     lines += [healing.line(stage, decision.budget) for stage in HEALED] if healing else []
-    lines += [] if decision.suffices else [f"  enough              {decision.to_knee()}"]
+    if not decision.suffices and decision.to_knee():
+        lines.append(f"  enough              {decision.to_knee()}")
     for head, said in (("Mind", warnings(decision)), ("Too close to call", too_close(decision)),
                        ("Left out for this cluster", left_out(decision))):
         lines += ["", f"{head}:", *(f"  - {one}" for one in said)] if said else []

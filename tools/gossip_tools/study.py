@@ -1,6 +1,6 @@
 """The runs that an answer for a cluster rests on: five stages, each a sweep in a folder of its own.
 
-  few         few rounds, for a first answer: all modes, with a half of nodes * writes, that, and what fits
+  few         few rounds, for a first answer: all modes with what fits, and where that is less, nodes * writes
   split       half of the nodes are set apart for some rounds; under the mode that was chosen
   restart     nodes restart, by ascending number, and keep their own state
   forgotten   the same, in bytes, and they lose their own state too
@@ -114,20 +114,17 @@ class Study:
         wanted = {self.knee // 2, self.knee, self.budget(mode), 2 * self.knee}
         return sorted(it for it in {min(it, self.nodes * self.keys) for it in wanted} if it >= 1)
 
-    def of_first_answer(self):
-        """What each mode would take, a half of the knee, and the knee."""
-        return sorted({self.budget(it) for it in self.fits} | {self.knee, max(self.knee // 2, self.budgets[0])})
-
-    def of_last_try(self):
-        """What each mode would take, and the knee to hold it against."""
-        return sorted({self.budget(it) for it in self.fits} | {self.knee})
+    def few_budgets(self):
+        """What each mode would take, and the knee to hold that against where it is less."""
+        taken = {self.budget(it) for it in self.fits}
+        return sorted(taken | ({self.knee} if max(taken) < self.knee else set()))
 
     def stage(self, name, mode=rules.USUAL_MODE, budgets=None):
         """The scenario of a stage and the choices of values of its fields, with these budgets alone where some are
         given."""
         if name in ("few", "knee"):
             rounds = rules.FEW_ROUNDS if name == "few" else rules.MANY_ROUNDS
-            budgets = budgets or (self.of_first_answer() if name == "few" else self.budgets)
+            budgets = budgets or (self.few_budgets() if name == "few" else self.budgets)
             return self.top(rounds, self.in_bytes), self.choices(budgets, self.fits, self.in_bytes)
         in_bytes = self.in_bytes or name == "forgotten"
         text = self.top(self.healing_rounds(), in_bytes)

@@ -8,7 +8,8 @@ Prints a scenario from the numbers of a cluster, with what it leaves out in fron
   entry    the bytes of a mean entry: key, version and value
   delta    the bytes that a delta may take: those of a packet, less what else is in it, such as headers. Where digest
            and delta share the packet, it is what both may take together
-  digest   the bytes of one number of the digest, where it shares the packet with the delta; 0 where it doesn't
+  digest   the bytes that the digest has for each node (in a precise mode for each key), where it shares the packet
+           with the delta: what names the node, its generation and its version, as sent; 0 where it doesn't
   loss     how many messages of a hundred are lost, 0 where it isn't given
   count    `bytes`, a scenario of format 2, or `entries`, one of format 1 for entries of about one size
   fanout   how many peers a node calls in an interval, 1 where it isn't given. Each call is a round of its own then, so

@@ -119,7 +119,7 @@ def table(decision):
         text += f"<tr><th>{it.whole(budget)}</th>"
         for mode in it.fits:
             rising = "" if decision.found.suffices(budget, mode, window) else " rising"
-            chosen = "chosen" if (budget, mode) == (decision.budget, decision.mode) else ""
+            chosen = "chosen" if decision.suffices and (budget, mode) == (decision.budget, decision.mode) else ""
             text += (f'<td class="{chosen}">{answer.span(decision.found.worst(budget, mode, window))}{rising}<br>'
                      f"<small>{answer.span(decision.found.cut(budget, mode, window), 2)} %</small></td>")
         text += "</tr>"
@@ -148,8 +148,9 @@ def make(folder, decision, healing, check_sum):
     it = decision.study
     first, last = decision.window
     tenth = f", of which {it.nodes} were run; budgets are those of all" if it.parts > 1 else ""
-    found = f"{decision.mode} with {decision.whole_budget()} entries" if decision.suffices else (
-        answer.none_fits(decision).replace("No", "no", 1))
+    found = f"{decision.mode} with {decision.whole_budget()} entries"
+    if not decision.suffices:
+        found = f"no budget that fits is enough, still rising after {decision.window[1]} rounds"
     title = f"{int(it.told['nodes'])} nodes: {found}"
     text = f"""<!DOCTYPE html>
 <html lang="en"><head><meta charset="utf-8"><meta name="viewport" content="width=device-width, initial-scale=1">

@@ -3,22 +3,28 @@ gossip_advise -o FOLDER
 
 Says which mode and which budget to take for a cluster, how stale its copies get, and how long it takes to heal. It runs
 all modes with budgets around nodes * writes and what fits, under five seeds, on all cores: first few rounds, for a
-first answer, then many. The folder, `advice` where none is named, gets the scenarios, the reports, `answer.txt` and the
-page `report.html`. It can be stopped: the same call goes on. Without numbers it takes those that the folder has.
+first answer, then what is to heal, then many rounds. Where no budget that fits is enough, it says so, and what would
+be. The folder, `advice` where none is named, gets the scenarios, the reports, `answer.txt` and the page `report.html`.
+It can be stopped: the same call goes on. Without numbers it takes those that the folder has.
 
   nodes, keys, writes    how many nodes; the things that each tells of itself; how many of these change in an interval
   entry     the bytes of a mean entry: key, version and value
   delta     the bytes of a packet, less what else is in it, such as headers
-  digest    the bytes of one number of a digest, 0 where it isn't given
-  shared    `yes`, digest and delta share the packet; `no`, the digest has one of its own
+  digest    the bytes that a digest has for each node (in a precise mode for each key): what names the node, its
+            generation and its version, as sent. Where it isn't given it is 0, and digests are free
+  shared    `yes`, where it isn't given: digest and delta share the packet; `no`, the digest has one of its own
   loss      how many messages of a hundred are lost, 0 where it isn't given
   interval  the seconds between two exchanges that a node begins, 1 where it isn't given
-  restarts  how many nodes restart in an interval, for the time that it takes to heal; 0 looks at a single one
+  restarts  how many nodes restart at once, the size of a group, for the time that it takes to heal: such a group
+            restarts in each of ten rounds, and is down for one. 0 looks at a single node
   forget    `yes`, a node that restarts loses its own state too, as in Cassandra
   split     the longest split, in intervals, 30 where it isn't given
   count     `bytes` or `entries`; where it isn't given entries, and bytes where a delta has room for fewer than fifty
 
-  GOSSIP_BENCH, JOBS and HOSTS are as for gossip_sweep. The page has pictures where gnuplot is there.
+  GOSSIP_BENCH   the program, where it isn't the one beside this tool or the one that is built
+  JOBS           how many runs go at once, where it isn't one for each core, as in `JOBS=2 gossip_advise ..`
+  HOSTS          the machines, as for gossip_sweep
+  The page has pictures where gnuplot is there.
 """
 import hashlib
 import os
@@ -85,22 +91,25 @@ class Stages:
 
     def __init__(self, it, folder, program):
         self.study, self.folder, self.program = it, folder, program
-        self.progress = Progress({f"{stage}/{name}": self.rounds(stage) for stage in study.STAGES
-                                  for name in self.runs(stage)[1]})
+        self.progress = Progress({})
+        self.plan(*study.STAGES)
+
+    def plan(self, *stages, budgets=None):
+        """What is still to be run, for the time left."""
+        self.progress.work = {f"{stage}/{name}": self.rounds(stage) for stage in stages
+                              for name in self.runs(stage, budgets=budgets)[1]}
 
     def rounds(self, stage):
         return {"few": rules.FEW_ROUNDS, "knee": rules.MANY_ROUNDS}.get(stage) or self.study.healing_rounds()
 
-    def runs(self, stage, mode=rules.USUAL_MODE):
-        text, choices = self.study.stage(stage, mode)
+    def runs(self, stage, mode=rules.USUAL_MODE, budgets=None):
+        text, choices = self.study.stage(stage, mode, budgets)
         return text, sweep.spread(text, choices), choices
 
-    def carry_out(self, stage, mode=rules.USUAL_MODE):
-        text, runs, choices = self.runs(stage, mode)
-        at = study.STAGES.index(stage) + 1
+    def carry_out(self, stage, mode=rules.USUAL_MODE, budgets=None):
+        text, runs, choices = self.runs(stage, mode, budgets)
         left = f", {in_words(self.progress.left())} in all" if self.progress.left() else ""
-        print(f"{stage}, {at} of {len(study.STAGES)}: {len(runs)} runs of {self.rounds(stage)} rounds{left}",
-              file=sys.stderr, flush=True)
+        print(f"{stage}: {len(runs)} runs of {self.rounds(stage)} rounds{left}", file=sys.stderr, flush=True)
         sweep.carry_out(self.folder / stage, text, runs, self.program, self.progress, os.environ.get("HOSTS"),
                         "gossip_advise")
         return study.Found(self.study, self.folder / stage, choices)
@@ -112,14 +121,33 @@ def look(folder):
         raise Refused(f"{folder} isn't empty and has no answer: name a new folder.")
 
 
+def first_answer(it, stages):
+    """The first answer, from few rounds, and what heals with its budget. Whether many rounds are still worth while,
+    which they aren't where no budget that fits is enough, be it after many rounds."""
+    few = answer.Decision(it, stages.carry_out("few"), rules.FEW_WINDOW)
+    print(*answer.first_words(few), sep="\n", flush=True)
+    if not few.suffices:
+        print(flush=True)
+        stages.plan("knee", budgets=it.few_budgets())
+        last = answer.Decision(it, stages.carry_out("knee", budgets=it.few_budgets()), rules.MANY_WINDOW)
+        stages.plan("knee", *study.HEALED)
+        return last
+    for stage in study.HEALED:
+        found = {stage: stages.carry_out(stage, few.mode, [few.budget])}
+        print(answer.Healing(it, few.mode, found).line(stage, few.budget), flush=True)
+    print("All of it is refined now.", "", sep="\n", flush=True)
+    return few
+
+
 def study_of(it, folder, program, check_sum):
     """Carries out the stages, and prints the answers."""
     stages = Stages(it, folder, program)
-    few = answer.Decision(it, stages.carry_out("few"), rules.FEW_WINDOW)
-    print(*answer.first_words(few), "", sep="\n", flush=True)
-    decision = answer.Decision(it, stages.carry_out("knee"), rules.MANY_WINDOW)
-    healed = {stage: stages.carry_out(stage, decision.mode) for stage in answer.HEALED}
-    healing = answer.Healing(it, decision.mode, healed)
+    decision, healing = first_answer(it, stages), None
+    if decision.suffices:
+        decision = answer.Decision(it, stages.carry_out("knee"), rules.MANY_WINDOW)
+    if decision.suffices:
+        healed = {stage: stages.carry_out(stage, decision.mode) for stage in study.HEALED}
+        healing = answer.Healing(it, decision.mode, healed)
     lines = answer.in_words(decision, healing)
     files.put(folder / "answer.txt", "\n".join(lines) + "\n")
     said = page.make(folder, decision, healing, check_sum)

@@ -26,11 +26,13 @@ class Decision:
     def __init__(self, study, found, window):
         self.study, self.found, self.window = study, found, window
         self.figures = {mode: found.worst(study.budget(mode), mode, window) for mode in study.fits}
-        self.mode = rules.mode_of(self.figures)
+        enough = {mode: it for mode, it in self.figures.items() if found.suffices(study.budget(mode), mode, window)}
+        # whether a budget that fits is enough, in some mode
+        self.suffices = bool(enough)
+        self.mode = rules.mode_of(enough)
         self.budget = study.budget(self.mode)
         self.worst = self.figures[self.mode]
         self.cut = found.cut(self.budget, self.mode, window)
-        self.suffices = found.suffices(self.budget, self.mode, window)
         self.close = [it for it in self.figures if it != self.mode and rules.are_close(self.figures[it], self.worst)]
 
     def smaller(self):
@@ -42,10 +44,41 @@ class Decision:
             least = it
         return least if least < self.budget else None
 
-    def enough(self):
-        """The least budget that suffices, in the chosen mode, fit or not."""
-        return next((it for it, mode in sorted(self.found.rows) if mode == self.mode and
-                     self.found.suffices(it, mode, self.window)), None)
+    def budgets(self):
+        """The budgets that were run."""
+        return sorted({it for it, _ in self.found.rows})
+
+    def most(self):
+        """The most rounds to reckon with, for the whole cluster."""
+        return rules.reckoned(self.worst) if self.study.parts > 1 else max(self.worst)
+
+    def reckon(self):
+        """What was run, and what to reckon with for the whole cluster; empty where that is what was run."""
+        it = self.study
+        if it.parts == 1:
+            return ""
+        more = "up to" if rules.tenth_holds(self.of_knee()) else "more than"
+        return f"{it.nodes} nodes run; reckon with {more} {self.most()} for {int(it.told['nodes'])}"
+
+    def staleness(self):
+        """The worst staleness, in words."""
+        if not self.suffices:
+            return f"not bounded: still rising after {self.window[1]} rounds"
+        more = f" ({self.reckon()})" if self.reckon() else ""
+        return f"{in_rounds(self.worst)}, {in_time(self.worst, self.study.told['interval'])}{more}"
+
+    def to_knee(self):
+        """The bytes with which nodes * writes entries fit, and what they would bring, in words. Empty where they do
+        fit."""
+        it = self.study
+        if self.budget >= it.knee:
+            return ""
+        at_knee, with_digest = it.knee, it.told["shared"] == "yes" and it.told["digest"]
+        said = (f"delta={it.packet(self.mode)} has room for nodes * writes = {it.whole(at_knee)} entries"
+                f"{' and the digest' if with_digest else ''}, the knee")
+        if not self.found.suffices(at_knee, self.mode, self.window):
+            return f"{said}, where `greatest` still rises too"
+        return f"{said}: worst staleness {in_rounds(self.found.worst(at_knee, self.mode, self.window))}"
 
     def of_knee(self):
         """How the budget stands to nodes * writes."""
@@ -85,16 +118,31 @@ class Healing:
             return f"not within {self.study.healing_rounds() - self.study.ends(stage)} rounds under each seed"
         return f"{in_rounds(taken)}, {in_time(taken, self.study.told['interval'])}"
 
+    def line(self, stage, budget):
+        """What is healed, and how long it takes."""
+        it = self.study
+        each, ends = it.restarting()
+        many = f"of {each} nodes in each of {ends - it.begins + 1} rounds" if it.restarts else "of one node"
+        what = f"of half of the nodes for {it.split} rounds" if stage == "split" else many
+        run = f" ({it.nodes} nodes run)" if it.parts > 1 else ""
+        return f"  {HEALED[stage]:<19} {what}: {self.in_words(stage, budget)}{run}"
+
 
 def first_words(decision):
     """The first answer, from few rounds."""
-    return [f"First answer, from {rules.FEW_ROUNDS} rounds: {decision.takes()}.",
-            f"Worst staleness {in_rounds(decision.worst)}, {in_time(decision.worst, decision.study.told['interval'])}. "
-            "It is refined now."]
+    few = rules.FEW_ROUNDS
+    if decision.suffices:
+        return [f"First answer, from {few} rounds: {decision.takes()}.",
+                f"Worst staleness {decision.staleness()}."]
+    return [f"First answer, from {few} rounds: no budget that fits is enough, still rising after {few} rounds.",
+            f"The most that fits: {decision.takes()}.", *([f"{decision.to_knee()}."] if decision.to_knee() else []),
+            f"Whether it levels off later is seen from {rules.MANY_ROUNDS} rounds now."]
 
 
 def too_close(decision):
-    """Which figures are too close to call."""
+    """Which figures are too close to call. Those that still rise say nothing."""
+    if not decision.suffices:
+        return []
     whole = decision.study.whole
     said = [f"{mode} with {whole(decision.study.budget(mode))} entries, {in_rounds(decision.figures[mode])} against "
             f"{span(decision.worst)}" for mode in decision.close]
@@ -108,14 +156,16 @@ def too_close(decision):
 def warnings(decision):
     """What speaks against the decision, or limits it."""
     it, said = decision.study, []
+    shared = it.told["shared"] == "yes" and it.told["digest"]
+    own = "a delta in packets of its own (shared=no), " if shared else ""
     if not decision.suffices:
-        enough = decision.enough()
-        more = f"{it.whole(enough)} entries were enough" if enough else "no budget that was tried was enough"
-        said.append(f"This budget isn't enough: `greatest` still rises in the second half of the window. {more}. A "
-                    "delta in a packet of its own, a shorter entry, a larger packet or fewer writes would help.")
+        larger = f"A larger packet, {own}a shorter entry or fewer" if decision.to_knee() else "Less loss or fewer"
+        said.append("`greatest` still rises in the second half of the window, in each mode. "
+                    f"{larger} writes would help.")
     elif decision.budget < it.knee:
-        said.append(f"The budget is below nodes * writes = {it.whole(it.knee)}, the knee, so copies lag more than "
-                    "they have to: a delta in a packet of its own, a shorter entry or a larger packet would help.")
+        said.append(f"The budget is below the knee, so copies lag more than they have to. {decision.to_knee()}. Else "
+                    f"{own}a shorter entry or fewer writes would help.")
+    said += of_digest(decision)
     if it.in_bytes:
         said.append("With room for so few entries a large one holds up smaller ones behind it: give the delta room for "
                     "one mean entry more than the sum says.")
@@ -125,14 +175,35 @@ def warnings(decision):
     if it.parts > 1:
         said.append(f"A tenth was run, {it.nodes} nodes with a tenth of the packet, in scuttle-depth alone. "
                     f"{rules.TENTH}")
-        if not 0.5 <= decision.of_knee() <= 2:
+        if not rules.tenth_holds(decision.of_knee()):
             said.append(f"This budget is {decision.times()}, where a tenth wasn't seen to hold.")
     if it.split < it.told["split"]:
         said.append(f"A split of {it.split} rounds was run in place of {int(it.told['split'])}: each key was written "
                     "anew meanwhile, so a longer one leaves no more to catch up with.")
     if it.restarts:
+        each, ends = it.restarting()
+        said.append(f"{it.whole(each)} is the size of a group that restarts at once. What was run are "
+                    f"{ends - it.begins + 1} such groups, one in each round, each down for one round. The times count "
+                    "from when the last one is up.")
         said.append("While nodes restart in each round, `greatest` is the number of the round and bounds nothing.")
     return said
+
+
+# The bytes of a number in a sum that shows what a digest that wasn't told would take.
+SUPPOSED = 10
+
+
+def of_digest(decision):
+    """What speaks against the digest: that it wasn't told, or fits no packet."""
+    it, told = decision.study, decision.study.told
+    numbers = scenario.digest_numbers(int(told["nodes"]), it.keys, decision.mode)
+    if not told["digest"]:
+        return [f"You gave no digest, so it is free here. With digest={SUPPOSED} its {numbers} numbers would take "
+                f"{numbers * SUPPOSED} bytes."]
+    if told["shared"] == "no" and it.digest_bytes(decision.mode) > told["delta"]:
+        return [f"The digest has {numbers} numbers of {told['digest']} bytes, which fit no packet of {told['delta']}: "
+                "it would have to go in several."]
+    return []
 
 
 def left_out(decision):
@@ -141,8 +212,9 @@ def left_out(decision):
     said = [f"Latency: right where an exchange takes much less than the interval of {float(told['interval']):g} s; "
             "else the cluster is slower.",
             "More than one peer in an interval: such a cluster is faster.",
-            "Failure detectors: one that needs a heartbeat in time has to wait longer than "
-            f"{max(decision.worst)} rounds.",
+            "Failure detectors: " + (
+                f"one that needs a heartbeat in time has to wait longer than {decision.most()} rounds."
+                if decision.suffices else "a heartbeat may come later than any limit."),
             "Nodes that join and leave: one that joins is like one that restarts."]
     if it.in_bytes:
         said.append(f"Your sizes: those of the bench are spread evenly up to {1023 / 523.5 * float(told['entry']):.0f} "
@@ -167,19 +239,21 @@ def left_out(decision):
 HEALED = {"split": "a split", "restart": "a restart", "forgotten": "a forgotten state"}
 
 
+def none_fits(decision):
+    """That no budget is enough, in words."""
+    return f"No budget that fits is enough: still rising after {decision.window[1]} rounds"
+
+
 def in_words(decision, healing):
-    """The answer, line by line."""
-    it, told = decision.study, decision.study.told
+    """The answer, line by line. Without a budget that is enough there is no healing."""
     first, last = decision.window
-    each, ends = it.restarting()
-    many = f"{each} nodes in each of {ends - it.begins + 1} rounds" if it.restarts else "one node"
-    what = {"split": f"of half of the nodes for {it.split} rounds", "restart": f"of {many}", "forgotten": f"of {many}"}
-    takes = "Take" if decision.suffices else "No budget that fits is enough. The best that there is:"
-    lines = [f"{takes} {decision.takes()}.", "",
-             f"  worst staleness     {in_rounds(decision.worst)}, {in_time(decision.worst, told['interval'])}: rounds "
-             f"{first} to {last}, least and most of {len(rules.SEEDS)} seeds",
+    takes = "Take" if decision.suffices else f"{none_fits(decision)}. The most that fits:"
+    in_window = f": rounds {first} to {last}, least and most of {len(rules.SEEDS)} seeds" if decision.suffices else ""
+    lines = [f"{takes} {decision.takes()}.", "", f"  worst staleness     {decision.staleness()}{in_window}",
              f"  share cut           {span(decision.cut, 2)} % of what was lacking"]
-    lines += [f"  {HEALED[stage]:<19} {what[stage]}: {healing.in_words(stage, decision.budget)}" for stage in HEALED]
+    lines += [healing.line(stage, decision.budget) for stage in HEALED] if healing else []
+    if not decision.suffices and decision.to_knee():
+        lines.append(f"  enough              {decision.to_knee()}")
     for head, said in (("Mind", warnings(decision)), ("Too close to call", too_close(decision)),
                        ("Left out for this cluster", left_out(decision))):
         lines += ["", f"{head}:", *(f"  - {one}" for one in said)] if said else []

@@ -8,7 +8,8 @@ Prints a scenario from the numbers of a cluster, with what it leaves out in fron
   entry    the bytes of a mean entry: key, version and value
   delta    the bytes that a delta may take: those of a packet, less what else is in it, such as headers. Where digest
            and delta share the packet, it is what both may take together
-  digest   the bytes of one number of the digest, where it shares the packet with the delta; 0 where it doesn't
+  digest   the bytes that the digest has for each node (in a precise mode for each key), where it shares the packet
+           with the delta: what names the node, its generation and its version, as sent; 0 where it doesn't
   loss     how many messages of a hundred are lost, 0 where it isn't given
   count    `bytes`, a scenario of format 2, or `entries`, one of format 1 for entries of about one size
   fanout   how many peers a node calls in an interval, 1 where it isn't given. Each call is a round of its own then, so
@@ -29,6 +30,14 @@ BYTES = ("entry", "delta", "digest")
 USUAL = {"digest": "0", "loss": "0", "fanout": "1", "rounds": None, "seed": "1", "mode": TEXTS["mode"][0],
          "count": "bytes"}
 USUAL_ROUNDS = 60
+# What is asked of the wrong tool, or in another way.
+ELSEWHERE = {
+    **{name: f" For {name}= there is gossip_scenario, and gossip_sweep runs what that prints."
+       for name in ("fanout", "rounds", "seed", "mode")},
+    **{name: f" For {name}= there is gossip_advise." for name in ("shared", "interval", "restarts", "forget", "split")},
+    **{name: " How many runs go at once is said in front of the call, as JOBS=2."
+       for name in ("--jobs", "-j", "jobs", "JOBS")},
+}
 NEEDED = ("nodes", "keys", "writes", "entry", "delta")
 
 
@@ -72,7 +81,8 @@ def told(words, usual, call):
     for word in words:
         name, given, text = word.partition("=")
         if not given or name not in names or name in values:
-            raise Refused(f"'{word}' isn't one of {', '.join(names)}, each once with = and its value.")
+            more = "" if name in names else ELSEWHERE.get(name, "")
+            raise Refused(f"'{word}' isn't one of {', '.join(names)}, each once with = and its value.{more}")
         values[name] = text
     for name in NEEDED:
         if name not in values:

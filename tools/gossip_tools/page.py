@@ -13,6 +13,7 @@ h1 { font-size: 1.5em; line-height: 1.2; } h2 { font-size: 1.2em; margin: 1.6em 
 .cards div { border: 1px solid #ccc; border-radius: 6px; padding: 8px 10px; }
 .cards b { display: block; font-size: 1.25em; }
 .cards .first { background: #00407a; color: #fff; border-color: #00407a; }
+.cards .none { background: #a33c00; color: #fff; border-color: #a33c00; }
 .pictures { display: grid; grid-template-columns: repeat(auto-fit, minmax(min(100%, 440px), 1fr)); gap: 16px; }
 figure { margin: 0; break-inside: avoid; } figure img { width: 100%; max-width: 600px; display: block; }
 figcaption { font-size: .9em; color: #444; } .wide { overflow-x: auto; }
@@ -43,11 +44,18 @@ def cards(decision, healing):
     """The decision in a few large words."""
     it, interval = decision.study, decision.study.told["interval"]
     budget = decision.whole_budget()
-    rows = [("mode", decision.mode, "", "first"),
-            ("budget", f"{budget} entries", f"{int(budget * it.told['entry'])} bytes, {decision.times()}", "first"),
-            ("worst staleness", answer.in_rounds(decision.worst), answer.in_time(decision.worst, interval), ""),
-            ("share cut", f"{answer.span(decision.cut, 2)}\u00a0%", "of what was lacking", "")]
-    for stage, name in answer.HEALED.items():
+    of_budget = f"{int(budget * it.told['entry'])} bytes, {decision.times()}"
+    if decision.suffices:
+        time = "; ".join(filter(None, (answer.in_time(decision.worst, interval), decision.reckon())))
+        rows = [("mode", decision.mode, "", "first"), ("budget", f"{budget} entries", of_budget, "first"),
+                ("worst staleness", answer.in_rounds(decision.worst), time, "")]
+    else:
+        rows = [("budget", "none that fits is enough", f"tried: {budget} entries, {of_budget}", "none"),
+                ("worst staleness", "not bounded", f"still rising after {decision.window[1]} rounds", "none")]
+        if decision.to_knee():
+            rows.append(("enough", f"{it.packet(decision.mode)} bytes", decision.to_knee(), "first"))
+    rows.append(("share cut", f"{answer.span(decision.cut, 2)}\u00a0%", "of what was lacking", ""))
+    for stage, name in answer.HEALED.items() if healing else ():
         words, _, time = healing.in_words(stage, decision.budget).partition(", ")
         rows.append((f"{name} heals in", words, time, ""))
     return "".join(f'<div class="{kind}">{told(name)}<b>{told(words)}</b>{told(more)}</div>'
@@ -63,6 +71,7 @@ def captions(decision, healing):
     same = f"All modes have the same figures from {it.whole(same)} entries on. " if same else ""
     band = f"The line has the middle of {many} seeds, the band their least and most"
     each, _ = it.restarting()
+    healed = captions_of_healing(it, healing.mode, each, band) if healing else {}
     return {
         "worst": f"The knee: worst staleness in rounds {first} to {last}. Bars go from the least to the most of {many} "
                  f"seeds, points are the seed in the middle. {above}{same}",
@@ -70,12 +79,18 @@ def captions(decision, healing):
         "greatest": "The age of the oldest write that some copy lacks, round by round, under seed 1. Each mode has the "
                     "budget that it would take, as the key says. Wide curves lie below narrow ones.",
         "stale": "The share of copies that are behind their owner, in the same runs.",
-        "split": f"After a split of half of the nodes for {it.split} rounds, which ends at 0, in {healing.mode}. "
-                 f"{band}.",
+        **healed,
+    }
+
+
+def captions_of_healing(it, mode, each, band):
+    return {
+        "split": f"After a split of half of the nodes for {it.split} rounds, which ends at 0, in {mode}. {band}.",
         "restart": f"After {each if it.restarts else 'one'} node{'s' if each > 1 else ''} restarted"
-                   f"{' in each of some rounds' if it.restarts else ''}, the last in round 0. {band}.",
-        "forgotten": "What others still hold of the forgotten states, counted in states that all others hold whole. "
-                     f"{band}.",
+                   f"{' in each of some rounds' if it.restarts else ''}, the last in round 0. A restarted node lacks "
+                   f"the writes of round 1, so `greatest` is the number of the round until it has caught up. {band}.",
+        "forgotten": "What others still hold of forgotten states: at 1 all other nodes still hold one node's whole old "
+                     f"state. {band}.",
     }
 
 
@@ -100,22 +115,24 @@ def table(decision):
     """Worst staleness and share cut, by budget and mode."""
     it, window = decision.study, decision.window
     text = "<tr><th>budget</th>" + "".join(f"<th>{mode}</th>" for mode in it.fits) + "</tr>"
-    for budget in it.budgets:
+    for budget in decision.budgets():
         text += f"<tr><th>{it.whole(budget)}</th>"
         for mode in it.fits:
             rising = "" if decision.found.suffices(budget, mode, window) else " rising"
-            chosen = "chosen" if (budget, mode) == (decision.budget, decision.mode) else ""
+            chosen = "chosen" if decision.suffices and (budget, mode) == (decision.budget, decision.mode) else ""
             text += (f'<td class="{chosen}">{answer.span(decision.found.worst(budget, mode, window))}{rising}<br>'
                      f"<small>{answer.span(decision.found.cut(budget, mode, window), 2)} %</small></td>")
         text += "</tr>"
     return f'<div class="wide"><table>{text}</table></div>'
 
 
-def made_of(folder, decision, check_sum):
+def made_of(folder, decision, healing, check_sum):
     """The scenarios and the commands that make everything again."""
     it, text = decision.study, ""
     for stage in study.STAGES:
-        scene, choices = it.stage(stage, decision.mode)
+        if stage in study.HEALED and not healing:
+            continue
+        scene, choices = it.stage(stage, decision.mode, decision.budgets() if stage == "knee" else None)
         words = " ".join(f"{field}={','.join(values)}" for field, values in choices.items())
         text += (f"<details><summary>{stage}: {told(words)}</summary><pre>gossip_sweep -o {told(shlex.quote(stage))} "
                  f"{told(words)} &lt; {stage}/scenario\n\n{told(scene)}</pre></details>")
@@ -131,7 +148,10 @@ def make(folder, decision, healing, check_sum):
     it = decision.study
     first, last = decision.window
     tenth = f", of which {it.nodes} were run; budgets are those of all" if it.parts > 1 else ""
-    title = f"{int(it.told['nodes'])} nodes: {decision.mode} with {decision.whole_budget()} entries"
+    found = f"{decision.mode} with {decision.whole_budget()} entries"
+    if not decision.suffices:
+        found = f"no budget that fits is enough, still rising after {decision.window[1]} rounds"
+    title = f"{int(it.told['nodes'])} nodes: {found}"
     text = f"""<!DOCTYPE html>
 <html lang="en"><head><meta charset="utf-8"><meta name="viewport" content="width=device-width, initial-scale=1">
 <title>{told(title)}</title><style>{STYLE}</style></head><body>
@@ -148,7 +168,7 @@ def make(folder, decision, healing, check_sum):
 {listed("Too close to call", answer.too_close(decision))}
 {listed("Left out for this cluster", answer.left_out(decision))}
 <h2>To make it again</h2>
-{made_of(folder, decision, check_sum)}
+{made_of(folder, decision, healing, check_sum)}
 </body></html>
 """
     files.put(folder / "report.html", text)

@@ -51,7 +51,7 @@ def knee(decision, name, y, figure, capped):
     modes = [it for it in MODES if it in study.fits]
     for at, mode in enumerate(modes):
         (colour, width, point), rows = MODES[mode], []
-        for budget in study.budgets:
+        for budget in decision.budgets():
             values = figure(budget, mode)
             # (a little beside each other, so that all bands are seen)
             beside = study.whole(budget) * 1.025**(at - (len(modes) - 1) / 2)
@@ -62,7 +62,7 @@ def knee(decision, name, y, figure, capped):
                   f'$mode{at} using 1:2:3:4 with yerrorbars linewidth 2 pointtype {point} pointsize 0.7 '
                   f'linecolor "{colour}" title "{mode}"']
     top = (min(most, 6 * max(figure(decision.budget, decision.mode))) if capped else most) or 1
-    budgets = [study.whole(it) for it in study.budgets]
+    budgets = [study.whole(it) for it in decision.budgets()]
     tics = ", ".join(str(it) for it in spaced(budgets))
     text += f"set logscale x 2\nset xtics ({tics}) rotate by -45\nset yrange [0:{1.08 * top:.4g}]\n"
     text += f"set xrange [{0.85 * budgets[0]:.6g}:{1.18 * budgets[-1]:.6g}]\n"
@@ -121,7 +121,7 @@ def all_of(decision, healed):
     study, window = decision.study, decision.window
     copies = study.nodes * (study.nodes - 1) * study.keys
     of_node = (study.nodes - 1) * study.keys
-    return {
+    pictures = {
         "worst": knee(decision, "worst", "worst staleness, in rounds",
                       lambda budget, mode: decision.found.worst(budget, mode, window), capped=True),
         "cut": knee(decision, "cut", "share cut, in per cent",
@@ -129,18 +129,22 @@ def all_of(decision, healed):
         "greatest": rounds(decision, "greatest", "greatest, in rounds", lambda row: row["greatest"]),
         "stale": rounds(decision, "stale", "stale copies, in per cent",
                         lambda row: round(100 * row["stale"] / copies, 3)),
-        "split": healing(healed, "split", "split", "greatest, in rounds", lambda row: row["greatest"]),
-        "restart": healing(healed, "restart", "restart", "greatest, in rounds", lambda row: row["greatest"]),
-        "forgotten": healing(healed, "forgotten", "forgotten", "leftover, in states of a node",
-                             lambda row: round(row["leftover"] / of_node, 4)),
     }
+    if healed:
+        pictures |= {
+            "split": healing(healed, "split", "split", "greatest, in rounds", lambda row: row["greatest"]),
+            "restart": healing(healed, "restart", "restart", "greatest, in rounds", lambda row: row["greatest"]),
+            "forgotten": healing(healed, "forgotten", "forgotten", "leftover, in states of a node",
+                                 lambda row: round(row["leftover"] / of_node, 4)),
+        }
+    return pictures
 
 
 def lie_on_each_other(decision, figure):
     """The modes that have the same figures with every budget from some one on, and that budget; or None."""
     modes = [it for it in scenario.MODES if it in decision.study.fits]
     from_here = None
-    for budget in reversed(decision.study.budgets):
+    for budget in reversed(decision.budgets()):
         if any(figure(budget, mode) != figure(budget, modes[0]) for mode in modes):
             break
         from_here = budget

@@ -18,6 +18,7 @@ class Progress:
         for name in there:
             self.work.pop(f"{what}/{name}", None)
         self.since = time.monotonic()
+        self.show()
 
     def left(self):
         """The seconds that the rest may take, by what the runs took so far; None before the first one."""
@@ -27,7 +28,10 @@ class Progress:
     def done(self, name):
         self.count += 1
         self.done_work += self.work.pop(f"{self.what}/{name}", 0)
-        if self.shown:
+        self.show()
+
+    def show(self):
+        if self.shown and self.total:
             print(f"\r\033[K{self.what}: {self.count} of {self.total} runs, {in_words(self.left())}", end="",
                   file=self.stream, flush=True)
 

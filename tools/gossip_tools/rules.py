@@ -13,10 +13,12 @@ USUAL_MODE = "scuttle-depth"
 # By the size of their digests, and scuttle-depth before scuttle-breadth, which lags longer below the knee.
 CHEAPEST_FIRST = (USUAL_MODE, "scuttle-breadth", "precise-oldest", "precise-newest")
 FEW_ENTRIES = 50
-# How far a tenth was seen to hold in scuttle-depth.
-TENTH = ("A tenth of the nodes stands for the whole in scuttle-depth: 1000 nodes had 2 to 5 rounds more in `greatest` "
-         "than 100, with a budget of a half to twice `nodes * writes`. At 0.14 of it, with one key, 100, 1000 and 4000 "
-         "nodes had 25 to 28, 33 to 36 and 39 to 41 rounds.")
+# How far a tenth was seen to hold in scuttle-depth: how many rounds more in `greatest` ten times the nodes had, with
+# which parts of `nodes * writes`.
+TENTH_MORE, TENTH_HOLDS = (2, 5), (0.5, 2)
+TENTH = (f"A tenth of the nodes stands for the whole in scuttle-depth: 1000 nodes had {TENTH_MORE[0]} to "
+         f"{TENTH_MORE[1]} rounds more in `greatest` than 100, with a budget of a half to twice `nodes * writes`. At "
+         "0.14 of it, with one key, 100, 1000 and 4000 nodes had 25 to 28, 33 to 36 and 39 to 41 rounds.")
 
 
 def band(figure):
@@ -51,6 +53,17 @@ def suffices(in_first_half, in_second_half):
     return not is_better(in_first_half, in_second_half)
 
 
+def reckoned(figure):
+    """"Run a tenth of them, .. and add five rounds to `greatest`": the most to reckon with for ten times the nodes."""
+    return max(figure) + TENTH_MORE[1]
+
+
+def tenth_holds(of_knee):
+    """Whether a tenth was seen to hold with such a part of `nodes * writes`."""
+    least, most = TENTH_HOLDS
+    return least <= of_knee <= most
+
+
 def knee(nodes, keys, writes):
     """"Begin with a budget of `nodes * writes`." A node never lacks more than `nodes * keys` entries."""
     return nodes * max(1, min(writes, keys))
@@ -70,8 +83,9 @@ def budgets_of(fits, nodes, keys, writes):
 
 
 def mode_of(figures):
-    """"`scuttle-depth`", unless another mode is better; "else take the cheaper one". The figures are by mode."""
-    modes = [it for it in CHEAPEST_FIRST if it in figures]
+    """"`scuttle-depth`", unless another mode is better; "else take the cheaper one". The figures are by mode, of those
+    whose budget suffices: those that still rise say nothing."""
+    modes = [it for it in CHEAPEST_FIRST if it in figures] or [USUAL_MODE]
     chosen = modes[0]
     for mode in modes[1:]:
         if is_better(figures[mode], figures[chosen]):

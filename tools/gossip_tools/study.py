@@ -1,10 +1,12 @@
 """The runs that an answer for a cluster rests on: five stages, each a sweep in a folder of its own.
 
-  few         few rounds, for a first answer: all modes, with a half of nodes * writes, that, and what fits
-  knee        many rounds: all modes, budgets around nodes * writes and what fits
+  few         few rounds, for a first answer: all modes with what fits, and where that is less, nodes * writes
   split       half of the nodes are set apart for some rounds; under the mode that was chosen
   restart     nodes restart, by ascending number, and keep their own state
   forgotten   the same, in bytes, and they lose their own state too
+  knee        many rounds: all modes, budgets around nodes * writes and what fits
+
+What heals is run twice: for the first answer with its budget, and for the last one with others too.
 """
 from gossip_tools import cluster, read, rules, scenario
 
@@ -35,13 +37,11 @@ class Study:
         most = scenario.LIMITS["budget"][1]
         count = told["count"] or ("bytes" if rules.counts_bytes(max(self.rooms.values())) else "entries")
         self.in_bytes = count == "bytes"
-        least = 2 if self.in_bytes else 1
+        # (so many mean entries the format that counts bytes takes at least)
+        least = 2
         self.fits = {mode: min(int(self.rooms[mode]), most) for mode in modes if self.rooms[mode] >= least}
         if rules.USUAL_MODE not in self.fits:
-            taken = it["delta"] - self.rooms[rules.USUAL_MODE] * it["entry"]
-            raise cluster.Refused(f"the digest takes {int(taken * self.parts)} of the {told['delta']} bytes, which "
-                                  f"leaves no room for {least} entries of {it['entry']} bytes: give the delta a "
-                                  "packet of its own.")
+            raise cluster.Refused(self.why_none_fits(least))
         budgets = rules.budgets_of(self.fits.values(), self.nodes, self.keys, self.writes)
         self.budgets = [it for it in budgets if it >= least]
         slowness = -(-self.knee // self.budget(rules.USUAL_MODE))
@@ -50,6 +50,28 @@ class Study:
         self.tail = 40 + min(3 * self.keys * slowness, 400)
         self.split, self.restarts = self.split_of(int(told["split"])), int(told["restarts"]) // self.parts
         self.loss = int(told["loss"] * 10000)
+
+    def why_none_fits(self, least):
+        """Why a delta has no room, and how large it would have to be."""
+        told, whole = self.told, self.whole(self.knee)
+        lacks = f"no room for {least} entries of {told['entry']} bytes"
+        enough = f"takes delta={self.packet(rules.USUAL_MODE)}"
+        if told["shared"] == "no" or not told["digest"]:
+            return f"{told['delta']} bytes have {lacks}: room for nodes * writes = {whole} of them {enough}."
+        digest, alone = self.digest_bytes(rules.USUAL_MODE), int(told["delta"] / told["entry"])
+        too_large = f", and the digest still fits no packet of {told['delta']}" if digest > told["delta"] else ""
+        return (f"the digest takes {digest} of the {told['delta']} bytes, which leaves {lacks}: with shared=no the "
+                f"delta has room for {alone}, {alone / whole:.2g} times nodes * writes{too_large}; room for the digest "
+                f"and nodes * writes = {whole} entries {enough}.")
+
+    def digest_bytes(self, mode):
+        """The bytes of a whole digest."""
+        return int(scenario.digest_numbers(int(self.told["nodes"]), self.keys, mode) * self.told["digest"])
+
+    def packet(self, mode):
+        """The bytes that a delta with room for nodes * writes entries takes, with the digest where they share them."""
+        digest = self.digest_bytes(mode) if self.told["shared"] == "yes" else 0
+        return int(self.whole(self.knee) * self.told["entry"]) + digest
 
     def split_of(self, rounds):
         """How long a split is run: no longer than it takes until each key was written four times, which leaves no more
@@ -92,12 +114,17 @@ class Study:
         wanted = {self.knee // 2, self.knee, self.budget(mode), 2 * self.knee}
         return sorted(it for it in {min(it, self.nodes * self.keys) for it in wanted} if it >= 1)
 
-    def stage(self, name, mode=rules.USUAL_MODE):
-        """The scenario of a stage and the choices of values of its fields."""
+    def few_budgets(self):
+        """What each mode would take, and the knee to hold that against where it is less."""
+        taken = {self.budget(it) for it in self.fits}
+        return sorted(taken | ({self.knee} if max(taken) < self.knee else set()))
+
+    def stage(self, name, mode=rules.USUAL_MODE, budgets=None):
+        """The scenario of a stage and the choices of values of its fields, with these budgets alone where some are
+        given."""
         if name in ("few", "knee"):
             rounds = rules.FEW_ROUNDS if name == "few" else rules.MANY_ROUNDS
-            few = {self.budget(it) for it in self.fits} | {self.knee, max(self.knee // 2, self.budgets[0])}
-            budgets = sorted(few) if name == "few" else self.budgets
+            budgets = budgets or (self.few_budgets() if name == "few" else self.budgets)
             return self.top(rounds, self.in_bytes), self.choices(budgets, self.fits, self.in_bytes)
         in_bytes = self.in_bytes or name == "forgotten"
         text = self.top(self.healing_rounds(), in_bytes)
@@ -106,10 +133,12 @@ class Study:
         else:
             each, last = self.restarting()
             text += scenario.restarts(self.nodes, each, self.begins, last, 1, forget=name == "forgotten")
-        return text, self.choices([it for it in self.healing_budgets(mode) if it >= 2], [mode], in_bytes)
+        budgets = budgets or self.healing_budgets(mode)
+        return text, self.choices([it for it in budgets if it >= 2], [mode], in_bytes)
 
 
-STAGES = ("few", "knee", "split", "restart", "forgotten")
+HEALED = ("split", "restart", "forgotten")
+STAGES = ("few", *HEALED, "knee")
 
 
 class Found:

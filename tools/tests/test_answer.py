@@ -44,12 +44,27 @@ class Decided(unittest.TestCase):
         found = decided({(1000, "scuttle-depth"): [10, 11]})
         self.assertEqual(("scuttle-breadth", None), (found.mode, found.smaller()))
 
-    def test_not_enough(self):
-        low, mode = {(budget, "scuttle-depth"): [7] for budget in (300, 600, 1000, 1200)}, "scuttle-depth"
-        found = decided(low, [(budget, mode) for budget in (300, 600, 1000)])
-        self.assertEqual(1200, found.enough())
-        self.assertIn("1200 entries were enough", answer.warnings(found)[0])
+    def test_one_mode_is_enough(self):
+        """Where scuttle-depth still rises and scuttle-breadth doesn't, the figures of the former say nothing."""
+        found = decided({(1000, "scuttle-depth"): [5, 6]}, [(1000, "scuttle-depth")])
+        self.assertEqual(("scuttle-breadth", True), (found.mode, found.suffices))
 
+    def test_none_is_enough(self):
+        """28 entries fit of 300 * 2, which take 600 * 40 = 24000 bytes; with the digest of 300 numbers, 27000."""
+        cases = {"delta=1120 shared=no": "24000 has room for nodes * writes = 600 entries, the knee",
+                 "delta=4120": "27000 has room for nodes * writes = 600 entries and the digest, the knee"}
+        for words, delta in cases.items():
+            words = f"nodes=300 keys=4 writes=2 entry=40 digest=10 {words}"
+            it = study.Study(cluster.told(words.split(), advise.USUAL, advise.CALL))
+            modes = it.fits
+            worst = {(28, mode): [150, 150] for mode in modes} | {(600, mode): [7, 8] for mode in modes}
+            found = answer.Decision(it, Figures(worst, [(28, mode) for mode in modes]), WINDOW)
+            self.assertEqual(("scuttle-depth", False, f"delta={delta}: worst staleness 7 to 8 rounds"),
+                             (found.mode, found.suffices, found.to_knee()))
+            lines = answer.in_words(found, None)
+            self.assertIn("No budget that fits is enough: still rising after 200 rounds. The most that fits: "
+                          "scuttle-depth with room for 28 entries in a delta, 1120 bytes", lines[0])
+            self.assertIn("  worst staleness     not bounded: still rising after 200 rounds", lines)
 
     def test_a_tenth(self):
         """1000 of 10000 nodes are run, with a tenth of the 11000 entries that fit. Budgets are told for all."""
@@ -61,6 +76,23 @@ class Decided(unittest.TestCase):
                          "nodes * writes)", found.takes())
         self.assertEqual(["scuttle-depth with a budget from 7500 entries on, 8 to 9 rounds with that"],
                          answer.too_close(found))
+
+    def test_what_to_reckon_with(self):
+        """1000 of 10000 nodes had 8 rounds, to which five are added."""
+        words = "nodes=10000 keys=4 writes=1 entry=40 delta=640000 digest=20".split()
+        it = study.Study(cluster.told(words, advise.USUAL, advise.CALL))
+        found = answer.Decision(it, Figures({(1100, "scuttle-depth"): [8, 8]}), WINDOW)
+        self.assertEqual("8 rounds, 8 s (1000 nodes run; reckon with up to 13 for 10000)", found.staleness())
+        self.assertTrue(any("has to wait longer than 13 rounds" in it for it in answer.left_out(found)))
+
+    def test_no_digest(self):
+        """300 numbers of 10 bytes are 3000, and those of precise modes 12000."""
+        depth = {(budget, "scuttle-depth"): [7, 8] for budget in (300, 600, 1000)}
+        self.assertEqual(["You gave no digest, so it is free here. With digest=10 its 300 numbers would take 3000 "
+                          "bytes."], answer.of_digest(decided(depth)))
+        self.assertEqual([], answer.of_digest(decided(depth, more="digest=1 shared=no")))
+        large = answer.of_digest(decided(depth, more="digest=200 shared=no"))
+        self.assertIn("300 numbers of 200 bytes, which fit no packet of 40000", large[0])
 
 
 class Words(unittest.TestCase):

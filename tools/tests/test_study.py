@@ -37,6 +37,12 @@ class Numbers(unittest.TestCase):
     def test_digest_that_takes_all(self):
         with self.assertRaisesRegex(cluster.Refused, "takes 40000 of the 12000 bytes"):
             of("nodes=5000 keys=4 writes=1 entry=40 delta=12000 digest=8")
+        # (5000 of 40 bytes are 200000; 12000 bytes have room for 300, which is 0.06 of 5000)
+        with self.assertRaisesRegex(cluster.Refused, "room for 300, 0.06 times nodes .* writes, and the digest still "
+                                    "fits no packet of 12000; .* takes delta=240000"):
+            of("nodes=5000 keys=4 writes=1 entry=40 delta=12000 digest=8")
+        with self.assertRaisesRegex(cluster.Refused, "30 bytes have no room .* 8 of them takes delta=320"):
+            of("nodes=8 keys=2 writes=1 entry=40 delta=30")
 
 
 class Healing(unittest.TestCase):

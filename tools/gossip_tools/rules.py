@@ -69,6 +69,13 @@ def knee(nodes, keys, writes):
     return nodes * max(1, min(writes, keys))
 
 
+def least_staleness(budget, nodes, keys, writes):
+    """What the worst staleness is at least, in rounds. "Divide that by the budget: so many deltas it needs at least,
+    and it gets about two in each round": a node has `(nodes - 1) * keys` copies, and each of them has to be renewed
+    once its key was written again, which is after `keys / writes` rounds."""
+    return (nodes - 1) * keys / (2 * budget) - keys / max(1, min(writes, keys))
+
+
 def budget_of(fits, nodes, keys, writes):
     """"Room for `nodes * writes` entries, and for twice that if it fits", else what fits. More than `nodes * keys`
     changes nothing."""

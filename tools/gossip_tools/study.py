@@ -14,6 +14,8 @@ from gossip_tools import cluster, read, rules, scenario
 # last ones tell the level, and later with a budget below the knee.
 FILLING, LEVEL = 30, 20
 RESTARTING = 10
+# So many mean entries the format that counts bytes takes at least.
+LEAST = 2
 
 
 class Study:
@@ -37,13 +39,15 @@ class Study:
         most = scenario.LIMITS["budget"][1]
         count = told["count"] or ("bytes" if rules.counts_bytes(max(self.rooms.values())) else "entries")
         self.in_bytes = count == "bytes"
-        # (so many mean entries the format that counts bytes takes at least)
-        least = 2
-        self.fits = {mode: min(int(self.rooms[mode]), most) for mode in modes if self.rooms[mode] >= least}
+        self.fits = {mode: min(int(self.rooms[mode]), most) for mode in modes if self.rooms[mode] >= LEAST}
         if rules.USUAL_MODE not in self.fits:
-            raise cluster.Refused(self.why_none_fits(least))
+            raise cluster.Refused(self.why_none_fits())
+        budget = max(self.budget(it) for it in self.fits)
+        rounds = rules.least_staleness(budget, self.nodes, self.keys, self.writes)
+        if rounds > rules.MANY_ROUNDS:
+            raise cluster.Refused(self.why_too_few(self.whole(budget), int(rounds)))
         budgets = rules.budgets_of(self.fits.values(), self.nodes, self.keys, self.writes)
-        self.budgets = [it for it in budgets if it >= least]
+        self.budgets = [it for it in budgets if it >= LEAST]
         slowness = -(-self.knee // self.budget(rules.USUAL_MODE))
         self.before = FILLING * slowness + 1, (FILLING + LEVEL) * slowness
         self.begins = self.before[1] + 1
@@ -51,10 +55,10 @@ class Study:
         self.split, self.restarts = self.split_of(int(told["split"])), int(told["restarts"]) // self.parts
         self.loss = int(told["loss"] * 10000)
 
-    def why_none_fits(self, least):
+    def why_none_fits(self):
         """Why a delta has no room, and how large it would have to be."""
         told, whole = self.told, self.whole(self.knee)
-        lacks = f"no room for {least} entries of {told['entry']} bytes"
+        lacks = f"no room for {LEAST} entries of {told['entry']} bytes"
         enough = f"takes delta={self.packet(rules.USUAL_MODE)}"
         if told["shared"] == "no" or not told["digest"]:
             return f"{told['delta']} bytes have {lacks}: room for nodes * writes = {whole} of them {enough}."
@@ -63,6 +67,13 @@ class Study:
         return (f"the digest takes {digest} of the {told['delta']} bytes, which leaves {lacks}: with shared=no the "
                 f"delta has room for {alone}, {alone / whole:.2g} times nodes * writes{too_large}; room for the digest "
                 f"and nodes * writes = {whole} entries {enough}.")
+
+    def why_too_few(self, budget, rounds):
+        """Why no run is worth while, and how large a delta would have to be."""
+        return (f"no budget that fits is enough: each node has {(int(self.told['nodes']) - 1) * self.keys} copies to "
+                f"renew and gets about two deltas of {budget} entries in a round, so the worst staleness is at least "
+                f"{rounds} rounds; room for nodes * writes = {self.whole(self.knee)} entries takes "
+                f"delta={self.packet(rules.USUAL_MODE)}.")
 
     def digest_bytes(self, mode):
         """The bytes of a whole digest."""

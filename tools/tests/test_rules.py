@@ -40,6 +40,11 @@ class Enough(unittest.TestCase):
                  ((7, 8), (8, 9)): True}
         self.assertEqual(cases, {it: rules.suffices(*it) for it in cases})
 
+    def test_what_a_sum_says(self):
+        """1999 * 6 copies at two times 28 in a round take 214 rounds, less the 6 in which a key isn't written."""
+        cases = {(28, 2000, 6, 1): 208, (25, 101, 4, 1): 4, (2, 41, 6, 8): 59}
+        self.assertEqual(cases, {it: int(rules.least_staleness(*it)) for it in cases})
+
     def test_a_tenth(self):
         """"Add five rounds to `greatest`", from a half to twice `nodes * writes`."""
         self.assertEqual(14, rules.reckoned([8, 9]))

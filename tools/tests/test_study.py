@@ -45,6 +45,15 @@ class Numbers(unittest.TestCase):
             of("nodes=8 keys=2 writes=1 entry=40 delta=30")
 
 
+    def test_budget_that_a_sum_refuses(self):
+        """Room for 28 entries, where 2000 of 50 bytes take 100000, and with the digest of 2000 numbers 120000."""
+        cases = {"delta=1400 digest=10 shared=no": "at least 208 rounds; .* takes delta=100000",
+                 "delta=21400 digest=10": "at least 208 rounds; .* takes delta=120000"}
+        for words, why in cases.items():
+            with self.assertRaisesRegex(cluster.Refused, why):
+                of(f"nodes=2000 keys=6 writes=1 entry=50 {words}")
+
+
 class Healing(unittest.TestCase):
     def test_when_it_begins(self):
         """After 50 rounds; and with a half of nodes * writes, 5 of 10, after 100. A split lasts from then on."""

@@ -22,8 +22,8 @@ const NO_THREAD: u8 = 5;
 /// Why a program ends before its end.
 #[derive(Debug, Drop)]
 pub enum Failure {
-    /// What this names isn't as it should be.
-    Wrong(&'static str),
+    /// What came behind the call that was named last isn't as it should be.
+    Wrong,
     /// A call answers this fault, and no fault is right or it is the second.
     Fault(Fault),
     NotPrinted,
@@ -48,14 +48,10 @@ impl From<io::Error> for Failure {
 }
 
 /// Goes on where it holds.
-pub fn check(holds: bool, name: &'static str) -> Result<(), Failure>
+pub fn check(holds: bool) -> Result<(), Failure>
     ensures { OnOk result (IsTrue holds) }
 {
-    if holds {
-        Ok(())
-    } else {
-        Err(Failure::Wrong(name))
-    }
+    if holds { Ok(()) } else { Err(Failure::Wrong) }
 }
 
 /// Goes on where a budget has room for any one entry.
@@ -63,8 +59,8 @@ pub fn check_budget(budget: Budget) -> Result<(), Failure>
     ensures { OnOk result (IsLawfulBudget budget) }
 {
     match budget {
-        Budget::Entries(entries) => check(entries >= 1, "entries"),
-        Budget::Bytes(bytes) => check(bytes >= 1023, "bytes"),
+        Budget::Entries(entries) => check(entries >= 1),
+        Budget::Bytes(bytes) => check(bytes >= 1023),
     }
 }
 
@@ -86,14 +82,14 @@ pub fn refused(
 /// The same, and what stands then is as it should be.
 pub fn refused_once(
     rt: &impl Eprint,
-    name: &'static str,
+    name: &str,
     fault: impl Into<Failure> + Drop,
     stands: bool,
 ) -> Result<(), Failure>
     ensures { OnOk result (IsTrue stands) }
 {
     refused(rt, name, fault)?;
-    check(stands, name)
+    check(stands)
 }
 
 /// As `refused`, of a call with so many workers: of several, one may want a thread.
@@ -116,7 +112,7 @@ pub fn refused_with(
 pub fn end(rt: &impl Print, done: Result<(), Failure>) -> ExitCode {
     let status = match done {
         Ok(()) => return ExitCode::SUCCESS,
-        Err(Failure::Wrong(name)) => told(println!(rt; "wrong: {name}"), WRONG),
+        Err(Failure::Wrong) => told(println!(rt; "wrong, after what is named above"), WRONG),
         Err(Failure::Fault(Fault::OutOfMemory)) => NO_MEMORY,
         Err(Failure::Fault(Fault::NoThread)) => NO_THREAD,
         Err(Failure::Fault(fault)) => told(println!(rt; "wrong: {fault}"), WRONG),

@@ -28,8 +28,8 @@ fn fresh_tables<R: Eprint + AllocGlobal>(
 ) -> Result<Vec<NodeTable>, Failure>
     ensures { IfOk result (λ tables. IsCluster writers.nodes (tables_in tables.items)) }
 {
-    check(1 <= writers.nodes && writers.nodes <= MOST_NODES, "nodes")?;
-    check(1 <= writers.keys && writers.keys <= MOST_KEYS, "keys")?;
+    check(1 <= writers.nodes && writers.nodes <= MOST_NODES)?;
+    check(1 <= writers.keys && writers.keys <= MOST_KEYS)?;
     let alloc = rt.alloc();
     Ok(retried!(rt, "tables", tables_of(alloc, writers)))
 }
@@ -42,7 +42,7 @@ fn exchanged<R: Eprint + AllocGlobal + Threads + Wait + Sync>(
     team: Team,
     gate: &Counter,
 ) -> Result<Result<Exchanged, Fault>, Failure> {
-    check(list.nodes() == first.writers.nodes, "RoundList::nodes")?;
+    check(list.nodes() == first.writers.nodes)?;
     check_budget(first.budget)?;
     let rules = Rules {
         mode: Mode::ScuttleBreadth,
@@ -57,16 +57,15 @@ fn check_exchanged(
     (tables, records): Exchanged,
     gate: &Counter,
 ) -> Result<(), Failure> {
-    check(records.as_slice() == first.records, CALL)?;
-    check(gate.counts().are_whole(first.records.len()), CALL)?;
-    check(tables.len() == first.held.len(), CALL)?;
+    check(records.as_slice() == first.records)?;
+    check(gate.counts().are_whole(first.records.len()))?;
+    check(tables.len() == first.held.len())?;
     let keys = first.writers.keys;
     check(
         tables
             .iter()
             .zip(first.held)
             .all(|(table, owners)| holds_all_of(table, owners, keys)),
-        CALL,
     )
 }
 
@@ -139,7 +138,7 @@ fn try_listed<R: Eprint + AllocGlobal + Threads + Wait + Sync>(
     match exchanged(rt, list, first, team, gate)? {
         Ok(exchanged) => check_exchanged(first, exchanged, gate),
         Err(fault) => {
-            check(fault != Fault::NoThread || !gate.has_gathered(), CALL)?;
+            check(fault != Fault::NoThread || !gate.has_gathered())?;
             refused_with(rt, trial, team.workers(), fault)?;
             try_list_again(rt, list, first, team, gate)
         }
@@ -158,8 +157,5 @@ fn try_list_again<R: Eprint + AllocGlobal + Threads + Wait + Sync>(
     let second = Counter::new();
     let exchanged = exchanged(rt, list, first, team, &second)??;
     check_exchanged(first, exchanged, &second)?;
-    check(
-        counts.are_broken_off(team.workers()) && gate.counts() == counts,
-        CALL,
-    )
+    check(counts.are_broken_off(team.workers()) && gate.counts() == counts)
 }

@@ -70,7 +70,7 @@ impl Choice {
                     workers,
                 }))
             }
-            Err(Failed) => Err(Failure::Wrong("input")),
+            Err(Failed) => Err(Failure::Wrong),
         }
     }
 

@@ -59,7 +59,7 @@ fn open<R: Eprint + AllocGlobal>(
         Ok(sim) => Ok(sim),
         Err((fault, scenario)) => {
             refused(rt, "Sim::new", fault)?;
-            check(is_of_rounds(rt, &scenario, rounds)?, "Sim::new")?;
+            check(is_of_rounds(rt, &scenario, rounds)?)?;
             Ok(Sim::new(rt.alloc(), scenario).map_err(|(fault, _)| fault)?)
         }
     }
@@ -75,13 +75,10 @@ fn play<R: Threads + Wait + Sync>(
 ) -> Result<(), Failure> {
     for row in rounds.rows {
         let round = sim.step(rt, team.workers(), gate)?;
-        check(
-            round.row() == *row && round.records().len() == row.exchanges as usize,
-            "step",
-        )?;
+        check(round.row() == *row && round.records().len() == row.exchanges as usize)?;
     }
     let behind = sim.step(rt, team.workers(), gate).err();
-    check(behind == Some(Fault::Finished) && !sim.is_broken(), "step")
+    check(behind == Some(Fault::Finished) && !sim.is_broken())
 }
 
 // A broken simulation has no tables, and answers so to each further step.
@@ -92,12 +89,12 @@ fn check_broken<R: Threads + Wait + Sync>(
     gate: &Counter,
 ) -> Result<(), Failure> {
     let done = sim.rounds_done();
-    check(done < sim.rounds(), "rounds_done")?;
+    check(done < sim.rounds())?;
     for _ in 0..3 {
-        check(sim.is_broken() && sim.tables().is_empty(), "is_broken")?;
-        check(sim.rounds_done() == done, "rounds_done")?;
+        check(sim.is_broken() && sim.tables().is_empty())?;
+        check(sim.rounds_done() == done)?;
         let answer = sim.step(rt, team.workers(), gate).err();
-        check(answer == Some(Fault::Broken), "step")?;
+        check(answer == Some(Fault::Broken))?;
     }
     Ok(())
 }
@@ -118,7 +115,7 @@ fn play_at_last<R: Eprint + AllocGlobal + Threads + Wait + Sync>(
     let counts = gate.counts();
     check_broken(rt, &mut sim, team, &gate)?;
     play_again(rt, sim.into_scenario(), rounds, team)?;
-    check(gate.counts() == counts, "step")
+    check(gate.counts() == counts)
 }
 
 // All rounds of another simulation, of the scenario that a broken one had.
@@ -128,7 +125,7 @@ fn play_again<R: Eprint + AllocGlobal + Threads + Wait + Sync>(
     rounds: Rounds,
     team: Team,
 ) -> Result<(), Failure> {
-    check(is_of_rounds(rt, &scenario, rounds)?, "into_scenario")?;
+    check(is_of_rounds(rt, &scenario, rounds)?)?;
     let mut sim = open(rt, rounds, scenario)?;
     play(rt, &mut sim, rounds, team, &Counter::new())
 }

@@ -90,14 +90,14 @@ impl Job {
 
 fn check_whole(job: Job, case: &Case, report: &[u8], trace: &[u8]) -> Result<(), Failure> {
     let (whole_report, whole_trace) = job.texts(case);
-    check(report == whole_report.as_bytes(), job.name())?;
-    check(trace == whole_trace.as_bytes(), job.name())
+    check(report == whole_report.as_bytes())?;
+    check(trace == whole_trace.as_bytes())
 }
 
 fn check_beginnings(job: Job, case: &Case, report: &[u8], trace: &[u8]) -> Result<(), Failure> {
     let (whole_report, whole_trace) = job.texts(case);
-    check(is_beginning(report, whole_report), job.name())?;
-    check(is_beginning(trace, whole_trace), job.name())
+    check(is_beginning(report, whole_report))?;
+    check(is_beginning(trace, whole_trace))
 }
 
 /// The report and the trace of a run are those of the case, and so is its comparison.
@@ -154,7 +154,7 @@ fn try_again<R: Eprint + AllocGlobal + Threads + Wait + Sync>(
 pub(crate) fn try_input<R: Eprint + AllocGlobal>(rt: &R, case: &Case) -> Result<(), Failure> {
     let (alloc, text) = (rt.alloc(), case.texts.scenario.as_bytes());
     let bytes = retried!(rt, "read_all", read_all(alloc, &mut Pull::new(text)));
-    check(bytes.as_slice() == text, "read_all")?;
+    check(bytes.as_slice() == text)?;
     let scenario = retried!(rt, "check_input", check_input(alloc, &mut Pull::new(text)));
-    check(scenario.nodes() == case.first.writers.nodes, "check_input")
+    check(scenario.nodes() == case.first.writers.nodes)
 }

@@ -43,7 +43,7 @@ fn check_unfinished(board: Board, seat: Seat) -> Result<(), Failure>
 {
     match board.close(seat) {
         Err(Fault::Unfinished) => Ok(()),
-        _ => Err(Failure::Wrong("Board::close")),
+        _ => Err(Failure::Wrong),
     }
 }
 
@@ -65,10 +65,7 @@ fn try_collector<R: Eprint + AllocGlobal>(rt: &R) -> Result<(), Failure> {
         collector.put(Stamped { index, outcome })?;
     }
     match collector.finish() {
-        Ok(records) => check(
-            records.as_slice() == [FIRST, SECOND].as_slice(),
-            "Collector::finish",
-        ),
+        Ok(records) => check(records.as_slice() == [FIRST, SECOND].as_slice()),
         Err((fault, _)) => Err(Failure::Fault(fault)),
     }
 }

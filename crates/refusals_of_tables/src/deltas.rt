@@ -102,7 +102,7 @@ fn try_digest<R: Eprint + AllocGlobal>(
     sent: Sent,
 ) -> Result<(), Failure> {
     let digest = digest_of(rt, from, sent.mode)?;
-    check(digest.size() == sent.size, "Digest::of")
+    check(digest.size() == sent.size)
 }
 
 // The answer to the digest of node 0.
@@ -116,10 +116,7 @@ fn try_answer<R: Eprint + AllocGlobal>(
     requires node { to.now.table.node ≡ 0 }
     requires digest { IsDigestOf (digest_kind sent.mode) to.now.table digest.now }
 {
-    check(
-        from.nodes() == to.nodes() && from.keys() == to.keys() && from.nodes() > 0,
-        "NodeTable::nodes",
-    )?;
+    check(from.nodes() == to.nodes() && from.keys() == to.keys() && from.nodes() > 0)?;
     check_budget(sent.budget)?;
     let alloc = rt.alloc();
     let delta = retried!(
@@ -127,10 +124,7 @@ fn try_answer<R: Eprint + AllocGlobal>(
         "delta",
         delta(alloc, from, digest, 0, sent.mode, 0, sent.budget)
     );
-    check(
-        delta.items() == sent.items && delta.cut() == sent.cut,
-        "delta",
-    )
+    check(delta.items() == sent.items && delta.cut() == sent.cut)
 }
 
 fn try_sent<R: Eprint + AllocGlobal>(rt: &R, from: &NodeTable, sent: Sent) -> Result<(), Failure> {

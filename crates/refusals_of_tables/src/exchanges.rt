@@ -89,15 +89,11 @@ fn exchanged(
         mode,
         budget: Budget::Entries(1),
     };
-    check(
-        initiator.node() == plan.initiator && responder.node() == plan.responder,
-        "NodeTable::node",
-    )?;
+    check(initiator.node() == plan.initiator && responder.node() == plan.responder)?;
     check(
         initiator.nodes() == responder.nodes()
             && initiator.keys() == responder.keys()
             && plan.rotation < initiator.nodes(),
-        "NodeTable::nodes",
     )?;
     Ok(exchange(alloc, initiator, responder, plan, &rules)?)
 }
@@ -117,11 +113,8 @@ fn meet<R: Eprint + AllocGlobal>(
         exchanged(alloc, initiator, responder, &plan, mode),
         holds(initiator, &[OWN]) && holds(responder, &[OTHER])
     );
-    check(record == meeting.record(), "exchange")?;
-    check(
-        holds(initiator, meeting.initiator) && holds(responder, meeting.responder),
-        "exchange",
-    )
+    check(record == meeting.record())?;
+    check(holds(initiator, meeting.initiator) && holds(responder, meeting.responder))
 }
 
 fn try_meeting<R: Eprint + AllocGlobal>(

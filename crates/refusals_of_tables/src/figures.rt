@@ -43,14 +43,14 @@ fn push(rt: &impl Eprint, list: &mut OwnerList, born: u32) -> Result<(), Failure
     ensures { OnOk result (AreBornBy 3 (written list.new)) }
 {
     let before = list.len();
-    check(before < 9, "OwnerList::len")?;
+    check(before < 9)?;
     retried!(
         rt,
         "OwnerList::push",
         list.push(0, born),
         has_written(list, before)
     );
-    check(has_written(list, before + 1), "OwnerList::push")
+    check(has_written(list, before + 1))
 }
 
 fn owner_list<R: Eprint + AllocGlobal>(rt: &R) -> Result<OwnerList, Failure>
@@ -77,9 +77,9 @@ fn check_node(table: &NodeTable, node: u32) -> Result<(), Failure>
     ensures nodes { OnOk result (table.now.table.nodes ≡ 2) }
     ensures keys { OnOk result (table.now.table.keys ≡ 1) }
 {
-    check(table.node() == node, "NodeTable::node")?;
-    check(table.nodes() == 2, "NodeTable::nodes")?;
-    check(table.keys() == 1, "NodeTable::keys")
+    check(table.node() == node)?;
+    check(table.nodes() == 2)?;
+    check(table.keys() == 1)
 }
 
 // The owner's table.
@@ -121,7 +121,7 @@ fn try_figures<R: Eprint + AllocGlobal + Threads + Sync>(rt: &R) -> Result<(), F
     let (written, unwritten) = (owner_list(rt)?, OwnerList::new(alloc));
     let (tables, lists) = ([owner, holder], [written, unwritten]);
     let found = retried!(rt, "figures", figures(rt, alloc, &tables, &lists, 3));
-    check(found == STALE, "figures")
+    check(found == STALE)
 }
 
 pub(crate) fn try_lists_and_figures<R: Print + Eprint + AllocGlobal + Threads + Sync>(

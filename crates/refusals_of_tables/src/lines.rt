@@ -87,7 +87,7 @@ fn write(
         Line::ReportRow => write_report_row(alloc, writer, 1, &ROW)?,
         Line::TraceHeader => trace_header(alloc, writer)?,
         Line::TraceRows => {
-            check(list.len() == 2, "RoundList::len")?;
+            check(list.len() == 2)?;
             write_trace_rows(alloc, writer, 1, list, &RECORDS)?;
         }
         Line::CompareHeader => compare_header(alloc, writer, 1)?,
@@ -113,11 +113,11 @@ fn try_line<R: Eprint + AllocGlobal>(
     let (mut done, mut text) = written(alloc, line, list, room);
     if let Err(failure) = done {
         refused(rt, name, failure)?;
-        check(text.starts_with(HELD), name)?;
+        check(text.starts_with(HELD))?;
         (done, text) = written(alloc, line, list, held(alloc)?);
     }
     done?;
-    check(text.as_slice() == wanted, name)
+    check(text.as_slice() == wanted)
 }
 
 pub(crate) fn try_lines<R: Print + Eprint + AllocGlobal>(rt: &R) -> Result<(), Failure> {

@@ -81,31 +81,21 @@ fn check_fault<R: Eprint + AllocGlobal>(rt: &R, text: &str, wanted: &Fault) -> R
     match answer {
         Err(fault) if fault == *wanted => Ok(()),
         Err(fault) => Err(Failure::Fault(fault)),
-        Ok(_) => Err(Failure::Wrong("read")),
+        Ok(_) => Err(Failure::Wrong),
     }
 }
 
 fn check_ten_nodes(scenario: &Scenario) -> Result<(), Failure> {
-    check(
-        (scenario.nodes(), scenario.keys(), scenario.loss_ppm()) == (10, 1, 509_331),
-        "read",
-    )?;
-    check(
-        scenario.mode() == Mode::ScuttleBreadth && scenario.budget() == Budget::Entries(1),
-        "read",
-    )
+    check((scenario.nodes(), scenario.keys(), scenario.loss_ppm()) == (10, 1, 509_331))?;
+    check(scenario.mode() == Mode::ScuttleBreadth && scenario.budget() == Budget::Entries(1))
 }
 
 fn check_forgetful(scenario: &Scenario) -> Result<(), Failure> {
-    check(
-        scenario.mode() == Mode::PreciseNewest && scenario.budget() == Budget::Bytes(1023),
-        "read",
-    )?;
+    check(scenario.mode() == Mode::PreciseNewest && scenario.budget() == Budget::Bytes(1023))?;
     check(
         scenario.partitions().len() == 1
             && scenario.restarts().len() == 1
             && scenario.loads().len() == 1,
-        "read",
     )
 }
 
@@ -129,26 +119,19 @@ fn try_round_list<R: Eprint + AllocGlobal + Threads + Sync>(
 ) -> Result<(), Failure> {
     let alloc = rt.alloc();
     let list = retried!(rt, "round_list", round_list(rt, alloc, scenario, 1));
-    check_list(&list, "round_list")
+    check_list(&list)
 }
 
-fn check_list(list: &RoundList, name: &'static str) -> Result<(), Failure> {
-    check(
-        (list.nodes(), list.len(), list.unreached()) == (10, 10, 0),
-        name,
-    )?;
-    check(list.get(0) == Some(FIRST), name)
+fn check_list(list: &RoundList) -> Result<(), Failure> {
+    check((list.nodes(), list.len(), list.unreached()) == (10, 10, 0))?;
+    check(list.get(0) == Some(FIRST))
 }
 
 fn check_long_ring(list: &RoundList) -> Result<(), Failure> {
-    check(
-        (list.nodes(), list.len(), list.unreached()) == (2048, 2048, 0),
-        "round_list",
-    )?;
+    check((list.nodes(), list.len(), list.unreached()) == (2048, 2048, 0))?;
     check(
         list.exchanges().iter().zip(0..2048).all(|(exchange, node)| *exchange
             == between(node, node.wrapping_add(1) % 2048)),
-        "round_list",
     )
 }
 
@@ -181,7 +164,7 @@ fn try_round_list_by<R: Eprint + AllocGlobal>(rt: &R, scenario: &Scenario) -> Re
         "round_list_by",
         round_list_by(alloc, scenario, 1, &words)
     );
-    check_list(&list, "round_list_by")
+    check_list(&list)
 }
 
 pub(crate) fn try_scenarios<R: Print + Eprint + AllocGlobal + Threads + Sync>(

@@ -96,7 +96,7 @@ fn try_schedule<R: Eprint + AllocGlobal>(rt: &R, deps: Deps) -> Result<(), Failu
         Ok(schedule) => check_schedule(&schedule),
         Err((fault, deps)) => {
             refused(rt, "Schedule::new", fault)?;
-            check(are_crossing(&deps), "Schedule::new")?;
+            check(are_crossing(&deps))?;
             let schedule = Schedule::new(rt.alloc(), deps).map_err(|(fault, _)| fault)?;
             check_schedule(&schedule)
         }
@@ -105,14 +105,8 @@ fn try_schedule<R: Eprint + AllocGlobal>(rt: &R, deps: Deps) -> Result<(), Failu
 
 // A schedule of the crossing list, of which nothing has begun.
 fn check_schedule(schedule: &Schedule) -> Result<(), Failure> {
-    check(
-        schedule.next_ready() == Some(0) && schedule.may_start(1) && !schedule.may_start(2),
-        "Schedule::new",
-    )?;
-    check(
-        schedule.running_count() == 0 && schedule.done_count() == 0,
-        "Schedule::new",
-    )
+    check(schedule.next_ready() == Some(0) && schedule.may_start(1) && !schedule.may_start(2))?;
+    check(schedule.running_count() == 0 && schedule.done_count() == 0)
 }
 
 // Plays a schedule on fresh tables. Where memory is refused these are given up.
@@ -144,7 +138,7 @@ fn try_unlawful<R: Eprint + AllocGlobal>(
     match answer {
         Err(Failure::Fault(fault)) if fault == wanted => Ok(()),
         Err(other) => Err(other),
-        Ok(_) => Err(Failure::Wrong("play")),
+        Ok(_) => Err(Failure::Wrong),
     }
 }
 
@@ -152,17 +146,14 @@ fn try_play<R: Eprint + AllocGlobal>(rt: &R, list: &RoundList) -> Result<(), Fai
     requires { list.now.nodes ≡ 4 }
 {
     let (tables, records) = retried!(rt, "play", played(rt, list, EVENTS));
-    check(records.as_slice() == RECORDS, "play")?;
-    check(
-        tables.len() == 4 && tables.iter().all(|table| holds(table, LEFT)),
-        "play",
-    )
+    check(records.as_slice() == RECORDS)?;
+    check(tables.len() == 4 && tables.iter().all(|table| holds(table, LEFT)))
 }
 
 // The dependencies of a list, and a schedule of it.
 fn try_deps<R: Print + Eprint + AllocGlobal>(rt: &R, list: &RoundList) -> Result<(), Failure> {
     let deps = deps_of(rt, list)?;
-    check(are_crossing(&deps), "Deps::new")?;
+    check(are_crossing(&deps))?;
     pass(rt, "Deps::new")?;
     try_schedule(rt, deps)?;
     pass(rt, "Schedule::new")

@@ -45,20 +45,14 @@ pub(crate) fn write(
 ) -> Result<(), Failure> {
     let entry = written.entry;
     let greatest = table.greatest(table.node()).version;
-    check(
-        entry.key < table.keys() && greatest < 9,
-        "NodeTable::greatest",
-    )?;
+    check(entry.key < table.keys() && greatest < 9)?;
     let version = retried!(
         rt,
         "NodeTable::write_own",
         table.write_own(entry.key, entry.value, entry.born),
         holds(table, before)
     );
-    check(
-        version == entry.version && table.get(written.owner, entry.key) == Some(entry),
-        "NodeTable::write_own",
-    )
+    check(version == entry.version && table.get(written.owner, entry.key) == Some(entry))
 }
 
 /// A table that holds these items makes room for others, and takes them.
@@ -74,10 +68,7 @@ pub(crate) fn take(
         table.reserve_for(taken),
         holds(table, before) && !table.may_apply(taken)
     );
-    check(
-        holds(table, before) && table.may_apply(taken),
-        "NodeTable::reserve_for",
-    )?;
+    check(holds(table, before) && table.may_apply(taken))?;
     table.apply(taken);
     Ok(())
 }
@@ -131,26 +122,17 @@ fn try_changes(
 ) -> Result<(), Failure> {
     forget_and_write(rt, table)?;
     pass(rt, "NodeTable::write_own")?;
-    check(
-        is_first_of_two(copy) && holds(copy, &[OWN, OTHER]),
-        "NodeTable::try_clone",
-    )?;
+    check(is_first_of_two(copy) && holds(copy, &[OWN, OTHER]))?;
     pass(rt, "NodeTable::try_clone")
 }
 
 // A node forgets the other, writes, and forgets all.
 fn forget_and_write(rt: &impl Eprint, table: &mut NodeTable) -> Result<(), Failure> {
     table.forget_others();
-    check(
-        holds(table, &[OWN]) && table.greatest(1) == Mark::ABSENT,
-        "NodeTable::forget_others",
-    )?;
+    check(holds(table, &[OWN]) && table.greatest(1) == Mark::ABSENT)?;
     write(rt, table, &[OWN], SECOND)?;
-    check(holds(table, &[SECOND]), "NodeTable::write_own")?;
-    check(table.generation() < 9, "NodeTable::generation")?;
+    check(holds(table, &[SECOND]))?;
+    check(table.generation() < 9)?;
     table.forget_all();
-    check(
-        holds(table, &[]) && table.generation() == 1,
-        "NodeTable::forget_all",
-    )
+    check(holds(table, &[]) && table.generation() == 1)
 }

@@ -17,7 +17,6 @@ pub(crate) struct Case {
 /// A scenario and its rows.
 #[derive(Clone, Copy)]
 pub(crate) struct Rounds {
-    pub(crate) name: &'static str,
     pub(crate) scenario: &'static str,
     pub(crate) rows: &'static [Row],
 }
@@ -25,7 +24,6 @@ pub(crate) struct Rounds {
 impl Case {
     pub(crate) fn rounds(&self) -> Rounds {
         Rounds {
-            name: self.name,
             scenario: self.texts.scenario,
             rows: self.rows,
         }
@@ -71,11 +69,19 @@ pub(crate) const LISTS: [LoneList; 2] = [
 
 /// A ring whose figures are over 33 * 33 * 64 numbers, so that threads share them.
 pub(crate) const MANY_NUMBERS: Rounds = Rounds {
-    name: "many numbers",
     scenario: "format = 1\nnodes = 33\nkeys = 64\nrounds = 1\nseed = 0\nmode = \"scuttle-breadth\"\n\
         budget = 33\npeers = \"ring\"\nrotation = \"none\"\nchoice = \"cycle\"\nloss_ppm = 0\nwrites = 1\n",
     rows: &[row!(1, 33, 0, 0, 591, 0, 465, 1, 0)],
 };
+
+/// The name of a case by its place: the cases, then the lists alone, then many numbers.
+pub(crate) fn name_of(place: usize) -> &'static str {
+    match (CASES.get(place), LISTS.get(place.wrapping_sub(CASES.len()))) {
+        (Some(case), _) => case.name,
+        (None, Some(list)) => list.name,
+        (None, None) => "many numbers",
+    }
+}
 
 // Each of the first three exchanges makes two others ready. At first one alone is, so a deque has room for one. Of two
 // workers one must let its deque grow, however they steal: both fit in only where the other steals the first of them

@@ -20,8 +20,6 @@ use std::thread::Threads;
 // The tables and the records that a list leaves.
 type Exchanged = (Vec<NodeTable>, Vec<Record>);
 
-const CALL: &str = "run_list";
-
 fn fresh_tables<R: Eprint + AllocGlobal>(
     rt: &R,
     writers: Writers,
@@ -89,34 +87,32 @@ fn written(key: u32) -> Entry {
 pub(crate) fn try_list<R: Print + Eprint + AllocGlobal + Threads + Wait + Sync>(
     rt: &R,
     case: &Case,
-    team: Team,
+    trial: Trial,
 ) -> Result<(), Failure> {
-    try_exchanges(rt, case.name, &case.first, team, &Counter::new())
+    try_exchanges(rt, &case.first, trial, &Counter::new())
 }
 
 /// The same of a list alone.
 pub(crate) fn try_lone<R: Print + Eprint + AllocGlobal + Threads + Wait + Sync>(
     rt: &R,
     list: &LoneList,
-    team: Team,
+    trial: Trial,
 ) -> Result<(), Failure> {
-    let gathered = if list.gathers { team.workers() } else { 0 };
+    let gathered = if list.gathers {
+        trial.team.workers()
+    } else {
+        0
+    };
     let gate = Counter::gathering(gathered);
-    try_exchanges(rt, list.name, &list.first, team, &gate)
+    try_exchanges(rt, &list.first, trial, &gate)
 }
 
 fn try_exchanges<R: Print + Eprint + AllocGlobal + Threads + Wait + Sync>(
     rt: &R,
-    case: &'static str,
     first: &FirstRound,
-    team: Team,
+    trial: Trial,
     gate: &Counter,
 ) -> Result<(), Failure> {
-    let trial = Trial {
-        call: CALL,
-        case,
-        team,
-    };
     let alloc = rt.alloc();
     let list = retried!(
         rt,

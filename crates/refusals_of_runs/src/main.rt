@@ -21,31 +21,10 @@ use std::process::ExitCode;
 use std::sync::Wait;
 use std::thread::Threads;
 use texts::Job;
+use trials::{Call, Trial};
 
 fn main(rt: HostRuntime) -> ExitCode {
     end(&rt, try_all(&rt))
-}
-
-// What is tried of a case.
-#[derive(Clone, Copy)]
-enum Call {
-    Step,
-    RunList,
-    Run,
-    Compare,
-}
-
-impl Call {
-    const ALL: [Call; 4] = [Call::Step, Call::RunList, Call::Run, Call::Compare];
-
-    fn digit(self) -> u8 {
-        match self {
-            Call::Step => b'0',
-            Call::RunList => b'1',
-            Call::Run => b'2',
-            Call::Compare => b'3',
-        }
-    }
 }
 
 // The digits of a call, of a case by its place, and of how many workers there are.
@@ -74,17 +53,17 @@ impl Choice {
         }
     }
 
-    fn is(self, call: Call, place: usize, team: Team) -> bool {
-        self.call == call.digit()
-            && usize::from(self.case.wrapping_sub(b'0')) == place
-            && u32::from(self.workers.wrapping_sub(b'0')) == team.workers()
+    fn is(self, trial: Trial) -> bool {
+        self.call == trial.call.digit()
+            && usize::from(self.case.wrapping_sub(b'0')) == trial.place
+            && u32::from(self.workers.wrapping_sub(b'0')) == trial.team.workers()
     }
 }
 
 // Whether it is to be tried: where nothing is named, all is.
-fn is_chosen(choice: Option<Choice>, call: Call, place: usize, team: Team) -> bool {
+fn is_chosen(choice: Option<Choice>, trial: Trial) -> bool {
     match choice {
-        Some(choice) => choice.is(call, place, team),
+        Some(choice) => choice.is(trial),
         None => true,
     }
 }
@@ -95,9 +74,7 @@ fn try_all<R: Print + Eprint + Input + AllocGlobal + Threads + Wait + Sync>(
     let choice = Choice::from_input(rt)?;
     try_cases(rt, choice)?;
     try_lists(rt, choice)?;
-    if is_chosen(choice, Call::Step, CASES.len() + LISTS.len(), Team::One) {
-        steps::try_steps(rt, MANY_NUMBERS, Team::One)?;
-    }
+    try_many_numbers(rt, choice)?;
     for call in ["read_all", "check_input", "Sim::new"] {
         pass(rt, call)?;
     }
@@ -111,8 +88,9 @@ fn try_cases<R: Print + Eprint + AllocGlobal + Threads + Wait + Sync>(
     for (place, case) in CASES.iter().enumerate() {
         for team in Team::ALL {
             for call in Call::ALL {
-                if is_chosen(choice, call, place, team) {
-                    try_call(rt, call, case, team)?;
+                let trial = Trial { call, place, team };
+                if is_chosen(choice, trial) {
+                    try_call(rt, case, trial)?;
                 }
             }
         }
@@ -126,27 +104,46 @@ fn try_lists<R: Print + Eprint + AllocGlobal + Threads + Wait + Sync>(
 ) -> Result<(), Failure> {
     for (place, list) in LISTS.iter().enumerate() {
         for team in Team::ALL {
-            if is_chosen(choice, Call::RunList, CASES.len() + place, team) {
-                lists::try_lone(rt, list, team)?;
+            let trial = Trial {
+                call: Call::RunList,
+                place: CASES.len() + place,
+                team,
+            };
+            if is_chosen(choice, trial) {
+                lists::try_lone(rt, list, trial)?;
             }
         }
     }
     Ok(())
 }
 
+fn try_many_numbers<R: Print + Eprint + AllocGlobal + Threads + Wait + Sync>(
+    rt: &R,
+    choice: Option<Choice>,
+) -> Result<(), Failure> {
+    let trial = Trial {
+        call: Call::Step,
+        place: CASES.len() + LISTS.len(),
+        team: Team::One,
+    };
+    if is_chosen(choice, trial) {
+        steps::try_steps(rt, MANY_NUMBERS, trial)?;
+    }
+    Ok(())
+}
+
 fn try_call<R: Print + Eprint + AllocGlobal + Threads + Wait + Sync>(
     rt: &R,
-    call: Call,
     case: &Case,
-    team: Team,
+    trial: Trial,
 ) -> Result<(), Failure> {
-    match call {
+    match trial.call {
         Call::Step => {
             texts::try_input(rt, case)?;
-            steps::try_steps(rt, case.rounds(), team)
+            steps::try_steps(rt, case.rounds(), trial)
         }
-        Call::RunList => lists::try_list(rt, case, team),
-        Call::Run => texts::try_job(rt, Job::Run, case, team),
-        Call::Compare => texts::try_job(rt, Job::Compare, case, team),
+        Call::RunList => lists::try_list(rt, case, trial),
+        Call::Run => texts::try_job(rt, Job::Run, case, trial),
+        Call::Compare => texts::try_job(rt, Job::Compare, case, trial),
     }
 }

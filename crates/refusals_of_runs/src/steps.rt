@@ -133,13 +133,8 @@ fn play_again<R: Eprint + AllocGlobal + Threads + Wait + Sync>(
 pub(crate) fn try_steps<R: Print + Eprint + AllocGlobal + Threads + Wait + Sync>(
     rt: &R,
     rounds: Rounds,
-    team: Team,
+    trial: Trial,
 ) -> Result<(), Failure> {
-    let trial = Trial {
-        call: "step",
-        case: rounds.name,
-        team,
-    };
     let sim = open(rt, rounds, scenario_of(rt, rounds)?)?;
     play_at_last(rt, sim, rounds, trial)?;
     pass(rt, trial)

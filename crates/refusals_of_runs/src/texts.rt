@@ -39,13 +39,6 @@ pub(crate) enum Job {
 }
 
 impl Job {
-    fn name(self) -> &'static str {
-        match self {
-            Job::Run => "run",
-            Job::Compare => "compare",
-        }
-    }
-
     // What must be written of a case.
     fn texts(self, case: &Case) -> (&'static str, &'static str) {
         match self {
@@ -105,14 +98,9 @@ pub(crate) fn try_job<R: Print + Eprint + AllocGlobal + Threads + Wait + Sync>(
     rt: &R,
     job: Job,
     case: &Case,
-    team: Team,
+    trial: Trial,
 ) -> Result<(), Failure> {
-    let trial = Trial {
-        call: job.name(),
-        case: case.name,
-        team,
-    };
-    let outcome = job.carry_out(rt, case, team)?;
+    let outcome = job.carry_out(rt, case, trial.team)?;
     try_outcome(rt, job, case, trial, outcome)?;
     pass(rt, trial)
 }

@@ -42,7 +42,7 @@ class Folder:
             return
         names = {it.name for it in self.path.iterdir()}
         if "scenario" in names:
-            if (self.path / "scenario").read_text() != self.scenario:
+            if (self.path / "scenario").read_bytes() != self.scenario.encode():
                 raise Refused(f"{self.path} has runs of another scenario: name a new folder.")
         elif {it for it in names if not it.startswith(".scenario.")} - {"lock"}:
             raise Refused(f"{self.path} isn't empty and has no runs: name a new folder.")
@@ -62,7 +62,7 @@ class Folder:
             files.put(self.path / "scenario", self.scenario)
         for name, text in self.runs.items():
             it = self.path / f"{name}.toml"
-            if not it.exists() or it.read_text() != text:
+            if not it.exists() or it.read_bytes() != text.encode():
                 (self.path / f"{name}.csv").unlink(missing_ok=True)
                 files.put(it, text)
 

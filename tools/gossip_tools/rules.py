@@ -105,6 +105,11 @@ def counts_bytes(room):
     return room < FEW_ENTRIES
 
 
+# When a split and a restart count as healed. What they heal from ends with a last round, the one that counts as 0.
+HEALED = ("`greatest`, the age of the oldest write that some copy lacks, is at most one round above the highest value "
+          "that it had before")
+
+
 def healed_level(most_before):
-    """"Caught up means back at its level": `greatest` is at most a round more than its most before."""
+    """Where `greatest` has to come down to, by `HEALED`."""
     return most_before + 1

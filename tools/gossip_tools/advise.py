@@ -116,7 +116,9 @@ class Stages:
 
 
 def look(folder):
-    """Refuses a folder with other things in it."""
+    """Refuses a folder with other things in it, and what is no folder."""
+    if folder.exists() and not folder.is_dir():
+        raise Refused(f"{folder} isn't a folder: name another one.")
     if folder.exists() and not (folder / "cluster.toml").exists() and {it.name for it in folder.iterdir()} - {"lock"}:
         raise Refused(f"{folder} isn't empty and has no answer: name a new folder.")
 

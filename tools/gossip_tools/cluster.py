@@ -60,6 +60,8 @@ def instead(name, text):
     if name in BYTES and unit:
         power = 1 if unit[2] in "kK" else 2
         return f"write {name}={int(unit[1]) * 1000**power}, or {name}={int(unit[1]) * 1024**power} where K is 1024"
+    if name not in DECIMALS and (thousands := re.fullmatch("([0-9]+)[kK]", text)):
+        return f"write {name}={int(thousands[1]) * 1000}"
     if name == "loss" and text.endswith("%"):
         return f"it is in per cent already, so write {name}={text[:-1]}"
     if name == "interval" and (time := re.fullmatch(r"([0-9]+) ?(ms|s|sec|m|min)", text)):
@@ -110,6 +112,8 @@ def told(words, usual, call):
 
 def check_limits(it):
     """Refuses numbers of which no scenario can be made, and says what to do instead. The size is no part of it."""
+    if it["loss"] > 100:
+        raise Refused(f"loss is in per cent, so from 0 to 100, and not {float(it['loss']):g}.")
     if (it["loss"] * 10000).denominator != 1:
         raise Refused("loss has at most four decimals.")
     if not it["entry"]:
@@ -120,7 +124,6 @@ def check_limits(it):
             raise Refused(f"{name} would be {it[name]}, and a scenario takes {least} to {most}: take those that are "
                           "written together as one key, with a larger entry.")
         limited(name, it[name])
-    limited("loss_ppm", it["loss"] * 10000)
 
 
 def is_too_large(nodes, keys):

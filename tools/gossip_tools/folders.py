@@ -40,6 +40,8 @@ class Folder:
         """Refuses a folder with other things in it, with runs of another scenario or of other fields."""
         if not self.path.exists():
             return
+        if not self.path.is_dir():
+            raise Refused(f"{self.path} isn't a folder: name another one.")
         names = {it.name for it in self.path.iterdir()}
         if "scenario" in names:
             if (self.path / "scenario").read_bytes() != self.scenario.encode():

@@ -93,7 +93,9 @@ class Runs:
                 self.missing[file.stem] = str(why)
         if not self.fields:
             others = sorted({it.parent.name for it in folder.glob("*/*-*.toml")})
-            below = f", but in its {', '.join(others)}" if others else "" if folder.exists() else ", which isn't there"
+            below = f", but in its {', '.join(others)}" if others else ""
+            if not folder.is_dir():
+                below = ", which isn't a folder" if folder.exists() else ", which isn't there"
             raise Refused(f"there are no runs in {folder}{below}.")
 
     def in_order(self):

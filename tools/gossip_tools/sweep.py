@@ -63,7 +63,7 @@ def check(runs, program):
             raise Refused(f"{program} can't be started: {error.strerror}.") from None
         if answer.returncode:
             sys.stderr.write(answer.stderr.decode(errors="replace"))
-            raise Refused(f"that is the answer to {name}.", max(answer.returncode, 1))
+            raise Refused(f"that is the program's answer to {name}, so nothing was run.", max(answer.returncode, 1))
         if answer.stdout != b"ok\n":
             raise Refused(f"{program} doesn't answer as gossip_bench does: what does GOSSIP_BENCH name?")
 

@@ -58,7 +58,7 @@ def cards(decision, healing):
     for stage, name in answer.HEALED.items() if healing else ():
         rows.append((f"{name} is {answer.ENDS[stage]} after", *healing.in_words(stage, decision.budget), ""))
     if healing:
-        words, _, more = healing.wait(decision.budget).partition(", ")
+        words, _, more = healing.wait(decision.budget).partition(": ")[0].partition(", ")
         rows.append((answer.ROLLING, words, more, ""))
     return "".join(f'<div class="{kind}">{told(name)}<b>{told(words)}</b>{told(more)}</div>'
                    for name, words, more, kind in rows)

@@ -17,6 +17,10 @@ inline table over several lines, is refused too, as Python reads TOML 1.0.
 import argparse
 import os
 import sys
+
+if sys.version_info < (3, 11):
+    sys.exit("Python 3.11 or later is needed, and this one is " + sys.version.split()[0])
+
 import tomllib
 from collections import defaultdict
 from dataclasses import dataclass, field, replace

@@ -146,20 +146,20 @@ class Healing:
 
     def waited(self, budget):
         """The rounds to wait between the groups of a rolling restart: until what a restart leaves is over under each
-        seed. None where some of it isn't over in the rounds that were run."""
+        seed, and some more. None where some of it isn't over in the rounds that were run."""
         stages = ("restart", "forgotten") if self.study.told["forget"] == "yes" else ("restart",)
         taken = [it for stage in stages for it in self.taken(stage, budget)]
-        return None if None in taken else max(taken)
+        return None if None in taken else max(taken) + rules.WAIT_MORE
 
     def wait(self, budget):
         """How long to wait between the groups of a rolling restart, in words."""
         told, rounds = self.study.told, self.waited(budget)
-        until = "is healed and the forgotten state gone" if told["forget"] == "yes" else "is healed"
+        longest = "the longest of these two" if told["forget"] == "yes" else "the longest of a restart"
         if rounds is None:
-            return f"no wait is known, after which each restart {until}: take a larger budget"
+            return "no wait is known, as not all of this is over in the rounds that were run: take a larger budget"
         who = f"a group of {told['restarts']} nodes" if told["restarts"] > 1 else "a node"
-        return (f"wait {in_rounds([rounds])}, {in_time([rounds], told['interval'])}, after {who} is up again: then the "
-                f"restart {until}")
+        return (f"wait {in_rounds([rounds])}, {in_time([rounds], told['interval'])}, after {who} is up again: "
+                f"{rules.WAIT_MORE} more than {longest}, as a later group may take longer")
 
 
 # What heals, by its stage, and the words for that.

@@ -110,6 +110,11 @@ HEALED = ("`greatest`, the age of the oldest write that some copy lacks, is at m
           "that it had before")
 
 
+# How many rounds more than the longest of the seeds to wait between groups of a rolling restart. Each group is one draw
+# more: of 95 that waited so two hadn't caught up, and of 95 that forget none, where without it 19 and 3 hadn't.
+WAIT_MORE = 2
+
+
 def healed_level(most_before):
     """Where `greatest` has to come down to, by `HEALED`."""
     return most_before + 1

@@ -148,19 +148,21 @@ class Healed(unittest.TestCase):
         self.assertTrue(line.endswith(": not within 53 rounds under 2 of 3 seeds"), line)
 
     def test_wait(self):
-        """The longest of what a restart leaves; a forgotten state is none of it where nodes don't forget."""
+        """Two rounds more than the longest of what a restart leaves. A forgotten state is none of it where nodes don't
+        forget."""
         both = {"restart": [6, 7], "forgotten": [8, 7]}
         cases = {
-            "": "wait 7 rounds, 3.5 s, after a node is up again: then the restart is healed",
-            "restarts=5": "wait 7 rounds, 3.5 s, after a group of 5 nodes is up again: then the restart is "
-                          "healed",
-            "restarts=5 forget=yes": "wait 8 rounds, 4 s, after a group of 5 nodes is up again: then the restart "
-                                     "is healed and the forgotten state gone",
+            "": "wait 9 rounds, 4.5 s, after a node is up again: 2 more than the longest of a restart",
+            "restarts=5": "wait 9 rounds, 4.5 s, after a group of 5 nodes is up again: 2 more than the longest of a "
+                          "restart",
+            "restarts=5 forget=yes": "wait 10 rounds, 5 s, after a group of 5 nodes is up again: 2 more than the "
+                                     "longest of these two",
         }
+        cases = {more: f"{said}, as a later group may take longer" for more, said in cases.items()}
         self.assertEqual(cases, {more: healing(more, **both).wait(200) for more in cases})
         self.assertEqual(f"  a rolling restart   {cases['']}", healing(**both).lines("forgotten", 200)[1])
-        self.assertEqual("no wait is known, after which each restart is healed: take a larger budget",
-                         healing(restart=[6, None], forgotten=[7, 8]).wait(200))
+        self.assertEqual("no wait is known, as not all of this is over in the rounds that were run: take a larger "
+                         "budget", healing(restart=[6, None], forgotten=[7, 8]).wait(200))
 
 
 class Words(unittest.TestCase):

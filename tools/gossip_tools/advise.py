@@ -48,7 +48,7 @@ def numbers_of(words, file):
         try:
             kept = tomllib.loads(files.text_of(file))
         except (tomllib.TOMLDecodeError, UnicodeDecodeError):
-            raise Refused(f"{file} can't be read: name a new folder.") from None
+            raise Refused(f"{file} can't be read: name a new folder by -o.") from None
     if not words:
         if kept is None:
             raise Refused(f"nodes= is missing, and {file.parent} has no answer to be read again; {CALL} is a whole "
@@ -80,7 +80,7 @@ def keep(folder, told, kept, program):
     fields = {name: as_text(it) for name, it in told.items() if it is not None} | {"program": check_sum}
     if kept is not None:
         if differ := [it for it in fields.keys() | kept.keys() if fields.get(it) != kept.get(it)]:
-            raise Refused(f"{folder} has the answer for another {', '.join(sorted(differ))}: name a new folder.")
+            raise Refused(f"{folder} has the answer for another {', '.join(sorted(differ))}: name a new folder by -o.")
         return check_sum
     files.put(folder / "cluster.toml", scenario.written(fields))
     return check_sum
@@ -120,7 +120,7 @@ def look(folder):
     if folder.exists() and not folder.is_dir():
         raise Refused(f"{folder} isn't a folder: name another one.")
     if folder.exists() and not (folder / "cluster.toml").exists() and {it.name for it in folder.iterdir()} - {"lock"}:
-        raise Refused(f"{folder} isn't empty and has no answer: name a new folder.")
+        raise Refused(f"{folder} isn't empty and has no answer: name a new folder by -o.")
 
 
 def first_answer(it, stages):

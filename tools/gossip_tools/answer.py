@@ -133,7 +133,8 @@ class Healing:
         it = self.study
         each, ends = it.restarting()
         many = f"of {in_nodes(each)} in each of {ends - it.begins + 1} rounds" if it.restarts else "of one node"
-        what = f"of half of the nodes for {it.split} rounds" if stage == "split" else many
+        for_all = f", which stand for {it.told['split']}" if it.split < it.told["split"] else ""
+        what = f"of half of the nodes for {it.split} rounds{for_all}" if stage == "split" else many
         run = f" ({it.nodes} nodes run)" if it.parts > 1 else ""
         rounds, time = self.in_words(stage, budget)
         took = f"{ENDS[stage]} after {rounds}, {time}" if time else rounds

@@ -45,9 +45,9 @@ class Folder:
         names = {it.name for it in self.path.iterdir()}
         if "scenario" in names:
             if (self.path / "scenario").read_bytes() != self.scenario.encode():
-                raise Refused(f"{self.path} has runs of another scenario: name a new folder.")
+                raise Refused(f"{self.path} has runs of another scenario: name a new folder by -o.")
         elif {it for it in names if not it.startswith(".scenario.")} - {"lock"}:
-            raise Refused(f"{self.path} isn't empty and has no runs: name a new folder.")
+            raise Refused(f"{self.path} isn't empty and has no runs: name a new folder by -o.")
         wanted = {fields_of(name) for name in self.runs}
         for it in sorted(names):
             name, dot, ending = it.rpartition(".")

@@ -142,6 +142,11 @@ class Healed(unittest.TestCase):
         self.assertEqual(answer.COUNTED, " ".join(map(str.strip, counted)))
         self.assertTrue(all(len(it) <= 120 for it in counted))
 
+    def test_long_split(self):
+        """100 rounds are run, in which each of 4 keys is written anew many times."""
+        line = healing("split=600", split=[10, 13]).lines("split", 200)[0]
+        self.assertIn(" of half of the nodes for 100 rounds, which stand for 600: healed after", line)
+
     def test_not_in_time(self):
         """A split lasts from round 51 to 80, and 51 + 30 + 40 + 3 * 4 = 133 rounds are run."""
         line = healing(split=[10, None, None]).lines("split", 200)[0]

@@ -50,7 +50,7 @@ def locked(folder):
             except BlockingIOError:
                 lock.seek(0)
                 who = lock.read().decode(errors="replace").strip() or "another process"
-                raise Refused(f"{folder} is in use by {who}: wait until it ends, or name another folder by -o.") from None
+                raise Refused(f"{folder} is in use by {who}: wait until it ends, or name another by -o.") from None
             lock.truncate(0)
             lock.write(f"process {os.getpid()} on {socket.gethostname()}\n".encode())
         yield

@@ -8,16 +8,27 @@ from installed import Missing
 PAGES = ("README.md", "docs/guide.md", "docs/study.md", "docs/testing.md", "docs/model.md", "docs/formats.md")
 # Where the Python package of the tools stands, from the folder of README.md.
 MODULES = "../../../lib/gossip_bench/gossip_tools"
-# Sections, paragraphs and points that begin so are for a clone.
+# Sections, paragraphs, points and rows that begin so are for a clone.
 OF_A_CLONE = {
     "README.md": ("## Where things are", "- **From a clone:**", "- **A build**", "- **`scripts/gate`**",
                   "- **To judge what a run promises:**"),
     "docs/guide.md": ("**To call the program often**", "**On older processors**"),
+    "docs/formats.md": ("| 3 | of the script",),
 }
 # Sentences that say where one is.
 INSTEAD = {
     "README.md": (
         (" (With a package call `gossip_bench`, without `./`.)", ""),
+        ("[docs/proofs.md](docs/proofs.md#the-promises) has the ten promises in full, with the contracts that carry "
+         "each, what has to be believed, and what is trusted. In short:",
+         "This is in short what that comes to. (The repository, from which this package is made, has a page more, "
+         "docs/proofs.md: the ten promises in full, with the contracts that carry each, what has to be believed, and "
+         "what is trusted.)"),
+        (" (`run` and `compare` of `runs`)", ""), (" (the same two; for files and pipes see below).",
+         ". Of files and pipes see below."),
+        (" (`read` of `scenario`)", ""), (" (`main_with` of `command_line`)", ""),
+        (" (`every_run_is_sound` of `simulation`)", ""), (" (`exchanges_make_fresh`)", ""),
+        (" (`quiet_rings_heal`)", ""), ("the tools and scripts;", "the tools;"),
         ("It is built for `x86-64-v3` processors if yours is one; after `scripts/build portable`, for nearly all.",
          "The package's name has the processors that it is built for; on an older one it prints a line and ends with "
          "status 127."),
@@ -48,10 +59,10 @@ INSTEAD = {
 
 
 def without(text, beginning):
-    """The text without the section, paragraph or point that begins so."""
+    """The text without the section, paragraph, point or row that begins so."""
     if text.count(f"\n{beginning}") != 1:
         raise Missing(f"a page doesn't have '{beginning}' once, which a package leaves out.")
-    until = r"(?=\n## |\Z)" if beginning.startswith("#") else r"\n" if beginning.startswith("- ") else r"\n\n"
+    until = r"(?=\n## |\Z)" if beginning.startswith("#") else r"\n" if beginning.startswith(("- ", "| ")) else r"\n\n"
     return re.sub(rf"(?<=\n){re.escape(beginning)}.*?{until}", "", text, count=1, flags=re.DOTALL)
 
 

@@ -1,9 +1,9 @@
 #!/usr/bin/env python3
 """replay.py: the bench once more, in plain Python: the rules of docs/model.md and docs/formats.md in a form to read.
 
-    tools/replay.py check < SCENARIO
-    tools/replay.py run [--trace FILE] [--sent FILE] [--tables FILE] < SCENARIO
-    tools/replay.py compare < SCENARIO
+    replay.py check < SCENARIO
+    replay.py run [--trace FILE] [--sent FILE] [--tables FILE] < SCENARIO
+    replay.py compare < SCENARIO
 
 It prints what `gossip_bench` prints, and writes the same trace, byte for byte. Two more files show what the program
 doesn't: --sent has a row for each entry that was sent, in the order of sending, and --tables has every table after each
@@ -15,7 +15,12 @@ but where a number is too large or something is nested too deep it may be anothe
 inline table over several lines, is refused too, as Python reads TOML 1.0.
 """
 import argparse
+import os
 import sys
+
+if sys.version_info < (3, 11):
+    sys.exit("Python 3.11 or later is needed, and this one is " + sys.version.split()[0])
+
 import tomllib
 from collections import defaultdict
 from dataclasses import dataclass, field, replace
@@ -385,14 +390,20 @@ def compare(scenario, columns):
 
 
 def main():
-    words = argparse.ArgumentParser(description=__doc__, formatter_class=argparse.RawDescriptionHelpFormatter)
+    name = os.path.basename(sys.argv[0])
+    words = argparse.ArgumentParser(prog=name, description=__doc__.replace("replay.py", name),
+                                    formatter_class=argparse.RawDescriptionHelpFormatter)
     commands = words.add_subparsers(dest="command", required=True)
-    commands.add_parser("check")
-    commands.add_parser("compare")
-    options = commands.add_parser("run")
-    for name in ("trace", "sent", "tables"):
-        options.add_argument(f"--{name}", metavar="FILE")
-    asked = vars(words.parse_args())
+    commands.add_parser("check", help="checks the scenario and prints ok")
+    options = commands.add_parser("run", help="runs the scenario and prints the report")
+    commands.add_parser("compare", help="runs it under each of the four modes")
+    for file, what in (("trace", "a row for each exchange, as gossip_bench"), ("sent", "a row for each entry sent"),
+                       ("tables", "a row for each entry held after a round")):
+        options.add_argument(f"--{file}", metavar="FILE", help=what)
+    asked, others = words.parse_known_args()
+    if others:
+        words.error(f"{' '.join(others)} isn't taken: the scenario comes by < FILE, and only run has options")
+    asked = vars(asked)
     sys.stdout.reconfigure(newline="\n", line_buffering=True)
     try:
         files = [open(path, "w", newline="\n") if (path := asked.get(name)) else None
@@ -405,8 +416,12 @@ def main():
             run(scenario, columns, *files)
         else:
             compare(scenario, columns)
-    except (Fault, OSError) as fault:
+    except Fault as fault:
         sys.exit(str(fault))
+    except OSError as error:
+        sys.exit(f"{name}: {error.filename or 'the output'}: {error.strerror}.")
+    except KeyboardInterrupt:
+        sys.exit(130)
 
 
 main()

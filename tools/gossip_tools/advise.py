@@ -15,7 +15,7 @@ It can be stopped: the same call goes on. Without numbers it takes those that th
   shared    `yes`, where it isn't given: digest and delta share the packet; `no`, the digest has one of its own
   loss      how many messages of a hundred are lost, 0 where it isn't given
   interval  the seconds between two exchanges that a node begins, 1 where it isn't given
-  restarts  how many nodes restart at once, the size of a group, for the time that it takes to heal: such a group
+  restarts  how many nodes restart at once, the size of a group, for the time to wait between groups: such a group
             restarts in each of ten rounds, and is down for one. 0 looks at a single node
   forget    `yes`, a node that restarts loses its own state too, as in Cassandra
   split     the longest split, in intervals, 30 where it isn't given
@@ -28,13 +28,12 @@ It can be stopped: the same call goes on. Without numbers it takes those that th
 """
 import hashlib
 import os
-import pathlib
 import sys
 import tomllib
 from fractions import Fraction
 
 from gossip_tools import answer, cluster, files, page, rules, running, scenario, study, sweep
-from gossip_tools.commands import Refused, the_program, workers
+from gossip_tools.commands import Refused, folder_of, the_program, workers
 from gossip_tools.progress import Progress, in_words
 
 USUAL = {"digest": "0", "shared": "yes", "loss": "0", "interval": "1", "restarts": "0", "forget": "no", "split": "30",
@@ -47,12 +46,13 @@ def numbers_of(words, file):
     kept = None
     if file.exists():
         try:
-            kept = tomllib.loads(file.read_text())
+            kept = tomllib.loads(files.text_of(file))
         except (tomllib.TOMLDecodeError, UnicodeDecodeError):
-            raise Refused(f"{file} can't be read: name a new folder.") from None
+            raise Refused(f"{file} can't be read: name a new folder by -o.") from None
     if not words:
         if kept is None:
-            raise Refused(f"nodes= is missing; {CALL} is a whole call.")
+            raise Refused(f"nodes= is missing, and {file.parent} has no answer to be read again; {CALL} is a whole "
+                          "call.")
         words = [f"{name}={value}" for name, value in kept.items() if name != "program"]
     told = cluster.told(words, USUAL, CALL)
     cluster.check_limits(told)
@@ -80,7 +80,7 @@ def keep(folder, told, kept, program):
     fields = {name: as_text(it) for name, it in told.items() if it is not None} | {"program": check_sum}
     if kept is not None:
         if differ := [it for it in fields.keys() | kept.keys() if fields.get(it) != kept.get(it)]:
-            raise Refused(f"{folder} has the answer for another {', '.join(sorted(differ))}: name a new folder.")
+            raise Refused(f"{folder} has the answer for another {', '.join(sorted(differ))}: name a new folder by -o.")
         return check_sum
     files.put(folder / "cluster.toml", scenario.written(fields))
     return check_sum
@@ -116,9 +116,11 @@ class Stages:
 
 
 def look(folder):
-    """Refuses a folder with other things in it."""
+    """Refuses a folder with other things in it, and what is no folder."""
+    if folder.exists() and not folder.is_dir():
+        raise Refused(f"{folder} isn't a folder: name another one.")
     if folder.exists() and not (folder / "cluster.toml").exists() and {it.name for it in folder.iterdir()} - {"lock"}:
-        raise Refused(f"{folder} isn't empty and has no answer: name a new folder.")
+        raise Refused(f"{folder} isn't empty and has no answer: name a new folder by -o.")
 
 
 def first_answer(it, stages):
@@ -132,9 +134,10 @@ def first_answer(it, stages):
         last = answer.Decision(it, stages.carry_out("knee", budgets=it.few_budgets()), rules.MANY_WINDOW)
         stages.plan("knee", *study.HEALED)
         return last
+    healed = {}
     for stage in study.HEALED:
-        found = {stage: stages.carry_out(stage, few.mode, [few.budget])}
-        print(answer.Healing(it, few.mode, found).line(stage, few.budget), flush=True)
+        healed[stage] = stages.carry_out(stage, few.mode, [few.budget])
+        print(*answer.Healing(it, few.mode, healed).lines(stage, few.budget), sep="\n", flush=True)
     print("All of it is refined now.", "", sep="\n", flush=True)
     return few
 
@@ -155,11 +158,7 @@ def study_of(it, folder, program, check_sum):
 
 
 def main(words):
-    folder = pathlib.Path("advice")
-    if words[:1] == ["-o"]:
-        if not words[1:2] or not words[1]:
-            raise Refused("-o needs a folder.")
-        folder, words = pathlib.Path(words[1]), words[2:]
+    folder, words = folder_of(words, "advice")
     hosts = os.environ.get("HOSTS")
     if hosts and not running.is_gnu_parallel():
         raise Refused("other machines need GNU parallel, which isn't there.")

@@ -1,4 +1,6 @@
 """From the figures of a study to a mode and a budget, and to words for them."""
+import textwrap
+
 from gossip_tools import rules, scenario
 
 
@@ -10,6 +12,10 @@ def span(figure, places=0):
 
 def in_rounds(figure):
     return f"{span(figure)} round{'s' if max(figure) != 1 else ''}"
+
+
+def in_nodes(count):
+    return f"{count} node{'s' if count != 1 else ''}"
 
 
 def in_time(rounds, interval):
@@ -75,10 +81,12 @@ class Decision:
             return ""
         at_knee, with_digest = it.knee, it.told["shared"] == "yes" and it.told["digest"]
         said = (f"delta={it.packet(self.mode)} has room for nodes * writes = {it.whole(at_knee)} entries"
-                f"{' and the digest' if with_digest else ''}, the knee")
+                f"{' and the digest' if with_digest else ''}")
+        if (at_knee, self.mode) not in self.found.rows:
+            return said
         if not self.found.suffices(at_knee, self.mode, self.window):
             return f"{said}, where `greatest` still rises too"
-        return f"{said}: worst staleness {in_rounds(self.found.worst(at_knee, self.mode, self.window))}"
+        return f"{said}, worst staleness {in_rounds(self.found.worst(at_knee, self.mode, self.window))} with that"
 
     def of_knee(self):
         """How the budget stands to nodes * writes."""
@@ -113,19 +121,59 @@ class Healing:
         return (found.forgotten_after if stage == "forgotten" else found.healed_after)(budget, self.mode, ends)
 
     def in_words(self, stage, budget):
+        """How long it takes, in words: the rounds, or that they weren't enough, and the time."""
         taken = self.taken(stage, budget)
         if None in taken:
-            return f"not within {self.study.healing_rounds() - self.study.ends(stage)} rounds under each seed"
-        return f"{in_rounds(taken)}, {in_time(taken, self.study.told['interval'])}"
+            rounds = self.study.healing_rounds() - self.study.ends(stage)
+            return f"not within {rounds} rounds under {taken.count(None)} of {len(taken)} seeds", ""
+        return in_rounds(taken), in_time(taken, self.study.told["interval"])
 
-    def line(self, stage, budget):
-        """What is healed, and how long it takes."""
+    def lines(self, stage, budget):
+        """What is healed and how long it takes; below a split what is counted, below restarts how long to wait."""
         it = self.study
         each, ends = it.restarting()
-        many = f"of {each} nodes in each of {ends - it.begins + 1} rounds" if it.restarts else "of one node"
-        what = f"of half of the nodes for {it.split} rounds" if stage == "split" else many
+        many = f"of {in_nodes(each)} in each of {ends - it.begins + 1} rounds" if it.restarts else "of one node"
+        for_all = f", which stand for {it.told['split']}" if it.split < it.told["split"] else ""
+        what = f"of half of the nodes for {it.split} rounds{for_all}" if stage == "split" else many
         run = f" ({it.nodes} nodes run)" if it.parts > 1 else ""
-        return f"  {HEALED[stage]:<19} {what}: {self.in_words(stage, budget)}{run}"
+        rounds, time = self.in_words(stage, budget)
+        took = f"{ENDS[stage]} after {rounds}, {time}" if time else rounds
+        lines = [row(HEALED[stage], f"{what}: {took}{run}")]
+        if stage == "split":
+            lines += [row("", it) for it in textwrap.wrap(COUNTED, IN_A_ROW)]
+        if stage == "forgotten":
+            lines.append(row(ROLLING, f"{self.wait(budget)}{run}"))
+        return lines
+
+    def waited(self, budget):
+        """The rounds to wait between the groups of a rolling restart: until what a restart leaves is over under each
+        seed, and some more. None where some of it isn't over in the rounds that were run."""
+        stages = ("restart", "forgotten") if self.study.told["forget"] == "yes" else ("restart",)
+        taken = [it for stage in stages for it in self.taken(stage, budget)]
+        return None if None in taken else max(taken) + rules.WAIT_MORE
+
+    def wait(self, budget):
+        """How long to wait between the groups of a rolling restart, in words."""
+        told, rounds = self.study.told, self.waited(budget)
+        longest = "the longest of these two" if told["forget"] == "yes" else "the longest of a restart"
+        if rounds is None:
+            return "no wait is known, as not all of this is over in the rounds that were run: take a larger budget"
+        who = f"a group of {told['restarts']} nodes" if told["restarts"] > 1 else "a node"
+        return (f"wait {in_rounds([rounds])}, {in_time([rounds], told['interval'])}, after {who} is up again: "
+                f"{rules.WAIT_MORE} more than {longest}, as a later group may take longer")
+
+
+# What heals, by its stage, and the words for that.
+HEALED = {"split": "a split", "restart": "a restart", "forgotten": "a forgotten state"}
+ENDS = {"split": "healed", "restart": "healed", "forgotten": "gone"}
+ROLLING = "a rolling restart"
+COUNTED = f"Counted from the round in which the split ends to the first in which it is healed: {rules.HEALED}."
+IN_A_ROW = 98
+
+
+def row(name, said):
+    """A line of an answer."""
+    return f"  {name:<19} {said}"
 
 
 def first_words(decision):
@@ -133,7 +181,8 @@ def first_words(decision):
     few = rules.FEW_ROUNDS
     if decision.suffices:
         return [f"First answer, from {few} rounds: {decision.takes()}.",
-                f"Worst staleness {decision.staleness()}."]
+                f"Worst staleness {decision.staleness()}.",
+                *([f"That is below nodes * writes. {decision.to_knee()}."] if decision.to_knee() else [])]
     return [f"First answer, from {few} rounds: no budget that fits is enough, still rising after {few} rounds.",
             f"The most that fits: {decision.takes()}.", *([f"{decision.to_knee()}."] if decision.to_knee() else []),
             f"Whether it levels off later is seen from {rules.MANY_ROUNDS} rounds now."]
@@ -163,7 +212,8 @@ def warnings(decision):
         said.append("`greatest` still rises in the second half of the window, in each mode. "
                     f"{larger} writes would help.")
     elif decision.budget < it.knee:
-        said.append(f"The budget is below the knee, so copies lag more than they have to. {decision.to_knee()}. Else "
+        said.append("The budget is below nodes * writes, the knee above which a larger one hardly helps, so copies lag "
+                    f"more than they have to. {decision.to_knee()}. Else "
                     f"{own}a shorter entry or fewer writes would help.")
     said += of_digest(decision)
     if it.in_bytes:
@@ -182,9 +232,10 @@ def warnings(decision):
                     "anew meanwhile, so a longer one leaves no more to catch up with.")
     if it.restarts:
         each, ends = it.restarting()
-        said.append(f"{it.whole(each)} is the size of a group that restarts at once. What was run are "
+        fewer = f", in place of {it.told['restarts']}" if it.told["restarts"] > it.whole(each) else ""
+        said.append(f"{it.whole(each)} is the size of a group that restarts at once{fewer}. What was run are "
                     f"{ends - it.begins + 1} such groups, one in each round, each down for one round. The times count "
-                    "from when the last one is up.")
+                    "from when the last one is up again.")
         said.append("While nodes restart in each round, `greatest` is the number of the round and bounds nothing.")
     return said
 
@@ -233,10 +284,10 @@ def left_out(decision):
                     f"nodes * writes + restarts * keys = {more} in place of nodes * writes.")
     elif told["restarts"]:
         said.append("Generations: a node that restarts keeps its own state here; forget=yes lets it lose that too.")
+    else:
+        said.append("Groups: one node restarts at a time here. For a rolling restart in groups give their size, as "
+                    "restarts=50.")
     return said
-
-
-HEALED = {"split": "a split", "restart": "a restart", "forgotten": "a forgotten state"}
 
 
 def none_fits(decision):
@@ -248,12 +299,14 @@ def in_words(decision, healing):
     """The answer, line by line. Without a budget that is enough there is no healing."""
     first, last = decision.window
     takes = "Take" if decision.suffices else f"{none_fits(decision)}. The most that fits:"
-    in_window = f": rounds {first} to {last}, least and most of {len(rules.SEEDS)} seeds" if decision.suffices else ""
-    lines = [f"{takes} {decision.takes()}.", "", f"  worst staleness     {decision.staleness()}{in_window}",
-             f"  share cut           {span(decision.cut, 2)} % of what was lacking"]
-    lines += [healing.line(stage, decision.budget) for stage in HEALED] if healing else []
+    in_window = f": the most of `greatest` in rounds {first} to {last}, least and most of {len(rules.SEEDS)} seeds"
+    in_window = in_window if decision.suffices else ""
+    lines = [f"{takes} {decision.takes()}.", "", row("worst staleness", f"{decision.staleness()}{in_window}"),
+             row("share cut", f"{span(decision.cut, 2)} % of what was lacking")]
+    for stage in HEALED if healing else ():
+        lines += healing.lines(stage, decision.budget)
     if not decision.suffices and decision.to_knee():
-        lines.append(f"  enough              {decision.to_knee()}")
+        lines.append(row("enough", decision.to_knee()))
     for head, said in (("Mind", warnings(decision)), ("Too close to call", too_close(decision)),
                        ("Left out for this cluster", left_out(decision))):
         lines += ["", f"{head}:", *(f"  - {one}" for one in said)] if said else []

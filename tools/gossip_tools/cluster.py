@@ -33,7 +33,9 @@ USUAL_ROUNDS = 60
 # What is asked of the wrong tool, or in another way.
 ELSEWHERE = {
     **{name: f" For {name}= there is gossip_scenario, and gossip_sweep runs what that prints."
-       for name in ("fanout", "rounds", "seed", "mode")},
+       for name in ("rounds", "seed", "mode")},
+    "fanout": " For fanout= there is gossip_scenario, and gossip_sweep runs what that prints: docs/guide.md has the "
+              "whole call under Five questions.",
     **{name: f" For {name}= there is gossip_advise." for name in ("shared", "interval", "restarts", "forget", "split")},
     **{name: " How many runs go at once is said in front of the call, as JOBS=2."
        for name in ("--jobs", "-j", "jobs", "JOBS")},
@@ -58,8 +60,15 @@ def instead(name, text):
     if name in BYTES and unit:
         power = 1 if unit[2] in "kK" else 2
         return f"write {name}={int(unit[1]) * 1000**power}, or {name}={int(unit[1]) * 1024**power} where K is 1024"
-    if text.endswith("%"):
+    if name not in DECIMALS and (thousands := re.fullmatch("([0-9]+)[kK]", text)):
+        return f"write {name}={int(thousands[1]) * 1000}"
+    if name == "loss" and text.endswith("%"):
         return f"it is in per cent already, so write {name}={text[:-1]}"
+    if name == "interval" and (time := re.fullmatch(r"([0-9]+) ?(ms|s|sec|m|min)", text)):
+        seconds = int(time[1]) * {"ms": Fraction(1, 1000), "m": 60, "min": 60}.get(time[2], 1)
+        return f"it is in seconds, so write {name}={float(seconds):g}"
+    if name == "split" and re.fullmatch(r"[0-9.]+ ?[a-z]+", text):
+        return "it is in intervals, so divide the time by the seconds of an interval"
     if re.fullmatch("[0-9]{1,3}([,_' ][0-9]{3})+", text):
         return f"write {name}={re.sub('[^0-9]', '', text)}"
     return ""
@@ -80,8 +89,11 @@ def told(words, usual, call):
     names, values = (*NEEDED, *usual), {}
     for word in words:
         name, given, text = word.partition("=")
-        if not given or name not in names or name in values:
-            more = "" if name in names else ELSEWHERE.get(name, "")
+        if given and name in values:
+            raise Refused(f"{name} comes twice, as {name}={values[name]} and as '{word}'.")
+        if not given or name not in names:
+            more = " See --help." if word.startswith("-") else ""
+            more = f" Write {word}=VALUE, without a space." if name in names else ELSEWHERE.get(name, more)
             raise Refused(f"'{word}' isn't one of {', '.join(names)}, each once with = and its value.{more}")
         values[name] = text
     for name in NEEDED:
@@ -100,6 +112,8 @@ def told(words, usual, call):
 
 def check_limits(it):
     """Refuses numbers of which no scenario can be made, and says what to do instead. The size is no part of it."""
+    if it["loss"] > 100:
+        raise Refused(f"loss is in per cent, so from 0 to 100, and not {float(it['loss']):g}.")
     if (it["loss"] * 10000).denominator != 1:
         raise Refused("loss has at most four decimals.")
     if not it["entry"]:
@@ -110,7 +124,6 @@ def check_limits(it):
             raise Refused(f"{name} would be {it[name]}, and a scenario takes {least} to {most}: take those that are "
                           "written together as one key, with a larger entry.")
         limited(name, it[name])
-    limited("loss_ppm", it["loss"] * 10000)
 
 
 def is_too_large(nodes, keys):

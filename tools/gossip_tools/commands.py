@@ -3,6 +3,7 @@ import os
 import pathlib
 import re
 import shutil
+import signal
 import sys
 
 
@@ -14,11 +15,29 @@ class Refused(Exception):
         self.status = status
 
 
+class Stopped(Exception):
+    """A signal that ends the process."""
+
+    def __init__(self, number):
+        super().__init__(signal.Signals(number).name)
+        self.status = 128 + number
+
+
 def number(text, what):
     """The whole number that a word has."""
     if not re.fullmatch("[0-9]{1,18}", text):
         raise Refused(f"{what} is a whole number, which '{text}' isn't.")
     return int(text)
+
+
+def folder_of(words, usual):
+    """The folder that a call names by -o, or the usual one, and the other words."""
+    if "-o" not in words:
+        return pathlib.Path(usual), words
+    at = words.index("-o")
+    if not words[at + 1:at + 2] or not words[at + 1] or "-o" in words[at + 1:]:
+        raise Refused("-o needs a folder, and comes once.")
+    return pathlib.Path(words[at + 1]), words[:at] + words[at + 2:]
 
 
 def the_program():
@@ -29,7 +48,11 @@ def the_program():
     for choice in choices:
         if found := shutil.which(choice):
             return os.path.abspath(found)
-    raise Refused("the program isn't built: run ./gossip_bench --help, or name one in GOSSIP_BENCH.")
+    if named:
+        raise Refused(f"GOSSIP_BENCH names '{named}', which is no program that can be started.")
+    if (beside.parent / "crates").is_dir():
+        raise Refused(f"the program isn't built: {beside.parent / 'gossip_bench'} --help builds it.")
+    raise Refused(f"the program isn't beside this tool, in {beside}: install both again, or name it in GOSSIP_BENCH.")
 
 
 def workers():
@@ -61,6 +84,9 @@ def run(name, main, text):
         return status
     except Refused as refused:
         why, status = str(refused), refused.status
+    except (Stopped, KeyboardInterrupt) as stopped:
+        stopped = stopped if isinstance(stopped, Stopped) else Stopped(signal.SIGINT)
+        why, status = f"stopped by {stopped}.", stopped.status
     except BrokenPipeError:
         drop_output()
         return 1

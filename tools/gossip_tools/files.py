@@ -7,16 +7,32 @@ import socket
 from gossip_tools.commands import Refused
 
 
+@contextlib.contextmanager
+def named(path):
+    """A block whose faults are those of this file, also where the system doesn't say so, as on a full disk."""
+    try:
+        yield
+    except OSError as error:
+        error.filename = error.filename or str(path)
+        raise
+
+
 def part_of(path):
     """Where this process writes what is to have that name."""
     return path.with_name(f".{path.name}.{os.getpid()}.part")
 
 
+def text_of(path):
+    """The text of a file in UTF-8, with the ends of lines that it has."""
+    return path.read_bytes().decode()
+
+
 def put(path, text):
     part = part_of(path)
     try:
-        part.write_text(text)
-        os.replace(part, path)
+        with named(path):
+            part.write_bytes(text.encode())
+            os.replace(part, path)
     finally:
         part.unlink(missing_ok=True)
 
@@ -26,14 +42,16 @@ def locked(folder):
     """A folder, made where it isn't there, that is in use until the block ends. Refuses one that another process uses.
     The file `lock` says who; the system drops the lock with its process."""
     folder.mkdir(parents=True, exist_ok=True)
-    with open(folder / "lock", "a+") as lock:
-        try:
-            fcntl.flock(lock, fcntl.LOCK_EX | fcntl.LOCK_NB)
-        except BlockingIOError:
-            lock.seek(0)
-            who = lock.read().strip() or "another process"
-            raise Refused(f"{folder} is in use by {who}: wait until it ends, or name another folder.") from None
-        lock.truncate(0)
-        print(f"process {os.getpid()} on {socket.gethostname()}", file=lock, flush=True)
+    # (without a buffer, which would be written once more as the file is closed, also on a full disk)
+    with open(folder / "lock", "ab+", buffering=0) as lock:
+        with named(folder / "lock"):
+            try:
+                fcntl.flock(lock, fcntl.LOCK_EX | fcntl.LOCK_NB)
+            except BlockingIOError:
+                lock.seek(0)
+                who = lock.read().decode(errors="replace").strip() or "another process"
+                raise Refused(f"{folder} is in use by {who}: wait until it ends, or name another by -o.") from None
+            lock.truncate(0)
+            lock.write(f"process {os.getpid()} on {socket.gethostname()}\n".encode())
         yield
         lock.truncate(0)

@@ -40,12 +40,14 @@ class Folder:
         """Refuses a folder with other things in it, with runs of another scenario or of other fields."""
         if not self.path.exists():
             return
+        if not self.path.is_dir():
+            raise Refused(f"{self.path} isn't a folder: name another one.")
         names = {it.name for it in self.path.iterdir()}
         if "scenario" in names:
-            if (self.path / "scenario").read_text() != self.scenario:
-                raise Refused(f"{self.path} has runs of another scenario: name a new folder.")
+            if (self.path / "scenario").read_bytes() != self.scenario.encode():
+                raise Refused(f"{self.path} has runs of another scenario: name a new folder by -o.")
         elif {it for it in names if not it.startswith(".scenario.")} - {"lock"}:
-            raise Refused(f"{self.path} isn't empty and has no runs: name a new folder.")
+            raise Refused(f"{self.path} isn't empty and has no runs: name a new folder by -o.")
         wanted = {fields_of(name) for name in self.runs}
         for it in sorted(names):
             name, dot, ending = it.rpartition(".")
@@ -62,7 +64,7 @@ class Folder:
             files.put(self.path / "scenario", self.scenario)
         for name, text in self.runs.items():
             it = self.path / f"{name}.toml"
-            if not it.exists() or it.read_text() != text:
+            if not it.exists() or it.read_bytes() != text.encode():
                 (self.path / f"{name}.csv").unlink(missing_ok=True)
                 files.put(it, text)
 

@@ -56,10 +56,17 @@ def cards(decision, healing):
             rows.append(("enough", f"{it.packet(decision.mode)} bytes", decision.to_knee(), "first"))
     rows.append(("share cut", f"{answer.span(decision.cut, 2)}\u00a0%", "of what was lacking", ""))
     for stage, name in answer.HEALED.items() if healing else ():
-        words, _, time = healing.in_words(stage, decision.budget).partition(", ")
-        rows.append((f"{name} heals in", words, time, ""))
+        rows.append((f"{name} is {answer.ENDS[stage]} after", *healing.in_words(stage, decision.budget), ""))
+    if healing:
+        words, _, more = healing.wait(decision.budget).partition(": ")[0].partition(", ")
+        rows.append((answer.ROLLING, words, more, ""))
     return "".join(f'<div class="{kind}">{told(name)}<b>{told(words)}</b>{told(more)}</div>'
                    for name, words, more, kind in rows)
+
+
+def what_is_counted(healing):
+    """From when to when healing is counted."""
+    return f"<p><small>A split: {told(answer.COUNTED)}</small></p>" if healing else ""
 
 
 def captions(decision, healing):
@@ -136,7 +143,7 @@ def made_of(folder, decision, healing, check_sum):
         words = " ".join(f"{field}={','.join(values)}" for field, values in choices.items())
         text += (f"<details><summary>{stage}: {told(words)}</summary><pre>gossip_sweep -o {told(shlex.quote(stage))} "
                  f"{told(words)} &lt; {stage}/scenario\n\n{told(scene)}</pre></details>")
-    call = " ".join(f"{name}={value}" for name, value in read.settings((folder / "cluster.toml").read_text()).items()
+    call = " ".join(f"{name}={value}" for name, value in read.settings(files.text_of(folder / "cluster.toml")).items()
                     if name != "program")
     return (f"<p>The program's SHA-256 is <code style='overflow-wrap:anywhere'>{check_sum}</code>. The folder of this "
             "page has each scenario and report, and in <code>pictures</code> a script for each picture, drawn again by "
@@ -160,6 +167,7 @@ def make(folder, decision, healing, check_sum):
 {it.writes}; messages lost: {float(it.told['loss']):g} %. All figures go from the least to the most of
 {len(rules.SEEDS)} seeds.</p>
 <div class="cards">{cards(decision, healing)}</div>
+{what_is_counted(healing)}
 {listed("Mind", answer.warnings(decision), "mind")}
 {pictures(folder, decision, healing)}
 <h2>Worst staleness and share cut</h2>

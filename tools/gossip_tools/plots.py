@@ -5,7 +5,7 @@ Where curves lie on each other each is still seen: the first are drawn wide, and
 import shutil
 import subprocess
 
-from gossip_tools import read, rules, scenario
+from gossip_tools import files, read, rules, scenario
 
 # Colours that the colour-blind tell apart; widths and points also tell them apart in black and white.
 MODES = {"scuttle-breadth": ("#e69f00", 9, 5), "precise-newest": ("#cc79a7", 6, 13),
@@ -29,11 +29,15 @@ def is_there():
 
 def draw(folder, name, script):
     """The picture, as SVG, which the folder gets with its script."""
-    (folder / f"{name}.gnuplot").write_text(script)
+    with files.named(folder / f"{name}.gnuplot"):
+        (folder / f"{name}.gnuplot").write_text(script)
+    (folder / f"{name}.svg").unlink(missing_ok=True)
     done = subprocess.run(["gnuplot", f"{name}.gnuplot"], cwd=folder, capture_output=True, text=True)
-    if done.returncode:
-        raise OSError(0, f"gnuplot fails: {done.stderr.strip().splitlines()[-1:]}", str(folder / f"{name}.gnuplot"))
-    return (folder / f"{name}.svg").read_text()
+    picture = folder / f"{name}.svg"
+    if done.returncode or not picture.exists() or not picture.read_text().rstrip().endswith("</svg>"):
+        said = "".join(done.stderr.strip().splitlines()[-1:]) or "perhaps the disk is full"
+        raise OSError(0, f"gnuplot wrote no whole picture: {said}", str(picture))
+    return picture.read_text()
 
 
 def block(name, rows):

@@ -2,9 +2,10 @@
 gossip_read level FROM LEVEL [FOLDER] [--seeds] [--partial]
 gossip_read leftover FROM LEVEL [FOLDER] [--seeds] [--partial]
 
-Prints a line for each run of the folder that gossip_sweep filled, `runs` where none is named. With --seeds the runs
-that differ in their seed alone have one line, and each column goes from its least to its most over the seeds. Where a
-run has no whole report, it says which and ends with status 2; with --partial it says so and goes on with the others.
+Prints a line for each run of the folder that gossip_sweep filled, `runs` where none is named (-o FOLDER names one too).
+With --seeds the runs that differ in their seed alone have one line, and each column goes from its least to its most
+over the seeds. Where a run has no whole report, it says which and ends with status 2; with --partial it says so and
+goes on with the others.
 
   window     what was cut in the rounds FROM to TO, in per cent of all that was lacking, and the least and the most of
              `greatest` and of `stale` there, and of `leftover` in format 2
@@ -17,7 +18,8 @@ import re
 import sys
 import tomllib
 
-from gossip_tools.commands import Refused, number
+from gossip_tools import files
+from gossip_tools.commands import Refused, folder_of, number
 from gossip_tools.scenario import MODES
 
 COLUMNS = ["round", "exchanges", "unreached", "lost", "entries", "cut", "stale", "greatest"]
@@ -77,7 +79,12 @@ class Runs:
             self.fields = self.fields or names
             if names != self.fields:
                 raise Refused(f"the runs in {folder} differ in their fields.")
-            top = settings(file.read_text())
+            try:
+                top = settings(files.text_of(file))
+            except UnicodeDecodeError:
+                raise Refused(f"{file} isn't UTF-8, as scenarios are.") from None
+            if not {"format", "rounds"} <= top.keys():
+                raise Refused(f"{file} isn't the scenario of a run.")
             if top["format"] != (form := form or top["format"]):
                 raise Refused(f"the runs in {folder} are of two formats.")
             try:
@@ -85,7 +92,11 @@ class Runs:
             except NotWhole as why:
                 self.missing[file.stem] = str(why)
         if not self.fields:
-            raise Refused(f"there are no runs in {folder}.")
+            others = sorted({it.parent.name for it in folder.glob("*/*-*.toml")})
+            below = f", but in its {', '.join(others)}" if others else ""
+            if not folder.is_dir():
+                below = ", which isn't a folder" if folder.exists() else ", which isn't there"
+            raise Refused(f"there are no runs in {folder}{below}.")
 
     def in_order(self):
         """The runs, numbers by size and modes in their usual order."""
@@ -152,11 +163,14 @@ def over_seeds(fields, found):
 def main(words):
     partial, seeds = "--partial" in words, "--seeds" in words
     words = [word for word in words if word not in ("--partial", "--seeds")]
-    if len(words) not in (3, 4) or words[0] not in ("window", "level", "leftover"):
+    is_named = "-o" in words
+    folder, words = folder_of(words, "runs")
+    if len(words) == 4 and not is_named:
+        folder, words = pathlib.Path(words[3]), words[:3]
+    if len(words) != 3 or words[0] not in ("window", "level", "leftover"):
         raise Refused("usage: gossip_read window FROM TO [FOLDER], or level FROM LEVEL [FOLDER], or leftover likewise")
     first, second = number(words[1], "FROM"), number(words[2], "TO" if words[0] == "window" else "LEVEL")
     last = second if words[0] == "window" else first
-    folder = pathlib.Path(words[3] if len(words) == 4 else "runs")
     runs = Runs(folder)
     if seeds and "seed" not in runs.fields:
         raise Refused(f"the runs in {folder} have no field seed of their own.")

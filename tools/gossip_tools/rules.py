@@ -105,6 +105,16 @@ def counts_bytes(room):
     return room < FEW_ENTRIES
 
 
+# When a split and a restart count as healed. What they heal from ends with a last round, the one that counts as 0.
+HEALED = ("`greatest`, the age of the oldest write that some copy lacks, is at most one round above the highest value "
+          "that it had before")
+
+
+# How many rounds more than the longest of the seeds to wait between groups of a rolling restart. Each group is one draw
+# more: of 95 that waited so two hadn't caught up, and of 95 that forget none, where without it 19 and 3 hadn't.
+WAIT_MORE = 2
+
+
 def healed_level(most_before):
-    """"Caught up means back at its level": `greatest` is at most a round more than its most before."""
+    """Where `greatest` has to come down to, by `HEALED`."""
     return most_before + 1

@@ -8,15 +8,7 @@ import subprocess
 import tempfile
 import time
 
-from gossip_tools.commands import Refused
-
-
-class Stopped(Exception):
-    """A signal that ends the process."""
-
-    def __init__(self, number):
-        super().__init__(signal.Signals(number).name)
-        self.status = 128 + number
+from gossip_tools.commands import Refused, Stopped
 
 
 class Failed(Exception):
@@ -60,7 +52,8 @@ def reason(status, told):
     """Why a run ended with this status, in words."""
     ended = f"it was ended by {signal.Signals(-status).name}" if status < 0 else f"status {status}"
     lines = [it for it in told.splitlines() if it.strip()]
-    return f"{ended}: {lines[-1].strip()}" if lines else ended
+    more = ", as on a full disk" if lines and lines[-1].startswith("fault 13:") else ""
+    return f"{ended}: {lines[-1].strip()}{more}" if lines else ended
 
 
 def close(folder, name, process, program):

@@ -60,8 +60,12 @@ def set_field(text, field, value):
             break
         if given := re.match(rf"[ \t]*{re.escape(field)}[ \t]*=[ \t]*([\"']?)", line):
             found.append((at, '"' if given[1] else ""))
+    if not text.strip():
+        raise Refused("the scenario is empty: it comes by standard input, as < SCENARIO.")
     if len(found) != 1:
-        raise Refused(f"not one line above all sections, but none or several, has the field {field}.")
+        those = f"{len(found)} lines of the scenario above all sections set" if found else \
+            "no line of the scenario above all sections sets"
+        raise Refused(f"{those} the field {field}, where one has to.")
     (at, quote), = found
     lines[at] = f"{field} = {quote}{value}{quote}\n"
     return "".join(lines)

@@ -52,7 +52,7 @@ class Study:
         self.before = FILLING * slowness + 1, (FILLING + LEVEL) * slowness
         self.begins = self.before[1] + 1
         self.tail = 40 + min(3 * self.keys * slowness, 400)
-        self.split, self.restarts = self.split_of(int(told["split"])), int(told["restarts"]) // self.parts
+        self.split, self.restarts = self.split_of(int(told["split"])), -(-int(told["restarts"]) // self.parts)
         self.loss = int(told["loss"] * 10000)
 
     def why_none_fits(self):

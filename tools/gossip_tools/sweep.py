@@ -12,14 +12,15 @@ of the same fields in the same order, so that gossip_read can read them, and one
                  run at a time, unless its cores are told, as 8 of beta. Nothing is run where the program doesn't start
                  on one of them
 """
+import contextlib
 import os
-import pathlib
 import re
+import shlex
 import subprocess
 import sys
 
 from gossip_tools import folders, running, scenario
-from gossip_tools.commands import Refused, the_program, workers
+from gossip_tools.commands import Refused, folder_of, the_program, workers
 from gossip_tools.progress import Progress
 
 
@@ -28,7 +29,10 @@ def choices_of(words):
     choices = {}
     for word in words:
         if not re.fullmatch("[a-z_]+=[A-Za-z0-9_-]+(,[A-Za-z0-9_-]+)*", word):
-            raise Refused(f"'{word}' isn't FIELD=VALUE,VALUE.., with letters, digits, - and _ in the values.")
+            more = "" if "=" in word else f" A scenario comes by standard input, as < {shlex.quote(word)}."
+            if word.startswith("-"):
+                more = " The options are -o FOLDER and --help; how many runs go at once is said in front, as JOBS=2."
+            raise Refused(f"'{word}' isn't FIELD=VALUE,VALUE.., with letters, digits, - and _ in the values.{more}")
         field, _, values = word.partition("=")
         if field in choices:
             raise Refused(f"the field {field} comes twice.")
@@ -59,16 +63,16 @@ def check(runs, program):
             raise Refused(f"{program} can't be started: {error.strerror}.") from None
         if answer.returncode:
             sys.stderr.write(answer.stderr.decode(errors="replace"))
-            raise Refused(f"that is the answer to {name}.", max(answer.returncode, 1))
+            raise Refused(f"that is the program's answer to {name}, so nothing was run.", max(answer.returncode, 1))
         if answer.stdout != b"ok\n":
             raise Refused(f"{program} doesn't answer as gossip_bench does: what does GOSSIP_BENCH name?")
 
 
 def carry_out(path, text, runs, program, progress, hosts=None, what="gossip_sweep"):
     """Makes the reports of the runs that have none in the folder."""
-    stand = 0
+    folder = folders.Folder(path, text, runs)
     try:
-        with folders.Folder(path, text, runs).held() as folder:
+        with folder.held():
             lacking = {name: lacks for name in runs if (lacks := folder.lacks(name))}
             for name, lacks in lacking.items():
                 if (path / f"{name}.csv").exists():
@@ -85,7 +89,6 @@ def carry_out(path, text, runs, program, progress, hosts=None, what="gossip_swee
                     running.here(folder, list(lacking), program, workers(), progress.done)
             finally:
                 progress.end()
-                stand = sum(not folder.lacks(name) for name in runs)
     except running.Stopped as stopped:
         why, status = f"stopped by {stopped}", stopped.status
     except running.Failed as failed:
@@ -94,16 +97,15 @@ def carry_out(path, text, runs, program, progress, hosts=None, what="gossip_swee
         why, status = f"{error.filename or path}: {error.strerror}", 1
     else:
         return
+    stand = 0
+    with contextlib.suppress(OSError):
+        stand = sum(not folder.lacks(name) for name in runs)
     why = f"{why.rstrip('.')}. {stand} of {len(runs)} runs stand in {path}; the same command goes on from there."
     raise Refused(why, status)
 
 
 def main(words):
-    folder = "runs"
-    if words[:1] == ["-o"]:
-        if not words[1:2] or not words[1]:
-            raise Refused("-o needs a folder.")
-        folder, words = words[1], words[2:]
+    path, words = folder_of(words, "runs")
     if not words:
         raise Refused("usage: gossip_sweep [-o FOLDER] FIELD=VALUE,VALUE.. .. < SCENARIO")
     choices = choices_of(words)
@@ -114,11 +116,12 @@ def main(words):
     program = the_program()
     running.Signals.listen()
     try:
+        if sys.stdin.isatty():
+            print("gossip_sweep: the scenario is read from here, as none comes by < SCENARIO.", file=sys.stderr)
         text = sys.stdin.buffer.read().decode()
     except UnicodeDecodeError:
         raise Refused("the scenario isn't UTF-8.") from None
     runs = spread(text, choices)
     check(runs, program)
-    path = pathlib.Path(folder)
     carry_out(path, text, runs, program, Progress({f"{path.name}/{name}": 1 for name in runs}), hosts)
-    print(f"{len(runs)} runs in {folder}")
+    print(f"{len(runs)} runs in {path}")

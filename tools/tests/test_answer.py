@@ -51,20 +51,39 @@ class Decided(unittest.TestCase):
 
     def test_none_is_enough(self):
         """28 entries fit of 300 * 2, which take 600 * 40 = 24000 bytes; with the digest of 300 numbers, 27000."""
-        cases = {"delta=1120 shared=no": "24000 has room for nodes * writes = 600 entries, the knee",
-                 "delta=4120": "27000 has room for nodes * writes = 600 entries and the digest, the knee"}
+        cases = {"delta=1120 shared=no": "24000 has room for nodes * writes = 600 entries",
+                 "delta=4120": "27000 has room for nodes * writes = 600 entries and the digest"}
         for words, delta in cases.items():
             words = f"nodes=300 keys=4 writes=2 entry=40 digest=10 {words}"
             it = study.Study(cluster.told(words.split(), advise.USUAL, advise.CALL))
             modes = it.fits
             worst = {(28, mode): [150, 150] for mode in modes} | {(600, mode): [7, 8] for mode in modes}
             found = answer.Decision(it, Figures(worst, [(28, mode) for mode in modes]), WINDOW)
-            self.assertEqual(("scuttle-depth", False, f"delta={delta}: worst staleness 7 to 8 rounds"),
+            self.assertEqual(("scuttle-depth", False, f"delta={delta}, worst staleness 7 to 8 rounds with that"),
                              (found.mode, found.suffices, found.to_knee()))
             lines = answer.in_words(found, None)
             self.assertIn("No budget that fits is enough: still rising after 200 rounds. The most that fits: "
                           "scuttle-depth with room for 28 entries in a delta, 1120 bytes", lines[0])
             self.assertIn("  worst staleness     not bounded: still rising after 200 rounds", lines)
+
+    def test_first_answer_below_the_knee(self):
+        """400 entries of 40 bytes fit of 300 * 2, which take 24000, and with the digest of 300 numbers 27000. A knee
+        that wasn't run with this mode is told without what it would bring."""
+        cases = {"delta=16000 shared=no": "24000 has room for nodes * writes = 600 entries",
+                 "delta=19000": "27000 has room for nodes * writes = 600 entries and the digest"}
+        for words, delta in cases.items():
+            words = f"nodes=300 keys=4 writes=2 entry=40 digest=10 {words}"
+            it = study.Study(cluster.told(words.split(), advise.USUAL, advise.CALL))
+            worst = {(it.budget(mode), mode): [12, 13] for mode in it.fits}
+            with_that = ", worst staleness 7 to 8 rounds with that"
+            for more, said in (({}, ""), ({(600, "scuttle-depth"): [7, 8]}, with_that)):
+                found = answer.Decision(it, Figures(worst | more), WINDOW)
+                self.assertEqual(f"That is below nodes * writes. delta={delta}{said}.",
+                                 answer.first_words(found)[2])
+
+    def test_first_answer_from_the_knee_on(self):
+        depth = {(budget, "scuttle-depth"): [7, 8] for budget in (300, 600, 1000)}
+        self.assertEqual(2, len(answer.first_words(decided(depth))))
 
     def test_a_tenth(self):
         """1000 of 10000 nodes are run, with a tenth of the 11000 entries that fit. Budgets are told for all."""
@@ -93,6 +112,62 @@ class Decided(unittest.TestCase):
         self.assertEqual([], answer.of_digest(decided(depth, more="digest=1 shared=no")))
         large = answer.of_digest(decided(depth, more="digest=200 shared=no"))
         self.assertIn("300 numbers of 200 bytes, which fit no packet of 40000", large[0])
+
+
+class Taken:
+    """A stage whose rounds until it is healed are given."""
+
+    def __init__(self, taken):
+        self.taken = taken
+
+    def healed_after(self, *_):
+        return self.taken
+
+    forgotten_after = healed_after
+
+
+def healing(more="", **taken):
+    """What heals of 200 nodes with an interval of half a second, by the rounds that the seeds took."""
+    words = f"nodes=200 keys=4 writes=1 entry=40 delta=8000 interval=0.5 {more}".split()
+    it = study.Study(cluster.told(words, advise.USUAL, advise.CALL))
+    return answer.Healing(it, "scuttle-depth", {stage: Taken(found) for stage, found in taken.items()})
+
+
+class Healed(unittest.TestCase):
+    def test_split(self):
+        """Below the line stands what is counted, in the words of the guide."""
+        line, *counted = healing(split=[10, 13]).lines("split", 200)
+        self.assertEqual("  a split             of half of the nodes for 30 rounds: healed after 10 to 13 rounds, 5.0 "
+                         "to 6.5 s", line)
+        self.assertEqual(answer.COUNTED, " ".join(map(str.strip, counted)))
+        self.assertTrue(all(len(it) <= 120 for it in counted))
+
+    def test_long_split(self):
+        """100 rounds are run, in which each of 4 keys is written anew many times."""
+        line = healing("split=600", split=[10, 13]).lines("split", 200)[0]
+        self.assertIn(" of half of the nodes for 100 rounds, which stand for 600: healed after", line)
+
+    def test_not_in_time(self):
+        """A split lasts from round 51 to 80, and 51 + 30 + 40 + 3 * 4 = 133 rounds are run."""
+        line = healing(split=[10, None, None]).lines("split", 200)[0]
+        self.assertTrue(line.endswith(": not within 53 rounds under 2 of 3 seeds"), line)
+
+    def test_wait(self):
+        """Two rounds more than the longest of what a restart leaves. A forgotten state is none of it where nodes don't
+        forget."""
+        both = {"restart": [6, 7], "forgotten": [8, 7]}
+        cases = {
+            "": "wait 9 rounds, 4.5 s, after a node is up again: 2 more than the longest of a restart",
+            "restarts=5": "wait 9 rounds, 4.5 s, after a group of 5 nodes is up again: 2 more than the longest of a "
+                          "restart",
+            "restarts=5 forget=yes": "wait 10 rounds, 5 s, after a group of 5 nodes is up again: 2 more than the "
+                                     "longest of these two",
+        }
+        cases = {more: f"{said}, as a later group may take longer" for more, said in cases.items()}
+        self.assertEqual(cases, {more: healing(more, **both).wait(200) for more in cases})
+        self.assertEqual(f"  a rolling restart   {cases['']}", healing(**both).lines("forgotten", 200)[1])
+        self.assertEqual("no wait is known, as not all of this is over in the rounds that were run: take a larger "
+                         "budget", healing(restart=[6, None], forgotten=[7, 8]).wait(200))
 
 
 class Words(unittest.TestCase):

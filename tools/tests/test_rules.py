@@ -1,4 +1,5 @@
 """The rules, on figures of docs/guide.md and on some worked out by hand."""
+import pathlib
 import unittest
 
 from gossip_tools import rules
@@ -53,6 +54,10 @@ class Enough(unittest.TestCase):
     def test_healed(self):
         """Half of the nodes are set apart where `greatest` was 5 to 7: it is healed at 8."""
         self.assertEqual(8, rules.healed_level(7))
+
+    def test_words_of_the_guide(self):
+        guide = pathlib.Path(__file__).resolve().parents[2] / "docs/guide.md"
+        self.assertIn(rules.HEALED, guide.read_text())
 
 
 class Budgets(unittest.TestCase):

@@ -4,4 +4,4 @@
 mod lists;
 
 pub use lists::run_list;
-pub use workers::{FreeGate, Gate, run_list_with};
+pub use workers::{FreeGate, Gate, Work, run_list_with};

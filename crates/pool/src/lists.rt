@@ -13,7 +13,7 @@ use node_table::NodeTable;
 use std::alloc::Global;
 use std::sync::Wait;
 use std::thread::Threads;
-use workers::{Gate, run_list_with};
+use workers::{Gate, Work, run_list_with};
 
 /// Carries out the exchanges of a list, each between two calls of the gate. The answer is the tables, by
 /// node, and the records, in list order: those of one thread that goes through the list in order, whatever
@@ -44,5 +44,11 @@ pub fn run_list<R: Threads + Wait + Sync, G: Gate + Sync>(
         (λ p. AreExchanged kept_table rules.now list.now.exchanges tables.items p.0.items p.1.items) }
     ensures fault { IfErr result (IsFaultOfWorkers workers) }
 {
-    run_list_with(rt, alloc, &Entries, list, tables, workers, gate, rules)
+    let work = Work {
+        shared: &Entries,
+        list,
+        rules,
+        gate,
+    };
+    run_list_with(rt, alloc, work, tables, workers)
 }

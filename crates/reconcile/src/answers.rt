@@ -12,6 +12,7 @@ ghost use Rattle.reconcile.specs.Digests.{IsOfKind};
 use crate::candidates::precise_delta;
 use crate::deltas::Delta;
 use crate::digests::Digest;
+use crate::questions::Question;
 use crate::suffixes::scuttle_delta;
 use crate::turns::Turns;
 use bench_types::{Budget, DigestKind, Fault, Mode};
@@ -59,8 +60,15 @@ pub fn delta(
         nodes: table.nodes(),
         rotation,
     };
+    let question = Question {
+        table,
+        digest,
+        receiver,
+        turns,
+        budget,
+    };
     match mode.digest_kind() {
-        DigestKind::Scuttle => scuttle_delta(alloc, table, digest, receiver, turns, budget),
-        DigestKind::Precise => precise_delta(alloc, table, digest, receiver, turns, budget),
+        DigestKind::Scuttle => scuttle_delta(alloc, question),
+        DigestKind::Precise => precise_delta(alloc, question),
     }
 }

@@ -6,11 +6,9 @@ ghost use Rattle.std.specs.List.{sum_by};
 ghost use Rattle.bench_types.specs.declared.faults.Fault.TheVariants.{OutOfMemory};
 ghost use Rattle.bench_types.specs.declared.limits.TheConstants.{MOST_NODES};
 ghost use Rattle.bench_types.specs.Budget.{amount_of};
-ghost use Rattle.bench_types.specs.Mode.{digest_kind};
-ghost use Rattle.model.specs.Table.{IsProper};
-ghost use Rattle.reconcile.specs.Answers.{answer_of};
 ghost use Rattle.model.specs.Deltas.{item_share, AreWithin};
 ghost use Rattle.reconcile.specs.inner.Parcels.{first_within};
+ghost use Rattle.reconcile.specs.inner.Questions.{IsAsked, answer_to};
 ghost use Rattle.reconcile.specs.Digests.{IsOfKind};
 ghost use Rattle.reconcile.specs.inner.Newer.{AddsNewer, AreCandidates};
 ghost use Rattle.model.specs.Order.{rotated};
@@ -19,6 +17,7 @@ ghost use Rattle.reconcile.specs.inner.Keys.{items_in, age_first, AllSet, AreFir
 use crate::deltas::Delta;
 use crate::digests::{Digest, generation_in};
 use crate::parcels::{Parcel, most_sent};
+use crate::questions::Question;
 use crate::turns::Turns;
 use bench_types::{Budget, DigestKind, Entry, Fault, First, Item};
 use node_table::NodeTable;
@@ -39,27 +38,21 @@ pub(crate) struct Candidate {
 
 /// The answer in a precise mode: a look at each entry that is held. What is sent is sorted, and where
 /// the budget cuts, a selection parts it from the rest.
-pub(crate) fn precise_delta(
-    alloc: Global,
-    table: &NodeTable,
-    digest: &Digest,
-    receiver: u32,
-    turns: Turns,
-    budget: Budget,
-) -> Result<Delta, Fault>
-    requires precise { digest_kind turns.mode ≡ DigestKind.Precise }
-    requires proper { IsProper table.now.table }
-    requires kind { IsOfKind DigestKind.Precise digest.now }
-    requires told { digest.now.nodes ≡ table.now.table.nodes }
-    requires keys { digest.now.keys ≡ table.now.table.keys }
-    requires nodes { turns.nodes ≡ table.now.table.nodes }
-    requires rotation { turns.rotation < turns.nodes }
-    ensures ok { IfOk result
-        (λ d. d ≡ answer_of turns.mode turns.rotation budget table.now.table receiver digest.now) }
-    ensures within { IfOk result (λ d. AreWithin budget d.items) }
+pub(crate) fn precise_delta(alloc: Global, question: Question) -> Result<Delta, Fault>
+    requires asked { IsAsked DigestKind.Precise question }
+    requires keys { question.digest.now.keys ≡ question.table.now.table.keys }
+    ensures ok { IfOk result (λ d. d ≡ answer_to question.entry) }
+    ensures within { IfOk result (λ d. AreWithin question.entry.budget d.items) }
     ensures few { IfOk result (λ d. length d.items < 2 ^ 32) }
     ensures only { IsOkUnless result OutOfMemory }
 {
+    let Question {
+        table,
+        digest,
+        receiver,
+        turns,
+        budget,
+    } = question;
     let mut found = candidates(alloc, table, digest, receiver, turns)?;
     let likely = likely_count(&found, budget);
     if likely < found.len() {

@@ -44,6 +44,7 @@ mod candidates;
 mod deltas;
 mod digests;
 mod parcels;
+mod questions;
 mod suffixes;
 mod turns;
 

@@ -4,19 +4,18 @@
 ghost use Rattle.std.specs.Prelude.{◌≡◌, ◌+◌, ◌^◌, ◌<◌, ◌≤◌, All, length, IfOk, OnOk, IsOkUnless};
 ghost use Rattle.std.specs.List.{AllPairs};
 ghost use Rattle.bench_types.specs.declared.faults.Fault.TheVariants.{OutOfMemory};
-ghost use Rattle.bench_types.specs.Mode.{digest_kind};
 ghost use Rattle.node_table.specs.Entries.{StandsBefore};
-ghost use Rattle.model.specs.Table.{IsProper};
-ghost use Rattle.reconcile.specs.Answers.{answer_of};
 ghost use Rattle.model.specs.Deltas.{AreWithin};
 ghost use Rattle.reconcile.specs.Digests.{IsOfKind};
 ghost use Rattle.reconcile.specs.inner.Newer.{AreCandidates};
 ghost use Rattle.model.specs.Order.{rank_among};
+ghost use Rattle.reconcile.specs.inner.Questions.{IsAsked, answer_to};
 ghost use Rattle.reconcile.specs.inner.Suffixes.{items_of_suffixes, entries_ranked, ranked, of_length, AddsLayer, AreLayered, AreSuffixes, IsTurned, OwnersRise, lengths_first};
 
 use crate::deltas::Delta;
 use crate::digests::{Digest, mark_in};
 use crate::parcels::Parcel;
+use crate::questions::Question;
 use crate::turns::Turns;
 use bench_types::{Budget, DigestKind, Entry, Fault, Item, Mode};
 use node_table::NodeTable;
@@ -31,32 +30,19 @@ pub(crate) struct Suffix<'a> {
 
 /// The answer in a scuttle mode. Entries of those owners alone are looked at of whom the digest tells
 /// a smaller mark than the table holds.
-pub(crate) fn scuttle_delta(
-    alloc: Global,
-    table: &NodeTable,
-    digest: &Digest,
-    receiver: u32,
-    turns: Turns,
-    budget: Budget,
-) -> Result<Delta, Fault>
-    requires scuttle { digest_kind turns.mode ≡ DigestKind.Scuttle }
-    requires proper { IsProper table.now.table }
-    requires kind { IsOfKind DigestKind.Scuttle digest.now }
-    requires told { digest.now.nodes ≡ table.now.table.nodes }
-    requires nodes { turns.nodes ≡ table.now.table.nodes }
-    requires rotation { turns.rotation < turns.nodes }
-    ensures ok { IfOk result
-        (λ d. d ≡ answer_of turns.mode turns.rotation budget table.now.table receiver digest.now) }
-    ensures within { IfOk result (λ d. AreWithin budget d.items) }
+pub(crate) fn scuttle_delta(alloc: Global, question: Question) -> Result<Delta, Fault>
+    requires { IsAsked DigestKind.Scuttle question }
+    ensures ok { IfOk result (λ d. d ≡ answer_to question.entry) }
+    ensures within { IfOk result (λ d. AreWithin question.entry.budget d.items) }
     ensures few { IfOk result (λ d. length d.items < 2 ^ 32) }
     ensures only { IsOkUnless result OutOfMemory }
 {
-    let mut suffixes = suffixes_above(alloc, table, digest, receiver)?;
-    turn_to(&mut suffixes, turns.rotation);
+    let mut suffixes = suffixes_above(alloc, question.table, question.digest, question.receiver)?;
+    turn_to(&mut suffixes, question.turns.rotation);
     let found = count_of(&suffixes);
-    let items = match turns.mode {
-        Mode::ScuttleBreadth => by_rank(alloc, &mut suffixes, found, budget)?,
-        Mode::ScuttleDepth => by_length(alloc, &suffixes, found, budget)?,
+    let items = match question.turns.mode {
+        Mode::ScuttleBreadth => by_rank(alloc, &mut suffixes, found, question.budget)?,
+        Mode::ScuttleDepth => by_length(alloc, &suffixes, found, question.budget)?,
         Mode::PreciseOldest | Mode::PreciseNewest => unreachable!(),
     };
     let cut = (found - items.len()) as u32;

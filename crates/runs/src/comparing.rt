@@ -5,9 +5,9 @@ ghost use Rattle.bench_types.specs.Output.{IsWritten};
 ghost use Rattle.bench_types.specs.Mode.{modes};
 ghost use Rattle.runs.specs.inner.Writes.{AreWrittenIn};
 ghost use Rattle.runs.specs.inner.Starts.{IsAtStart};
-ghost use Rattle.runs.specs.inner.Rows.{WritesNextRow, IsNextRowFault};
+ghost use Rattle.runs.specs.inner.Rows.{all_lines, WritesNextRow, IsNextRowFault};
 ghost use Rattle.runs.specs.Runs.{TellsOfFailing, ComesOnceAccepted};
-ghost use Rattle.runs.specs.Comparisons.{lines_upto, lines_of_modes, IsFaultInRounds, IsFaultInModes, IsCompared, IsCompareFault};
+ghost use Rattle.runs.specs.Comparisons.{lines_of_modes, IsFaultInRounds, IsFaultInModes, IsCompared, IsCompareFault};
 ghost use Rattle.model.specs.Runs.{AreWorkers};
 
 use crate::runs::{Opened, begin, check_input};
@@ -87,7 +87,7 @@ fn write_all_rounds<L: Written + Send + Sync, H: Threads + Wait + Sync, W: Sink>
     requires sound { W.failed writer.old ≡ false }
     requires flushed { W.flushed writer.old ≡ true }
     ensures same { IfOk result (λ s. s ≡ scenario) }
-    ensures written { OnOk result (IsWritten W.Sink writer.old writer.new (lines_upto scenario scenario.rounds)) }
+    ensures written { OnOk result (IsWritten W.Sink writer.old writer.new (all_lines scenario)) }
     ensures fault { IfErr result (IsFaultInRounds W.Sink writer.old writer.new [] scenario workers) }
 {
     let mode = scenario.mode();
@@ -117,8 +117,7 @@ fn write_rows<
     requires sound { W.failed writer.old ≡ false }
     requires flushed { W.flushed writer.old ≡ true }
     ensures same { IfOk result (λ s. s ≡ sim.settings) }
-    ensures written { OnOk result
-        (IsWritten W.Sink writer.old writer.new (lines_upto sim.settings sim.settings.rounds)) }
+    ensures written { OnOk result (IsWritten W.Sink writer.old writer.new (all_lines sim.settings)) }
     ensures fault { IfErr result (IsFaultInRounds W.Sink writer.old writer.new [] sim.settings workers) }
 {
     for _ in 0..sim.rounds() {

@@ -67,7 +67,7 @@ pub fn check_input<R: Source>(alloc: Global, reader: &mut R) -> Result<Scenario,
 // Whether all that an owner writes in a run has numbers of 16 bits.
 fn has_few_writes(scenario: &Scenario) -> bool
     ensures few { result ≡ true → HasWritesBelow 32767 scenario.now }
-    ensures some { HasWritesBelow 4294967295 scenario.now }
+    ensures some { HasWritesBelow u32.MAX scenario.now }
 {
     MOST_WRITES * scenario.rounds() < i16::MAX as u32
 }
@@ -127,37 +127,12 @@ fn write_run<L: Written + Send + Sync, H: Threads + Wait + Sync, W: Sink, X: Sin
         (IsWritingFault W.Sink writer.old writer.new X.Sink trace.old trace.new scenario workers) }
 {
     match begin::<L>(alloc, scenario)? {
-        Opened::Narrow(sim) => write_all(rt, alloc, sim, writer, trace, workers),
-        Opened::Wide(sim) => write_all(rt, alloc, sim, writer, trace, workers),
+        Opened::Narrow(mut sim) => write_texts(rt, alloc, &mut sim, writer, trace, workers),
+        Opened::Wide(mut sim) => write_texts(rt, alloc, &mut sim, writer, trace, workers),
     }
 }
 
-// The texts of a simulation that stands before its first round, and is let go behind its last.
-fn write_all<
-    T: MemoryTable + Send + Sync,
-    K: RoundHistories<T>,
-    H: Threads + Wait + Sync,
-    W: Sink,
-    X: Sink,
->(
-    rt: &H,
-    alloc: Global,
-    mut sim: Sim<T, K>,
-    writer: &mut W,
-    trace: &mut X,
-    workers: u32,
-) -> Result<(), Fault>
-    requires workers { AreWorkers workers }
-    requires start { IsAtStart sim }
-    ensures written { OnOk result
-        (AreWritten W.Sink writer.old writer.new X.Sink trace.old trace.new sim.settings) }
-    ensures fault { IfErr result
-        (IsWritingFault W.Sink writer.old writer.new X.Sink trace.old trace.new sim.settings workers) }
-{
-    write_texts(rt, alloc, &mut sim, writer, trace, workers)
-}
-
-// Both headers, and the texts of all rounds.
+// Both headers, and the texts of all rounds of a simulation that stands before its first.
 fn write_texts<
     T: MemoryTable + Send + Sync,
     K: RoundHistories<T>,

@@ -19,7 +19,6 @@ use Rattle.simulation.specs.RoundView.{RoundView}
 use Rattle.model.specs.Folds.{Folded}
 use Rattle.bench_types.specs.declared.entries.Entry.{Entry}
 use Rattle.bench_types.specs.declared.exchanges.Record.{Record}
-use Rattle.bench_types.specs.declared.exchanges.Rules.{Rules}
 use Rattle.simulation.specs.Soundness.{AreSound, OnlyRestartsLowerMarks}
 use Rattle.round_plan.specs.Words.{run_words_of}
 use Rattle.simulation.specs.inner.Insides.{IsInside, IsAfterRound, HasPlayed, simulation_of, tables_held, lists_held}
@@ -62,7 +61,7 @@ left_after s round before new records first before_is round_was =
     ∙ sym (tables_after-more s (round - 1))
     ∙ ap (tables_after s) next
 
-module _ {T H : Type 0} (table : T → Table) (lists : H → List OwnerListView) (Ended : H → ℕ → Type 0) (May : ℕ → ℕ → Entry → Type 0) (s : Settings) (rules : Rules) (cluster : Option (Cluster T H)) (old new : Cluster T H) (done : ℕ) (so_far : IsInside table lists Ended May s rules cluster done) (is : cluster ≡ Some old) (not_done : done < s.rounds) where
+module _ {T H : Type 0} (table : T → Table) (lists : H → List OwnerListView) (Ended : H → ℕ → Type 0) (May : ℕ → ℕ → Entry → Type 0) (s : Settings) (cluster : Option (Cluster T H)) (old new : Cluster T H) (done : ℕ) (so_far : IsInside table lists Ended May s cluster done) (is : cluster ≡ Some old) (not_done : done < s.rounds) where
   previous : done ≡ done + 1 - 1
   previous = omega arith
 

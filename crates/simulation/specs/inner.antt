@@ -1,2 +1,3 @@
 pub mod Insides
 pub mod Steps
+pub mod InMemory

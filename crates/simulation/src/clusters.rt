@@ -1,17 +1,16 @@
 //! All nodes' tables and the histories of their owners, and how a round changes them.
 
-ghost use Rattle.std.specs.Prelude.{◌≡◌, ◌+◌, ◌-◌, ◌<◌, ◌≤◌, All, map, IfOk, IfErr, OnOk, IsOkUnless};
+ghost use Rattle.std.specs.Prelude.{◌≡◌, ◌+◌, ◌-◌, ◌<◌, ◌≤◌, map, IfOk, IfErr, OnOk, IsOkUnless};
 ghost use Rattle.bench_types.specs.declared.faults.Fault.TheVariants.{OutOfMemory};
 ghost use Rattle.scenario.specs.Settings.{IsLawfulScenario};
-ghost use Rattle.model.specs.OwnerListView.{written, list_of_owner};
+ghost use Rattle.model.specs.OwnerListView.{written};
 ghost use Rattle.model.specs.Tables.{AreProper};
 ghost use Rattle.model.specs.Runs.{AreWorkers, IsFaultOfWorkers};
 ghost use Rattle.round_plan.specs.Words.{run_words_of, AreWordsOf};
-ghost use Rattle.round_tables.specs.Histories.{own_list};
-ghost use Rattle.simulation.specs.Rounds.{opening_tables, after_restart, begun, rules_of};
-ghost use Rattle.simulation.specs.Standing.{IsOwner, StandAfterRound};
-ghost use Rattle.simulation.specs.inner.Insides.{tables_of, HasPlayed, IsAfterRound};
-ghost use Rattle.simulation.specs.inner.Steps.{begun_table, IsRoundOf, IsNodeBefore, MayWriteOwn, OthersStay, HasWritten, HasRestarted};
+ghost use Rattle.simulation.specs.Rounds.{opening_tables, after_restart, rules_of};
+ghost use Rattle.simulation.specs.inner.InMemory.{IsBegun, AreBegun, TablesStand, IsOwnerIn, IsRestartedIn, WritesIn};
+ghost use Rattle.simulation.specs.inner.Insides.{HasPlayed, IsAfterRound};
+ghost use Rattle.simulation.specs.inner.Steps.{IsRoundOf, IsNodeBefore, MayWriteOwn, OthersStay};
 
 use crate::rounds::Round;
 use bench_types::limits::MOST_ROUNDS;
@@ -25,7 +24,7 @@ use scenario::Scenario;
 use std::alloc::Global;
 use std::sync::Wait;
 use std::thread::Threads;
-use workers::{Gate, run_list_with};
+use workers::{Gate, Work, run_list_with};
 
 /// What all nodes hold, what each has written, and their words of the last round.
 #[derive(Drop)]
@@ -52,12 +51,10 @@ impl<T: MemoryTable + Send + Sync, H: RoundHistories<T>> Cluster<T, H> {
         requires round { IsRoundOf H.may_write scenario.now round }
         requires ended { H.has_ended self.old.histories (round - 1) }
         requires words { self.old.words ≡ run_words_of scenario.now round }
-        requires standing { StandAfterRound scenario.now (round - 1) (tables_of T.table self.old)
-            (H.lists self.old.histories) }
+        requires standing { TablesStand T.table H.lists scenario.now (round - 1) self.old.tables.items self.old.histories }
         ensures standing { OnOk result
-            (StandAfterRound scenario.now round (tables_of T.table self.new) (H.lists self.new.histories)) }
-        ensures tables { OnOk result
-            (tables_of T.table self.new ≡ begun scenario.now round (tables_of T.table self.old)) }
+            (TablesStand T.table H.lists scenario.now round self.new.tables.items self.new.histories) }
+        ensures tables { OnOk result (AreBegun T.table scenario.now round self.old.tables.items self.new.tables.items) }
         ensures ended { OnOk result (H.has_ended self.new.histories round) }
         ensures words { self.new.words ≡ run_words_of scenario.now round }
         ensures only { IsOkUnless result OutOfMemory }
@@ -77,7 +74,6 @@ impl<T: MemoryTable + Send + Sync, H: RoundHistories<T>> Cluster<T, H> {
         rt: &R,
         alloc: Global,
         scenario: &Scenario,
-        rules: &Rules,
         round: u32,
         workers: u32,
         gate: &G,
@@ -85,7 +81,6 @@ impl<T: MemoryTable + Send + Sync, H: RoundHistories<T>> Cluster<T, H> {
         requires workers { AreWorkers workers }
         requires lawful { IsLawfulScenario scenario.now }
         requires round { IsRoundOf H.may_write scenario.now round }
-        requires rules { rules.now ≡ rules_of scenario.now }
         requires before { IsAfterRound T.table H.lists H.has_ended scenario.now (round - 1) self }
         ensures after { IfOk result (λ p. IsAfterRound T.table H.lists H.has_ended scenario.now round p.0) }
         ensures played { IfOk result (λ p. HasPlayed T.table H.lists scenario.now round self p.0 p.1) }
@@ -100,9 +95,14 @@ impl<T: MemoryTable + Send + Sync, H: RoundHistories<T>> Cluster<T, H> {
             words,
         } = self;
         histories.stand_ready(round);
-        let (tables, records) = run_list_with(
-            rt, alloc, &histories, &list, tables, workers, gate, rules,
-        )?;
+        let rules = rules_of(scenario);
+        let work = Work {
+            shared: &histories,
+            list: &list,
+            rules: &rules,
+            gate,
+        };
+        let (tables, records) = run_list_with(rt, alloc, work, tables, workers)?;
         let lag = histories.figures(rt, alloc, &tables, round)?;
         let played = Round::of(round, list, records, lag);
         Ok((
@@ -113,6 +113,16 @@ impl<T: MemoryTable + Send + Sync, H: RoundHistories<T>> Cluster<T, H> {
             },
             played,
         ))
+    }
+}
+
+// The rules of all exchanges of the scenario's run.
+fn rules_of(scenario: &Scenario) -> Rules
+    ensures { result ≡ rules_of scenario.now }
+{
+    Rules {
+        mode: scenario.mode(),
+        budget: scenario.budget(),
     }
 }
 
@@ -145,10 +155,9 @@ fn begin_round<T: MemoryTable, H: RoundHistories<T>>(
     requires round { IsRoundOf H.may_write scenario.now round }
     requires words { words.now ≡ run_words_of scenario.now round }
     requires ended { H.has_ended histories.old (round - 1) }
-    requires standing { StandAfterRound scenario.now (round - 1) (map T.table tables.old) (H.lists histories.old) }
-    ensures standing { OnOk result
-        (StandAfterRound scenario.now round (map T.table tables.new) (H.lists histories.new)) }
-    ensures tables { OnOk result (map T.table tables.new ≡ begun scenario.now round (map T.table tables.old)) }
+    requires standing { TablesStand T.table H.lists scenario.now (round - 1) tables.old histories.old }
+    ensures standing { OnOk result (TablesStand T.table H.lists scenario.now round tables.new histories.new) }
+    ensures tables { OnOk result (AreBegun T.table scenario.now round tables.old tables.new) }
     ensures ended { OnOk result (H.has_ended histories.new round) }
     ensures only { IsOkUnless result OutOfMemory }
 {
@@ -180,9 +189,8 @@ fn begin_node<T: MemoryTable, H: RoundHistories<T>>(
     requires words { AreWordsOf scenario.now.seed node round words.now }
     requires ended { H.has_ended histories.old (round - 1) }
     requires node { IsNodeBefore scenario.now round node (T.table table.old) (H.lists histories.old) }
-    ensures owner { OnOk result
-        (IsOwner scenario.now round node (T.table table.new) (list_of_owner (H.lists histories.new) node)) }
-    ensures table { OnOk result (T.table table.new ≡ begun_table scenario.now round node (T.table table.old)) }
+    ensures owner { OnOk result (IsOwnerIn T.table H.lists scenario.now round node table.new histories.new) }
+    ensures table { OnOk result (IsBegun T.table scenario.now round node table.old table.new) }
     ensures others { OnOk result (OthersStay node (H.lists histories.old) (H.lists histories.new)) }
     ensures ended { OnOk result (H.has_ended histories.new (round - 1)) }
     ensures only { IsOkUnless result OutOfMemory }
@@ -204,8 +212,7 @@ fn restart<T: MemoryTable, H: RoundHistories<T>>(
     requires last { round ≤ MOST_ROUNDS }
     requires ended { H.has_ended histories.old (round - 1) }
     requires node { IsNodeBefore scenario.now round node (T.table table.old) (H.lists histories.old) }
-    ensures owner { HasRestarted scenario.now round node (T.table table.new)
-        (list_of_owner (H.lists histories.new) node) }
+    ensures owner { IsRestartedIn T.table H.lists scenario.now round node table.new histories.new }
     ensures table { T.table table.new ≡ after_restart scenario.now round node (T.table table.old) }
     ensures others { OthersStay node (H.lists histories.old) (H.lists histories.new) }
     ensures ended { H.has_ended histories.new (round - 1) }
@@ -228,8 +235,8 @@ fn write_own<T: MemoryTable, H: RoundHistories<T>>(
     requires last { round ≤ MOST_ROUNDS }
     requires ended { H.has_ended histories.old (round - 1) }
     requires may { MayWriteOwn H.may_write round writes.now (T.table table.old) (H.lists histories.old) }
-    ensures written { OnOk result (HasWritten round writes.now (T.table table.old) (T.table table.new)
-        (own_list (T.table table.old) (H.lists histories.old)) (own_list (T.table table.old) (H.lists histories.new))) }
+    ensures written { OnOk result
+        (WritesIn T.table H.lists round writes.now table.old table.new histories.old histories.new) }
     ensures others { OnOk result (OthersStay (T.table table.old).node (H.lists histories.old) (H.lists histories.new)) }
     ensures ended { OnOk result (H.has_ended histories.new (round - 1)) }
     ensures only { IsOkUnless result OutOfMemory }

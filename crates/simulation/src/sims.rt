@@ -4,12 +4,12 @@ ghost use Rattle.std.specs.Prelude.{◌≡◌, ◌≤◌, true, false, [], map, 
 ghost use Rattle.bench_types.specs.declared.faults.Fault.TheVariants.{OutOfMemory};
 ghost use Rattle.scenario.specs.Settings.{IsLawfulScenario};
 ghost use Rattle.model.specs.Runs.{AreWorkers};
-ghost use Rattle.simulation.specs.Rounds.{opening_tables, rules_of};
+ghost use Rattle.simulation.specs.Rounds.{opening_tables};
 ghost use Rattle.simulation.specs.Simulation.{AreTablesAfter, MayWriteAll, PlaysNext, MayStep, IsRefusedBy, IsStepFault};
 
 use crate::clusters::Cluster;
 use crate::rounds::Round;
-use bench_types::{Fault, Rules};
+use bench_types::Fault;
 use model::MemoryTable;
 use round_tables::{RoundHistories, TakesAll};
 use scenario::Scenario;
@@ -25,8 +25,6 @@ use workers::Gate;
 pub struct Sim<T: MemoryTable, H: RoundHistories<T>> {
     alloc: Global,
     scenario: Scenario,
-    // The scenario's.
-    rules: Rules,
     cluster: Option<Cluster<T, H>>,
     rounds_done: u32,
 }
@@ -41,8 +39,7 @@ impl<T: MemoryTable, H: RoundHistories<T>> Model for Sim<T, H> {
 
     ghost view = { λ s. simulation_of H.lists s.scenario s.cluster s.rounds_done };
 
-    ghost invariant = { λ s. IsInside T.table H.lists H.has_ended H.may_write
-        s.scenario s.rules s.cluster s.rounds_done };
+    ghost invariant = { λ s. IsInside T.table H.lists H.has_ended H.may_write s.scenario s.cluster s.rounds_done };
 }
 
 impl<T: MemoryTable + Send + Sync, H: TakesAll<T>> Sim<T, H> {
@@ -71,7 +68,6 @@ impl<T: MemoryTable + Send + Sync, H: RoundHistories<T>> Sim<T, H> {
         match Cluster::new(alloc, &scenario) {
             Ok(cluster) => Ok(Sim {
                 alloc,
-                rules: rules_of(&scenario),
                 scenario,
                 cluster: Some(cluster),
                 rounds_done: 0,
@@ -104,8 +100,7 @@ impl<T: MemoryTable + Send + Sync, H: RoundHistories<T>> Sim<T, H> {
             return Err(Fault::Broken);
         };
         let next = self.rounds_done + 1;
-        let (scenario, rules) = (&self.scenario, &self.rules);
-        let (cluster, round) = cluster.play(rt, self.alloc, scenario, rules, next, workers, gate)?;
+        let (cluster, round) = cluster.play(rt, self.alloc, &self.scenario, next, workers, gate)?;
         self.cluster = Some(cluster);
         self.rounds_done += 1;
         Ok(round)
@@ -160,7 +155,6 @@ impl<T: MemoryTable + Send + Sync, H: RoundHistories<T>> Sim<T, H> {
         let Sim {
             alloc: _,
             scenario,
-            rules: _,
             cluster: _,
             rounds_done: _,
         } = self;
@@ -180,15 +174,5 @@ impl<T: MemoryTable + Send + Sync, H: RoundHistories<T>> Sim<T, H> {
         ensures { result ≡ self.now.settings.rounds }
     {
         self.scenario.rounds()
-    }
-}
-
-// The rules of all exchanges of the scenario's run.
-fn rules_of(scenario: &Scenario) -> Rules
-    ensures { result ≡ rules_of scenario.now }
-{
-    Rules {
-        mode: scenario.mode(),
-        budget: scenario.budget(),
     }
 }

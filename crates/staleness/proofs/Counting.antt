@@ -1,21 +1,19 @@
 -- What was counted by owner, in whatever parts, comes to the figures of all.
 -- Serves `figures`.
-use Rattle.std.proofs.Common.{◌≡◌, ℕ, zero, suc, ◌+◌, ◌-◌, ◌*◌, ◌/◌, ◌<◌, ◌≤◌, min, List, [], ◌∷◌, length, get_or, All, refl, sym, ap, ◌∙◌, subst, arith}
-use Rattle.std.specs.List.{AllZip, range_with_len}
-use Rattle.std.proofs.Math.Nat.{lt-div-mul-add}
+use Rattle.std.proofs.Common.{◌≡◌, ℕ, ◌+◌, ◌-◌, ◌*◌, ◌<◌, ◌≤◌, min, List, length, get_or, All, refl, ap, ◌∙◌, subst, arith}
+use Rattle.std.specs.List.{range_with_len}
 use Rattle.std.proofs.lemmas.List.FromFn.{length-range_with_len}
 use Rattle.std.proofs.lemmas.Slice.Zip.{AllZip-long}
 use Rattle.bench_types.specs.declared.rows.Figures.{Figures}
 use Rattle.model.specs.Table.{Table}
-use Rattle.model.specs.Tables.{table_of_node, IsCluster}
+use Rattle.model.specs.Tables.{IsCluster}
 use Rattle.model.specs.declared.writes.Write.{Write}
 use Rattle.bench_types.specs.Sums.{most_below}
-use Rattle.model.specs.Figures.{staleness_at, stale_count, rounds_behind, figures_of}
+use Rattle.model.specs.Figures.{figures_of}
 use Rattle.bench_types.specs.Sums.{sum_below}
 use Rattle.staleness.specs.inner.Copies.{owner_staleness, node_leftover, part_figures}
 use Rattle.staleness.specs.inner.Parts.{AreFewTriples, IsCounted, AreCounted, found_at}
-use Rattle.bench_types.proofs.Sums.{one_more}
-use Rattle.bench_types.proofs.Sums.{IsFoldBelow, sums, greatest, fold_below-same, fold_below-swap, fold_below-parts}
+use Rattle.bench_types.proofs.Sums.{IsFoldBelow, sums, greatest, fold_below-same, fold_below-parts}
 use Rattle.model.proofs.Figures.{stale_by_owner, most_by_owner}
 use Rattle.bench_types.proofs.EqualParts.{at_place}
 

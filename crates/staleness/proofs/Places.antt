@@ -2,7 +2,7 @@
 -- Serves `copies_from`, `no_copies`, `see_table`, `staleness_of_owners` and `Merging`.
 use Rattle.std.proofs.Common.{◌≡◌, ◌≢◌, ℕ, zero, suc, ◌+◌, ◌-◌, ◌*◌, ◌/◌, ◌%◌, ◌<◌, ◌≤◌, ◌⊎◌, inl, inr, arith}
 use Rattle.std.proofs.lemmas.Bool.{cases_lt}
-use Rattle.std.proofs.Math.Nat.{mul_comm, add-mul, mod-lt, div-add-mod', div-lt_iff_lt-mul}
+use Rattle.std.proofs.Math.Nat.{mul_comm, mod-lt, div-add-mod', div-lt_iff_lt-mul}
 use Rattle.std.proofs.lemmas.Nat.{mul-add-lt}
 
 turned : (a b : ℕ) → a * b ≡ b * a

@@ -1,17 +1,16 @@
 //! What a pass over the tables sees of the copies of all owners, key by key.
 
-ghost use Rattle.std.specs.Prelude.{◌≡◌, ℕ, ◌+◌, ◌*◌, ◌<◌, ◌≤◌, None, IfOk, IfSome, OnOk, length, slice_index, slice_index_or};
+ghost use Rattle.std.specs.Prelude.{◌≡◌, ◌+◌, ◌*◌, ◌<◌, ◌≤◌, None, IfOk, IfSome, OnOk, length, slice_index};
 ghost use Rattle.bench_types.specs.declared.limits.TheConstants.{MOST_NODES, MOST_KEYS};
-ghost use Rattle.model.specs.Table.{entry_at, generation_held, IsProper};
+ghost use Rattle.model.specs.Table.{generation_held, IsProper};
 ghost use Rattle.node_table.specs.NodeTableView.{tables_in};
-ghost use Rattle.model.specs.Tables.{table_of_node};
 ghost use Rattle.model.specs.OwnerListView.{lists_in, written};
 ghost use Rattle.staleness.specs.inner.Parts.{MayBegin};
 ghost use Rattle.owner_lists.specs.Latest.{write_of, KeysRise};
 ghost use Rattle.owner_lists.specs.inner.Keys.{IsFrontForKey};
 ghost use Rattle.model.specs.declared.writes.Write.{Write};
 ghost use Rattle.staleness.specs.declared.copies.Copies.{Copies};
-ghost use Rattle.staleness.specs.inner.Copies.{generations_in, least_known, at_least, version_known, with_version, seen_in, no_copies, current_of, copies_from, merged, MayCountOne, MayCountBoth, HaveRoom, IsRowSeen, AreSeen, AreSeenOnce, AreAdded};
+ghost use Rattle.staleness.specs.inner.Copies.{generations_in, least_known, row_at_least, row_known, with_version, merged, MayCountOne, MayCountBoth, HaveRoom, HaveRoomForAll, IsRowSeen, IsTableSeen, AreUnseen, AreSeenFrom, AreAdded, MayBeMerged, AreMerged};
 
 use node_table::NodeTable;
 use owner_lists::{OwnerList, Write};
@@ -81,8 +80,7 @@ pub(crate) fn least_known(generation: u32, copied: u32) -> Option<u32>
 fn see_row(copies: &mut [Copies], start: usize, table: &NodeTable, owner: u32, least: u32)
     requires owner { owner < table.now.table.nodes }
     requires room { HaveRoom copies.old start table.now.table.keys }
-    ensures { IsRowSeen start table.now.table.keys
-        (λ key. at_least least (entry_at table.now.table owner key)) copies.old copies.new }
+    ensures { IsRowSeen start table.now.table.keys (row_at_least table.now.table owner least) copies.old copies.new }
 {
     for entry in table.entries_of(owner) {
         let at = start + entry.key as usize;
@@ -104,7 +102,7 @@ fn see_copy(
     requires copied { copied ≡ generation_held table.now.table owner }
     requires room { HaveRoom copies.old start table.now.table.keys }
     ensures { IsRowSeen start table.now.table.keys
-        (λ key. version_known generation (entry_at table.now.table owner key)) copies.old copies.new }
+        (row_known table.now.table owner generation) copies.old copies.new }
 {
     if let Some(least) = least_known(generation, copied) {
         see_row(copies, start, table, owner, least);
@@ -115,11 +113,8 @@ fn see_copy(
 fn see_table(copies: &mut [Copies], table: &NodeTable, generations: &[u32])
     requires generations { length generations.now ≡ table.now.table.nodes }
     requires size { length copies.old ≡ table.now.table.nodes * table.now.table.keys }
-    requires room { (owner key : ℕ) (d : Copies) → owner < table.now.table.nodes → key < table.now.table.keys
-        → MayCountOne (slice_index_or copies.old (owner * table.now.table.keys + key) d) }
-    ensures { AreSeenOnce table.now.table.nodes table.now.table.keys
-        (λ owner key c. seen_in (slice_index generations.now owner) table.now.table owner key c)
-        copies.old copies.new }
+    requires room { HaveRoomForAll table.now.table copies.old }
+    ensures { IsTableSeen table.now.table generations.now copies.old copies.new }
 {
     let keys = table.keys() as usize;
     let holder = table.node();
@@ -185,9 +180,7 @@ pub(crate) fn no_copies(
 ) -> Result<Vec<Copies>, AllocError>
     requires few { length lists.now ≤ MOST_NODES }
     requires limit { keys ≤ MOST_KEYS }
-    ensures { IfOk result
-        (λ v. AreSeen (length lists.now) keys
-        (λ owner key. no_copies (current_of (lists_in lists.now) owner key)) v.items) }
+    ensures { IfOk result (λ v. AreUnseen (length lists.now) keys (lists_in lists.now) v.items) }
 {
     let mut copies = Vec::with_capacity(alloc, lists.len() * keys as usize)?;
     for list in lists {
@@ -209,9 +202,7 @@ pub(crate) fn copies_from(
     requires generations { generations.now ≡ generations_in (tables_in tables.now) }
     requires begins { MayBegin (tables_in tables.now) none.now }
     requires within { from + count ≤ length tables.now }
-    ensures { IfOk result
-        (λ v. AreSeenOnce (length (tables_in tables.now)) (table_of_node (tables_in tables.now) 0).keys
-        (λ owner key c. copies_from (tables_in tables.now) owner key from count c) none.now v.items) }
+    ensures { IfOk result (λ v. AreSeenFrom (tables_in tables.now) from count none.now v.items) }
 {
     let mut copies = Vec::from_slice(alloc, none)?;
     for at in 0..count {
@@ -236,11 +227,9 @@ fn merged(one: Copies, other: Copies) -> Copies
 /// Takes what a part of the tables holds to what others hold.
 pub(crate) fn merge(copies: &mut [Copies], part: &[Copies])
     requires size { length part.now ≡ length copies.old }
-    requires room { (i : ℕ) (d : Copies) → i < length copies.old
-        → MayCountBoth (slice_index_or copies.old i d) (slice_index_or part.now i d) }
+    requires room { MayBeMerged copies.old part.now }
     ensures size { length copies.new ≡ length copies.old }
-    ensures merged { (i : ℕ) (d : Copies) → i < length copies.old
-        → slice_index_or copies.new i d ≡ merged (slice_index_or copies.old i d) (slice_index_or part.now i d) }
+    ensures merged { AreMerged copies.old part.now copies.new }
 {
     for at in 0..copies.len() {
         copies[at] = merged(copies[at], part[at]);

@@ -1,6 +1,6 @@
 //! How far the copies of all nodes lag behind their owners.
 
-ghost use Rattle.std.specs.Prelude.{◌≡◌, ℕ, ◌+◌, ◌*◌, ◌/◌, ◌^◌, ◌<◌, ◌≤◌, max, All, IfOk, IsFalse, IsOkUnless, length, slice_index_or, unwrap_or};
+ghost use Rattle.std.specs.Prelude.{◌≡◌, ◌+◌, ◌*◌, ◌/◌, ◌^◌, ◌<◌, ◌≤◌, max, All, IfOk, IsFalse, IsOkUnless, length, unwrap_or};
 ghost use Rattle.bench_types.specs.declared.faults.Fault.TheVariants.{OutOfMemory};
 ghost use Rattle.bench_types.specs.declared.limits.TheConstants.{MOST_NODES, MOST_KEYS, MOST_ROUNDS};
 ghost use Rattle.model.specs.OwnerListView.{lists_in, written};
@@ -8,12 +8,12 @@ ghost use Rattle.staleness.specs.declared.copies.Copies.{Copies};
 ghost use Rattle.model.specs.Writes.{AreBornBy, IsNumbered};
 ghost use Rattle.model.specs.Table.{entry_at};
 ghost use Rattle.bench_types.specs.Sums.{most_below};
-ghost use Rattle.model.specs.Figures.{writes_of_owner, staleness_at, rounds_behind, figures_of};
+ghost use Rattle.model.specs.Figures.{writes_of_owner, rounds_behind, figures_of};
 ghost use Rattle.bench_types.specs.Sums.{sum_below};
-ghost use Rattle.staleness.specs.inner.Copies.{generations_in, version_known, version_staleness, copies_of, key_staleness, owner_staleness, owners_staleness, node_leftover, nodes_leftover};
+ghost use Rattle.staleness.specs.inner.Copies.{generations_in, version_known, version_staleness, copies_of, key_staleness, owner_staleness, owners_staleness, most_behind, node_leftover, nodes_leftover, AreSeenOf};
 ghost use Rattle.node_table.specs.NodeTableView.{tables_in};
 ghost use Rattle.model.specs.Tables.{table_of_node, IsCluster};
-ghost use Rattle.staleness.specs.inner.Parts.{AreCountable, AreFewTriples, IsCounted, AreCounted, AreAllSeen, MayBegin, IsSeenInPart, AreSeenInParts, found_at};
+ghost use Rattle.staleness.specs.inner.Parts.{AreCountable, AreFewTriples, IsCounted, AreCounted, AreAllSeen, MayPass, MayCountParts, IsSeenInPart, AreSeenInParts, found_at};
 
 use crate::copies::{
     Copies, copies_from, generation_in, generations_of, least_known, merge, no_copies,
@@ -32,6 +32,13 @@ pub(crate) struct Staleness {
     /// How many are stale, and the most rounds that one of them has been so.
     pub(crate) stale: u64,
     pub(crate) greatest: u32,
+}
+
+// What the passes over the tables came to: the generations of all nodes, and what was seen of all copies.
+#[derive(Clone, Copy)]
+pub(crate) struct Seen<'a> {
+    pub(crate) generations: &'a [u32],
+    pub(crate) copies: &'a [Copies],
 }
 
 const NOTHING_STALE: Staleness = Staleness {
@@ -75,8 +82,7 @@ fn most_rounds_behind(
     requires owner { owner < length tables.now }
     requires numbered { IsNumbered (writes_of_owner (lists_in lists.now) owner) }
     requires few { length (writes_of_owner (lists_in lists.now) owner) < 2 ^ 32 }
-    ensures { result ≡ most_below (length tables.now)
-        (λ p. rounds_behind (staleness_at round (tables_in tables.now) (lists_in lists.now) p owner key)) }
+    ensures { result ≡ most_behind (length tables.now) round (tables_in tables.now) (lists_in lists.now) owner key }
 {
     let list = &lists[owner as usize];
     let generation = tables[owner as usize].generation();
@@ -154,9 +160,7 @@ fn staleness_of_owner(
     requires countable { AreCountable round (tables_in tables.now) (lists_in lists.now) }
     requires owner { owner < length tables.now }
     requires within { start + (table_of_node (tables_in tables.now) 0).keys ≤ length copies.now }
-    requires copies { (key : ℕ) (d : Copies) → key < (table_of_node (tables_in tables.now) 0).keys
-        → slice_index_or copies.now (start + key) d
-        ≡ copies_of (tables_in tables.now) (lists_in lists.now) owner key (length tables.now) }
+    requires copies { AreSeenOf (tables_in tables.now) (lists_in lists.now) (length tables.now) owner start copies.now }
     ensures staleness { result ≡ owner_staleness round (tables_in tables.now) (lists_in lists.now) owner }
     ensures bound { result.stale ≤ MOST_NODES * MOST_KEYS }
 {
@@ -321,7 +325,11 @@ pub fn figures(
     let size = nodes_of_a_thread(rt, tables);
     let generations = generations_of(alloc, tables)?;
     let copies = all_copies(rt, alloc, tables, lists, &generations, size)?;
-    let parts = figures_of_parts(rt, alloc, tables, lists, &generations, &copies, size, round)?;
+    let seen = Seen {
+        generations: &generations,
+        copies: &copies,
+    };
+    let parts = figures_of_parts(rt, alloc, tables, lists, seen, size, round)?;
     Ok(joined_all(&parts))
 }
 
@@ -367,9 +375,7 @@ fn copies_of_parts(
     none: &[Copies],
     size: usize,
 ) -> Result<Vec<Result<Vec<Copies>, AllocError>>, AllocError>
-    requires some { 1 ≤ size }
-    requires generations { generations.now ≡ generations_in (tables_in tables.now) }
-    requires begins { MayBegin (tables_in tables.now) none.now }
+    requires pass { MayPass (tables_in tables.now) generations.now none.now size }
     ensures { IfOk result
         (λ v. AreSeenInParts (tables_in tables.now) none.now size (length tables.now / size + 1) v.items) }
 {
@@ -378,8 +384,8 @@ fn copies_of_parts(
         .with_min_len(1)
         .map(
             |part: usize| -> Result<Vec<Copies>, AllocError>
-                requires { (generations.now ≡ generations_in (tables_in tables.now))
-                    × MayBegin (tables_in tables.now) none.now × (1 ≤ size) × (part ≤ length tables.now / size) }
+                requires { MayPass (tables_in tables.now) generations.now none.now size
+                    × (part ≤ length tables.now / size) }
                 ensures { IfOk result
                     (λ v. IsSeenInPart (tables_in tables.entry.now) none.entry.now size part v.items) }
             { copies_of_part(alloc, tables, generations, none, size, part) },
@@ -396,10 +402,8 @@ fn copies_of_part(
     size: usize,
     part: usize,
 ) -> Result<Vec<Copies>, AllocError>
-    requires some { 1 ≤ size }
-    requires generations { generations.now ≡ generations_in (tables_in tables.now) }
+    requires pass { MayPass (tables_in tables.now) generations.now none.now size }
     requires part { part ≤ length tables.now / size }
-    requires begins { MayBegin (tables_in tables.now) none.now }
     ensures { IfOk result (λ v. IsSeenInPart (tables_in tables.now) none.now size part v.items) }
 {
     let from = part * size;
@@ -413,15 +417,11 @@ fn figures_of_parts(
     alloc: Global,
     tables: &[NodeTable],
     lists: &[OwnerList],
-    generations: &[u32],
-    copies: &[Copies],
+    seen: Seen,
     size: usize,
     round: u32,
 ) -> Result<Vec<Figures>, AllocError>
-    requires some { 1 ≤ size }
-    requires generations { generations.now ≡ generations_in (tables_in tables.now) }
-    requires countable { AreCountable round (tables_in tables.now) (lists_in lists.now) }
-    requires copies { AreAllSeen (tables_in tables.now) (lists_in lists.now) copies.now }
+    requires { MayCountParts round (tables_in tables.now) (lists_in lists.now) size seen }
     ensures { IfOk result
         (λ v. AreCounted round (tables_in tables.now) (lists_in lists.now) size
         (length tables.now / size + 1) v.items) }
@@ -431,12 +431,10 @@ fn figures_of_parts(
         .with_min_len(1)
         .map(
             |part: usize| -> Figures
-                requires { (generations.now ≡ generations_in (tables_in tables.now))
-                    × AreCountable round (tables_in tables.now) (lists_in lists.now) × (1 ≤ size)
-                    × (part ≤ length tables.now / size)
-                    × AreAllSeen (tables_in tables.now) (lists_in lists.now) copies.now }
+                requires { MayCountParts round (tables_in tables.now) (lists_in lists.now) size seen
+                    × (part ≤ length tables.now / size) }
                 ensures { IsCounted round (tables_in tables.entry.now) (lists_in lists.entry.now) size part result }
-            { figures_of_part(tables, lists, generations, copies, size, part, round) },
+            { figures_of_part(tables, lists, seen, size, part, round) },
         )
         .collect(rt, alloc)
 }
@@ -445,25 +443,21 @@ fn figures_of_parts(
 fn figures_of_part(
     tables: &[NodeTable],
     lists: &[OwnerList],
-    generations: &[u32],
-    copies: &[Copies],
+    seen: Seen,
     size: usize,
     part: usize,
     round: u32,
 ) -> Figures
-    requires some { 1 ≤ size }
+    requires count { MayCountParts round (tables_in tables.now) (lists_in lists.now) size seen }
     requires part { part ≤ length tables.now / size }
-    requires generations { generations.now ≡ generations_in (tables_in tables.now) }
-    requires countable { AreCountable round (tables_in tables.now) (lists_in lists.now) }
-    requires copies { AreAllSeen (tables_in tables.now) (lists_in lists.now) copies.now }
     ensures { IsCounted round (tables_in tables.now) (lists_in lists.now) size part result }
 {
     let from = part * size;
     let nodes = size.min(tables.len() - from);
-    let staleness = staleness_of_owners(tables, lists, copies, from, nodes, round);
+    let staleness = staleness_of_owners(tables, lists, seen.copies, from, nodes, round);
     Figures {
         stale: staleness.stale,
         greatest: staleness.greatest,
-        leftover: leftover_of_nodes(tables, generations, from, nodes),
+        leftover: leftover_of_nodes(tables, seen.generations, from, nodes),
     }
 }

@@ -5,3 +5,4 @@ pub mod Starts
 pub mod Returns
 pub mod Deques
 pub mod Workshops
+pub mod Works

@@ -4,32 +4,30 @@ ghost use Rattle.std.specs.Prelude.{length, map, IfOk, IsOkUnless};
 ghost use Rattle.bench_types.specs.declared.faults.Fault.TheVariants.{OutOfMemory};
 ghost use Rattle.bench_types.specs.Exchange.{IsPlanned};
 ghost use Rattle.workers.specs.inner.Turns.{IsPairExchanged};
-ghost use Rattle.model.specs.Runs.{MayCarryOut, AreExchanged};
+ghost use Rattle.workers.specs.inner.Works.{MayWorkOn, HasWorkedOn};
+ghost use Rattle.model.specs.Runs.{MayCarryOut};
 
 use crate::gates::Gate;
+use crate::works::Work;
 use bench_types::{Exchange, Fault, Record, Rules};
-use model::{Exchanging, MemoryTable, RoundList};
+use model::{Exchanging, MemoryTable};
 use std::alloc::Global;
 
-/// Carries out the exchanges of a list in its order, and gives their records in that order.
+/// Carries out the exchanges of the list in its order, and gives their records in that order.
 pub(crate) fn exchange_all<T: MemoryTable, X: Exchanging<T>, G: Gate>(
     alloc: Global,
-    shared: &X,
+    work: Work<X, G>,
     tables: &mut [T],
-    list: &RoundList,
-    gate: &G,
-    rules: &Rules,
 ) -> Result<Vec<Record>, Fault>
-    requires tables { MayCarryOut (X.fits shared.now) rules.now list.now.nodes (map T.table tables.old) }
-    ensures exchanged { IfOk result
-        (λ v. AreExchanged T.table rules.now list.now.exchanges tables.old tables.new v.items) }
+    requires tables { MayWorkOn T.table X.fits work tables.old }
+    ensures exchanged { IfOk result (λ v. HasWorkedOn T.table work.entry tables.old tables.new v.items) }
     ensures only { IsOkUnless result OutOfMemory }
 {
-    let mut records = Vec::with_capacity(alloc, list.len() as usize)?;
-    for (i, plan) in list.exchanges().iter().enumerate() {
-        gate.enter(i as u32);
-        let sent = exchange_pair(alloc, shared, tables, plan, rules)?;
-        gate.leave(i as u32);
+    let mut records = Vec::with_capacity(alloc, work.list.len() as usize)?;
+    for (i, plan) in work.list.exchanges().iter().enumerate() {
+        work.gate.enter(i as u32);
+        let sent = exchange_pair(alloc, work.shared, tables, plan, work.rules)?;
+        work.gate.leave(i as u32);
         records.push(sent)?;
     }
     Ok(records)

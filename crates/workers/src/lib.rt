@@ -21,6 +21,8 @@ mod in_order;
 mod runs;
 mod threads;
 mod workers;
+mod works;
 
 pub use gates::{FreeGate, Gate};
 pub use runs::run_list_with;
+pub use works::Work;

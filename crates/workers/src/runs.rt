@@ -6,16 +6,16 @@ ghost use Rattle.model.specs.Runs.{AreWorkers, MayCarryOut, AreExchanged, IsFaul
 use crate::gates::Gate;
 use crate::in_order::exchange_all;
 use crate::threads::exchange_in_threads;
-use bench_types::{Fault, Record, Rules};
-use model::{Exchanging, MemoryTable, RoundList};
+use crate::works::Work;
+use bench_types::{Fault, Record};
+use model::{Exchanging, MemoryTable};
 use std::alloc::Global;
 use std::marker::Brand;
 use std::sync::Wait;
 use std::thread::Threads;
 
-/// Carries out the exchanges of a list on tables of any representation, each between two calls of the gate.
-/// `shared` carries out each of them, and is only read. The answer is the tables, by node, and the records, in
-/// list order: those of one thread that goes through the list in order, whatever order the workers take.
+/// Carries out the exchanges of a list on tables of any representation. The answer is the tables, by node, and the
+/// records, in list order: those of one thread that goes through the list in order, whatever order the workers take.
 ///
 /// With one worker no thread is started, and the list is done in order. With more, each is a thread of its
 /// own, also where the list has fewer exchanges, and all have ended when this returns. It waits for them, so
@@ -34,25 +34,21 @@ pub fn run_list_with<
 >(
     rt: &R,
     alloc: Global,
-    shared: &X,
-    list: &RoundList,
+    work: Work<X, G>,
     mut tables: Vec<T>,
     workers: u32,
-    gate: &G,
-    rules: &Rules,
 ) -> Result<(Vec<T>, Vec<Record>), Fault>
     requires workers { AreWorkers workers }
-    requires tables { MayCarryOut (X.fits shared.now) rules.now list.now.nodes (map T.table tables.items) }
+    requires tables { MayCarryOut (X.fits work.shared.now) work.rules.now work.list.now.nodes
+        (map T.table tables.items) }
     ensures exchanged { IfOk result
-        (λ p. AreExchanged T.table rules.now list.now.exchanges tables.items p.0.items p.1.items) }
+        (λ p. AreExchanged T.table work.entry.rules.now work.entry.list.now.exchanges tables.items p.0.items p.1.items) }
     ensures fault { IfErr result (IsFaultOfWorkers workers) }
 {
     if workers == 1 {
-        let records = exchange_all(alloc, shared, &mut tables, list, gate, rules)?;
+        let records = exchange_all(alloc, work, &mut tables)?;
         Ok((tables, records))
     } else {
-        exchange_in_threads::<Brand, R, T, X, G>(
-            rt, alloc, shared, list, tables, workers, gate, rules,
-        )
+        exchange_in_threads::<Brand, R, T, X, G>(rt, alloc, work, tables, workers)
     }
 }

@@ -4,9 +4,10 @@ ghost use Rattle.std.specs.Prelude.{◌≡◌, ◌+◌, ◌<◌, ◌≤◌, [], 
 ghost use Rattle.bench_types.specs.declared.faults.Fault.TheVariants.{OutOfMemory, NoThread};
 ghost use Rattle.model.specs.Tables.{IsCluster};
 ghost use Rattle.board.specs.Boards.{plan_of, seat_view, IsMadeOf, IsSeatOf};
-ghost use Rattle.model.specs.Runs.{MayCarryOut, AreExchanged, IsFaultOfWorkers};
+ghost use Rattle.model.specs.Runs.{IsFaultOfWorkers};
 ghost use Rattle.workers.specs.inner.Returns.{IsFreshSeat, IsReturned};
 ghost use Rattle.workers.specs.inner.Starts.{AreSeveral, MaySplit};
+ghost use Rattle.workers.specs.inner.Works.{MayWorkOn, HasWorkedOn};
 ghost use Rattle.workers.specs.inner.Workshops.{IsWorkshop};
 ghost use Rattle.workers.specs.inner.Joined.{HasTakenIn, HasSeenAll, IsEndOf, IsOfBoard, AreTogether};
 
@@ -14,6 +15,7 @@ use crate::deques::{Limit, Tasks, deal};
 use crate::gates::Gate;
 use crate::gathering::in_list_order;
 use crate::workers::{Returned, Workshop};
+use crate::works::Work;
 use bench_types::{Fault, Record, Rules};
 use board::{Board, Seat};
 use collector::Stamped;
@@ -35,7 +37,7 @@ impl<T: MemoryTable> Promise<Returned<T>> for Back<T> {
 
 type Handle<T> = PromisedHandle<Returned<T>, Back<T>>;
 
-/// Carries out the exchanges of a list by so many workers, each in a thread. A type knows how long the list is.
+/// Carries out the exchanges of the list by so many workers, each in a thread. A type knows how long the list is.
 pub(crate) fn exchange_in_threads<
     L: Limit + Send + Sync,
     R: Threads + Wait + Sync,
@@ -45,31 +47,27 @@ pub(crate) fn exchange_in_threads<
 >(
     rt: &R,
     alloc: Global,
-    shared: &X,
-    list: &RoundList,
+    work: Work<X, G>,
     tables: Vec<T>,
     workers: u32,
-    gate: &G,
-    rules: &Rules,
 ) -> Result<(Vec<T>, Vec<Record>), Fault>
-    requires limit { L.limit ≡ length list.now.exchanges }
+    requires limit { L.limit ≡ length work.list.now.exchanges }
     requires several { AreSeveral workers }
-    requires tables { MayCarryOut (X.fits shared.now) rules.now list.now.nodes (map T.table tables.items) }
-    ensures exchanged { IfOk result
-        (λ p. AreExchanged T.table rules.now list.now.exchanges tables.items p.0.items p.1.items) }
+    requires tables { MayWorkOn T.table X.fits work tables.items }
+    ensures exchanged { IfOk result (λ p. HasWorkedOn T.table work.entry tables.items p.0.items p.1.items) }
     ensures fault { IfErr result (IsFaultOfWorkers workers) }
 {
-    let (board, seat, tasks) = begin::<L, T>(alloc, list, tables, workers, rules)?;
+    let (board, seat, tasks) = begin::<L, T>(alloc, work.list, tables, workers, work.rules)?;
     let shop = Workshop {
         alloc,
         board: &board,
-        shared,
-        list,
-        rules,
-        gate,
+        shared: work.shared,
+        list: work.list,
+        rules: work.rules,
+        gate: work.gate,
     };
     let (seat, stamps) = run_workers(rt, &shop, seat, tasks)?;
-    end(alloc, list, board, seat, &stamps)
+    end(alloc, work.list, board, seat, &stamps)
 }
 
 // A board of the list and the tables with its first seat, and the tasks of so many workers.

@@ -36,7 +36,7 @@ pub(crate) struct Returned<T> {
 
 impl<'a, T: MemoryTable, X: Exchanging<T>, G: Gate> Workshop<'a, T, X, G> {
     ghost use Rattle.workers.specs.inner.Workshops.{IsWorkshop};
-    ghost use Rattle.workers.specs.inner.Returns.{HasDone, AreRecordsOf, IsFreshSeat, IsReturned, SeesTheEnd, StaysAtWork};
+    ghost use Rattle.workers.specs.inner.Returns.{HasCarriedOut, HasRecords, IsFreshSeat, IsReturned, SeesTheEnd, StaysAtWork};
 
     /// Carries out exchanges of the list until it sees that all are finished or that a stop was called. On
     /// lack of memory it calls for a stop.
@@ -70,8 +70,7 @@ impl<'a, T: MemoryTable, X: Exchanging<T>, G: Gate> Workshop<'a, T, X, G> {
         requires seat { IsFreshSeat T.table self.now.board.now seat.old }
         ensures seat { IsSeatOf T.table seat.new self.now.board.now }
         ensures stays { StaysAtWork (seat_view seat.old) (seat_view seat.new) }
-        ensures records { IfOk result
-            (λ stamps. AreRecordsOf (plan_of T.table self.now.board.now) (seat_view seat.new) stamps.items) }
+        ensures records { IfOk result (λ stamps. HasRecords T.table self.now.board.now seat.new stamps.items) }
         ensures ends { OnOk result (SeesTheEnd (plan_of T.table self.now.board.now) (seat_view seat.new)) }
         ensures only { IsOkUnless result OutOfMemory }
     {
@@ -117,11 +116,10 @@ impl<'a, T: MemoryTable, X: Exchanging<T>, G: Gate> Workshop<'a, T, X, G> {
         requires limit { L.limit ≡ length self.now.list.now.exchanges }
         requires within { i < L.limit }
         requires seat { IsSeatOf T.table seat.old self.now.board.now }
-        requires records { AreRecordsOf (plan_of T.table self.now.board.now) (seat_view seat.old) stamps.old.items }
+        requires records { HasRecords T.table self.now.board.now seat.old stamps.old.items }
         ensures seat { IsSeatOf T.table seat.new self.now.board.now }
         ensures stays { StaysAtWork (seat_view seat.old) (seat_view seat.new) }
-        ensures records { OnOk result
-            (AreRecordsOf (plan_of T.table self.now.board.now) (seat_view seat.new) stamps.new.items) }
+        ensures records { OnOk result (HasRecords T.table self.now.board.now seat.new stamps.new.items) }
         ensures only { IsOkUnless result OutOfMemory }
     {
         let Claim::Held(hold) = self.board.claim(seat, i) else {
@@ -151,8 +149,8 @@ impl<'a, T: MemoryTable, X: Exchanging<T>, G: Gate> Workshop<'a, T, X, G> {
         requires held { Has (seat_view seat.old).held hold.index }
         requires hold { IsHoldOf T.table (plan_of T.table self.now.board.now) hold.index hold }
         ensures seat { IsSeatOf T.table seat.new self.now.board.now }
-        ensures done { IfOk result (λ done. let plan = plan_of T.table self.now.board.now in
-            HasDone plan (seat_view seat.old) hold.index done.0 done.1 (seat_view seat.new)) }
+        ensures done { IfOk result
+            (λ done. HasCarriedOut T.table self.now.board.now seat.old hold.index done.0 done.1 seat.new) }
         ensures err { OnErr result (seat_view seat.new ≡ seat_view seat.old) }
         ensures only { IsOkUnless result OutOfMemory }
     {

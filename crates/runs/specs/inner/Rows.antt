@@ -9,6 +9,8 @@ use Rattle.model.specs.Table.{Table}
 use Rattle.report.specs.Compare.{compare_line}
 use Rattle.report.specs.Report.{report_line}
 use Rattle.report.specs.Trace.{trace_lines}
+use Rattle.runs.specs.Comparisons.{lines_upto}
+use Rattle.scenario.specs.Settings.{Settings}
 use Rattle.simulation.specs.RoundView.{RoundView}
 use Rattle.simulation.specs.Simulation.{SimView, PlaysNext, IsStepFault}
 
@@ -25,6 +27,10 @@ module _ {T W : Type 0} (table : T → Table) (sim sim' : SimView T) (sink : Sin
       (IsStepFault workers sim sim' fault × (new ≡ old))
       ⊎ ((round : RoundView) × PlaysNext table sim sim' round
       × IsWriteFault sink old new (compare_line sim'.settings.format mode round.row) fault)
+
+-- the lines of all rounds of a scenario in the comparison, under its own mode
+abbrev pub all_lines : Settings → List ℕ
+all_lines s = lines_upto s s.rounds
 
 -- the lines of a round in the trace, from what it came to
 abbrev pub lines_of : RoundView → List ℕ

@@ -2,7 +2,6 @@
 use Rattle.std.specs.Prelude.{◌≡◌, ℕ, ◌≤◌, Bool, false, List, [], map, Option, Some, None, IfSome, is_none, refl}
 use Rattle.std.specs.Coded.{Coded, code_by, coded×, coded_ℕ, coded_bool, coded_list}
 use Rattle.bench_types.specs.declared.entries.Entry.{Entry}
-use Rattle.bench_types.specs.declared.exchanges.Rules.{Rules}
 use Rattle.scenario.specs.contracts.scenarios.Scenario as scenario
 use Rattle.owner_lists.specs.contracts.lists.OwnerList as owner_list
 use Rattle.simulation.specs.declared.clusters.Cluster.{Cluster}
@@ -11,7 +10,7 @@ use Rattle.scenario.specs.Settings.{Settings}
 use Rattle.model.specs.OwnerListView.{OwnerListView}
 use Rattle.round_plan.specs.Words.{run_words_of}
 use Rattle.simulation.specs.RoundView.{RoundView}
-use Rattle.simulation.specs.Rounds.{rules_of, tables_after}
+use Rattle.simulation.specs.Rounds.{tables_after}
 use Rattle.simulation.specs.inner.Steps.{IsPlayedFrom}
 use Rattle.simulation.specs.Standing.{StandAfterRound}
 use Rattle.simulation.specs.Simulation.{AreTablesAfter, MayWriteAll, SimView}
@@ -48,16 +47,14 @@ pub record IsSimulation {T : Type 0} (table : T → Table) (v : SimView T) : Typ
   pub standing : v.broken ≡ false → StandAfterRound v.settings v.rounds_done (map table v.tables) v.lists
   pub tables : AreTablesAfter table v v.tables
 
--- and what lies in it: the scenario's rules, histories of which so many rounds have ended, and the words of the last of
--- them; the tables may hold what the run writes
+-- and what lies in it: histories of which so many rounds have ended, and the words of the last of them; the tables may
+-- hold what the run writes
 pub record IsInside {T H : Type 0} (table : T → Table) (lists : H → List OwnerListView) (Ended : H → ℕ → Type 0)
-    (May : ℕ → ℕ → Entry → Type 0) (s : Settings) (rules : Rules) (cluster : Option (Cluster T H))
-    (done : ℕ) : Type 0 where
+    (May : ℕ → ℕ → Entry → Type 0) (s : Settings) (cluster : Option (Cluster T H)) (done : ℕ) : Type 0 where
   pub simulation : IsSimulation table (simulation_of lists s cluster done)
   pub ended : IfSome cluster (λ c. Ended c.histories done)
   pub words : IfSome cluster (λ c. c.words ≡ run_words_of s done)
   pub may_write : MayWriteAll May s
-  pub of_scenario : rules ≡ rules_of s
 
 -- what a round of a cluster answers
 abbrev pub HasPlayed : {T H : Type 0} → (T → Table) → (H → List OwnerListView) → Settings → ℕ

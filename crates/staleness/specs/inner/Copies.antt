@@ -3,7 +3,7 @@
 -- as if it weren't held, one of a newer as if it missed nothing. The staleness of a copy falls as its version rises, as
 -- long as no write was made in an earlier round than one before it: so the greatest staleness is that of the least
 -- version, which is 0 where some table lacks the key. Source: this project.
-use Rattle.std.specs.Prelude.{◌≡◌, ℕ, zero, suc, ◌+◌, ◌-◌, ◌*◌, ◌^◌, ◌<◌, ◌≤◌, min, max, ◌==◌, nat_le, nat_lt, Bool, if◌then◌else◌, List, length, map, slice_index_or, Option, None, Some, option_map, ◌⊎◌}
+use Rattle.std.specs.Prelude.{◌≡◌, ℕ, zero, suc, ◌+◌, ◌-◌, ◌*◌, ◌^◌, ◌<◌, ◌≤◌, min, max, ◌==◌, nat_le, nat_lt, Bool, if◌then◌else◌, List, length, map, slice_index_or, Option, None, Some, option_map, ◌⊎◌, slice_index}
 use Rattle.std.specs.List.{list_any}
 use Rattle.bench_types.specs.declared.entries.Entry.{Entry}
 use Rattle.bench_types.specs.declared.rows.Figures.{Figures}
@@ -38,6 +38,13 @@ at_least least held = option_map (λ e. max e.version least) held
 abbrev pub version_known : ℕ → Option Entry → Option ℕ
 version_known generation None = None
 version_known generation (Some e) = option_map (max e.version) (least_known generation e.generation)
+
+-- the versions that a row's entries count for, by key
+abbrev pub row_at_least : Table → ℕ → ℕ → ℕ → Option ℕ
+row_at_least t owner least = λ key. at_least least (entry_at t owner key)
+
+abbrev pub row_known : Table → ℕ → ℕ → ℕ → Option ℕ
+row_known t owner generation = λ key. version_known generation (entry_at t owner key)
 
 -- how long a version of a key has been behind an owner's list, if it is
 abbrev pub version_staleness : ℕ → List Write → ℕ → ℕ → Option ℕ
@@ -144,6 +151,42 @@ pub record AreSeenOnce (owners keys : ℕ) (seen : ℕ → ℕ → Copies → Co
   pub size : length after ≡ length before
   pub at : (at key : ℕ) (d : Copies) → at < owners → key < keys → slice_index_or after (at * keys + key) d ≡ seen at key (slice_index_or before (at * keys + key) d)
 
+-- before any table is gone over
+abbrev pub AreUnseen : ℕ → ℕ → List (List Write) → List Copies → Type 0
+AreUnseen owners keys lists copies = AreSeen owners keys (λ owner key. no_copies (current_of lists owner key)) copies
+
+-- a table may be gone over, and was, where the owners are in these generations
+abbrev pub HaveRoomForAll : Table → List Copies → Type 0
+HaveRoomForAll t copies =
+    (owner key : ℕ) (d : Copies) → owner < t.nodes → key < t.keys
+    → MayCountOne (slice_index_or copies (owner * t.keys + key) d)
+
+abbrev pub IsTableSeen : Table → List ℕ → List Copies → List Copies → Type 0
+IsTableSeen t generations before after =
+    AreSeenOnce t.nodes t.keys (λ owner key c. seen_in (slice_index generations owner) t owner key c) before after
+
+-- so many tables from one on were gone over
+abbrev pub AreSeenFrom : List Table → ℕ → ℕ → List Copies → List Copies → Type 0
+AreSeenFrom tables from count before after =
+    AreSeenOnce (length tables) (table_of_node tables 0).keys
+    (λ owner key c. copies_from tables owner key from count c) before after
+
+-- two parts may be put together, and were
+abbrev pub MayBeMerged : List Copies → List Copies → Type 0
+MayBeMerged one other =
+    (i : ℕ) (d : Copies) → i < length one → MayCountBoth (slice_index_or one i d) (slice_index_or other i d)
+
+abbrev pub AreMerged : List Copies → List Copies → List Copies → Type 0
+AreMerged one other both =
+    (i : ℕ) (d : Copies) → i < length one
+    → slice_index_or both i d ≡ merged (slice_index_or one i d) (slice_index_or other i d)
+
+-- an owner's keys from a place on are seen in so many tables
+abbrev pub AreSeenOf : List Table → List (List Write) → ℕ → ℕ → ℕ → List Copies → Type 0
+AreSeenOf tables lists count owner start copies =
+    (key : ℕ) (d : Copies) → key < (table_of_node tables 0).keys
+    → slice_index_or copies (start + key) d ≡ copies_of tables lists owner key count
+
 -- an owner's keys stand behind what stood before
 pub record AreAdded (writes : List Write) (keys : ℕ) (before after : List Copies) : Type 0 where
   pub size : length after ≡ length before + keys
@@ -156,6 +199,10 @@ key_staleness round tables lists r k = record {
   stale = sum_below (length tables) (λ p. stale_count (staleness_at round tables lists p r k));
   greatest = most_below (length tables) (λ p. rounds_behind (staleness_at round tables lists p r k));
 }
+
+-- the most rounds that one of so many copies of a key has been behind
+abbrev pub most_behind : ℕ → ℕ → List Table → List (List Write) → ℕ → ℕ → ℕ
+most_behind count round tables lists r k = most_below count (λ p. rounds_behind (staleness_at round tables lists p r k))
 
 abbrev pub owner_staleness : ℕ → List Table → List (List Write) → ℕ → Staleness
 owner_staleness round tables lists r = record {

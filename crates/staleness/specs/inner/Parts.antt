@@ -10,7 +10,8 @@ use Rattle.model.specs.Tables.{table_of_node, IsCluster}
 use Rattle.model.specs.declared.writes.Write.{Write}
 use Rattle.model.specs.Writes.{AreBornBy}
 use Rattle.staleness.specs.declared.copies.Copies.{Copies}
-use Rattle.staleness.specs.inner.Copies.{part_figures, no_copies, copies_of, part_copies, AreSeen, AreSeenOnce}
+use Rattle.staleness.specs.declared.staleness.Seen.{Seen}
+use Rattle.staleness.specs.inner.Copies.{generations_in, part_figures, no_copies, copies_of, part_copies, AreSeen, AreSeenOnce}
 
 -- what the figures of a round are counted from
 pub record AreCountable (round : ℕ) (tables : List Table) (lists : List (List Write)) : Type 0 where
@@ -48,6 +49,19 @@ pub record MayBegin (tables : List Table) (none : List Copies) : Type 0 where
   pub few : length tables ≤ MOST_NODES
   pub size : length none ≡ length tables * (table_of_node tables 0).keys
   pub blank : All (λ c. c ≡ no_copies c.current) none
+
+-- parts of so many tables may be gone over, where the owners are in these generations
+pub record MayPass (tables : List Table) (generations : List ℕ) (none : List Copies) (size : ℕ) : Type 0 where
+  pub some : 1 ≤ size
+  pub of_tables : generations ≡ generations_in tables
+  pub begins : MayBegin tables none
+
+-- and counted, once all tables were
+pub record MayCountParts (round : ℕ) (tables : List Table) (lists : List (List Write)) (size : ℕ) (seen : Seen) : Type 0 where
+  pub some : 1 ≤ size
+  pub countable : AreCountable round tables lists
+  pub generations : seen.generations.now ≡ generations_in tables
+  pub copies : AreAllSeen tables lists seen.copies.now
 
 -- what the tables of a part of so many hold of each owner's keys
 abbrev pub IsSeenInPart : List Table → List Copies → ℕ → ℕ → List Copies → Type 0

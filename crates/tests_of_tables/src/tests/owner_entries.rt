@@ -59,6 +59,16 @@ fn entry_under(mark: Mark, [key, value, born]: [u32; 3]) -> Entry {
     }
 }
 
+// Its generation, and how many writes it has of it.
+fn expect_counts(rt: &impl Abort, list: &OwnerList, wanted: [u32; 2]) {
+    expect_at(
+        rt,
+        [list.generation(), list.len()],
+        wanted,
+        "generation and writes",
+    );
+}
+
 fn expect_under(
     rt: &impl Abort,
     list: &OwnerList,
@@ -79,12 +89,7 @@ fn expect_under(
 #[test]
 fn a_write_of_any_generation_stands_under_its_mark(rt: HostRuntime) {
     let list = written(&rt, rt.alloc());
-    expect_at(
-        &rt,
-        [list.generation(), list.len()],
-        [2, 2],
-        "generation and writes",
-    );
+    expect_counts(&rt, &list, [2, 2]);
     for (mark, wanted) in UNDER {
         expect_under(&rt, &list, mark, wanted);
     }
@@ -94,12 +99,7 @@ fn a_write_of_any_generation_stands_under_its_mark(rt: HostRuntime) {
 fn a_list_that_forgot_is_as_a_new_one(rt: HostRuntime) {
     let mut list = written(&rt, rt.alloc());
     list.forget();
-    expect_at(
-        &rt,
-        [list.generation(), list.len()],
-        [0, 0],
-        "generation and writes",
-    );
+    expect_counts(&rt, &list, [0, 0]);
     for (mark, _) in UNDER {
         expect_under(&rt, &list, mark, None);
     }

@@ -22,6 +22,11 @@ pub record HasDone (plan : BoardPlan) (old : SeatView) (i : ℕ) (stamped : Stam
   pub put_back : IsPutBack plan old i freed new
   pub of_list : AreOfList plan freed
 
+-- a seat of a board has done so
+abbrev pub HasCarriedOut : {T : Type 0} → (T → Table) → Board T → Seat T → ℕ → Stamped → Freed → Seat T → Type 0
+HasCarriedOut table board old i stamped freed new =
+    HasDone (plan_of table board) (seat_view old) i stamped freed (seat_view new)
+
 -- a worker's seat keeps its parts, and whether it has called for a stop
 pub record StaysAtWork (old new : SeatView) : Type 0 where
   pub parts : new.parts ≡ old.parts
@@ -37,6 +42,9 @@ pub record IsFreshSeat {T : Type 0} (table : T → Table) (board : Board T) (sea
 pub record AreRecordsOf (plan : BoardPlan) (v : SeatView) (stamps : List Stamped) : Type 0 where
   pub made : map (λ s. s.index) stamps ≡ v.made
   pub sent : All (λ s. s.outcome ≡ (exchanged_at plan s.index).sent) stamps
+
+abbrev pub HasRecords : {T : Type 0} → (T → Table) → Board T → Seat T → List Stamped → Type 0
+HasRecords table board seat stamps = AreRecordsOf (plan_of table board) (seat_view seat) stamps
 
 -- the seat has seen that all is finished, or that a stop was called
 abbrev pub SeesTheEnd : BoardPlan → SeatView → Type 0

@@ -31,17 +31,21 @@ begun kept lists count first keys none copies some is one_each keys_are same see
     (subst (λ n. AreSeen n (table_of_node (tables_in kept) 0).keys (λ owner key. no_copies (current_of lists owner key)) copies) owners
     (subst (λ n. AreSeen count n (λ owner key. no_copies (current_of lists owner key)) copies) keys_is seen))
 
-pub copies_of_parts-requires-clause-begins : goal.copies_of_parts-requires-clause-begins
-copies_of_parts-requires-clause-begins g c κs within =
+pub copies_of_parts-requires-clause-pass : goal.copies_of_parts-requires-clause-pass
+copies_of_parts-requires-clause-pass g c κs within =
     let tables = tables_in c.args.tables.now in
     let counted = length-tables_in c.args.tables.now in
     let found = c.in-Some.ensures.item in
     let begins = begun c.args.tables.now (lists_in c.args.lists.now) (length c.args.lists.now) c.in-Some.table.now c.keys-keys.result c.deref.result.now c.in_ok-copies.copies.items (omega (arith, found.3.0)) found.1 c.requires.one_list_each c.keys-keys.ensures.value c.deref.ensures.value c.in_ok-copies.ensures in
     record {
-      cluster = subst (λ m. IsCluster m tables) (sym counted) c.requires.cluster;
-      few = omega (arith, counted, c.requires.few);
-      size = begins.size;
-      blank = seen_none tables (lists_in c.args.lists.now) c.args.size c.deref.result.now begins;
+      some = c.requires.some;
+      of_tables = c.requires.generations;
+      begins = record {
+        cluster = subst (λ m. IsCluster m tables) (sym counted) c.requires.cluster;
+        few = omega (arith, counted, c.requires.few);
+        size = begins.size;
+        blank = seen_none tables (lists_in c.args.lists.now) c.args.size c.deref.result.now begins;
+      };
     }
 
 pub loop-part-init : goal.loop-part-init

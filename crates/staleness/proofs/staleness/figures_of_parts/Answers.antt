@@ -9,7 +9,7 @@ use Rattle.staleness.proofs.staleness.figures_of_parts.Goals as goal
 pub collect-requires-clause-ready : goal.collect-requires-clause-ready
 collect-requires-clause-ready g c κs within =
     let ends = c.into_par_iter.ensures in
-    rw (c.map.ensures.base, c.map.ensures.f, c.with_min_len.ensures.base, ends.0, ends.1) (λ k d lt. ((c.requires.generations, c.requires.countable, c.requires.some, up_to_last (length c.args.tables.now / c.args.size) k d lt, c.requires.copies), λ y p. tt))
+    rw (c.map.ensures.base, c.map.ensures.f, c.with_min_len.ensures.base, ends.0, ends.1) (λ k d lt. ((c.requires, up_to_last (length c.args.tables.now / c.args.size) k d lt), λ y p. tt))
 
 pub returns : goal.returns
 returns g c =

@@ -10,8 +10,8 @@ use Rattle.workers.proofs.in_order.exchange_all.Goals as goal
 
 pub loop-i-preserved : goal.loop-i-preserved
 loop-i-preserved g c =
-    let rules = c.args.rules.now in
-    let es = c.args.list.now.exchanges in
+    let rules = c.args.work.rules.now in
+    let es = c.args.work.list.now.exchanges in
     let i = c.loop-i.i in
     let old = map g.T.MemoryTable.table c.args.tables.now in
     let new = map g.T.MemoryTable.table c.loop-i.tables in
@@ -24,32 +24,32 @@ loop-i-preserved g c =
 
 pub exchange_pair-requires-clause-tables : goal.exchange_pair-requires-clause-tables
 exchange_pair-requires-clause-tables g c =
-    let nodes = c.args.list.now.nodes in
+    let nodes = c.args.work.list.now.nodes in
     let old = map g.T.MemoryTable.table c.args.tables.now in
     let keys = (table_of_node old 0).keys in
     let new = c.loop-i.tables in
-    let fits = g.X.Exchanging.fits c.args.shared.now in
+    let fits = g.X.Exchanging.fits c.args.work.shared.now in
     let laws = g.met.X.Exchanging g.world.𝓛 g.world.𝓜 g.world.𝓡 ((λ s x. x), (λ x. x), (λ x. x), λ x. x) in
     let may = c.requires.tables in
     let planned = c.exchanges-plan-items.ensures.kept.planned in
-    let still = still_tables c.args.rules.now nodes keys c.args.list.now.exchanges old (map g.T.MemoryTable.table new) c.loop-i.records.items planned may.cluster c.loop-i.i c.loop-i.invariant in
+    let still = still_tables c.args.work.rules.now nodes keys c.args.work.list.now.exchanges old (map g.T.MemoryTable.table new) c.loop-i.records.items planned may.cluster c.loop-i.i c.loop-i.invariant in
     λ _ _. record {
       cluster = subst (λ n. IsCluster n (map g.T.MemoryTable.table new)) (sym still.size ∙ length-map new g.T.MemoryTable.table) (cluster_of nodes keys (map g.T.MemoryTable.table new) still);
       each_fits = subst (λ (s : Folded). HoldsOfEach fits s.tables) c.loop-i.invariant.folded
-          (before_keeps_each c.args.rules.now nodes keys c.args.list.now.exchanges old planned may.cluster fits (laws.stays_fit c.args.shared.now) may.each_fits c.loop-i.i);
+          (before_keeps_each c.args.work.rules.now nodes keys c.args.work.list.now.exchanges old planned may.cluster fits (laws.stays_fit c.args.work.shared.now) may.each_fits c.loop-i.i);
       budget = may.budget;
     }
 
 pub loop-i-init : goal.loop-i-init
 loop-i-init g c =
-    let rules = c.args.rules.now in
-    let es = c.args.list.now.exchanges in
+    let rules = c.args.work.rules.now in
+    let es = c.args.work.list.now.exchanges in
     let old = map g.T.MemoryTable.table c.args.tables.now in
     subst (λ records. IsTurned rules es old old records 0) (sym c.in_ok-records.ensures.items) (turned_none rules es old)
 
 pub returns-clause-exchanged : goal.returns-clause-exchanged
 returns-clause-exchanged g c =
-    let es = c.args.list.now.exchanges in
+    let es = c.args.work.list.now.exchanges in
     let i = c.loop-i.i in
     let all : take i es ≡ es = take_all i es (omega (arith, c.loop-i-test.false, ap length c.exchanges-plan-items.ensures.value)) in
-    sym (ap (fold_of c.args.rules.now (map g.T.MemoryTable.table c.args.tables.now)) all) ∙ c.loop-i.invariant.folded
+    sym (ap (fold_of c.args.work.rules.now (map g.T.MemoryTable.table c.args.tables.now)) all) ∙ c.loop-i.invariant.folded

@@ -22,14 +22,14 @@ run_list_with-requires-clause-tables g c _ _ = record {
       (nodes_cluster g.T.MemoryTable.table c.args.scenario.now c.args.round c.begin.new.self.tables.items (g.H.RoundHistories.lists c.begin.new.self.histories) c.in_ok-begin.ensures.standing);
   each_fits = λ n lt.
       c.stand_ready.ensures _ (each_begun c.args.scenario.now c.args.round _ _ _ c.requires.lawful c.requires.round.first c.requires.before.tables c.in_ok-begin.ensures.tables c.in_ok-begin.ensures.standing n lt);
-  budget = subst (λ (r : Rules). IsLawfulBudget r.budget) (sym c.requires.rules) (lawful_budget c.args.scenario.now.format c.args.scenario.now.budget c.requires.lawful.budget);
+  budget = subst (λ (r : Rules). IsLawfulBudget r.budget) (sym c.rules_of-rules.ensures) (lawful_budget c.args.scenario.now.format c.args.scenario.now.budget c.requires.lawful.budget);
 }
 
 -- the tables as the figures read them, and the lists
 read : (g : given.Over) (c : goal.After-deref g) → IsLeft g.T.MemoryTable.table c.args.scenario.now c.args.round c.deref.result.now (g.H.RoundHistories.lists c.begin.new.self.histories)
 read g c =
     subst (λ ts. IsLeft g.T.MemoryTable.table c.args.scenario.now c.args.round ts (g.H.RoundHistories.lists c.begin.new.self.histories)) (sym c.deref.ensures.value)
-    (is_left g.T.MemoryTable.table c.args.scenario.now c.args.round c.in_ok-list.list _ _ _ c.in_ok-tables.tables.items c.in_ok-tables.records.items _ c.requires.lawful c.requires.round.first (subst IsRoundPlan c.list.view_is c.list.invariant) c.in_ok-list.ensures.plan c.requires.rules c.requires.before.tables c.in_ok-begin.ensures.tables c.in_ok-begin.ensures.standing c.in_ok-tables.ensures.exchanged)
+    (is_left g.T.MemoryTable.table c.args.scenario.now c.args.round c.in_ok-list.list _ _ _ c.in_ok-tables.tables.items c.in_ok-tables.records.items _ c.requires.lawful c.requires.round.first (subst IsRoundPlan c.list.view_is c.list.invariant) c.in_ok-list.ensures.plan c.rules_of-rules.ensures c.requires.before.tables c.in_ok-begin.ensures.tables c.in_ok-begin.ensures.standing c.in_ok-tables.ensures.exchanged)
 
 pub figures-requires-clause-cluster : goal.figures-requires-clause-cluster
 figures-requires-clause-cluster g c = standing_cluster g.T.MemoryTable.table c.args.scenario.now c.args.round c.deref.result.now _ (read g c).standing
@@ -50,7 +50,7 @@ of-played-requires g c =
 -- what the round leaves
 left : (g : given.Over) (c : goal.After-of-played g) → IsLeft g.T.MemoryTable.table c.args.scenario.now c.args.round c.in_ok-tables.tables.items (g.H.RoundHistories.lists c.begin.new.self.histories)
 left g c =
-    is_left g.T.MemoryTable.table c.args.scenario.now c.args.round c.in_ok-list.list _ _ _ c.in_ok-tables.tables.items c.in_ok-tables.records.items _ c.requires.lawful c.requires.round.first (subst IsRoundPlan c.list.view_is c.list.invariant) c.in_ok-list.ensures.plan c.requires.rules c.requires.before.tables c.in_ok-begin.ensures.tables c.in_ok-begin.ensures.standing c.in_ok-tables.ensures.exchanged
+    is_left g.T.MemoryTable.table c.args.scenario.now c.args.round c.in_ok-list.list _ _ _ c.in_ok-tables.tables.items c.in_ok-tables.records.items _ c.requires.lawful c.requires.round.first (subst IsRoundPlan c.list.view_is c.list.invariant) c.in_ok-list.ensures.plan c.rules_of-rules.ensures c.requires.before.tables c.in_ok-begin.ensures.tables c.in_ok-begin.ensures.standing c.in_ok-tables.ensures.exchanged
 
 pub returns-clause-after : goal.returns-clause-after
 returns-clause-after g c =
@@ -61,7 +61,7 @@ pub returns-clause-played : goal.returns-clause-played
 returns-clause-played g c =
     let lists = g.H.RoundHistories.lists c.begin.new.self.histories in
     played_is c.args.scenario.now c.args.round (map g.T.MemoryTable.table c.args.self.tables.items) (map g.T.MemoryTable.table c.in_ok-tables.tables.items) lists c.in_ok-list.list c.in_ok-tables.records.items c.in_ok-lag.lag c.of-played.result c.in_ok-list.ensures.plan
-    (round_is c.args.scenario.now c.args.round c.in_ok-list.list (subst IsRoundPlan c.list.view_is c.list.invariant) c.in_ok-list.ensures.plan _ _ _ c.in_ok-tables.records.items c.in_ok-tables.ensures.exchanged (map g.T.MemoryTable.table c.args.self.tables.items) c.in_ok-begin.ensures.tables c.requires.rules)
+    (round_is c.args.scenario.now c.args.round c.in_ok-list.list (subst IsRoundPlan c.list.view_is c.list.invariant) c.in_ok-list.ensures.plan _ _ _ c.in_ok-tables.records.items c.in_ok-tables.ensures.exchanged (map g.T.MemoryTable.table c.args.self.tables.items) c.in_ok-begin.ensures.tables c.rules_of-rules.ensures)
     (c.in_ok-lag.ensures.figures ∙ ap (λ ts. figures_of c.args.round (map g.T.MemoryTable.table ts) (lists_in lists)) c.deref.ensures.value)
     c.of-played.ensures
 

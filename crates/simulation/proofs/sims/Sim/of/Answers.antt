@@ -9,7 +9,6 @@ invariant_of-result g c =
       ended = opened.ended;
       words = opened.words;
       may_write = c.requires;
-      of_scenario = c.rules_of.ensures;
     }
 
 pub returns-in-Ok-clause-empty : goal.returns-in-Ok-clause-empty

@@ -1,0 +1,35 @@
+-- The parts of a step, of tables and histories in memory: `table` gives the table of a value, and `lists` the owners'
+-- lists of histories. Source: this project.
+use Rattle.std.specs.Prelude.{◌≡◌, ℕ, List, map}
+use Rattle.model.specs.Table.{Table}
+use Rattle.model.specs.OwnerListView.{OwnerListView, list_of_owner}
+use Rattle.round_plan.specs.declared.owners.OwnWrite.{OwnWrite}
+use Rattle.round_tables.specs.Histories.{own_list}
+use Rattle.scenario.specs.Settings.{Settings}
+use Rattle.simulation.specs.Rounds.{begun}
+use Rattle.simulation.specs.Standing.{IsOwner, StandAfterRound}
+use Rattle.simulation.specs.inner.Steps.{begun_table, HasWritten, HasRestarted}
+
+-- what a round begins with, of one table and of all
+abbrev pub IsBegun : {T : Type 0} → (T → Table) → Settings → ℕ → ℕ → T → T → Type 0
+IsBegun table s round n old new = table new ≡ begun_table s round n (table old)
+
+abbrev pub AreBegun : {T : Type 0} → (T → Table) → Settings → ℕ → List T → List T → Type 0
+AreBegun table s round old new = map table new ≡ begun s round (map table old)
+
+module _ {T H : Type 0} (table : T → Table) (lists : H → List OwnerListView) where
+  -- all nodes' tables beside the lists, after a round
+  abbrev pub TablesStand : Settings → ℕ → List T → H → Type 0
+  TablesStand s round ts h = StandAfterRound s round (map table ts) (lists h)
+
+  -- one node's table beside its list, after a round, and after the restarts that it begins with
+  abbrev pub IsOwnerIn : Settings → ℕ → ℕ → T → H → Type 0
+  IsOwnerIn s round n t h = IsOwner s round n (table t) (list_of_owner (lists h) n)
+
+  abbrev pub IsRestartedIn : Settings → ℕ → ℕ → T → H → Type 0
+  IsRestartedIn s round n t h = HasRestarted s round n (table t) (list_of_owner (lists h) n)
+
+  -- these writes of a round were made in a node's table, and added to its list
+  abbrev pub WritesIn : ℕ → List OwnWrite → T → T → H → H → Type 0
+  WritesIn round writes old new h h' =
+      HasWritten round writes (table old) (table new) (own_list (table old) (lists h)) (own_list (table old) (lists h'))

@@ -3,6 +3,7 @@
 ghost use Rattle.std.specs.Prelude.{◌≤◌, ◌<◌, length};
 ghost use Rattle.node_table.specs.NodeTableView.{kept_table};
 ghost use Rattle.board.specs.Boards.{exchanges_of, IsSeatOf};
+ghost use Rattle.tests_of_boards.specs.Seats.{AreSeatsOf};
 
 use crate::tests::comparing::expect;
 use crate::tests::jobs::Job;
@@ -56,7 +57,7 @@ fn do_all<R: Abort + AllocGlobal + Threads + Wait + Sync>(
     seats: (Seat, Seat),
 ) -> Worked
     requires four { 4 ≤ length (exchanges_of job.now.board) }
-    requires seats { IsSeatOf kept_table seats.0 job.now.board × IsSeatOf kept_table seats.1 job.now.board }
+    requires seats { AreSeatsOf job.now.board seats.0 seats.1 }
     ensures seat { IsSeatOf kept_table result.seat job.now.board }
 {
     thread::scope(
@@ -64,7 +65,7 @@ fn do_all<R: Abort + AllocGlobal + Threads + Wait + Sync>(
         rt,
         |scope| -> Worked
             requires four { 4 ≤ length (exchanges_of job.now.board) }
-            requires seats { IsSeatOf kept_table seats.0 job.now.board × IsSeatOf kept_table seats.1 job.now.board }
+            requires seats { AreSeatsOf job.now.board seats.0 seats.1 }
         { do_all_in_scope(scope, rt, job, seats) },
     )
 }
@@ -77,7 +78,7 @@ fn do_all_in_scope<'s, 'e: 's, R: Abort + AllocGlobal + Threads + Sync>(
     seats: (Seat, Seat),
 ) -> Worked
     requires four { 4 ≤ length (exchanges_of job.now.board) }
-    requires seats { IsSeatOf kept_table seats.0 job.now.board × IsSeatOf kept_table seats.1 job.now.board }
+    requires seats { AreSeatsOf job.now.board seats.0 seats.1 }
     ensures seat { IsSeatOf kept_table result.seat job.now.board }
 {
     let (first, second) = seats;

@@ -3,6 +3,7 @@
 ghost use Rattle.std.specs.Prelude.{◌<◌, length};
 ghost use Rattle.node_table.specs.NodeTableView.{kept_table};
 ghost use Rattle.board.specs.Boards.{exchanges_of, IsSeatOf};
+ghost use Rattle.tests_of_boards.specs.Seats.{AreSeatsOf};
 
 use crate::tests::jobs::Job;
 use crate::tests::small_boards::{CROSSING, ONE_ENTRY, list_of};
@@ -88,7 +89,7 @@ fn work(rt: &(impl Abort + AllocGlobal), job: &Job, seat: Seat, order: Order) ->
 
 /// Joins what two threads came back with.
 pub(crate) fn together(rt: &impl Abort, board: &Board, mut first: Worked, second: Worked) -> Worked
-    requires seats { IsSeatOf kept_table first.seat board.now × IsSeatOf kept_table second.seat board.now }
+    requires seats { AreSeatsOf board.now first.seat second.seat }
     ensures seat { IsSeatOf kept_table result.seat board.now }
 {
     board.join(&mut first.seat, second.seat);
@@ -106,7 +107,7 @@ pub(crate) fn work_in_two<R: Abort + AllocGlobal + Threads + Sync>(
     seats: (Seat, Seat),
     order: Order,
 ) -> Worked
-    requires seats { IsSeatOf kept_table seats.0 job.now.board × IsSeatOf kept_table seats.1 job.now.board }
+    requires seats { AreSeatsOf job.now.board seats.0 seats.1 }
     ensures seat { IsSeatOf kept_table result.seat job.now.board }
 {
     let (first, second) = seats;
@@ -126,14 +127,14 @@ pub(crate) fn work_in_three<R: Abort + AllocGlobal + Threads + Sync>(
     others: (Seat, Seat),
 ) -> Worked
     requires first { IsSeatOf kept_table first job.now.board }
-    requires others { IsSeatOf kept_table others.0 job.now.board × IsSeatOf kept_table others.1 job.now.board }
+    requires others { AreSeatsOf job.now.board others.0 others.1 }
     ensures seat { IsSeatOf kept_table result.seat job.now.board }
 {
     let (one, two) = thread::join(
         rt,
         move || work(rt, job, first, Order::Shuffled),
         move || -> Worked
-            requires seats { IsSeatOf kept_table others.0 job.now.board × IsSeatOf kept_table others.1 job.now.board }
+            requires seats { AreSeatsOf job.now.board others.0 others.1 }
         { work_in_two(rt, job, others, Order::Ascending) },
     );
     together(rt, &job.board, one, two)
@@ -146,17 +147,17 @@ pub(crate) fn work_in_four<R: Abort + AllocGlobal + Threads + Sync>(
     firsts: (Seat, Seat),
     others: (Seat, Seat),
 ) -> Worked
-    requires firsts { IsSeatOf kept_table firsts.0 job.now.board × IsSeatOf kept_table firsts.1 job.now.board }
-    requires others { IsSeatOf kept_table others.0 job.now.board × IsSeatOf kept_table others.1 job.now.board }
+    requires firsts { AreSeatsOf job.now.board firsts.0 firsts.1 }
+    requires others { AreSeatsOf job.now.board others.0 others.1 }
     ensures seat { IsSeatOf kept_table result.seat job.now.board }
 {
     let (one, two) = thread::join(
         rt,
         move || -> Worked
-            requires seats { IsSeatOf kept_table firsts.0 job.now.board × IsSeatOf kept_table firsts.1 job.now.board }
+            requires seats { AreSeatsOf job.now.board firsts.0 firsts.1 }
         { work_in_two(rt, job, firsts, Order::Ascending) },
         move || -> Worked
-            requires seats { IsSeatOf kept_table others.0 job.now.board × IsSeatOf kept_table others.1 job.now.board }
+            requires seats { AreSeatsOf job.now.board others.0 others.1 }
         { work_in_two(rt, job, others, Order::Shuffled) },
     );
     together(rt, &job.board, one, two)

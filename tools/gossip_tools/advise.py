@@ -5,13 +5,16 @@ Says which mode and which budget to take for a cluster, how stale its copies get
 all modes with budgets around nodes * writes and what fits, under five seeds, on all cores: first few rounds, for a
 first answer, then what is to heal, then many rounds. Where no budget that fits is enough, it says so, and what would
 be. The folder, `advice` where none is named, gets the scenarios, the reports, `answer.txt` and the page `report.html`.
-It can be stopped: the same call goes on. Without numbers it takes those that the folder has.
+It can be stopped, which loses the runs under way: the same call goes on. Without numbers it takes those that the folder
+has. Restarts and a split may be asked for in one call, so that what comes before them is run once.
 
   nodes, keys, writes    how many nodes; the things that each tells of itself; how many of these change in an interval
   entry     the bytes of a mean entry: key, version and value
-  delta     the bytes of a packet, less what else is in it, such as headers
+  delta     the bytes of a packet, less what else is in it, such as headers. The 64 KB of a UDP datagram are at most
+            65507 bytes
   digest    the bytes that a digest has for each node (in a precise mode for each key): what names the node, its
-            generation and its version, as sent. Where it isn't given it is 0, and digests are free
+            generation and its version, as sent: about 20 for an IPv4 address, port, generation and version in binary,
+            60 and more with host names or UUIDs. Where it isn't given it is 0, and digests are free
   shared    `yes`, where it isn't given: digest and delta share the packet; `no`, the digest has one of its own
   loss      how many messages of a hundred are lost, 0 where it isn't given
   interval  the seconds between two exchanges that a node begins, 1 where it isn't given
@@ -28,6 +31,7 @@ It can be stopped: the same call goes on. Without numbers it takes those that th
 """
 import hashlib
 import os
+import shlex
 import sys
 import tomllib
 from fractions import Fraction
@@ -36,8 +40,8 @@ from gossip_tools import answer, cluster, files, page, rules, running, scenario,
 from gossip_tools.commands import Refused, folder_of, the_program, workers
 from gossip_tools.progress import Progress, in_words
 
-USUAL = {"digest": "0", "shared": "yes", "loss": "0", "interval": "1", "restarts": "0", "forget": "no", "split": "30",
-         "count": None}
+USUAL = {"digest": "0", "shared": "yes", "loss": "0", "interval": "1", "restarts": "0", "forget": "no",
+         "split": str(study.USUAL_SPLIT), "count": None}
 CALL = "gossip_advise nodes=1000 keys=4 writes=1 entry=40 delta=64000 digest=20 loss=1"
 
 
@@ -123,11 +127,22 @@ def look(folder):
         raise Refused(f"{folder} isn't empty and has no answer: name a new folder by -o.")
 
 
+def call_with_enough(decision, folder):
+    """The whole call with room for nodes * writes entries, into another folder; empty where it has that already, and
+    where that wasn't enough either."""
+    if decision.suffices or not decision.knee_suffices():
+        return ""
+    told = decision.study.told | {"delta": decision.study.packet(decision.mode)}
+    words = {name: str(as_text(told[name])) for name in (*cluster.NEEDED, *USUAL) if told[name] is not None}
+    asked = [f"{name}={text}" for name, text in words.items() if text != USUAL.get(name)]
+    return shlex.join(["gossip_advise", "-o", f"{folder}-enough", *asked])
+
+
 def first_answer(it, stages):
     """The first answer, from few rounds, and what heals with its budget. Whether many rounds are still worth while,
     which they aren't where no budget that fits is enough, be it after many rounds."""
     few = answer.Decision(it, stages.carry_out("few"), rules.FEW_WINDOW)
-    print(*answer.first_words(few), sep="\n", flush=True)
+    print(*answer.first_words(few, call_with_enough(few, stages.folder)), sep="\n", flush=True)
     if not few.suffices:
         print(flush=True)
         stages.plan("knee", budgets=it.few_budgets())
@@ -137,7 +152,7 @@ def first_answer(it, stages):
     healed = {}
     for stage in study.HEALED:
         healed[stage] = stages.carry_out(stage, few.mode, [few.budget])
-        print(*answer.Healing(it, few.mode, healed).lines(stage, few.budget), sep="\n", flush=True)
+        print(*answer.Healing(it, few.mode, healed).lines_now(stage, few.budget), sep="\n", flush=True)
     print("All of it is refined now.", "", sep="\n", flush=True)
     return few
 
@@ -151,9 +166,10 @@ def study_of(it, folder, program, check_sum):
     if decision.suffices:
         healed = {stage: stages.carry_out(stage, decision.mode) for stage in study.HEALED}
         healing = answer.Healing(it, decision.mode, healed)
-    lines = answer.in_words(decision, healing)
+    call = call_with_enough(decision, folder)
+    lines = answer.in_words(decision, healing, call)
     files.put(folder / "answer.txt", "\n".join(lines) + "\n")
-    said = page.make(folder, decision, healing, check_sum)
+    said = page.make(folder, decision, healing, check_sum, call)
     print(*lines, "", said, sep="\n")
 
 

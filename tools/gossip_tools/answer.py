@@ -84,9 +84,14 @@ class Decision:
                 f"{' and the digest' if with_digest else ''}")
         if (at_knee, self.mode) not in self.found.rows:
             return said
-        if not self.found.suffices(at_knee, self.mode, self.window):
+        if not self.knee_suffices():
             return f"{said}, where `greatest` still rises too"
         return f"{said}, worst staleness {in_rounds(self.found.worst(at_knee, self.mode, self.window))} with that"
+
+    def knee_suffices(self):
+        """Whether nodes * writes entries, where they were run, are enough."""
+        at_knee = self.study.knee, self.mode
+        return at_knee in self.found.rows and self.found.suffices(*at_knee, self.window)
 
     def of_knee(self):
         """How the budget stands to nodes * writes."""
@@ -100,6 +105,21 @@ class Decision:
 
     def takes(self):
         """The decision, in words."""
+        return f"{self.mode} with {self.room()}"
+
+    def most_that_fits(self):
+        """The largest budget where none is enough, in words. The modes there all still rise, so none is named."""
+        return (f"The most that fits: {self.room()}. No mode can be preferred with that, as `greatest` still rises in "
+                "each.")
+
+    def forgetful(self):
+        """The mode to take where nodes forget and the budget is short, in words; empty where that isn't so."""
+        if self.study.told["forget"] == "no" or self.budget >= self.study.knee:
+            return ""
+        return f"As nodes forget and the budget is below nodes * writes, {rules.FORGETFUL}, maybe for ever."
+
+    def room(self):
+        """The budget, in words."""
         it = self.study
         in_bytes = self.whole_budget() * it.told["entry"]
         why = self.times()
@@ -107,7 +127,7 @@ class Decision:
             why = f"nodes * keys, above which nothing changes; {why}"
         elif self.budget == it.fits[self.mode]:
             why = f"what fits; {why}"
-        return f"{self.mode} with room for {self.whole_budget()} entries in a delta, {int(in_bytes)} bytes ({why})"
+        return f"room for {self.whole_budget()} entries in a delta, {int(in_bytes)} bytes ({why})"
 
 
 class Healing:
@@ -132,7 +152,9 @@ class Healing:
         """What is healed and how long it takes; below a split what is counted, below restarts how long to wait."""
         it = self.study
         each, ends = it.restarting()
-        many = f"of {in_nodes(each)} in each of {ends - it.begins + 1} rounds" if it.restarts else "of one node"
+        groups = ends - it.begins + 1
+        harder = ", a harder test than one group" if groups > 1 else ""
+        many = f"of {in_nodes(each)} in each of {groups} rounds{harder}" if it.restarts else "of one node"
         for_all = f", which stand for {it.told['split']}" if it.split < it.told["split"] else ""
         what = f"of half of the nodes for {it.split} rounds{for_all}" if stage == "split" else many
         run = f" ({it.nodes} nodes run)" if it.parts > 1 else ""
@@ -140,17 +162,43 @@ class Healing:
         took = f"{ENDS[stage]} after {rounds}, {time}" if time else rounds
         lines = [row(HEALED[stage], f"{what}: {took}{run}")]
         if stage == "split":
-            lines += [row("", it) for it in textwrap.wrap(COUNTED, IN_A_ROW)]
-        if stage == "forgotten":
-            lines.append(row(ROLLING, f"{self.wait(budget)}{run}"))
+            lines += [row("", it) for it in textwrap.wrap(self.counted(), IN_A_ROW)]
         return lines
+
+    def lines_now(self, stage, budget):
+        """The lines of a stage as soon as it is run. How long to wait is known from the restart; where nodes forget,
+        at least, until the forgotten state is run too."""
+        lines = self.lines(stage, budget)
+        if stage == self.leaves()[-1]:
+            lines.append(self.rolling(budget))
+        elif stage == "restart" and None not in self.taken(stage, budget):
+            lines.append(row(ROLLING, self.wait_at_least(budget)))
+        return lines
+
+    def rolling(self, budget):
+        """The line that says how long to wait between the groups of a rolling restart."""
+        run = f" ({self.study.nodes} nodes run)" if self.study.parts > 1 else ""
+        return row(ROLLING, f"{self.wait(budget)}{run}")
+
+    def counted(self):
+        """What the rounds of a split are, in words."""
+        return f"N rounds after the last round of the split {rules.HEALED.format(*self.study.before)}"
+
+    def leaves(self):
+        """The stages that tell what a restart leaves, in their order."""
+        return ("restart", "forgotten") if self.study.told["forget"] == "yes" else ("restart",)
 
     def waited(self, budget):
         """The rounds to wait between the groups of a rolling restart: until what a restart leaves is over under each
         seed, and some more. None where some of it isn't over in the rounds that were run."""
-        stages = ("restart", "forgotten") if self.study.told["forget"] == "yes" else ("restart",)
-        taken = [it for stage in stages for it in self.taken(stage, budget)]
+        taken = [it for stage in self.leaves() for it in self.taken(stage, budget)]
         return None if None in taken else max(taken) + rules.WAIT_MORE
+
+    def wait_at_least(self, budget):
+        """How long to wait as far as the restart alone tells, in words."""
+        rounds = [max(self.taken("restart", budget)) + rules.WAIT_MORE]
+        return (f"wait at least {in_rounds(rounds)}, {in_time(rounds, self.study.told['interval'])}, by the restart "
+                "alone; the forgotten state is still to be run")
 
     def wait(self, budget):
         """How long to wait between the groups of a rolling restart, in words."""
@@ -167,7 +215,6 @@ class Healing:
 HEALED = {"split": "a split", "restart": "a restart", "forgotten": "a forgotten state"}
 ENDS = {"split": "healed", "restart": "healed", "forgotten": "gone"}
 ROLLING = "a rolling restart"
-COUNTED = f"Counted from the round in which the split ends to the first in which it is healed: {rules.HEALED}."
 IN_A_ROW = 98
 
 
@@ -176,16 +223,33 @@ def row(name, said):
     return f"  {name:<19} {said}"
 
 
-def first_words(decision):
+def first_words(decision, call=""):
     """The first answer, from few rounds."""
-    few = rules.FEW_ROUNDS
+    few, to_knee = rules.FEW_ROUNDS, decision.to_knee()
+    free = [] if decision.study.told["digest"] else of_digest(decision)
     if decision.suffices:
-        return [f"First answer, from {few} rounds: {decision.takes()}.",
-                f"Worst staleness {decision.staleness()}.",
-                *([f"That is below nodes * writes. {decision.to_knee()}."] if decision.to_knee() else [])]
-    return [f"First answer, from {few} rounds: no budget that fits is enough, still rising after {few} rounds.",
-            f"The most that fits: {decision.takes()}.", *([f"{decision.to_knee()}."] if decision.to_knee() else []),
-            f"Whether it levels off later is seen from {rules.MANY_ROUNDS} rounds now."]
+        said = [f"First answer, from {few} rounds: {decision.takes()}.", f"Worst staleness {decision.staleness()}.",
+                f"That is below nodes * writes. {to_knee}." if to_knee else "", decision.forgetful(), *free]
+    else:
+        said = [f"First answer, from {few} rounds: no budget that fits is enough, still rising after {few} rounds.",
+                decision.most_that_fits(), decision.forgetful(), f"{to_knee}." if to_knee else "", *free,
+                f"Whether it levels off later is seen from {rules.MANY_ROUNDS} rounds now."]
+        if call and decision.study.asks_for_healing():
+            said += [f"{WHAT_HEALS} are run only if it does. To see them with a budget that is enough:", f"  {call}"]
+    return [it for it in said if it]
+
+
+WHAT_HEALS = "A split, a restart and a rolling restart"
+
+
+def not_run(decision, call):
+    """That nothing was run that heals, and the call that runs it. Short where nothing of it was asked for."""
+    it = decision.study
+    if not it.asks_for_healing():
+        return [f"Nor was a split or a restart run: give delta={it.packet(decision.mode)} and another folder to see "
+                "them."] if call else []
+    why = f"{WHAT_HEALS} were not run, as no budget that fits is enough."
+    return [f"{why} To see them with a budget that is:", f"  {call}"] if call else [why]
 
 
 def too_close(decision):
@@ -215,7 +279,8 @@ def warnings(decision):
         said.append("The budget is below nodes * writes, the knee above which a larger one hardly helps, so copies lag "
                     f"more than they have to. {decision.to_knee()}. Else "
                     f"{own}a shorter entry or fewer writes would help.")
-    said += of_digest(decision)
+    said += [decision.forgetful()] if decision.forgetful() else []
+    said += of_digest(decision) + of_datagrams(decision)
     if it.in_bytes:
         said.append("With room for so few entries a large one holds up smaller ones behind it: give the delta room for "
                     "one mean entry more than the sum says.")
@@ -227,6 +292,12 @@ def warnings(decision):
                     f"{rules.TENTH}")
         if not rules.tenth_holds(decision.of_knee()):
             said.append(f"This budget is {decision.times()}, where a tenth wasn't seen to hold.")
+    return said + (of_healing(it) if decision.suffices else [])
+
+
+def of_healing(it):
+    """What was run of a split and of restarts, where that isn't what was asked for."""
+    said = []
     if it.split < it.told["split"]:
         said.append(f"A split of {it.split} rounds was run in place of {int(it.told['split'])}: each key was written "
                     "anew meanwhile, so a longer one leaves no more to catch up with.")
@@ -240,8 +311,10 @@ def warnings(decision):
     return said
 
 
-# The bytes of a number in a sum that shows what a digest that wasn't told would take.
-SUPPOSED = 10
+# The bytes of a number in a sum that shows what a digest that wasn't told would take, and where they come from.
+SUPPOSED = 20
+TYPICAL = (f"What names a node, its generation and its version, as sent, takes about {SUPPOSED} bytes for an IPv4 "
+           "address, port, generation and version in binary, and 60 and more with host names or UUIDs.")
 
 
 def of_digest(decision):
@@ -250,11 +323,20 @@ def of_digest(decision):
     numbers = scenario.digest_numbers(int(told["nodes"]), it.keys, decision.mode)
     if not told["digest"]:
         return [f"You gave no digest, so it is free here. With digest={SUPPOSED} its {numbers} numbers would take "
-                f"{numbers * SUPPOSED} bytes."]
+                f"{numbers * SUPPOSED} bytes. {TYPICAL}"]
     if told["shared"] == "no" and it.digest_bytes(decision.mode) > told["delta"]:
         return [f"The digest has {numbers} numbers of {told['digest']} bytes, which fit no packet of {told['delta']}: "
                 "it would have to go in several."]
     return []
+
+
+def of_datagrams(decision):
+    """That a packet is more than one datagram."""
+    largest = max(int(decision.study.told["delta"]), decision.study.packet(decision.mode) if decision.to_knee() else 0)
+    if largest <= rules.DATAGRAM:
+        return []
+    return [f"The 64 KB of a UDP datagram are at most {rules.DATAGRAM} bytes: delta={largest} takes several of them, or "
+            "TCP."]
 
 
 def left_out(decision):
@@ -282,6 +364,8 @@ def left_out(decision):
         more = int(told["nodes"] * it.writes + told["restarts"] * it.keys)
         said.append("In Cassandra a node tells all its keys as it starts, here as many as it writes: reckon with "
                     f"nodes * writes + restarts * keys = {more} in place of nodes * writes.")
+    elif not decision.suffices:
+        return said
     elif told["restarts"]:
         said.append("Generations: a node that restarts keeps its own state here; forget=yes lets it lose that too.")
     else:
@@ -295,18 +379,23 @@ def none_fits(decision):
     return f"No budget that fits is enough: still rising after {decision.window[1]} rounds"
 
 
-def in_words(decision, healing):
-    """The answer, line by line. Without a budget that is enough there is no healing."""
+def in_words(decision, healing, call=""):
+    """The answer, line by line. Without a budget that is enough there is no healing, but a call that has it."""
     first, last = decision.window
-    takes = "Take" if decision.suffices else f"{none_fits(decision)}. The most that fits:"
+    takes = f"Take {decision.takes()}." if decision.suffices else f"{none_fits(decision)}. {decision.most_that_fits()}"
     in_window = f": the most of `greatest` in rounds {first} to {last}, least and most of {len(rules.SEEDS)} seeds"
     in_window = in_window if decision.suffices else ""
-    lines = [f"{takes} {decision.takes()}.", "", row("worst staleness", f"{decision.staleness()}{in_window}"),
-             row("share cut", f"{span(decision.cut, 2)} % of what was lacking")]
+    in_mode = "" if decision.suffices else f", in {decision.mode}"
+    lines = [takes, "", row("worst staleness", f"{decision.staleness()}{in_window}"),
+             row("share cut", f"{span(decision.cut, 2)} % of what was lacking{in_mode}")]
     for stage in HEALED if healing else ():
         lines += healing.lines(stage, decision.budget)
+    if healing:
+        lines.append(healing.rolling(decision.budget))
     if not decision.suffices and decision.to_knee():
         lines.append(row("enough", decision.to_knee()))
+    if not decision.suffices and (said := not_run(decision, call)):
+        lines += ["", *said]
     for head, said in (("Mind", warnings(decision)), ("Too close to call", too_close(decision)),
                        ("Left out for this cluster", left_out(decision))):
         lines += ["", f"{head}:", *(f"  - {one}" for one in said)] if said else []

@@ -65,8 +65,16 @@ def cards(decision, healing):
 
 
 def what_is_counted(healing):
-    """From when to when healing is counted."""
-    return f"<p><small>A split: {told(answer.COUNTED)}</small></p>" if healing else ""
+    """What the rounds of healing are."""
+    return f"<p><small>A split: {told(healing.counted())}</small></p>" if healing else ""
+
+
+def what_is_not_run(decision, call):
+    """That nothing was run that heals, and the call for it."""
+    if decision.suffices:
+        return ""
+    return "".join(f"<pre>{html.escape(it.strip())}</pre>" if it.startswith(" ") else f"<p>{told(it)}</p>"
+                   for it in answer.not_run(decision, call))
 
 
 def captions(decision, healing):
@@ -150,8 +158,8 @@ def made_of(folder, decision, healing, check_sum):
             f"<code>gnuplot NAME.gnuplot</code>.</p><pre>gossip_advise {told(call)}</pre>{text}")
 
 
-def make(folder, decision, healing, check_sum):
-    """Writes the page, and says where it is."""
+def make(folder, decision, healing, check_sum, call=""):
+    """Writes the page, and says where it is. The call is one with a budget that is enough, where none is here."""
     it = decision.study
     first, last = decision.window
     tenth = f", of which {it.nodes} were run; budgets are those of all" if it.parts > 1 else ""
@@ -167,7 +175,7 @@ def make(folder, decision, healing, check_sum):
 {it.writes}; messages lost: {float(it.told['loss']):g} %. All figures go from the least to the most of
 {len(rules.SEEDS)} seeds.</p>
 <div class="cards">{cards(decision, healing)}</div>
-{what_is_counted(healing)}
+{what_is_counted(healing)}{what_is_not_run(decision, call)}
 {listed("Mind", answer.warnings(decision), "mind")}
 {pictures(folder, decision, healing)}
 <h2>Worst staleness and share cut</h2>

@@ -106,8 +106,14 @@ def counts_bytes(room):
 
 
 # When a split and a restart count as healed. What they heal from ends with a last round, the one that counts as 0.
-HEALED = ("`greatest`, the age of the oldest write that some copy lacks, is at most one round above the highest value "
-          "that it had before")
+HEALED = ("the age of the oldest missing write was for the first time at most one round above its highest value in "
+          "rounds {} to {} before the split; it may rise above that again for some rounds. Copies are then as stale as "
+          "usual, not equal.")
+# Which mode to take where nodes forget and a budget is below `nodes * writes`.
+FORGETFUL = ("take `scuttle-breadth`, or better a larger budget. In `scuttle-depth` a node that has just begun anew has "
+             "few keys, so others come first, and its old state stays")
+# The most bytes of a packet that is one datagram of UDP.
+DATAGRAM = 65507
 
 
 # How many rounds more than the longest of the seeds to wait between groups of a rolling restart. Each group is one draw

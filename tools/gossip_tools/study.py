@@ -13,6 +13,7 @@ from gossip_tools import cluster, read, rules, scenario
 # What is to be healed begins once the tables have filled and `greatest` is level: after so many rounds, of which the
 # last ones tell the level, and later with a budget below the knee.
 FILLING, LEVEL = 30, 20
+USUAL_SPLIT = 30
 RESTARTING = 10
 # So many mean entries the format that counts bytes takes at least.
 LEAST = 2
@@ -74,6 +75,10 @@ class Study:
                 f"renew and gets about two deltas of {budget} entries in a round, so the worst staleness is at least "
                 f"{rounds} rounds; room for nodes * writes = {self.whole(self.knee)} entries takes "
                 f"delta={self.packet(rules.USUAL_MODE)}.")
+
+    def asks_for_healing(self):
+        """Whether restarts or a split were asked for."""
+        return bool(self.told["restarts"]) or self.told["split"] != USUAL_SPLIT
 
     def digest_bytes(self, mode):
         """The bytes of a whole digest."""

@@ -90,7 +90,7 @@ def carry_out(path, text, runs, program, progress, hosts=None, what="gossip_swee
             finally:
                 progress.end()
     except running.Stopped as stopped:
-        why, status = f"stopped by {stopped}", stopped.status
+        why, status = f"stopped by {stopped}, which loses the runs under way", stopped.status
     except running.Failed as failed:
         why, status = f"a run failed: {failed}", 1
     except OSError as error:

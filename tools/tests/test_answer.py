@@ -1,7 +1,8 @@
 """From figures to a decision and its words, by hand."""
+import pathlib
 import unittest
 
-from gossip_tools import advise, answer, cluster, study
+from gossip_tools import advise, answer, cluster, rules, study
 from gossip_tools.progress import Progress, in_words
 
 WINDOW = (101, 200)
@@ -62,9 +63,47 @@ class Decided(unittest.TestCase):
             self.assertEqual(("scuttle-depth", False, f"delta={delta}, worst staleness 7 to 8 rounds with that"),
                              (found.mode, found.suffices, found.to_knee()))
             lines = answer.in_words(found, None)
-            self.assertIn("No budget that fits is enough: still rising after 200 rounds. The most that fits: "
-                          "scuttle-depth with room for 28 entries in a delta, 1120 bytes", lines[0])
+            self.assertIn("No budget that fits is enough: still rising after 200 rounds. The most that fits: room for "
+                          "28 entries in a delta, 1120 bytes", lines[0])
+            self.assertTrue(lines[0].endswith("No mode can be preferred with that, as `greatest` still rises in each."))
             self.assertIn("  worst staleness     not bounded: still rising after 200 rounds", lines)
+
+    def test_nothing_is_run_that_heals(self):
+        """28 entries fit of 600, for which the delta is 24000 bytes. The call has the words that aren't the usual ones,
+        and comes where a split or restarts were asked for, and where the 600 are enough."""
+        usual = "gossip_advise -o 'my advice-enough' nodes=300 keys=4 writes=2 entry=40 delta=24000 digest=10 shared=no "
+        why = "A split, a restart and a rolling restart were not run, as no budget that fits is enough."
+        see = f"{why} To see them with a budget that is:"
+        cases = {
+            ("restarts=5 forget=yes loss=0.5", True): [see, f"  {usual}loss=0.5 restarts=5 forget=yes"],
+            ("split=600 count=bytes", True): [see, f"  {usual}split=600 count=bytes"],
+            ("split=30", True): ["Nor was a split or a restart run: give delta=24000 and another folder to see them."],
+            ("split=600", False): [why], ("", False): [],
+        }
+        for (more, is_enough), said in cases.items():
+            words = f"nodes=300 keys=4 writes=2 entry=40 digest=10 delta=1120 shared=no {more}"
+            it = study.Study(cluster.told(words.split(), advise.USUAL, advise.CALL))
+            worst = {(budget, mode): [150, 150] for mode in it.fits for budget in (28, 600)}
+            rising = [at for at in worst if at[0] == 28 or not is_enough]
+            found = answer.Decision(it, Figures(worst, rising), WINDOW)
+            call = advise.call_with_enough(found, pathlib.Path("my advice"))
+            self.assertEqual(said, answer.not_run(found, call))
+            lines = answer.in_words(found, None, call)
+            self.assertEqual(said, [line for line in lines if line in said])
+            self.assertFalse([line for line in lines if "What was run are" in line or "was run in place of" in line])
+
+    def test_forgetful(self):
+        """Below the knee of 600 the rule for nodes that forget is told, be the budget enough or not."""
+        depth, rising = {(300, "scuttle-depth"): [7, 8], (600, "scuttle-depth"): [7, 8]}, (500, "scuttle-depth")
+        for more, is_told in (("forget=yes", True), ("", False)):
+            for rises in ([], [rising]):
+                words = f"nodes=300 keys=4 writes=2 entry=40 delta=20000 {more}".split()
+                it = study.Study(cluster.told(words, advise.USUAL, advise.CALL))
+                worst = depth | {(500, mode): [7, 8] for mode in it.fits}
+                found = answer.Decision(it, Figures(worst, rises), WINDOW)
+                self.assertEqual(is_told, rules.FORGETFUL in found.forgetful())
+                self.assertEqual(is_told, found.forgetful() in answer.warnings(found))
+                self.assertEqual(is_told, found.forgetful() in answer.first_words(found))
 
     def test_first_answer_below_the_knee(self):
         """400 entries of 40 bytes fit of 300 * 2, which take 24000, and with the digest of 300 numbers 27000. A knee
@@ -83,7 +122,7 @@ class Decided(unittest.TestCase):
 
     def test_first_answer_from_the_knee_on(self):
         depth = {(budget, "scuttle-depth"): [7, 8] for budget in (300, 600, 1000)}
-        self.assertEqual(2, len(answer.first_words(decided(depth))))
+        self.assertEqual(2, len(answer.first_words(decided(depth, more="digest=1 shared=no"))))
 
     def test_a_tenth(self):
         """1000 of 10000 nodes are run, with a tenth of the 11000 entries that fit. Budgets are told for all."""
@@ -105,10 +144,12 @@ class Decided(unittest.TestCase):
         self.assertTrue(any("has to wait longer than 13 rounds" in it for it in answer.left_out(found)))
 
     def test_no_digest(self):
-        """300 numbers of 10 bytes are 3000, and those of precise modes 12000."""
+        """300 numbers of 20 bytes are 6000. It is told in the first answer too."""
         depth = {(budget, "scuttle-depth"): [7, 8] for budget in (300, 600, 1000)}
-        self.assertEqual(["You gave no digest, so it is free here. With digest=10 its 300 numbers would take 3000 "
-                          "bytes."], answer.of_digest(decided(depth)))
+        said = answer.of_digest(decided(depth))
+        self.assertEqual([f"You gave no digest, so it is free here. With digest=20 its 300 numbers would take 6000 "
+                          f"bytes. {answer.TYPICAL}"], said)
+        self.assertEqual(said, answer.first_words(decided(depth))[2:])
         self.assertEqual([], answer.of_digest(decided(depth, more="digest=1 shared=no")))
         large = answer.of_digest(decided(depth, more="digest=200 shared=no"))
         self.assertIn("300 numbers of 200 bytes, which fit no packet of 40000", large[0])
@@ -136,10 +177,12 @@ def healing(more="", **taken):
 class Healed(unittest.TestCase):
     def test_split(self):
         """Below the line stands what is counted, in the words of the guide."""
-        line, *counted = healing(split=[10, 13]).lines("split", 200)
+        it = healing(split=[10, 13])
+        line, *counted = it.lines("split", 200)
         self.assertEqual("  a split             of half of the nodes for 30 rounds: healed after 10 to 13 rounds, 5.0 "
                          "to 6.5 s", line)
-        self.assertEqual(answer.COUNTED, " ".join(map(str.strip, counted)))
+        self.assertEqual(it.counted(), " ".join(map(str.strip, counted)))
+        self.assertEqual(f"N rounds after the last round of the split {rules.HEALED.format(31, 50)}", it.counted())
         self.assertTrue(all(len(it) <= 120 for it in counted))
 
     def test_long_split(self):
@@ -165,9 +208,29 @@ class Healed(unittest.TestCase):
         }
         cases = {more: f"{said}, as a later group may take longer" for more, said in cases.items()}
         self.assertEqual(cases, {more: healing(more, **both).wait(200) for more in cases})
-        self.assertEqual(f"  a rolling restart   {cases['']}", healing(**both).lines("forgotten", 200)[1])
+        self.assertEqual(f"  a rolling restart   {cases['']}", healing(**both).rolling(200))
         self.assertEqual("no wait is known, as not all of this is over in the rounds that were run: take a larger "
                          "budget", healing(restart=[6, None], forgotten=[7, 8]).wait(200))
+
+    def test_wait_at_once(self):
+        """Where nodes forget, the restart alone tells the least wait; where they don't, the wait."""
+        def waits(stage, more, **taken):
+            lines = healing(f"restarts=5 {more}", **taken).lines_now(stage, 200)
+            return [it.partition(", ")[0] for it in lines if it.startswith(f"  {answer.ROLLING} ")]
+
+        at_least, known = "  a rolling restart   wait at least 9 rounds", "  a rolling restart   wait 9 rounds"
+        restart, forgotten = {"restart": [6, 7]}, {"restart": [6, 7], "forgotten": [8, 6]}
+        self.assertEqual([at_least], waits("restart", "forget=yes", **restart))
+        self.assertEqual([known.replace("9", "10")], waits("forgotten", "forget=yes", **forgotten))
+        self.assertEqual([known], waits("restart", "", **restart))
+        self.assertEqual([], waits("forgotten", "", **forgotten))
+        self.assertEqual([], waits("restart", "forget=yes", restart=[6, None]))
+
+    def test_groups(self):
+        """Ten groups are a harder test than the one node that is looked at otherwise."""
+        line = healing("restarts=5", restart=[6, 7]).lines("restart", 200)[0]
+        self.assertIn(" of 5 nodes in each of 10 rounds, a harder test than one group: healed", line)
+        self.assertIn(" of one node: healed", healing(restart=[6, 7]).lines("restart", 200)[0])
 
 
 class Words(unittest.TestCase):

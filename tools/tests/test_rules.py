@@ -56,8 +56,9 @@ class Enough(unittest.TestCase):
         self.assertEqual(8, rules.healed_level(7))
 
     def test_words_of_the_guide(self):
-        guide = pathlib.Path(__file__).resolve().parents[2] / "docs/guide.md"
-        self.assertIn(rules.HEALED, guide.read_text())
+        guide = (pathlib.Path(__file__).resolve().parents[2] / "docs/guide.md").read_text()
+        self.assertIn(rules.HEALED.format(31, 50), guide)
+        self.assertIn(rules.FORGETFUL, guide)
 
 
 class Budgets(unittest.TestCase):

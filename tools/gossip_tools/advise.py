@@ -161,15 +161,16 @@ def study_of(it, folder, program, check_sum):
     """Carries out the stages, and prints the answers."""
     stages = Stages(it, folder, program)
     decision, healing = first_answer(it, stages), None
+    was_enough = decision.suffices
     if decision.suffices:
         decision = answer.Decision(it, stages.carry_out("knee"), rules.MANY_WINDOW)
     if decision.suffices:
         healed = {stage: stages.carry_out(stage, decision.mode) for stage in study.HEALED}
         healing = answer.Healing(it, decision.mode, healed)
-    call = call_with_enough(decision, folder)
-    lines = answer.in_words(decision, healing, call)
+    missing = answer.not_run(decision, call_with_enough(decision, folder), was_enough)
+    lines = answer.in_words(decision, healing, missing)
     files.put(folder / "answer.txt", "\n".join(lines) + "\n")
-    said = page.make(folder, decision, healing, check_sum, call)
+    said = page.make(folder, decision, healing, check_sum, missing)
     print(*lines, "", said, sep="\n")
 
 

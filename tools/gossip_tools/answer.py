@@ -110,7 +110,7 @@ class Decision:
     def most_that_fits(self):
         """The largest budget where none is enough, in words. The modes there all still rise, so none is named."""
         return (f"The most that fits: {self.room()}. No mode can be preferred with that, as `greatest` still rises in "
-                "each.")
+                "each that was run.")
 
     def forgetful(self):
         """The mode to take where nodes forget and the budget is short, in words; empty where that isn't so."""
@@ -242,13 +242,18 @@ def first_words(decision, call=""):
 WHAT_HEALS = "A split, a restart and a rolling restart"
 
 
-def not_run(decision, call):
-    """That nothing was run that heals, and the call that runs it. Short where nothing of it was asked for."""
+def not_run(decision, call, was_enough=False):
+    """Why nothing was run that heals, and the call that runs it. Short where nothing of it was asked for. In a first
+    answer a budget may have been enough, so that it was run there."""
     it = decision.study
-    if not it.asks_for_healing():
+    if decision.suffices:
+        return []
+    if not was_enough and not it.asks_for_healing():
         return [f"Nor was a split or a restart run: give delta={it.packet(decision.mode)} and another folder to see "
                 "them."] if call else []
     why = f"{WHAT_HEALS} were not run, as no budget that fits is enough."
+    if was_enough:
+        why = f"{WHAT_HEALS} were run for the first answer, with a budget that isn't enough after more rounds."
     return [f"{why} To see them with a budget that is:", f"  {call}"] if call else [why]
 
 
@@ -379,8 +384,9 @@ def none_fits(decision):
     return f"No budget that fits is enough: still rising after {decision.window[1]} rounds"
 
 
-def in_words(decision, healing, call=""):
-    """The answer, line by line. Without a budget that is enough there is no healing, but a call that has it."""
+def in_words(decision, healing, missing=()):
+    """The answer, line by line. Without a budget that is enough there is no healing, but the lines on what is missing.
+    """
     first, last = decision.window
     takes = f"Take {decision.takes()}." if decision.suffices else f"{none_fits(decision)}. {decision.most_that_fits()}"
     in_window = f": the most of `greatest` in rounds {first} to {last}, least and most of {len(rules.SEEDS)} seeds"
@@ -394,8 +400,7 @@ def in_words(decision, healing, call=""):
         lines.append(healing.rolling(decision.budget))
     if not decision.suffices and decision.to_knee():
         lines.append(row("enough", decision.to_knee()))
-    if not decision.suffices and (said := not_run(decision, call)):
-        lines += ["", *said]
+    lines += ["", *missing] if missing else []
     for head, said in (("Mind", warnings(decision)), ("Too close to call", too_close(decision)),
                        ("Left out for this cluster", left_out(decision))):
         lines += ["", f"{head}:", *(f"  - {one}" for one in said)] if said else []

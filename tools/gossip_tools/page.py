@@ -69,12 +69,10 @@ def what_is_counted(healing):
     return f"<p><small>A split: {told(healing.counted())}</small></p>" if healing else ""
 
 
-def what_is_not_run(decision, call):
-    """That nothing was run that heals, and the call for it."""
-    if decision.suffices:
-        return ""
+def paragraphs(lines):
+    """Lines as paragraphs; those that begin with a space are commands."""
     return "".join(f"<pre>{html.escape(it.strip())}</pre>" if it.startswith(" ") else f"<p>{told(it)}</p>"
-                   for it in answer.not_run(decision, call))
+                   for it in lines)
 
 
 def captions(decision, healing):
@@ -100,7 +98,7 @@ def captions(decision, healing):
 
 def captions_of_healing(it, mode, each, band):
     return {
-        "split": f"After a split of half of the nodes for {it.split} rounds, which ends at 0, in {mode}. {band}.",
+        "split": f"After a split of half of the nodes for {it.split} rounds, the last of which is 0, in {mode}. {band}.",
         "restart": f"After {each if it.restarts else 'one'} node{'s' if each > 1 else ''} restarted"
                    f"{' in each of some rounds' if it.restarts else ''}, the last in round 0. A restarted node lacks "
                    f"the writes of round 1, so `greatest` is the number of the round until it has caught up. {band}.",
@@ -158,8 +156,8 @@ def made_of(folder, decision, healing, check_sum):
             f"<code>gnuplot NAME.gnuplot</code>.</p><pre>gossip_advise {told(call)}</pre>{text}")
 
 
-def make(folder, decision, healing, check_sum, call=""):
-    """Writes the page, and says where it is. The call is one with a budget that is enough, where none is here."""
+def make(folder, decision, healing, check_sum, missing=()):
+    """Writes the page, and says where it is. Without healing it has lines on what is missing."""
     it = decision.study
     first, last = decision.window
     tenth = f", of which {it.nodes} were run; budgets are those of all" if it.parts > 1 else ""
@@ -175,7 +173,7 @@ def make(folder, decision, healing, check_sum, call=""):
 {it.writes}; messages lost: {float(it.told['loss']):g} %. All figures go from the least to the most of
 {len(rules.SEEDS)} seeds.</p>
 <div class="cards">{cards(decision, healing)}</div>
-{what_is_counted(healing)}{what_is_not_run(decision, call)}
+{what_is_counted(healing)}{paragraphs(missing)}
 {listed("Mind", answer.warnings(decision), "mind")}
 {pictures(folder, decision, healing)}
 <h2>Worst staleness and share cut</h2>

@@ -65,7 +65,8 @@ class Decided(unittest.TestCase):
             lines = answer.in_words(found, None)
             self.assertIn("No budget that fits is enough: still rising after 200 rounds. The most that fits: room for "
                           "28 entries in a delta, 1120 bytes", lines[0])
-            self.assertTrue(lines[0].endswith("No mode can be preferred with that, as `greatest` still rises in each."))
+            self.assertTrue(lines[0].endswith("No mode can be preferred with that, as `greatest` still rises in each "
+                                              "that was run."))
             self.assertIn("  worst staleness     not bounded: still rising after 200 rounds", lines)
 
     def test_nothing_is_run_that_heals(self):
@@ -87,10 +88,12 @@ class Decided(unittest.TestCase):
             rising = [at for at in worst if at[0] == 28 or not is_enough]
             found = answer.Decision(it, Figures(worst, rising), WINDOW)
             call = advise.call_with_enough(found, pathlib.Path("my advice"))
-            self.assertEqual(said, answer.not_run(found, call))
-            lines = answer.in_words(found, None, call)
+            missing = answer.not_run(found, call)
+            self.assertEqual(said, missing)
+            lines = answer.in_words(found, None, missing)
             self.assertEqual(said, [line for line in lines if line in said])
             self.assertFalse([line for line in lines if "What was run are" in line or "was run in place of" in line])
+            self.assertEqual(bool(call), "To see them" in answer.not_run(found, call, was_enough=True)[0])
 
     def test_forgetful(self):
         """Below the knee of 600 the rule for nodes that forget is told, be the budget enough or not."""

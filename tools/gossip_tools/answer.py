@@ -340,8 +340,8 @@ def of_datagrams(decision):
     largest = max(int(decision.study.told["delta"]), decision.study.packet(decision.mode) if decision.to_knee() else 0)
     if largest <= rules.DATAGRAM:
         return []
-    return [f"The 64 KB of a UDP datagram are at most {rules.DATAGRAM} bytes: delta={largest} takes several of them, or "
-            "TCP."]
+    return [f"The 64 KB of a UDP datagram are at most {rules.DATAGRAM} bytes: delta={largest} takes several of them, "
+            "or TCP."]
 
 
 def left_out(decision):

@@ -98,7 +98,7 @@ def captions(decision, healing):
 
 def captions_of_healing(it, mode, each, band):
     return {
-        "split": f"After a split of half of the nodes for {it.split} rounds, the last of which is 0, in {mode}. {band}.",
+        "split": f"After a split of half of the nodes for {it.split} rounds, the last of them 0, in {mode}. {band}.",
         "restart": f"After {each if it.restarts else 'one'} node{'s' if each > 1 else ''} restarted"
                    f"{' in each of some rounds' if it.restarts else ''}, the last in round 0. A restarted node lacks "
                    f"the writes of round 1, so `greatest` is the number of the round until it has caught up. {band}.",

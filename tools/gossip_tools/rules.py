@@ -110,8 +110,8 @@ HEALED = ("the age of the oldest missing write was for the first time at most on
           "rounds {} to {} before the split; it may rise above that again for some rounds. Copies are then as stale as "
           "usual, not equal.")
 # Which mode to take where nodes forget and a budget is below `nodes * writes`.
-FORGETFUL = ("take `scuttle-breadth`, or better a larger budget. In `scuttle-depth` a node that has just begun anew has "
-             "few keys, so others come first, and its old state stays")
+FORGETFUL = ("take `scuttle-breadth`, or better a larger budget. In `scuttle-depth` a node that has just begun anew "
+             "has few keys, so others come first, and its old state stays")
 # The most bytes of a packet that is one datagram of UDP.
 DATAGRAM = 65507
 

@@ -72,7 +72,8 @@ class Decided(unittest.TestCase):
     def test_nothing_is_run_that_heals(self):
         """28 entries fit of 600, for which the delta is 24000 bytes. The call has the words that aren't the usual ones,
         and comes where a split or restarts were asked for, and where the 600 are enough."""
-        usual = "gossip_advise -o 'my advice-enough' nodes=300 keys=4 writes=2 entry=40 delta=24000 digest=10 shared=no "
+        usual = ("gossip_advise -o 'my advice-enough' nodes=300 keys=4 writes=2 entry=40 delta=24000 digest=10 "
+                 "shared=no ")
         why = "A split, a restart and a rolling restart were not run, as no budget that fits is enough."
         see = f"{why} To see them with a budget that is:"
         cases = {
@@ -156,6 +157,19 @@ class Decided(unittest.TestCase):
         self.assertEqual([], answer.of_digest(decided(depth, more="digest=1 shared=no")))
         large = answer.of_digest(decided(depth, more="digest=200 shared=no"))
         self.assertIn("300 numbers of 200 bytes, which fit no packet of 40000", large[0])
+
+
+    def test_datagrams(self):
+        """A packet of 65508 bytes is more than a datagram, and so are the 600 * 200 bytes that would be enough."""
+        depth = {(budget, "scuttle-depth"): [7, 8] for budget in (300, 600, 1000)}
+        self.assertEqual([], answer.of_datagrams(decided(depth)))
+        for more, delta in (("entry=50 delta=65508", 65508), ("entry=200 delta=40000", 120000)):
+            words = f"nodes=300 keys=4 writes=2 digest=10 shared=no {more}".split()
+            it = study.Study(cluster.told(words, advise.USUAL, advise.CALL))
+            worst = {(it.budget(mode), mode): [7, 8] for mode in it.fits}
+            said = answer.of_datagrams(answer.Decision(it, Figures(worst), WINDOW))
+            self.assertEqual(["The 64 KB of a UDP datagram are at most 65507 bytes: "
+                              f"delta={delta} takes several of them, or TCP."], said)
 
 
 class Taken:

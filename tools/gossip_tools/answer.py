@@ -109,14 +109,14 @@ class Decision:
 
     def most_that_fits(self):
         """The largest budget where none is enough, in words. The modes there all still rise, so none is named."""
-        return (f"The most that fits: {self.room()}. No mode can be preferred with that, as `greatest` still rises in "
-                "each that was run.")
+        return (f"The most that fits: {self.room()}. No mode can be preferred with that by its `greatest`, which still "
+                "rises in each that was run.")
 
     def forgetful(self):
         """The mode to take where nodes forget and the budget is short, in words; empty where that isn't so."""
         if self.study.told["forget"] == "no" or self.budget >= self.study.knee:
             return ""
-        return f"As nodes forget and the budget is below nodes * writes, {rules.FORGETFUL}, maybe for ever."
+        return f"But nodes forget here, and the budget is below nodes * writes: {rules.FORGETFUL}, maybe for ever."
 
     def room(self):
         """The budget, in words."""

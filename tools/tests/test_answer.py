@@ -65,8 +65,8 @@ class Decided(unittest.TestCase):
             lines = answer.in_words(found, None)
             self.assertIn("No budget that fits is enough: still rising after 200 rounds. The most that fits: room for "
                           "28 entries in a delta, 1120 bytes", lines[0])
-            self.assertTrue(lines[0].endswith("No mode can be preferred with that, as `greatest` still rises in each "
-                                              "that was run."))
+            self.assertTrue(lines[0].endswith("No mode can be preferred with that by its `greatest`, which still rises "
+                                              "in each that was run."))
             self.assertIn("  worst staleness     not bounded: still rising after 200 rounds", lines)
 
     def test_nothing_is_run_that_heals(self):

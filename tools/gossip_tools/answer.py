@@ -135,6 +135,8 @@ class Healing:
 
     def __init__(self, study, mode, stages):
         self.study, self.mode, self.stages = study, mode, stages
+        # (at the end of a line, where a tenth was run)
+        self.run = f" ({study.nodes} nodes run)" if study.parts > 1 else ""
 
     def taken(self, stage, budget):
         found, ends = self.stages[stage], self.study.ends(stage)
@@ -149,7 +151,7 @@ class Healing:
         return in_rounds(taken), in_time(taken, self.study.told["interval"])
 
     def lines(self, stage, budget):
-        """What is healed and how long it takes; below a split what is counted, below restarts how long to wait."""
+        """What is healed and how long it takes; below a split what is counted."""
         it = self.study
         each, ends = it.restarting()
         groups = ends - it.begins + 1
@@ -157,10 +159,9 @@ class Healing:
         many = f"of {in_nodes(each)} in each of {groups} rounds{harder}" if it.restarts else "of one node"
         for_all = f", which stand for {it.told['split']}" if it.split < it.told["split"] else ""
         what = f"of half of the nodes for {it.split} rounds{for_all}" if stage == "split" else many
-        run = f" ({it.nodes} nodes run)" if it.parts > 1 else ""
         rounds, time = self.in_words(stage, budget)
         took = f"{ENDS[stage]} after {rounds}, {time}" if time else rounds
-        lines = [row(HEALED[stage], f"{what}: {took}{run}")]
+        lines = [row(HEALED[stage], f"{what}: {took}{self.run}")]
         if stage == "split":
             lines += [row("", it) for it in textwrap.wrap(self.counted(), IN_A_ROW)]
         return lines
@@ -172,13 +173,12 @@ class Healing:
         if stage == self.leaves()[-1]:
             lines.append(self.rolling(budget))
         elif stage == "restart" and None not in self.taken(stage, budget):
-            lines.append(row(ROLLING, self.wait_at_least(budget)))
+            lines.append(row(ROLLING, f"{self.wait_at_least(budget)}{self.run}"))
         return lines
 
     def rolling(self, budget):
         """The line that says how long to wait between the groups of a rolling restart."""
-        run = f" ({self.study.nodes} nodes run)" if self.study.parts > 1 else ""
-        return row(ROLLING, f"{self.wait(budget)}{run}")
+        return row(ROLLING, f"{self.wait(budget)}{self.run}")
 
     def counted(self):
         """What the rounds of a split are, in words."""

@@ -153,7 +153,7 @@ def first_answer(it, stages):
     for stage in study.HEALED:
         healed[stage] = stages.carry_out(stage, few.mode, [few.budget])
         print(*answer.Healing(it, few.mode, healed).lines_now(stage, few.budget), sep="\n", flush=True)
-    print("All of it is refined now.", "", sep="\n", flush=True)
+    print("Now all of it is refined, which takes longer.", "", sep="\n", flush=True)
     return few
 
 

@@ -69,7 +69,7 @@ class Decision:
     def staleness(self):
         """The worst staleness, in words."""
         if not self.suffices:
-            return f"not bounded: still rising after {self.window[1]} rounds"
+            return f"not known: still rising after {self.window[1]} rounds"
         more = f" ({self.reckon()})" if self.reckon() else ""
         return f"{in_rounds(self.worst)}, {in_time(self.worst, self.study.told['interval'])}{more}"
 
@@ -157,7 +157,7 @@ class Healing:
         groups = ends - it.begins + 1
         harder = ", a harder test than one group" if groups > 1 else ""
         many = f"of {in_nodes(each)} in each of {groups} rounds{harder}" if it.restarts else "of one node"
-        for_all = f", which stand for {it.told['split']}" if it.split < it.told["split"] else ""
+        for_all = f", which stand for {it.told['split']}, as each key is written anew in them" if it.split < it.told["split"] else ""
         what = f"of half of the nodes for {it.split} rounds{for_all}" if stage == "split" else many
         rounds, time = self.in_words(stage, budget)
         took = f"{ENDS[stage]} after {rounds}, {time}" if time else rounds

@@ -51,7 +51,7 @@ def cards(decision, healing):
                 ("worst staleness", answer.in_rounds(decision.worst), time, "")]
     else:
         rows = [("budget", "none that fits is enough", f"tried: {budget} entries, {of_budget}", "none"),
-                ("worst staleness", "not bounded", f"still rising after {decision.window[1]} rounds", "none")]
+                ("worst staleness", "not known", f"still rising after {decision.window[1]} rounds", "none")]
         if decision.to_knee():
             rows.append(("enough", f"{it.packet(decision.mode)} bytes", decision.to_knee(), "first"))
     rows.append(("share cut", f"{answer.span(decision.cut, 2)}\u00a0%", "of what was lacking", ""))

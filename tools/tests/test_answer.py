@@ -67,7 +67,7 @@ class Decided(unittest.TestCase):
                           "28 entries in a delta, 1120 bytes", lines[0])
             self.assertTrue(lines[0].endswith("No mode can be preferred with that by its `greatest`, which still rises "
                                               "in each that was run."))
-            self.assertIn("  worst staleness     not bounded: still rising after 200 rounds", lines)
+            self.assertIn("  worst staleness     not known: still rising after 200 rounds", lines)
 
     def test_nothing_is_run_that_heals(self):
         """28 entries fit of 600, for which the delta is 24000 bytes. The call has the words that aren't the usual ones,
@@ -205,7 +205,7 @@ class Healed(unittest.TestCase):
     def test_long_split(self):
         """100 rounds are run, in which each of 4 keys is written anew many times."""
         line = healing("split=600", split=[10, 13]).lines("split", 200)[0]
-        self.assertIn(" of half of the nodes for 100 rounds, which stand for 600: healed after", line)
+        self.assertIn(" of half of the nodes for 100 rounds, which stand for 600, as each key is written anew in them: healed after", line)
 
     def test_not_in_time(self):
         """A split lasts from round 51 to 80, and 51 + 30 + 40 + 3 * 4 = 133 rounds are run."""

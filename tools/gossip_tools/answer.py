@@ -157,7 +157,9 @@ class Healing:
         groups = ends - it.begins + 1
         harder = ", a harder test than one group" if groups > 1 else ""
         many = f"of {in_nodes(each)} in each of {groups} rounds{harder}" if it.restarts else "of one node"
-        for_all = f", which stand for {it.told['split']}, as each key is written anew in them" if it.split < it.told["split"] else ""
+        for_all = ""
+        if it.split < it.told["split"]:
+            for_all = f", which stand for {it.told['split']}, as each key is written anew in them"
         what = f"of half of the nodes for {it.split} rounds{for_all}" if stage == "split" else many
         rounds, time = self.in_words(stage, budget)
         took = f"{ENDS[stage]} after {rounds}, {time}" if time else rounds

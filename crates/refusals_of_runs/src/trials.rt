@@ -35,8 +35,7 @@ impl Call {
     }
 }
 
-/// A call of a case, by its place, with a team of workers. It holds no reference, as each function that has one would
-/// be proved for its lifetime.
+/// A call of a case, by its place, with a team of workers.
 #[derive(Clone, Copy, Debug)]
 pub(crate) struct Trial {
     pub(crate) call: Call,

@@ -41,8 +41,8 @@ pub fn run_list_with<
     requires workers { AreWorkers workers }
     requires tables { MayCarryOut (X.fits work.shared.now) work.rules.now work.list.now.nodes
         (map T.table tables.items) }
-    ensures exchanged { IfOk result
-        (λ p. AreExchanged T.table work.entry.rules.now work.entry.list.now.exchanges tables.items p.0.items p.1.items) }
+    ensures exchanged { IfOk result (λ p. AreExchanged T.table work.entry.rules.now work.entry.list.now.exchanges
+        tables.items p.0.items p.1.items) }
     ensures fault { IfErr result (IsFaultOfWorkers workers) }
 {
     if workers == 1 {

@@ -244,9 +244,9 @@ class Healing:
 
     def counted(self):
         """What the rounds of a split and of a restart are, in words."""
-        heals = self.study.heals()
-        after = ["the last round of the split"] * ("split" in heals) + ["the last with a node down"] * ("restart" in heals)
-        return f"Healed after N rounds: N rounds after {', or '.join(after)}, {rules.HEALED.format(*self.study.before)}"
+        lasts = {"split": "the last round of the split", "restart": "the last with a node down"}
+        after = ", or ".join(lasts[it] for it in self.study.heals() if it in lasts)
+        return f"Healed after N rounds: N rounds after {after}, {rules.HEALED.format(*self.study.before)}"
 
     def waited(self, budget):
         """The rounds to wait between the groups of a rolling restart: until what a restart leaves is over under each
@@ -272,11 +272,13 @@ class Healing:
 
     def with_reserve(self, decision):
         """How soon all that fits would heal, in words."""
-        taken = [f"{HEALED[stage]} is {ENDS[stage]} after {self.in_words(stage, decision.most)[0]}"
-                 for stage in self.study.heals()]
+        said = []
+        for stage in self.study.heals():
+            rounds, time = self.in_words(stage, decision.most)
+            said.append(f"{HEALED[stage]} is {ENDS[stage]} after {rounds}" if time else f"{HEALED[stage]} {rounds}")
         rounds = self.waited(decision.most) if self.study.leaves() else None
-        waits = [f"wait {in_rounds([rounds])} between groups"] if rounds else []
-        return f"with {decision.all_that_fits()} {', '.join(taken + waits)}"
+        said += [f"wait {in_rounds([rounds])} between groups"] if rounds else []
+        return f"{', '.join(said)}{self.run}"
 
 
 # What heals, by its stage, and the words for that.
@@ -475,7 +477,7 @@ def in_words(decision, healing, missing=()):
     in_mode = "" if decision.suffices else f", in {decision.mode}"
     lines = [takes, "", row("worst staleness", f"{decision.staleness()}{in_window}")]
     if reserve := decision.reserve():
-        lines.append(row("a reserve" if decision.budget < decision.most else "less", reserve))
+        lines.append(row("a reserve" if decision.budget < decision.most else decision.study.knee_name, reserve))
     lines.append(row("share cut", f"{span(decision.cut, 2)} % of what was lacking{in_mode}"))
     if healing:
         lines += healing.all_lines(decision.budget)

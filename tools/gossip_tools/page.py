@@ -68,8 +68,8 @@ def below_the_cards(decision, healing):
     """What more than nodes * writes brings, and what the rounds of healing are."""
     said = [decision.reserve()] if decision.reserve() else []
     if healing:
-        reserve = healing.with_reserve(decision) if decision.budget < decision.most else ""
-        said += [it for it in (reserve[:1].upper() + reserve[1:], healing.counted()) if it]
+        said += [f"With the reserve {healing.with_reserve(decision)}"] if decision.budget < decision.most else []
+        said.append(healing.counted())
     return "".join(f"<p><small>{told(it)}</small></p>" for it in said)
 
 
@@ -105,8 +105,9 @@ def captions_of_healing(it, mode, band):
         "split": f"After a split of half of the nodes for {it.split} {answer.unit(it)}, whose last round is 0, in "
                  f"{mode}. {band}.",
         "restart": f"After {each if it.restarts else 'one'} node{'s' if each > 1 else ''} restarted"
-                   f"{f' in each of some {answer.unit(it)}' if it.restarts else ''}, the last in round 0. A restarted node lacks "
-                   f"the writes of round 1, so `greatest` is the number of the round until it has caught up. {band}.",
+                   f"{f' in each of some {answer.unit(it)}' if it.restarts else ''}, the last in round 0. A restarted "
+                   "node lacks the writes of round 1, so `greatest` is the number of the round until it has caught up. "
+                   f"{band}.",
         "forgotten": "What others still hold of forgotten states: at 1 all other nodes still hold one node's whole old "
                      f"state. {band}.",
     }
@@ -178,8 +179,8 @@ def make(folder, decision, healing, made, check_sum, missing=()):
 <title>{told(title)}</title><style>{STYLE}</style></head><body>
 <h1>{told(title)}</h1>
 <p>{it.told['nodes']} nodes{tenth}. Keys of each: {it.keys}; writes in an interval of
-{float(it.told['interval']):g} s: {it.writes}; calls in an interval, each of which is a round: {it.fanout}; messages lost: {float(it.told['loss']):g} %. All figures go from the least to the most of
-{len(rules.SEEDS)} seeds.</p>
+{float(it.told['interval']):g} s: {it.writes}; calls in an interval, each of which is a round: {it.fanout};
+messages lost: {float(it.told['loss']):g} %. All figures go from the least to the most of {len(rules.SEEDS)} seeds.</p>
 <div class="cards">{cards(decision, healing)}</div>
 {below_the_cards(decision, healing)}{paragraphs(missing)}
 {listed("Mind", answer.warnings(decision), "mind")}

@@ -15,10 +15,11 @@ CHEAPEST_FIRST = (USUAL_MODE, "scuttle-breadth", "precise-oldest", "precise-newe
 FEW_ENTRIES = 50
 # How far a tenth was seen to hold in scuttle-depth: how many rounds more in `greatest` ten times the nodes had, with
 # which parts of `nodes * writes`.
-TENTH_MORE, TENTH_HOLDS = (2, 5), (0.5, 2)
-TENTH = (f"A tenth of the nodes stands for the whole in scuttle-depth: 1000 nodes had {TENTH_MORE[0]} to "
-         f"{TENTH_MORE[1]} rounds more in `greatest` than 100, with a budget of a half to twice `nodes * writes`. At "
-         "0.14 of it, with one key, 100, 1000 and 4000 nodes had 25 to 28, 33 to 36 and 39 to 41 rounds.")
+TENTH_MORE, TENTH_HOLDS = (2, 6), (1, 2)
+TENTH = (f"A tenth of the nodes stands for the whole in scuttle-depth: ten times 100 and 400 nodes had {TENTH_MORE[0]} "
+         f"to {TENTH_MORE[1]} rounds more in `greatest`, with a budget of `nodes * writes` to twice that, and with half "
+         "of it 1 to 8 more. At 0.14 of it, with one key, 100, 1000 and 4000 nodes had 25 to 28, 33 to 36 and 39 to 41 "
+         "rounds.")
 
 
 def band(figure):
@@ -60,7 +61,7 @@ def suffices(in_first_half, in_second_half):
 
 
 def reckoned(figure):
-    """"Run a tenth of them, .. and add five rounds to `greatest`": the most to reckon with for ten times the nodes."""
+    """"Run a tenth of them, .. and add six rounds to `greatest`": the most to reckon with for ten times the nodes."""
     return max(figure) + TENTH_MORE[1]
 
 

@@ -179,13 +179,13 @@ class Decided(unittest.TestCase):
         self.assertIn("less than the 10 s between two of the 3 calls of an interval", answer.left_out(found)[0])
 
     def test_calls_of_a_tenth(self):
-        """1000 nodes had 10 to 11 rounds, to which five are added: 16 rounds of a third of a second."""
+        """1000 nodes had 9 to 11 rounds, to which six are added: 17 rounds of a third of a second."""
         it = of("nodes=10000 keys=4 writes=1 entry=40 packet=400000 digest=10 fanout=3")
         figures = {(it.most("scuttle-depth"), "scuttle-depth"): [8, 9], (it.knee, "scuttle-depth"): [9, 11]}
         found = answer.Decision(it, Figures(figures), FEW)
         self.assertEqual((333, 666, 3330), (found.budget, found.most, found.whole_budget()))
-        self.assertEqual("9 to 11 rounds, 3.0 to 3.7 intervals, 3.0 to 3.7 s (1000 nodes run; reckon with up to 16 "
-                         "rounds, 5.3 intervals, 5.3 s, for 10000)", found.staleness())
+        self.assertEqual("9 to 11 rounds, 3.0 to 3.7 intervals, 3.0 to 3.7 s (1000 nodes run; reckon with up to 17 "
+                         "rounds, 5.7 intervals, 5.7 s, for 10000)", found.staleness())
         self.assertIn("With the 6660 entries (2 times nodes * writes / 3) it is 8 to 9 rounds", found.reserve())
 
     def test_a_tenth(self):
@@ -199,12 +199,12 @@ class Decided(unittest.TestCase):
                          answer.too_close(found))
 
     def test_what_to_reckon_with(self):
-        """1000 of 10000 nodes had 8 rounds, to which five are added."""
+        """1000 of 10000 nodes had 8 rounds, to which six are added."""
         it = of("nodes=10000 keys=4 writes=1 entry=40 packet=640000 digest=20")
         found = answer.Decision(it, Figures({(1100, "scuttle-depth"): [8, 8]}), MANY)
-        self.assertEqual("8 rounds, 8 s (1000 nodes run; reckon with up to 13 rounds, 13 s, for 10000)",
+        self.assertEqual("8 rounds, 8 s (1000 nodes run; reckon with up to 14 rounds, 14 s, for 10000)",
                          found.staleness())
-        self.assertTrue(any("has to wait longer than 13 rounds, 13 s." in it for it in answer.left_out(found)))
+        self.assertTrue(any("has to wait longer than 14 rounds, 14 s." in it for it in answer.left_out(found)))
 
     def test_no_digest(self):
         """300 numbers of 20 bytes are 6000. It is told in the first answer too."""
@@ -278,20 +278,22 @@ class Healed(unittest.TestCase):
         self.assertFalse([it for it in healing("restarts=0", split=[10, 13]).all_lines(200) if answer.ROLLING in it])
 
     def test_with_the_reserve(self):
-        """250 of 200 entries that fit: of what they leave 5 rounds are the longest, and two more are waited."""
+        """250 entries fit, where 200 are taken. Of what a restart leaves then 5 rounds are the longest, and two more
+        are waited."""
         it = of("nodes=200 keys=4 writes=1 entry=40 packet=10000 forget=yes")
         figures = {(250, mode): [7, 8] for mode in it.fits} | {(200, "scuttle-depth"): [7, 8]}
         found = answer.Decision(it, Figures(figures), MANY)
         taken = {"split": [8, 9], "restart": [3, 4], "forgotten": [5, 4]}
         heals = answer.Healing(it, found.mode, {stage: Taken(rounds) for stage, rounds in taken.items()})
-        self.assertIn("  with the reserve    with the 250 entries that fit a split is healed after 8 to 9 rounds, a "
+        self.assertIn("  with the reserve    a split is healed after 8 to 9 rounds, a "
                       "restart is healed after 3 to 4 rounds, a forgotten state is gone from all copies after 4 to 5 "
                       "rounds, wait 7 rounds between groups", answer.in_words(found, heals))
 
     def test_long_split(self):
         """100 rounds are run, in which each of 4 keys is written anew many times."""
         line = healing("split=600", split=[10, 13]).lines("split", 200)[0]
-        self.assertIn(" of half of the nodes for 100 rounds, which stand for 600, as each key is written anew in them: healed after", line)
+        self.assertIn(" of half of the nodes for 100 rounds, which stand for 600, as each key is written anew in them: "
+                      "healed after", line)
 
     def test_not_in_time(self):
         """A split lasts from round 51 to 80, and 50 + 30 + 40 + 3 * 4 = 132 rounds are run."""

@@ -48,9 +48,9 @@ class Enough(unittest.TestCase):
         self.assertEqual(cases, {it: int(rules.least_staleness(*it)) for it in cases})
 
     def test_a_tenth(self):
-        """"Add five rounds to `greatest`", from a half to twice `nodes * writes`."""
-        self.assertEqual(14, rules.reckoned([8, 9]))
-        self.assertEqual([False, True, True, False], [rules.tenth_holds(it) for it in (0.49, 0.5, 2, 2.1)])
+        """"Add six rounds to `greatest`", from `nodes * writes` to twice that."""
+        self.assertEqual(15, rules.reckoned([8, 9]))
+        self.assertEqual([False, True, True, False], [rules.tenth_holds(it) for it in (0.99, 1, 2, 2.1)])
 
     def test_healed(self):
         """Half of the nodes are set apart where `greatest` was 5 to 7: it is healed at 8."""

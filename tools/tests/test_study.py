@@ -44,8 +44,8 @@ class Numbers(unittest.TestCase):
 
     def test_next_smaller(self):
         """Of 600 three quarters, of those a half of 600, and then a quarter. A quarter of 10 is 2 and a half."""
-        cases = {(ROOMY, 600): {450}, (ROOMY, 450): {300}, (ROOMY, 300): {150}, (ROOMY, 150): set(), (ROOMY, 1000): {900},
-                 (FEW, 5): {2}, (FEW, 2): set()}
+        cases = {(ROOMY, 600): {450}, (ROOMY, 450): {300}, (ROOMY, 300): {150}, (ROOMY, 150): set(),
+                 (ROOMY, 1000): {900}, (FEW, 5): {2}, (FEW, 2): set()}
         self.assertEqual(cases, {(words, budget): {it for it, _ in of(words).next_smaller(budget, DEPTH)}
                                  for words, budget in cases})
 
@@ -87,7 +87,7 @@ class Numbers(unittest.TestCase):
 
     def test_budget_that_a_sum_refuses(self):
         """Room for 28 entries, where 2000 of 50 bytes take 100000, and with the digest of 2000 numbers 120000. Where a
-        node calls two others, an interval has twice the deltas: with room for 14 it takes 208 intervals of two rounds."""
+        node calls two others, an interval has twice the deltas: with room for 14 it takes 208 of two rounds each."""
         cases = {"packet=1400 digest=10 shared=no": "at least 208 rounds; .* takes packet=100000",
                  "packet=21400 digest=10": "at least 208 rounds; .* takes packet=120000"}
         for words, why in cases.items():

@@ -1,10 +1,13 @@
 """How far runs are, and about how long the others take."""
 import collections
+import statistics
 import sys
 import time
 
-# So many runs that ended last tell how many processors runs have now.
+# So many runs that ended last tell what share of a processor a run has now.
 LAST = 8
+# The least time that is told apart, in seconds.
+LEAST = 0.001
 
 
 class Progress:
@@ -12,7 +15,8 @@ class Progress:
     are.
 
     A run takes processor time by its work, whatever else the machine does. So the rest takes the processor time of its
-    work, as that of the runs that have ended, divided by the processors that the last of them had.
+    work, as that of the runs that have ended, divided by the processors that the runs have now: by the share of one
+    that the last of them had, in the middle, as a single run may be held up for long.
     """
 
     def __init__(self, work=(), stream=sys.stderr):
@@ -20,7 +24,7 @@ class Progress:
         self.stream, self.shown = stream, stream.isatty()
         self.what, self.total, self.count, self.at_once = "", 0, 0, 1
         self.done_work, self.processor = 0, 0.0
-        self.last = collections.deque(maxlen=LAST)
+        self.shares = collections.deque(maxlen=LAST)
         self.since = time.monotonic()
 
     def plan(self, work):
@@ -45,10 +49,9 @@ class Progress:
 
     def left(self):
         """The seconds that the rest may take; None before the first run has ended."""
-        if not self.done_work or not self.processor:
+        if not self.done_work:
             return None
-        processor, seconds = map(sum, zip(*self.last))
-        processors = processor / seconds * min(self.at_once, max(len(self.work), 1))
+        processors = statistics.median(self.shares) * min(self.at_once, max(len(self.work), 1))
         return self.processor / self.done_work * sum(self.work.values()) / processors
 
     def done(self, name, processor=None, seconds=None):
@@ -62,7 +65,7 @@ class Progress:
         if work := self.drop(name):
             self.done_work += work
             self.processor += processor
-            self.last.append((processor, seconds))
+            self.shares.append(max(processor, LEAST) / max(seconds, LEAST))
         self.show()
 
     def show(self):

@@ -370,10 +370,12 @@ class Ends(unittest.TestCase):
         self.assertAlmostEqual(40.0, self.progress.left())
 
     def test_processors_that_are_had_now(self):
-        """120 rounds took 20 seconds, so 180 take 30. Of late each run has a whole processor, and one is left."""
+        """120 rounds took 20 seconds, so 180 take 30. The shares of a processor were a half, then a whole: in the
+        middle three quarters, with one run left. Two more whole ones count for more, and a run that was held up not."""
         self.progress.done("a", 10.0, 20.0)
-        self.progress.last.clear()
         self.progress.done("b", 10.0, 10.0)
+        self.assertAlmostEqual(30 / 0.75, self.progress.left())
+        self.progress.shares.extend([1, 1, 0.01])
         self.assertAlmostEqual(30.0, self.progress.left())
 
     def test_another_plan(self):

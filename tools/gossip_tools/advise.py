@@ -24,6 +24,7 @@ has. Restarts and a split may be asked for in one call, so that what comes befor
             none
   forget    `yes`, a node that restarts loses its own state too, as in Cassandra
   split     the longest split, in intervals, 30 where it isn't given; with 0 there is none
+  mode      the one that your program has; where it isn't given, each that has room is run
   count     `bytes` or `entries`; where it isn't given entries, and bytes where a delta has room for fewer than fifty
 
   GOSSIP_BENCH   the program, where it isn't the one beside this tool or the one that is built
@@ -38,12 +39,12 @@ import sys
 import tomllib
 from fractions import Fraction
 
-from gossip_tools import answer, cluster, files, page, rules, running, scenario, study, sweep
+from gossip_tools import answer, cluster, files, page, running, scenario, study, sweep
 from gossip_tools.commands import Refused, folder_of, the_program, workers
 from gossip_tools.progress import Progress, in_words
 
 USUAL = {"digest": "0", "shared": "yes", "fanout": "1", "loss": "0", "interval": "1", "restarts": None, "forget": "no",
-         "split": str(study.USUAL_SPLIT), "count": None}
+         "split": str(study.USUAL_SPLIT), "mode": None, "count": None}
 CALL = "gossip_advise nodes=1000 keys=4 writes=1 entry=40 packet=64000 digest=20 loss=1"
 
 
@@ -170,9 +171,8 @@ def call_with_enough(decision, folder):
 
 def first_answer(it, stages):
     """The first answer, from few intervals, and what heals with its budget."""
-    mode = rules.USUAL_MODE
-    stages.expect(mode, min(it.knee, it.most(mode)), "few", "many", *it.heals())
-    few = stages.decide("few", it.wanted(mode))
+    stages.expect(it.usual, min(it.knee, it.most(it.usual)), "few", "many", *it.heals())
+    few = stages.decide("few", it.wanted(it.usual))
     print(*answer.first_words(few, call_with_enough(few, stages.folder)), sep="\n", flush=True)
     if not few.suffices:
         print(flush=True)

@@ -47,7 +47,7 @@ class Decision:
         enough = {mode: it for mode, it in self.figures.items() if self.is_enough(study.most(mode), mode)}
         # whether a budget that fits is enough, in some mode
         self.suffices = bool(enough)
-        self.mode = rules.mode_of(enough)
+        self.mode = rules.mode_of(enough) if enough else study.usual
         self.most = self.budget = study.most(self.mode)
         if self.suffices and study.knee < self.most and self.is_enough(study.knee, self.mode):
             if rules.takes_knee(self.worst_with(study.knee, self.mode), enough.values()):
@@ -136,8 +136,9 @@ class Decision:
 
     def most_that_fits(self):
         """The largest budget where none is enough, in words. The modes there all still rise, so none is named."""
-        return (f"The most that fits: {self.room()}. No mode can be preferred with that by its `greatest`, which still "
-                "rises in each that was run.")
+        none = (" No mode can be preferred with that by its `greatest`, which still rises in each that was run."
+                if len(self.study.fits) > 1 else "")
+        return f"The most that fits: {self.room()}.{none}"
 
     def forgetful(self):
         """What counts where nodes forget and the budget is short, in words; empty where that isn't so."""
@@ -339,8 +340,8 @@ def too_close(decision):
     if smaller := decision.smaller():
         worst = in_rounds(decision.worst_with(smaller, decision.mode))
         said.append(f"{decision.mode} with a budget from {whole(smaller)} entries on, {worst} with that")
-    return said or ["none: each other mode and smaller budget that was run is worse under all seeds by more than they "
-                    "differ"]
+    others = "other mode and smaller budget" if len(decision.study.fits) > 1 else "smaller budget"
+    return said or [f"none: each {others} that was run is worse under all seeds by more than they differ"]
 
 
 def warnings(decision):
@@ -350,7 +351,7 @@ def warnings(decision):
     own = "a delta in packets of its own (shared=no), " if shared else ""
     if not decision.suffices:
         larger = f"A larger packet, {own}a shorter entry or fewer" if decision.to_knee() else "Less loss or fewer"
-        said.append("`greatest` still rises in the second half of the window, in each mode. "
+        said.append("`greatest` still rises in the second half of the window, in each mode that was run. "
                     f"{larger} writes would help.")
     elif decision.budget < it.knee:
         said.append(f"The budget is below {it.knee_name}, the knee above which a larger one hardly helps, so copies "
@@ -362,7 +363,7 @@ def warnings(decision):
         said.append("With room for so few entries a large one holds up smaller ones behind it: give the delta room for "
                     "one mean entry more than the sum says.")
     no_room = [mode for mode in scenario.MODES if it.rooms[mode] < 1]
-    if no_room and it.parts == 1:
+    if no_room and it.parts == 1 and not it.told["mode"]:
         said.append(f"{' and '.join(no_room)} have no room: their digest alone takes the packet.")
     if it.parts > 1:
         said.append(f"A tenth was run, {it.nodes} nodes with a tenth of the packet, in scuttle-depth alone. "

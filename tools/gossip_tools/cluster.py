@@ -33,7 +33,7 @@ USUAL_ROUNDS = 60
 # What is asked of the wrong tool, or in another way.
 ELSEWHERE = {
     **{name: f" For {name}= there is gossip_scenario, and gossip_sweep runs what that prints."
-       for name in ("rounds", "seed", "mode")},
+       for name in ("rounds", "seed")},
     **{name: f" For {name}= there is gossip_advise." for name in ("shared", "interval", "restarts", "forget", "split")},
     **{name: " How many runs go at once is said in front of the call, as JOBS=2."
        for name in ("--jobs", "-j", "jobs", "JOBS")},

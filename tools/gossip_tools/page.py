@@ -2,7 +2,6 @@
 import base64
 import html
 import re
-import shlex
 
 from gossip_tools import answer, files, plots, read, rules
 

@@ -104,9 +104,8 @@ def smaller_budgets(budget, at_knee):
 def mode_of(figures):
     """"`scuttle-depth`", unless another mode is better; "else take the cheaper one". The figures are by mode, of those
     whose budget suffices: those that still rise say nothing."""
-    modes = [it for it in CHEAPEST_FIRST if it in figures] or [USUAL_MODE]
-    chosen = modes[0]
-    for mode in modes[1:]:
+    chosen, *others = [it for it in CHEAPEST_FIRST if it in figures]
+    for mode in others:
         if is_better(figures[mode], figures[chosen]):
             chosen = mode
     return chosen

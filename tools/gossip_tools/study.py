@@ -29,7 +29,11 @@ class Study:
 
     def __init__(self, told):
         self.told = told
+        self.usual = told["mode"] or rules.USUAL_MODE
         self.parts = 10 if cluster.is_too_large(told["nodes"], told["keys"]) else 1
+        if self.parts > 1 and self.usual != rules.USUAL_MODE:
+            raise cluster.Refused(f"{told['nodes']} nodes are more than a scenario takes, and a tenth of them says "
+                                  f"little but in {rules.USUAL_MODE}: leave out mode={self.usual}.")
         it = dict(told)
         if told["shared"] == "no":
             it["digest"] = 0
@@ -43,12 +47,12 @@ class Study:
         self.knee = max(LEAST, rules.knee(self.nodes, self.keys, self.writes, self.fanout))
         self.knee_name = "nodes * writes" + (f" / {self.fanout}" if self.fanout > 1 else "")
         self.rooms = {mode: cluster.room_for_delta(it, mode) / it["entry"] for mode in scenario.MODES}
-        modes = scenario.MODES if self.parts == 1 else (rules.USUAL_MODE,)
+        modes = (self.usual,) if told["mode"] or self.parts > 1 else scenario.MODES
         most = scenario.LIMITS["budget"][1]
-        count = told["count"] or ("bytes" if rules.counts_bytes(max(self.rooms.values())) else "entries")
+        count = told["count"] or ("bytes" if rules.counts_bytes(max(self.rooms[it] for it in modes)) else "entries")
         self.in_bytes = count == "bytes"
         self.fits = {mode: min(int(self.rooms[mode]), most) for mode in modes if self.rooms[mode] >= LEAST}
-        if rules.USUAL_MODE not in self.fits:
+        if self.usual not in self.fits:
             raise cluster.Refused(self.why_none_fits())
         budget = max(self.most(it) for it in self.fits)
         intervals = rules.least_staleness(budget, self.nodes, self.keys, self.writes, self.fanout)
@@ -63,10 +67,10 @@ class Study:
         """Why a delta has no room, and how large it would have to be."""
         told, whole = self.told, self.whole(self.knee)
         lacks = f"no room for {LEAST} entries of {told['entry']} bytes"
-        enough = f"takes packet={self.packet(rules.USUAL_MODE)}"
+        enough = f"takes packet={self.packet(self.usual)}"
         if told["shared"] == "no" or not told["digest"]:
             return f"{told['packet']} bytes have {lacks}: room for {self.knee_name} = {whole} of them {enough}."
-        digest, alone = self.digest_bytes(rules.USUAL_MODE), int(told["packet"] / told["entry"])
+        digest, alone = self.digest_bytes(self.usual), int(told["packet"] / told["entry"])
         too_large = f", and the digest still fits no packet of {told['packet']}" if digest > told["packet"] else ""
         return (f"the digest takes {digest} of the {told['packet']} bytes, which leaves {lacks}: with shared=no the "
                 f"delta has room for {alone}, {alone / whole:.2g} times {self.knee_name}{too_large}; room for the "
@@ -77,7 +81,7 @@ class Study:
         return (f"no budget that fits is enough: each node has {(int(self.told['nodes']) - 1) * self.keys} copies to "
                 f"renew and gets about two deltas of {budget} entries in a round, so the worst staleness is at least "
                 f"{rounds} rounds; room for {self.knee_name} = {self.whole(self.knee)} entries takes "
-                f"packet={self.packet(rules.USUAL_MODE)}.")
+                f"packet={self.packet(self.usual)}.")
 
     def asks_for_healing(self):
         """Whether restarts or a split were asked for."""
@@ -108,7 +112,7 @@ class Study:
 
     def place_healing(self):
         """When what is to be healed begins, in intervals, and how many are run after it."""
-        slowness = -(-self.knee // self.most(rules.USUAL_MODE))
+        slowness = -(-self.knee // self.most(self.usual))
         tail = 40 + min(3 * self.keys * slowness, 400)
         if self.fanout > 1:
             # (each interval is a section of the scenario)

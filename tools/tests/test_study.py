@@ -42,6 +42,18 @@ class Numbers(unittest.TestCase):
         }
         self.assertEqual(cases, {(words, mode): of(words).wanted(mode) for words, mode in cases})
 
+    def test_one_mode(self):
+        """A precise digest of 100 nodes takes 4000 of 6000 bytes, which leaves room for 50 entries; of 4400 bytes for
+        10, which are counted in bytes. With the digest 100 entries take 8000."""
+        it = of(f"{SHARED} mode={NEWEST}")
+        self.assertEqual(({NEWEST: 50}, {(50, NEWEST), (100, NEWEST)}), (it.fits, it.wanted(it.usual)))
+        self.assertEqual([False, True], [of(f"{words} mode={NEWEST}").in_bytes for words in
+                                         (SHARED, SHARED.replace("6000", "4400"))])
+        self.assertEqual(8000, it.packet(it.usual))
+        with self.assertRaisesRegex(cluster.Refused, "10000 nodes are .* leave out mode=precise-newest"):
+            of(f"{LARGE} mode={NEWEST}")
+        self.assertEqual({DEPTH: 1100}, of(f"{LARGE} mode={DEPTH}").fits)
+
     def test_next_smaller(self):
         """Of 600 three quarters, of those a half of 600, and then a quarter. A quarter of 10 is 2 and a half."""
         cases = {(ROOMY, 600): {450}, (ROOMY, 450): {300}, (ROOMY, 300): {150}, (ROOMY, 150): set(),

@@ -33,6 +33,11 @@ def lasting(study, rounds):
     return ", ".join([in_rounds(rounds), *as_intervals, in_time(rounds, study.seconds)])
 
 
+def briefly(study, rounds):
+    """Rounds to be held against others: in each measure of time where an interval has several."""
+    return in_rounds(rounds) if study.fanout == 1 else lasting(study, rounds)
+
+
 def unit(study):
     """What an interval is called: where it is one round, a round."""
     return "rounds" if study.fanout == 1 else "intervals"
@@ -113,7 +118,7 @@ class Decision:
             return said
         if not self.knee_suffices():
             return f"{said}, where `greatest` still rises too"
-        return f"{said}, worst staleness {in_rounds(self.worst_with(at_knee, self.mode))} with that"
+        return f"{said}, worst staleness {briefly(it, self.worst_with(at_knee, self.mode))} with that"
 
     def knee_suffices(self):
         """Whether nodes * writes entries, where they were run, are enough."""
@@ -164,14 +169,15 @@ class Decision:
         if not self.suffices or self.most <= it.knee:
             return ""
         if self.budget < self.most:
-            return (f"With {self.all_that_fits()} it is {in_rounds(self.figures[self.mode])}: not better under all "
+            return (f"With {self.all_that_fits()} it is {briefly(it, self.figures[self.mode])}: not better under all "
                     f"seeds by more than they differ. So packet={it.packet(self.mode)} is enough, and what is above "
                     "that is a reserve")
         at_knee = f"With {it.knee_name} = {it.whole(it.knee)} entries"
         if not self.knee_suffices():
             return f"{at_knee} `greatest` still rises"
-        return (f"{at_knee} it is {in_rounds(self.worst_with(it.knee, self.mode))}: worse under all seeds by more than "
-                "they differ")
+        why = (": worse under all seeds by more than they differ" if self.is_worse(it.knee) else
+               ", and another mode with what fits is better than that")
+        return f"{at_knee} it is {briefly(it, self.worst_with(it.knee, self.mode))}{why}"
 
     def all_that_fits(self):
         """The largest budget that was looked at, in words."""
@@ -275,11 +281,12 @@ class Healing:
         """How soon all that fits would heal, in words."""
         said = []
         for stage in self.study.heals():
-            rounds, time = self.in_words(stage, decision.most)
-            said.append(f"{HEALED[stage]} is {ENDS[stage]} after {rounds}" if time else f"{HEALED[stage]} {rounds}")
+            taken = self.taken(stage, decision.most)
+            healed = f"{ENDS[stage]} after {briefly(self.study, taken)}" if None not in taken else "not over in time"
+            said.append(f"{HEALED[stage]} is {healed}")
         rounds = self.waited(decision.most) if self.study.leaves() else None
-        said += [f"wait {in_rounds([rounds])} between groups"] if rounds else []
-        return f"{', '.join(said)}{self.run}"
+        said += [f"wait {briefly(self.study, [rounds])} between groups"] if rounds else []
+        return f"{'; '.join(said)}{self.run}"
 
 
 # What heals, by its stage, and the words for that.
@@ -334,13 +341,13 @@ def too_close(decision):
     """Which figures are too close to call. Those that still rise say nothing."""
     if not decision.suffices:
         return []
-    whole = decision.study.whole
-    said = [f"{mode} with {whole(decision.study.most(mode))} entries, {in_rounds(decision.figures[mode])} against "
+    it, whole = decision.study, decision.study.whole
+    said = [f"{mode} with {whole(it.most(mode))} entries, {briefly(it, decision.figures[mode])} against "
             f"{span(decision.worst)}" for mode in decision.close]
     if smaller := decision.smaller():
-        worst = in_rounds(decision.worst_with(smaller, decision.mode))
+        worst = briefly(it, decision.worst_with(smaller, decision.mode))
         said.append(f"{decision.mode} with a budget from {whole(smaller)} entries on, {worst} with that")
-    others = "other mode and smaller budget" if len(decision.study.fits) > 1 else "smaller budget"
+    others = "other mode and smaller budget" if len(it.fits) > 1 else "smaller budget"
     return said or [f"none: each {others} that was run is worse under all seeds by more than they differ"]
 
 

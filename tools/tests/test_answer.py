@@ -60,10 +60,11 @@ class Decided(unittest.TestCase):
         self.assertEqual(f"{found.reserve()}.", answer.first_words(found)[2])
 
     def test_another_mode_with_what_fits_is_better(self):
-        """precise-newest isn't better than scuttle-depth, each with 1000, but than that with 600. So 1000 are taken."""
+        """precise-newest isn't better than scuttle-depth, each with 1000, but than it with 600. So 1000 are taken."""
         found = decided({(1000, "scuttle-depth"): [7, 8], (600, "scuttle-depth"): [8, 9],
                          (1000, "precise-newest"): [7, 7]})
-        self.assertEqual(("scuttle-depth", 1000), (found.mode, found.budget))
+        self.assertEqual(("scuttle-depth", 1000, "With nodes * writes = 600 entries it is 8 to 9 rounds, and another "
+                          "mode with what fits is better than that"), (found.mode, found.budget, found.reserve()))
 
     def test_nodes_times_writes_still_rise(self):
         depth = {(1000, "scuttle-depth"): [7, 9], (600, "scuttle-depth"): [8, 9]}
@@ -197,7 +198,8 @@ class Decided(unittest.TestCase):
         self.assertEqual((333, 666, 3330), (found.budget, found.most, found.whole_budget()))
         self.assertEqual("9 to 11 rounds, 3.0 to 3.7 intervals, 3.0 to 3.7 s (1000 nodes run; reckon with up to 17 "
                          "rounds, 5.7 intervals, 5.7 s, for 10000)", found.staleness())
-        self.assertIn("With the 6660 entries (2 times nodes * writes / 3) it is 8 to 9 rounds", found.reserve())
+        self.assertIn("With the 6660 entries (2 times nodes * writes / 3) it is 8 to 9 rounds, 2.7 to 3.0 "
+                      "intervals, 2.7 to 3.0 s: not better", found.reserve())
 
     def test_a_tenth(self):
         """1000 of 10000 nodes are run, with a tenth of the 11000 entries that fit. Budgets are told for all."""
@@ -296,9 +298,9 @@ class Healed(unittest.TestCase):
         found = answer.Decision(it, Figures(figures), MANY)
         taken = {"split": [8, 9], "restart": [3, 4], "forgotten": [5, 4]}
         heals = answer.Healing(it, found.mode, {stage: Taken(rounds) for stage, rounds in taken.items()})
-        self.assertIn("  with the reserve    a split is healed after 8 to 9 rounds, a "
-                      "restart is healed after 3 to 4 rounds, a forgotten state is gone from all copies after 4 to 5 "
-                      "rounds, wait 7 rounds between groups", answer.in_words(found, heals))
+        self.assertIn("  with the reserve    a split is healed after 8 to 9 rounds; a "
+                      "restart is healed after 3 to 4 rounds; a forgotten state is gone from all copies after 4 to 5 "
+                      "rounds; wait 7 rounds between groups", answer.in_words(found, heals))
 
     def test_long_split(self):
         """100 rounds are run, in which each of 4 keys is written anew many times."""

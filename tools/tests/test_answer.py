@@ -81,8 +81,8 @@ class Decided(unittest.TestCase):
         it = of("nodes=300 keys=4 writes=2 entry=40 packet=24000 digest=10 mode=precise-newest")
         figures = {(300, "precise-newest"): [12, 13], (600, "precise-newest"): [7, 8]}
         for rises, first in (([], "Take precise-newest with room for 300 entries"),
-                             ([(300, "precise-newest")], "No budget that fits is enough: still rising after 200 rounds. "
-                              "The most that fits: room for 300 entries")):
+                             ([(300, "precise-newest")], "No budget that fits is enough: still rising after 200 "
+                              "rounds. The most that fits: room for 300 entries")):
             lines = answer.in_words(answer.Decision(it, Figures(figures, rises), MANY), None)
             self.assertTrue(lines[0].startswith(first), lines[0])
             self.assertFalse([line for line in lines if "scuttle" in line or "other mode" in line])

@@ -18,8 +18,8 @@ FEW_ENTRIES = 50
 TENTH_MORE, TENTH_HOLDS = (2, 6), (1, 2)
 TENTH = ("A tenth of the nodes stands for the whole in scuttle-depth: ten times 100 and 400 nodes had "
          f"{TENTH_MORE[0]} to {TENTH_MORE[1]} rounds more in `greatest`, with a budget of `nodes * writes` to twice "
-         "that, and with half of it 1 to 8 more. At 0.14 of it, with one key, 100, 1000 and 4000 nodes had 25 to 28, 33 "
-         "to 36 and 39 to 41 rounds.")
+         "that, and with half of it 1 to 8 more. At 0.14 of it, with one key, 100, 1000 and 4000 nodes had 25 to 28, "
+         "33 to 36 and 39 to 41 rounds.")
 
 
 def band(figure):

@@ -1,27 +1,30 @@
-"""gossip_advise [-o FOLDER] nodes=N keys=N writes=N entry=BYTES delta=BYTES [NAME=VALUE ..]
+"""gossip_advise [-o FOLDER] nodes=N keys=N writes=N entry=BYTES packet=BYTES [NAME=VALUE ..]
 gossip_advise -o FOLDER
 
 Says which mode and which budget to take for a cluster, how stale its copies get, and how long it takes to heal. It runs
-all modes with budgets around nodes * writes and what fits, under five seeds, on all cores: first few rounds, for a
-first answer, then what is to heal, then many rounds. Where no budget that fits is enough, it says so, and what would
-be. The folder, `advice` where none is named, gets the scenarios, the reports, `answer.txt` and the page `report.html`.
-It can be stopped, which loses the runs under way: the same call goes on. Without numbers it takes those that the folder
+the modes with what fits and with nodes * writes, under five seeds, on all cores: first few intervals, for a first
+answer, then what is to heal, then many intervals. Where no budget that fits is enough, it says so, and what would be.
+The folder, `advice` where none is named, gets the scenarios, the reports, `answer.txt` and the page `report.html`. It
+can be stopped, which loses the runs under way: the same call goes on. Without numbers it takes those that the folder
 has. Restarts and a split may be asked for in one call, so that what comes before them is run once.
 
   nodes, keys, writes    how many nodes; the things that each tells of itself; how many of these change in an interval
   entry     the bytes of a mean entry: key, version and value
-  delta     the bytes of a packet, less what else is in it, such as headers. The 64 KB of a UDP datagram are at most
-            65507 bytes
+  packet    the bytes of a packet, less what else is in it, such as headers. Digest and delta share it, if not told
+            otherwise by `shared`. The 64 KB of a UDP datagram are at most 65507 bytes. `delta` is another name of it
   digest    the bytes that a digest has for each node (in a precise mode for each key): what names the node, its
             generation and its version, as sent: about 20 for an IPv4 address, port, generation and version in binary,
             60 and more with host names or UUIDs. Where it isn't given it is 0, and digests are free
   shared    `yes`, where it isn't given: digest and delta share the packet; `no`, the digest has one of its own
+  fanout    how many others a node calls in an interval, 1 where it isn't given. Each call is a round of its own
   loss      how many messages of a hundred are lost, 0 where it isn't given
-  interval  the seconds between two exchanges that a node begins, 1 where it isn't given
+  interval  its seconds, 1 where it isn't given
   restarts  how many nodes restart at once, the size of a group, for the time to wait between groups: such a group
-            restarts in each of ten rounds, and is down for one. 0 looks at a single node
+            restarts in each of ten intervals, and is down for one. Where it isn't given, one node restarts, and with 0
+            none
   forget    `yes`, a node that restarts loses its own state too, as in Cassandra
-  split     the longest split, in intervals, 30 where it isn't given
+  split     the longest split, in intervals, 30 where it isn't given; with 0 there is none
+  mode      the one that your program has; where it isn't given, each that has room is run
   count     `bytes` or `entries`; where it isn't given entries, and bytes where a delta has room for fewer than fifty
 
   GOSSIP_BENCH   the program, where it isn't the one beside this tool or the one that is built
@@ -36,13 +39,13 @@ import sys
 import tomllib
 from fractions import Fraction
 
-from gossip_tools import answer, cluster, files, page, rules, running, scenario, study, sweep
+from gossip_tools import answer, cluster, files, page, running, scenario, study, sweep
 from gossip_tools.commands import Refused, folder_of, the_program, workers
 from gossip_tools.progress import Progress, in_words
 
-USUAL = {"digest": "0", "shared": "yes", "loss": "0", "interval": "1", "restarts": "0", "forget": "no",
-         "split": str(study.USUAL_SPLIT), "count": None}
-CALL = "gossip_advise nodes=1000 keys=4 writes=1 entry=40 delta=64000 digest=20 loss=1"
+USUAL = {"digest": "0", "shared": "yes", "fanout": "1", "loss": "0", "interval": "1", "restarts": None, "forget": "no",
+         "split": str(study.USUAL_SPLIT), "mode": None, "count": None}
+CALL = "gossip_advise nodes=1000 keys=4 writes=1 entry=40 packet=64000 digest=20 loss=1"
 
 
 def numbers_of(words, file):
@@ -60,13 +63,14 @@ def numbers_of(words, file):
         words = [f"{name}={value}" for name, value in kept.items() if name != "program"]
     told = cluster.told(words, USUAL, CALL)
     cluster.check_limits(told)
+    cluster.check_fanout(told["fanout"])
     if not told["writes"]:
         raise Refused("writes would be 0, and then nothing has to be sent: count what changes in each interval alone, "
                       "a heartbeat for one as keys=1 and writes=1.")
     if not told["interval"]:
         raise Refused("an interval has seconds.")
-    if not told["split"] or told["split"] > 100000:
-        raise Refused("split is a number of intervals from 1 to 100000.")
+    if told["split"] > 100000:
+        raise Refused("split is a number of intervals up to 100000.")
     return told, kept
 
 
@@ -95,28 +99,55 @@ class Stages:
 
     def __init__(self, it, folder, program):
         self.study, self.folder, self.program = it, folder, program
-        self.progress = Progress({})
-        self.plan(*study.STAGES)
+        self.progress = Progress()
+        # (the budgets and modes that were run, by stage)
+        self.made = {}
 
-    def plan(self, *stages, budgets=None):
-        """What is still to be run, for the time left."""
-        self.progress.work = {f"{stage}/{name}": self.rounds(stage) for stage in stages
-                              for name in self.runs(stage, budgets=budgets)[1]}
+    def runs(self, stage, pairs):
+        """The scenario of a stage, and those of its runs with these budgets and modes, by their names."""
+        text, runs = self.study.scene(stage), {}
+        for choices in self.study.choices(stage, pairs):
+            runs |= sweep.spread(text, choices)
+        return text, runs
 
-    def rounds(self, stage):
-        return {"few": rules.FEW_ROUNDS, "knee": rules.MANY_ROUNDS}.get(stage) or self.study.healing_rounds()
+    def expect(self, mode, budget, *stages):
+        """Reckons with what is still to be run in these stages where this mode takes this budget, for the time left."""
+        it, heals = self.study, {(budget, mode), (self.study.most(mode), mode)}
+        many = it.wanted(mode) | it.next_smaller(budget, mode)
+        pairs = {"few": it.wanted(mode), "many": many, **dict.fromkeys(it.heals(), heals)}
+        self.progress.plan({f"{stage}/{name}": it.work(stage, *pair) for stage in stages for pair in pairs[stage]
+                            for name in self.runs(stage, {pair})[1]})
 
-    def runs(self, stage, mode=rules.USUAL_MODE, budgets=None):
-        text, choices = self.study.stage(stage, mode, budgets)
-        return text, sweep.spread(text, choices), choices
-
-    def carry_out(self, stage, mode=rules.USUAL_MODE, budgets=None):
-        text, runs, choices = self.runs(stage, mode, budgets)
-        left = f", {in_words(self.progress.left())} in all" if self.progress.left() else ""
-        print(f"{stage}: {len(runs)} runs of {self.rounds(stage)} rounds{left}", file=sys.stderr, flush=True)
+    def carry_out(self, stage, pairs):
+        text, runs = self.runs(stage, pairs)
+        if to_do := [name for name in runs if not self.progress.is_over(f"{stage}/{name}")]:
+            left = f", {in_words(self.progress.left())} in all" if self.progress.left() else ""
+            print(f"{stage}: {len(to_do)} runs of {self.study.rounds(stage)} rounds{left}", file=sys.stderr, flush=True)
         sweep.carry_out(self.folder / stage, text, runs, self.program, self.progress, os.environ.get("HOSTS"),
                         "gossip_advise")
-        return study.Found(self.study, self.folder / stage, choices)
+        self.made[stage] = self.made.get(stage, set()) | pairs
+        return study.Found(self.study, stage, self.folder / stage, pairs)
+
+    def decide(self, stage, pairs):
+        """What follows from these runs of a stage, once the mode that is chosen was run with nodes * writes too."""
+        decision = answer.Decision(self.study, self.carry_out(stage, pairs), stage)
+        if more := self.study.wanted(decision.mode) - pairs:
+            return answer.Decision(self.study, self.carry_out(stage, pairs | more), stage)
+        return decision
+
+    def look_below(self, decision):
+        """The same decision with smaller budgets beside it, of which the last is worse."""
+        while pairs := self.study.next_smaller(decision.smaller() or decision.budget, decision.mode):
+            if pairs <= decision.found.rows.keys():
+                break
+            pairs |= decision.found.rows.keys()
+            decision = answer.Decision(self.study, self.carry_out(decision.stage, pairs), decision.stage)
+        return decision
+
+    def heal(self, decision):
+        """What heals, with the budget that is taken and with all that fits."""
+        pairs = {(budget, decision.mode) for budget in (decision.budget, decision.most)}
+        return answer.Healing(self.study, decision.mode, {it: self.carry_out(it, pairs) for it in self.study.heals()})
 
 
 def look(folder):
@@ -132,45 +163,50 @@ def call_with_enough(decision, folder):
     where that wasn't enough either."""
     if decision.suffices or not decision.knee_suffices():
         return ""
-    told = decision.study.told | {"delta": decision.study.packet(decision.mode)}
+    told = decision.study.told | {"packet": decision.study.packet(decision.mode)}
     words = {name: str(as_text(told[name])) for name in (*cluster.NEEDED, *USUAL) if told[name] is not None}
     asked = [f"{name}={text}" for name, text in words.items() if text != USUAL.get(name)]
     return shlex.join(["gossip_advise", "-o", f"{folder}-enough", *asked])
 
 
 def first_answer(it, stages):
-    """The first answer, from few rounds, and what heals with its budget. Whether many rounds are still worth while,
-    which they aren't where no budget that fits is enough, be it after many rounds."""
-    few = answer.Decision(it, stages.carry_out("few"), rules.FEW_WINDOW)
+    """The first answer, from few intervals, and what heals with its budget."""
+    stages.expect(it.usual, min(it.knee, it.most(it.usual)), "few", "many", *it.heals())
+    few = stages.decide("few", it.wanted(it.usual))
     print(*answer.first_words(few, call_with_enough(few, stages.folder)), sep="\n", flush=True)
     if not few.suffices:
         print(flush=True)
-        stages.plan("knee", budgets=it.few_budgets())
-        last = answer.Decision(it, stages.carry_out("knee", budgets=it.few_budgets()), rules.MANY_WINDOW)
-        stages.plan("knee", *study.HEALED)
-        return last
+        return few
+    stages.expect(few.mode, few.budget, "many", *it.heals())
     healed = {}
-    for stage in study.HEALED:
-        healed[stage] = stages.carry_out(stage, few.mode, [few.budget])
+    for stage in it.heals():
+        healed[stage] = stages.carry_out(stage, {(few.budget, few.mode)})
         print(*answer.Healing(it, few.mode, healed).lines_now(stage, few.budget), sep="\n", flush=True)
     print("Now all of it is refined, which takes longer.", "", sep="\n", flush=True)
     return few
 
 
+def last_answer(it, stages, few):
+    """The last answer, from many intervals, and what heals with its budget, where one that fits is enough."""
+    stages.expect(few.mode, few.budget, "many", *(it.heals() if few.suffices else ()))
+    smaller = it.next_smaller(few.budget, few.mode) if few.suffices else set()
+    decision = stages.decide("many", it.wanted(few.mode) | smaller)
+    if not decision.suffices:
+        return decision, None
+    stages.expect(decision.mode, decision.budget, "many", *it.heals())
+    decision = stages.look_below(decision)
+    return decision, stages.heal(decision) if it.heals() else None
+
+
 def study_of(it, folder, program, check_sum):
     """Carries out the stages, and prints the answers."""
     stages = Stages(it, folder, program)
-    decision, healing = first_answer(it, stages), None
-    was_enough = decision.suffices
-    if decision.suffices:
-        decision = answer.Decision(it, stages.carry_out("knee"), rules.MANY_WINDOW)
-    if decision.suffices:
-        healed = {stage: stages.carry_out(stage, decision.mode) for stage in study.HEALED}
-        healing = answer.Healing(it, decision.mode, healed)
-    missing = answer.not_run(decision, call_with_enough(decision, folder), was_enough)
+    few = first_answer(it, stages)
+    decision, healing = last_answer(it, stages, few)
+    missing = answer.not_run(decision, call_with_enough(decision, folder), few.suffices)
     lines = answer.in_words(decision, healing, missing)
     files.put(folder / "answer.txt", "\n".join(lines) + "\n")
-    said = page.make(folder, decision, healing, check_sum, missing)
+    said = page.make(folder, decision, healing, stages.made, check_sum, missing)
     print(*lines, "", said, sep="\n")
 
 
@@ -183,7 +219,7 @@ def main(words):
     it = study.Study(numbers_of(words, folder / "cluster.toml")[0])
     program = the_program()
     workers()
-    sweep.check({"the first scenario": it.stage("few")[0]}, program)
+    sweep.check({"the first scenario": it.scene("few")}, program)
     running.Signals.listen()
     try:
         with files.locked(folder):

@@ -18,34 +18,65 @@ def in_nodes(count):
     return f"{count} node{'s' if count != 1 else ''}"
 
 
-def in_time(rounds, interval):
-    """Rounds as time: in seconds, or in minutes where they are many."""
-    seconds = [float(it * interval) for it in rules.band(rounds)]
+def in_time(rounds, seconds):
+    """Rounds of so many seconds as time: in seconds, or in minutes where they are many."""
+    seconds = [float(it * seconds) for it in rules.band(rounds)]
     if max(seconds) >= 600:
         return span([it / 60 for it in seconds], 0) + " min"
     return span(seconds, 0 if all(it == int(it) for it in seconds) else 1) + " s"
 
 
+def lasting(study, rounds):
+    """Rounds as rounds, as intervals where those are others, and as time."""
+    intervals = [it / study.fanout for it in rounds]
+    as_intervals = [f"{span(intervals, 1)} intervals"] if study.fanout > 1 else []
+    return ", ".join([in_rounds(rounds), *as_intervals, in_time(rounds, study.seconds)])
+
+
+def briefly(study, rounds):
+    """Rounds to be held against others: in each measure of time where an interval has several."""
+    return in_rounds(rounds) if study.fanout == 1 else lasting(study, rounds)
+
+
+def unit(study):
+    """What an interval is called: where it is one round, a round."""
+    return "rounds" if study.fanout == 1 else "intervals"
+
+
 class Decision:
     """What follows from the runs of a stage by the rules."""
 
-    def __init__(self, study, found, window):
-        self.study, self.found, self.window = study, found, window
-        self.figures = {mode: found.worst(study.budget(mode), mode, window) for mode in study.fits}
-        enough = {mode: it for mode, it in self.figures.items() if found.suffices(study.budget(mode), mode, window)}
+    def __init__(self, study, found, stage):
+        self.study, self.found, self.stage, self.window = study, found, stage, study.window(stage)
+        self.figures = {mode: self.worst_with(study.most(mode), mode) for mode in study.fits}
+        enough = {mode: it for mode, it in self.figures.items() if self.is_enough(study.most(mode), mode)}
         # whether a budget that fits is enough, in some mode
         self.suffices = bool(enough)
-        self.mode = rules.mode_of(enough)
-        self.budget = study.budget(self.mode)
-        self.worst = self.figures[self.mode]
-        self.cut = found.cut(self.budget, self.mode, window)
+        self.mode = rules.mode_of(enough) if enough else study.usual
+        self.most = self.budget = study.most(self.mode)
+        if self.suffices and study.knee < self.most and self.is_enough(study.knee, self.mode):
+            if rules.takes_knee(self.worst_with(study.knee, self.mode), enough.values()):
+                self.budget = study.knee
+        self.worst = self.worst_with(self.budget, self.mode)
+        self.cut = found.cut(self.budget, self.mode, self.window)
         self.close = [it for it in self.figures if it != self.mode and rules.are_close(self.figures[it], self.worst)]
+
+    def worst_with(self, budget, mode):
+        return self.found.worst(budget, mode, self.window)
+
+    def is_enough(self, budget, mode):
+        """Whether a budget was run with a mode, and is enough."""
+        return (budget, mode) in self.found.rows and self.found.suffices(budget, mode, self.window)
+
+    def is_worse(self, budget):
+        """Whether a budget that was run is worse than the one that is taken."""
+        return rules.is_better(self.worst, self.worst_with(budget, self.mode))
 
     def smaller(self):
         """The least budget from which on all are too close to call with the chosen one, if it isn't that itself."""
         least = self.budget
         for it in sorted((it for it, mode in self.found.rows if mode == self.mode and it < self.budget), reverse=True):
-            if rules.is_better(self.worst, self.found.worst(it, self.mode, self.window)):
+            if self.is_worse(it):
                 break
             least = it
         return least if least < self.budget else None
@@ -54,7 +85,7 @@ class Decision:
         """The budgets that were run."""
         return sorted({it for it, _ in self.found.rows})
 
-    def most(self):
+    def most_rounds(self):
         """The most rounds to reckon with, for the whole cluster."""
         return rules.reckoned(self.worst) if self.study.parts > 1 else max(self.worst)
 
@@ -64,14 +95,15 @@ class Decision:
         if it.parts == 1:
             return ""
         more = "up to" if rules.tenth_holds(self.of_knee()) else "more than"
-        return f"{it.nodes} nodes run; reckon with {more} {self.most()} for {int(it.told['nodes'])}"
+        return (f"{it.nodes} nodes run; reckon with {more} {lasting(it, [self.most_rounds()])}, for "
+                f"{int(it.told['nodes'])}")
 
     def staleness(self):
         """The worst staleness, in words."""
         if not self.suffices:
             return f"not known: still rising after {self.window[1]} rounds"
         more = f" ({self.reckon()})" if self.reckon() else ""
-        return f"{in_rounds(self.worst)}, {in_time(self.worst, self.study.told['interval'])}{more}"
+        return f"{lasting(self.study, self.worst)}{more}"
 
     def to_knee(self):
         """The bytes with which nodes * writes entries fit, and what they would bring, in words. Empty where they do
@@ -80,25 +112,25 @@ class Decision:
         if self.budget >= it.knee:
             return ""
         at_knee, with_digest = it.knee, it.told["shared"] == "yes" and it.told["digest"]
-        said = (f"delta={it.packet(self.mode)} has room for nodes * writes = {it.whole(at_knee)} entries"
+        said = (f"packet={it.packet(self.mode)} has room for {it.knee_name} = {it.whole(at_knee)} entries"
                 f"{' and the digest' if with_digest else ''}")
         if (at_knee, self.mode) not in self.found.rows:
             return said
         if not self.knee_suffices():
             return f"{said}, where `greatest` still rises too"
-        return f"{said}, worst staleness {in_rounds(self.found.worst(at_knee, self.mode, self.window))} with that"
+        return f"{said}, worst staleness {briefly(it, self.worst_with(at_knee, self.mode))} with that"
 
     def knee_suffices(self):
         """Whether nodes * writes entries, where they were run, are enough."""
-        at_knee = self.study.knee, self.mode
-        return at_knee in self.found.rows and self.found.suffices(*at_knee, self.window)
+        return self.is_enough(self.study.knee, self.mode)
 
     def of_knee(self):
         """How the budget stands to nodes * writes."""
         return self.budget / self.study.knee
 
     def times(self):
-        return "nodes * writes" if self.budget == self.study.knee else f"{self.of_knee():.2g} times nodes * writes"
+        name = self.study.knee_name
+        return name if self.budget == self.study.knee else f"{self.of_knee():.2g} times {name}"
 
     def whole_budget(self):
         return self.study.whole(self.budget)
@@ -109,14 +141,16 @@ class Decision:
 
     def most_that_fits(self):
         """The largest budget where none is enough, in words. The modes there all still rise, so none is named."""
-        return (f"The most that fits: {self.room()}. No mode can be preferred with that by its `greatest`, which still "
-                "rises in each that was run.")
+        none = (" No mode can be preferred with that by its `greatest`, which still rises in each that was run."
+                if len(self.study.fits) > 1 else "")
+        return f"The most that fits: {self.room()}.{none}"
 
     def forgetful(self):
-        """The mode to take where nodes forget and the budget is short, in words; empty where that isn't so."""
-        if self.study.told["forget"] == "no" or self.budget >= self.study.knee:
+        """What counts where nodes forget and the budget is short, in words; empty where that isn't so."""
+        it = self.study
+        if it.told["forget"] == "no" or not it.leaves() or self.budget >= it.knee:
             return ""
-        return f"But nodes forget here, and the budget is below nodes * writes: {rules.FORGETFUL}, maybe for ever."
+        return f"Nodes forget here, and the budget is below {it.knee_name}: {rules.FORGETFUL}."
 
     def room(self):
         """The budget, in words."""
@@ -128,6 +162,28 @@ class Decision:
         elif self.budget == it.fits[self.mode]:
             why = f"what fits; {why}"
         return f"room for {self.whole_budget()} entries in a delta, {int(in_bytes)} bytes ({why})"
+
+    def reserve(self):
+        """What more than nodes * writes brings, in words; empty where no more fits."""
+        it = self.study
+        if not self.suffices or self.most <= it.knee:
+            return ""
+        if self.budget < self.most:
+            return (f"With {self.all_that_fits()} it is {briefly(it, self.figures[self.mode])}: not better under all "
+                    f"seeds by more than they differ. So packet={it.packet(self.mode)} is enough, and what is above "
+                    "that is a reserve")
+        at_knee = f"With {it.knee_name} = {it.whole(it.knee)} entries"
+        if not self.knee_suffices():
+            return f"{at_knee} `greatest` still rises"
+        why = (": worse under all seeds by more than they differ" if self.is_worse(it.knee) else
+               ", and another mode with what fits is better than that")
+        return f"{at_knee} it is {briefly(it, self.worst_with(it.knee, self.mode))}{why}"
+
+    def all_that_fits(self):
+        """The largest budget that was looked at, in words."""
+        it = self.study
+        what = "that fit" if self.most == it.fits[self.mode] else f"({self.most / it.knee:.2g} times {it.knee_name})"
+        return f"the {it.whole(self.most)} entries {what}"
 
 
 class Healing:
@@ -146,76 +202,96 @@ class Healing:
         """How long it takes, in words: the rounds, or that they weren't enough, and the time."""
         taken = self.taken(stage, budget)
         if None in taken:
-            rounds = self.study.healing_rounds() - self.study.ends(stage)
+            rounds = self.study.rounds(stage) - self.study.ends(stage)
             return f"not within {rounds} rounds under {taken.count(None)} of {len(taken)} seeds", ""
-        return in_rounds(taken), in_time(taken, self.study.told["interval"])
+        rounds, _, time = lasting(self.study, taken).partition(", ")
+        return rounds, time
 
     def lines(self, stage, budget):
-        """What is healed and how long it takes; below a split what is counted."""
+        """What is healed and how long it takes; below the first of them what is counted."""
         it = self.study
-        each, ends = it.restarting()
-        groups = ends - it.begins + 1
-        harder = ", a harder test than one group" if groups > 1 else ""
-        many = f"of {in_nodes(each)} in each of {groups} rounds{harder}" if it.restarts else "of one node"
-        for_all = ""
-        if it.split < it.told["split"]:
-            for_all = f", which stand for {it.told['split']}, as each key is written anew in them"
-        what = f"of half of the nodes for {it.split} rounds{for_all}" if stage == "split" else many
         rounds, time = self.in_words(stage, budget)
         took = f"{ENDS[stage]} after {rounds}, {time}" if time else rounds
-        lines = [row(HEALED[stage], f"{what}: {took}{self.run}")]
-        if stage == "split":
+        lines = [row(HEALED[stage], f"{self.what(stage)}: {took}{self.run}")]
+        if stage == it.heals()[0]:
             lines += [row("", it) for it in textwrap.wrap(self.counted(), IN_A_ROW)]
         return lines
+
+    def what(self, stage):
+        """What a stage heals from, in words."""
+        it = self.study
+        if stage == "split":
+            for_all = ""
+            if it.split < it.told["split"]:
+                for_all = f", which stand for {it.told['split']}, as each key is written anew in them"
+            return f"of half of the nodes for {it.split} {unit(it)}{for_all}"
+        each, groups = it.restarting()
+        harder = ", a harder test than one group" if groups > 1 else ""
+        return f"of {in_nodes(each)} in each of {groups} {unit(it)}{harder}" if it.restarts else "of one node"
 
     def lines_now(self, stage, budget):
         """The lines of a stage as soon as it is run. How long to wait is known from the restart; where nodes forget,
         at least, until the forgotten state is run too."""
-        lines = self.lines(stage, budget)
-        if stage == self.leaves()[-1]:
+        lines, leaves = self.lines(stage, budget), self.study.leaves()
+        if stage in leaves[-1:]:
             lines.append(self.rolling(budget))
         elif stage == "restart" and None not in self.taken(stage, budget):
             lines.append(row(ROLLING, f"{self.wait_at_least(budget)}{self.run}"))
         return lines
+
+    def all_lines(self, budget):
+        """The lines of all stages."""
+        it = self.study
+        lines = [line for stage in it.heals() for line in self.lines(stage, budget)]
+        return lines + ([self.rolling(budget)] if it.leaves() else [])
 
     def rolling(self, budget):
         """The line that says how long to wait between the groups of a rolling restart."""
         return row(ROLLING, f"{self.wait(budget)}{self.run}")
 
     def counted(self):
-        """What the rounds of a split are, in words."""
-        return f"N rounds after the last round of the split {rules.HEALED.format(*self.study.before)}"
-
-    def leaves(self):
-        """The stages that tell what a restart leaves, in their order."""
-        return ("restart", "forgotten") if self.study.told["forget"] == "yes" else ("restart",)
+        """What the rounds of a split and of a restart are, in words."""
+        lasts = {"split": "the last round of the split", "restart": "the last with a node down"}
+        after = ", or ".join(lasts[it] for it in self.study.heals() if it in lasts)
+        return f"Healed after N rounds: N rounds after {after}, {rules.HEALED.format(*self.study.before)}"
 
     def waited(self, budget):
         """The rounds to wait between the groups of a rolling restart: until what a restart leaves is over under each
         seed, and some more. None where some of it isn't over in the rounds that were run."""
-        taken = [it for stage in self.leaves() for it in self.taken(stage, budget)]
+        taken = [it for stage in self.study.leaves() for it in self.taken(stage, budget)]
         return None if None in taken else max(taken) + rules.WAIT_MORE
 
     def wait_at_least(self, budget):
         """How long to wait as far as the restart alone tells, in words."""
         rounds = [max(self.taken("restart", budget)) + rules.WAIT_MORE]
-        return (f"wait at least {in_rounds(rounds)}, {in_time(rounds, self.study.told['interval'])}, by the restart "
-                "alone; the forgotten state is still to be run")
+        return (f"wait at least {lasting(self.study, rounds)}, by the restart alone; the forgotten state is still to "
+                "be run")
 
     def wait(self, budget):
         """How long to wait between the groups of a rolling restart, in words."""
-        told, rounds = self.study.told, self.waited(budget)
-        longest = "the longest of these two" if told["forget"] == "yes" else "the longest of a restart"
+        restarts, rounds = self.study.told["restarts"], self.waited(budget)
+        longest = "the longest of these two" if len(self.study.leaves()) > 1 else "the longest of a restart"
         if rounds is None:
             return "no wait is known, as not all of this is over in the rounds that were run: take a larger budget"
-        who = f"a group of {told['restarts']} nodes" if told["restarts"] > 1 else "a node"
-        return (f"wait {in_rounds([rounds])}, {in_time([rounds], told['interval'])}, after {who} is up again: "
-                f"{rules.WAIT_MORE} more than {longest}, as a later group may take longer")
+        who = f"a group of {restarts} nodes" if restarts and restarts > 1 else "a node"
+        return (f"wait {lasting(self.study, [rounds])}, after {who} is up again: {rules.WAIT_MORE} more than "
+                f"{longest}, as a later group may take longer")
+
+    def with_reserve(self, decision):
+        """How soon all that fits would heal, in words."""
+        said = []
+        for stage in self.study.heals():
+            taken = self.taken(stage, decision.most)
+            healed = f"{ENDS[stage]} after {briefly(self.study, taken)}" if None not in taken else "not over in time"
+            said.append(f"{HEALED[stage]} is {healed}")
+        rounds = self.waited(decision.most) if self.study.leaves() else None
+        said += [f"wait {briefly(self.study, [rounds])} between groups"] if rounds else []
+        return f"{'; '.join(said)}{self.run}"
 
 
 # What heals, by its stage, and the words for that.
 HEALED = {"split": "a split", "restart": "a restart", "forgotten": "a forgotten state"}
-ENDS = {"split": "healed", "restart": "healed", "forgotten": "gone"}
+ENDS = {"split": "healed", "restart": "healed", "forgotten": "gone from all copies"}
 ROLLING = "a rolling restart"
 IN_A_ROW = 98
 
@@ -226,17 +302,19 @@ def row(name, said):
 
 
 def first_words(decision, call=""):
-    """The first answer, from few rounds."""
-    few, to_knee = rules.FEW_ROUNDS, decision.to_knee()
-    free = [] if decision.study.told["digest"] else of_digest(decision)
+    """The first answer, from few intervals."""
+    it, few, to_knee = decision.study, decision.window[1], decision.to_knee()
+    free = [] if it.told["digest"] else of_digest(decision)
+    since = f"{few} rounds" if it.fanout == 1 else f"{few // it.fanout} intervals of {it.fanout} rounds"
     if decision.suffices:
-        said = [f"First answer, from {few} rounds: {decision.takes()}.", f"Worst staleness {decision.staleness()}.",
-                f"That is below nodes * writes. {to_knee}." if to_knee else "", decision.forgetful(), *free]
+        said = [f"First answer, from {since}: {decision.takes()}.", f"Worst staleness {decision.staleness()}.",
+                f"{decision.reserve()}." if decision.reserve() else "",
+                f"That is below {it.knee_name}. {to_knee}." if to_knee else "", decision.forgetful(), *free]
     else:
-        said = [f"First answer, from {few} rounds: no budget that fits is enough, still rising after {few} rounds.",
+        said = [f"First answer, from {since}: no budget that fits is enough, still rising after {few} rounds.",
                 decision.most_that_fits(), decision.forgetful(), f"{to_knee}." if to_knee else "", *free,
-                f"Whether it levels off later is seen from {rules.MANY_ROUNDS} rounds now."]
-        if call and decision.study.asks_for_healing():
+                f"Whether it levels off later is seen from {it.rounds('many')} rounds now."]
+        if call and it.asks_for_healing():
             said += [f"{WHAT_HEALS} are run only if it does. To see them with a budget that is enough:", f"  {call}"]
     return [it for it in said if it]
 
@@ -248,10 +326,10 @@ def not_run(decision, call, was_enough=False):
     """Why nothing was run that heals, and the call that runs it. Short where nothing of it was asked for. In a first
     answer a budget may have been enough, so that it was run there."""
     it = decision.study
-    if decision.suffices:
+    if decision.suffices or not it.heals():
         return []
     if not was_enough and not it.asks_for_healing():
-        return [f"Nor was a split or a restart run: give delta={it.packet(decision.mode)} and another folder to see "
+        return [f"Nor was a split or a restart run: give packet={it.packet(decision.mode)} and another folder to see "
                 "them."] if call else []
     why = f"{WHAT_HEALS} were not run, as no budget that fits is enough."
     if was_enough:
@@ -263,14 +341,14 @@ def too_close(decision):
     """Which figures are too close to call. Those that still rise say nothing."""
     if not decision.suffices:
         return []
-    whole = decision.study.whole
-    said = [f"{mode} with {whole(decision.study.budget(mode))} entries, {in_rounds(decision.figures[mode])} against "
+    it, whole = decision.study, decision.study.whole
+    said = [f"{mode} with {whole(it.most(mode))} entries, {briefly(it, decision.figures[mode])} against "
             f"{span(decision.worst)}" for mode in decision.close]
     if smaller := decision.smaller():
-        worst = in_rounds(decision.found.worst(smaller, decision.mode, decision.window))
+        worst = briefly(it, decision.worst_with(smaller, decision.mode))
         said.append(f"{decision.mode} with a budget from {whole(smaller)} entries on, {worst} with that")
-    return said or ["none: each other mode and smaller budget that was run is worse under all seeds by more than they "
-                    "differ"]
+    others = "other mode and smaller budget" if len(it.fits) > 1 else "smaller budget"
+    return said or [f"none: each {others} that was run is worse under all seeds by more than they differ"]
 
 
 def warnings(decision):
@@ -280,11 +358,11 @@ def warnings(decision):
     own = "a delta in packets of its own (shared=no), " if shared else ""
     if not decision.suffices:
         larger = f"A larger packet, {own}a shorter entry or fewer" if decision.to_knee() else "Less loss or fewer"
-        said.append("`greatest` still rises in the second half of the window, in each mode. "
+        said.append("`greatest` still rises in the second half of the window, in each mode that was run. "
                     f"{larger} writes would help.")
     elif decision.budget < it.knee:
-        said.append("The budget is below nodes * writes, the knee above which a larger one hardly helps, so copies lag "
-                    f"more than they have to. {decision.to_knee()}. Else "
+        said.append(f"The budget is below {it.knee_name}, the knee above which a larger one hardly helps, so copies "
+                    f"lag more than they have to. {decision.to_knee()}. Else "
                     f"{own}a shorter entry or fewer writes would help.")
     said += [decision.forgetful()] if decision.forgetful() else []
     said += of_digest(decision) + of_datagrams(decision)
@@ -292,7 +370,7 @@ def warnings(decision):
         said.append("With room for so few entries a large one holds up smaller ones behind it: give the delta room for "
                     "one mean entry more than the sum says.")
     no_room = [mode for mode in scenario.MODES if it.rooms[mode] < 1]
-    if no_room and it.parts == 1:
+    if no_room and it.parts == 1 and not it.told["mode"]:
         said.append(f"{' and '.join(no_room)} have no room: their digest alone takes the packet.")
     if it.parts > 1:
         said.append(f"A tenth was run, {it.nodes} nodes with a tenth of the packet, in scuttle-depth alone. "
@@ -306,15 +384,16 @@ def of_healing(it):
     """What was run of a split and of restarts, where that isn't what was asked for."""
     said = []
     if it.split < it.told["split"]:
-        said.append(f"A split of {it.split} rounds was run in place of {int(it.told['split'])}: each key was written "
+        said.append(f"A split of {it.split} {unit(it)} was run in place of {it.told['split']}: each key was written "
                     "anew meanwhile, so a longer one leaves no more to catch up with.")
     if it.restarts:
-        each, ends = it.restarting()
+        each, groups = it.restarting()
         fewer = f", in place of {it.told['restarts']}" if it.told["restarts"] > it.whole(each) else ""
         said.append(f"{it.whole(each)} is the size of a group that restarts at once{fewer}. What was run are "
-                    f"{ends - it.begins + 1} such groups, one in each round, each down for one round. The times count "
-                    "from when the last one is up again.")
-        said.append("While nodes restart in each round, `greatest` is the number of the round and bounds nothing.")
+                    f"{groups} such groups, one in each {unit(it)[:-1]}, each down for one. The times count from when "
+                    "the last one is up again.")
+        said.append(f"While nodes restart in each {unit(it)[:-1]}, `greatest` is the number of the round and bounds "
+                    "nothing.")
     return said
 
 
@@ -331,31 +410,41 @@ def of_digest(decision):
     if not told["digest"]:
         return [f"You gave no digest, so it is free here. With digest={SUPPOSED} its {numbers} numbers would take "
                 f"{numbers * SUPPOSED} bytes. {TYPICAL}"]
-    if told["shared"] == "no" and it.digest_bytes(decision.mode) > told["delta"]:
-        return [f"The digest has {numbers} numbers of {told['digest']} bytes, which fit no packet of {told['delta']}: "
-                "it would have to go in several."]
+    if told["shared"] == "no" and it.digest_bytes(decision.mode) > told["packet"]:
+        return [f"The digest has {numbers} numbers of {told['digest']} bytes, which fit no packet of "
+                f"{told['packet']}: it would have to go in several."]
     return []
 
 
 def of_datagrams(decision):
     """That a packet is more than one datagram."""
-    largest = max(int(decision.study.told["delta"]), decision.study.packet(decision.mode) if decision.to_knee() else 0)
+    needed = decision.study.packet(decision.mode)
+    largest = max(int(decision.study.told["packet"]), needed) if decision.to_knee() else \
+        int(decision.study.told["packet"])
     if largest <= rules.DATAGRAM:
         return []
-    return [f"The 64 KB of a UDP datagram are at most {rules.DATAGRAM} bytes: delta={largest} takes several of them, "
+    return [f"The 64 KB of a UDP datagram are at most {rules.DATAGRAM} bytes: packet={largest} takes several of them, "
             "or TCP."]
+
+
+def of_calls(it):
+    """Which way the numbers err by how many others a node calls in an interval."""
+    if it.fanout == 1:
+        return ["Latency: right where an exchange takes much less than the interval of "
+                f"{float(it.seconds):g} s; else the cluster is slower.",
+                "More than one peer in an interval: such a cluster is faster. fanout=3 looks at three."]
+    return [f"Latency: right where an exchange takes much less than the {float(it.seconds):.2g} s between two of the "
+            f"{it.fanout} calls of an interval, which come one after another here; else, and where a node makes them "
+            "all at once, the cluster is slower."]
 
 
 def left_out(decision):
     """What the model leaves out for this cluster."""
     it, told = decision.study, decision.study.told
-    said = [f"Latency: right where an exchange takes much less than the interval of {float(told['interval']):g} s; "
-            "else the cluster is slower.",
-            "More than one peer in an interval: such a cluster is faster.",
-            "Failure detectors: " + (
-                f"one that needs a heartbeat in time has to wait longer than {decision.most()} rounds."
-                if decision.suffices else "a heartbeat may come later than any limit."),
-            "Nodes that join and leave: one that joins is like one that restarts."]
+    said = [*of_calls(it), "Failure detectors: " + (
+        f"one that needs a heartbeat in time has to wait longer than {lasting(it, [decision.most_rounds()])}."
+        if decision.suffices else "a heartbeat may come later than any limit."),
+        "Nodes that join and leave: one that joins is like one that restarts."]
     if it.in_bytes:
         said.append(f"Your sizes: those of the bench are spread evenly up to {1023 / 523.5 * float(told['entry']):.0f} "
                     "bytes, for your mean entry. If your largest is larger, give half of it as entry.")
@@ -371,14 +460,14 @@ def left_out(decision):
         more = int(told["nodes"] * it.writes + told["restarts"] * it.keys)
         said.append("In Cassandra a node tells all its keys as it starts, here as many as it writes: reckon with "
                     f"nodes * writes + restarts * keys = {more} in place of nodes * writes.")
-    elif not decision.suffices:
-        return said
-    elif told["restarts"]:
-        said.append("Generations: a node that restarts keeps its own state here; forget=yes lets it lose that too.")
-    else:
-        said.append("Groups: one node restarts at a time here. For a rolling restart in groups give their size, as "
-                    "restarts=50.")
+    elif decision.suffices and it.leaves():
+        said.append(GENERATIONS if told["restarts"] else GROUPS)
     return said
+
+
+GENERATIONS = "Generations: a node that restarts keeps its own state here; forget=yes lets it lose that too."
+GROUPS = ("Groups: one node restarts at a time here. For a rolling restart in groups give their size, as restarts=50; "
+          "forget=yes, where a node loses its own state too.")
 
 
 def none_fits(decision):
@@ -394,12 +483,14 @@ def in_words(decision, healing, missing=()):
     in_window = f": the most of `greatest` in rounds {first} to {last}, least and most of {len(rules.SEEDS)} seeds"
     in_window = in_window if decision.suffices else ""
     in_mode = "" if decision.suffices else f", in {decision.mode}"
-    lines = [takes, "", row("worst staleness", f"{decision.staleness()}{in_window}"),
-             row("share cut", f"{span(decision.cut, 2)} % of what was lacking{in_mode}")]
-    for stage in HEALED if healing else ():
-        lines += healing.lines(stage, decision.budget)
+    lines = [takes, "", row("worst staleness", f"{decision.staleness()}{in_window}")]
+    if reserve := decision.reserve():
+        lines.append(row("a reserve" if decision.budget < decision.most else decision.study.knee_name, reserve))
+    lines.append(row("share cut", f"{span(decision.cut, 2)} % of what was lacking{in_mode}"))
     if healing:
-        lines.append(healing.rolling(decision.budget))
+        lines += healing.all_lines(decision.budget)
+        if decision.budget < decision.most:
+            lines.append(row("with the reserve", healing.with_reserve(decision)))
     if not decision.suffices and decision.to_knee():
         lines.append(row("enough", decision.to_knee()))
     lines += ["", *missing] if missing else []

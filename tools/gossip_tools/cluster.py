@@ -1,13 +1,13 @@
-"""gossip_scenario nodes=N keys=N writes=N entry=BYTES delta=BYTES [NAME=VALUE ..] > mine.toml
+"""gossip_scenario nodes=N keys=N writes=N entry=BYTES packet=BYTES [NAME=VALUE ..] > mine.toml
 
 Prints a scenario from the numbers of a cluster, with what it leaves out in front.
 
-  nodes    from 2 to 4096; of a larger cluster take a tenth of the nodes and of delta
+  nodes    from 2 to 4096; of a larger cluster take a tenth of the nodes and of the packet
   keys     the things that a node tells of itself, from 1 to 64
   writes   how many of them change in an interval, from 0 to 8
   entry    the bytes of a mean entry: key, version and value
-  delta    the bytes that a delta may take: those of a packet, less what else is in it, such as headers. Where digest
-           and delta share the packet, it is what both may take together
+  packet   the bytes of a packet, less what else is in it, such as headers: what a delta may take, and where digest and
+           delta share a packet, both together. `delta` is another name of it
   digest   the bytes that the digest has for each node (in a precise mode for each key), where it shares the packet
            with the delta: what names the node, its generation and its version, as sent; 0 where it doesn't
   loss     how many messages of a hundred are lost, 0 where it isn't given
@@ -26,21 +26,21 @@ from gossip_tools.scenario import limited
 TEXTS = {"mode": ("scuttle-depth", "scuttle-breadth", "precise-oldest", "precise-newest"),
          "count": ("bytes", "entries"), "shared": ("yes", "no"), "forget": ("yes", "no")}
 DECIMALS = ("loss", "interval")
-BYTES = ("entry", "delta", "digest")
+BYTES = ("entry", "packet", "digest")
 USUAL = {"digest": "0", "loss": "0", "fanout": "1", "rounds": None, "seed": "1", "mode": TEXTS["mode"][0],
          "count": "bytes"}
 USUAL_ROUNDS = 60
 # What is asked of the wrong tool, or in another way.
 ELSEWHERE = {
     **{name: f" For {name}= there is gossip_scenario, and gossip_sweep runs what that prints."
-       for name in ("rounds", "seed", "mode")},
-    "fanout": " For fanout= there is gossip_scenario, and gossip_sweep runs what that prints: docs/guide.md has the "
-              "whole call under Five questions.",
+       for name in ("rounds", "seed")},
     **{name: f" For {name}= there is gossip_advise." for name in ("shared", "interval", "restarts", "forget", "split")},
     **{name: " How many runs go at once is said in front of the call, as JOBS=2."
        for name in ("--jobs", "-j", "jobs", "JOBS")},
 }
-NEEDED = ("nodes", "keys", "writes", "entry", "delta")
+NEEDED = ("nodes", "keys", "writes", "entry", "packet")
+# Names that are taken for others.
+ALIASES = {"delta": "packet"}
 
 
 def parts_of_writes(writes):
@@ -89,6 +89,7 @@ def told(words, usual, call):
     names, values = (*NEEDED, *usual), {}
     for word in words:
         name, given, text = word.partition("=")
+        name = ALIASES.get(name, name)
         if given and name in values:
             raise Refused(f"{name} comes twice, as {name}={values[name]} and as '{word}'.")
         if not given or name not in names:
@@ -138,13 +139,18 @@ def check_size(it):
     why = f"nodes would be {it['nodes']}, and a scenario takes 2 to 4096"
     if it["nodes"] <= scenario.LIMITS["nodes"][1]:
         why = f"nodes * nodes * keys is above {scenario.MOST_TRIPLES}, the most that a scenario takes"
-    raise Refused(f"{why}: take nodes={it['nodes'] // 10} and delta={it['delta'] // 10}, a tenth of each, in "
+    raise Refused(f"{why}: take nodes={it['nodes'] // 10} and packet={it['packet'] // 10}, a tenth of each, in "
                   "scuttle-depth.")
+
+
+def check_fanout(fanout):
+    if not 1 <= fanout <= 16:
+        raise Refused(f"a node calls 1 to 16 peers in an interval, not {fanout}.")
 
 
 def room_for_delta(it, mode):
     """The bytes that a digest of this mode leaves for a delta, which may be none or less."""
-    return it["delta"] - it["digest"] * scenario.digest_numbers(it["nodes"], it["keys"], mode)
+    return it["packet"] - it["digest"] * scenario.digest_numbers(it["nodes"], it["keys"], mode)
 
 
 def without_writes(rounds, fanout):
@@ -157,18 +163,17 @@ def without_writes(rounds, fanout):
 
 
 def main(words):
-    it = told(words, USUAL, "gossip_scenario nodes=300 keys=4 writes=1 entry=40 delta=60000")
+    it = told(words, USUAL, "gossip_scenario nodes=300 keys=4 writes=1 entry=40 packet=60000")
     check_limits(it)
     check_size(it)
     fanout = int(it["fanout"])
-    if not 1 <= fanout <= 16:
-        raise Refused(f"a node calls 1 to 16 peers in an interval, not {fanout}.")
+    check_fanout(fanout)
     rounds = limited("rounds", USUAL_ROUNDS * fanout if it["rounds"] is None else int(it["rounds"]))
     seed, loads = limited("seed", it["seed"]), without_writes(rounds, fanout)
     room = room_for_delta(it, it["mode"])
-    taken = it["delta"] - room
+    taken = it["packet"] - room
     if room < it["entry"]:
-        raise Refused(f"the digest takes {taken} of the {it['delta']} bytes, which leaves no entry.")
+        raise Refused(f"the digest takes {taken} of the {it['packet']} bytes, which leaves no entry.")
     in_bytes = it["count"] == "bytes"
     fields = scenario.top(it["nodes"], it["keys"], rounds, it["writes"], it["loss"] * 10000, room / it["entry"],
                           in_bytes, it["mode"], seed)

@@ -2,9 +2,8 @@
 import base64
 import html
 import re
-import shlex
 
-from gossip_tools import answer, files, plots, read, rules, study
+from gossip_tools import answer, files, plots, read, rules
 
 STYLE = """
 body { font: 16px/1.45 sans-serif; color: #222; max-width: 1080px; margin: 0 auto; padding: 0 16px 32px; }
@@ -42,31 +41,35 @@ def listed(head, said, kind=""):
 
 def cards(decision, healing):
     """The decision in a few large words."""
-    it, interval = decision.study, decision.study.told["interval"]
-    budget = decision.whole_budget()
+    it, budget = decision.study, decision.whole_budget()
     of_budget = f"{int(budget * it.told['entry'])} bytes, {decision.times()}"
     if decision.suffices:
-        time = "; ".join(filter(None, (answer.in_time(decision.worst, interval), decision.reckon())))
+        rounds, _, time = answer.lasting(it, decision.worst).partition(", ")
         rows = [("mode", decision.mode, "", "first"), ("budget", f"{budget} entries", of_budget, "first"),
-                ("worst staleness", answer.in_rounds(decision.worst), time, "")]
+                ("worst staleness", rounds, "; ".join(filter(None, (time, decision.reckon()))), "")]
     else:
         rows = [("budget", "none that fits is enough", f"tried: {budget} entries, {of_budget}", "none"),
                 ("worst staleness", "not known", f"still rising after {decision.window[1]} rounds", "none")]
         if decision.to_knee():
             rows.append(("enough", f"{it.packet(decision.mode)} bytes", decision.to_knee(), "first"))
     rows.append(("share cut", f"{answer.span(decision.cut, 2)}\u00a0%", "of what was lacking", ""))
-    for stage, name in answer.HEALED.items() if healing else ():
-        rows.append((f"{name} is {answer.ENDS[stage]} after", *healing.in_words(stage, decision.budget), ""))
-    if healing:
+    for stage in it.heals() if healing else ():
+        name = f"{answer.HEALED[stage]} is {answer.ENDS[stage]} after"
+        rows.append((name, *healing.in_words(stage, decision.budget), ""))
+    if healing and it.leaves():
         words, _, more = healing.wait(decision.budget).partition(": ")[0].partition(", ")
         rows.append((answer.ROLLING, words, more, ""))
     return "".join(f'<div class="{kind}">{told(name)}<b>{told(words)}</b>{told(more)}</div>'
                    for name, words, more, kind in rows)
 
 
-def what_is_counted(healing):
-    """What the rounds of healing are."""
-    return f"<p><small>A split: {told(healing.counted())}</small></p>" if healing else ""
+def below_the_cards(decision, healing):
+    """What more than nodes * writes brings, and what the rounds of healing are."""
+    said = [decision.reserve()] if decision.reserve() else []
+    if healing:
+        said += [f"With the reserve {healing.with_reserve(decision)}"] if decision.budget < decision.most else []
+        said.append(healing.counted())
+    return "".join(f"<p><small>{told(it)}</small></p>" for it in said)
 
 
 def paragraphs(lines):
@@ -83,8 +86,7 @@ def captions(decision, healing):
     same = plots.lie_on_each_other(decision, lambda *at: decision.found.worst(*at, decision.window))
     same = f"All modes have the same figures from {it.whole(same)} entries on. " if same else ""
     band = f"The line has the middle of {many} seeds, the band their least and most"
-    each, _ = it.restarting()
-    healed = captions_of_healing(it, healing.mode, each, band) if healing else {}
+    healed = captions_of_healing(it, healing.mode, band) if healing else {}
     return {
         "worst": f"The knee: worst staleness in rounds {first} to {last}. Bars go from the least to the most of {many} "
                  f"seeds, points are the seed in the middle. {above}{same}",
@@ -96,12 +98,15 @@ def captions(decision, healing):
     }
 
 
-def captions_of_healing(it, mode, each, band):
+def captions_of_healing(it, mode, band):
+    each, _ = it.restarting()
     return {
-        "split": f"After a split of half of the nodes for {it.split} rounds, the last of them 0, in {mode}. {band}.",
+        "split": f"After a split of half of the nodes for {it.split} {answer.unit(it)}, whose last round is 0, in "
+                 f"{mode}. {band}.",
         "restart": f"After {each if it.restarts else 'one'} node{'s' if each > 1 else ''} restarted"
-                   f"{' in each of some rounds' if it.restarts else ''}, the last in round 0. A restarted node lacks "
-                   f"the writes of round 1, so `greatest` is the number of the round until it has caught up. {band}.",
+                   f"{f' in each of some {answer.unit(it)}' if it.restarts else ''}, the last in round 0. A restarted "
+                   "node lacks the writes of round 1, so `greatest` is the number of the round until it has caught up. "
+                   f"{band}.",
         "forgotten": "What others still hold of forgotten states: at 1 all other nodes still hold one node's whole old "
                      f"state. {band}.",
     }
@@ -131,24 +136,26 @@ def table(decision):
     for budget in decision.budgets():
         text += f"<tr><th>{it.whole(budget)}</th>"
         for mode in it.fits:
+            if (budget, mode) not in decision.found.rows:
+                text += "<td></td>"
+                continue
             rising = "" if decision.found.suffices(budget, mode, window) else " rising"
             chosen = "chosen" if decision.suffices and (budget, mode) == (decision.budget, decision.mode) else ""
-            text += (f'<td class="{chosen}">{answer.span(decision.found.worst(budget, mode, window))}{rising}<br>'
+            text += (f'<td class="{chosen}">{answer.span(decision.worst_with(budget, mode))}{rising}<br>'
                      f"<small>{answer.span(decision.found.cut(budget, mode, window), 2)} %</small></td>")
         text += "</tr>"
     return f'<div class="wide"><table>{text}</table></div>'
 
 
-def made_of(folder, decision, healing, check_sum):
+def made_of(folder, study, made, check_sum):
     """The scenarios and the commands that make everything again."""
-    it, text = decision.study, ""
-    for stage in study.STAGES:
-        if stage in study.HEALED and not healing:
-            continue
-        scene, choices = it.stage(stage, decision.mode, decision.budgets() if stage == "knee" else None)
-        words = " ".join(f"{field}={','.join(values)}" for field, values in choices.items())
-        text += (f"<details><summary>{stage}: {told(words)}</summary><pre>gossip_sweep -o {told(shlex.quote(stage))} "
-                 f"{told(words)} &lt; {stage}/scenario\n\n{told(scene)}</pre></details>")
+    text = ""
+    for stage, pairs in made.items():
+        words = [" ".join(f"{field}={','.join(values)}" for field, values in choices.items())
+                 for choices in study.choices(stage, pairs)]
+        commands = "\n".join(f"gossip_sweep -o {stage} {it} < {stage}/scenario" for it in words)
+        text += (f"<details><summary>{stage}: {told('; '.join(words))}</summary><pre>{told(commands)}\n\n"
+                 f"{told(study.scene(stage))}</pre></details>")
     call = " ".join(f"{name}={value}" for name, value in read.settings(files.text_of(folder / "cluster.toml")).items()
                     if name != "program")
     return (f"<p>The program's SHA-256 is <code style='overflow-wrap:anywhere'>{check_sum}</code>. The folder of this "
@@ -156,8 +163,9 @@ def made_of(folder, decision, healing, check_sum):
             f"<code>gnuplot NAME.gnuplot</code>.</p><pre>gossip_advise {told(call)}</pre>{text}")
 
 
-def make(folder, decision, healing, check_sum, missing=()):
-    """Writes the page, and says where it is. Without healing it has lines on what is missing."""
+def make(folder, decision, healing, made, check_sum, missing=()):
+    """Writes the page, and says where it is. It names the runs that were made, by stage their budgets and modes.
+    Without healing it has lines on what is missing."""
     it = decision.study
     first, last = decision.window
     tenth = f", of which {it.nodes} were run; budgets are those of all" if it.parts > 1 else ""
@@ -169,20 +177,21 @@ def make(folder, decision, healing, check_sum, missing=()):
 <html lang="en"><head><meta charset="utf-8"><meta name="viewport" content="width=device-width, initial-scale=1">
 <title>{told(title)}</title><style>{STYLE}</style></head><body>
 <h1>{told(title)}</h1>
-<p>{it.told['nodes']} nodes{tenth}. Keys of each: {it.keys}; writes in a round of {float(it.told['interval']):g} s:
-{it.writes}; messages lost: {float(it.told['loss']):g} %. All figures go from the least to the most of
-{len(rules.SEEDS)} seeds.</p>
+<p>{it.told['nodes']} nodes{tenth}. Keys of each: {it.keys}; writes in an interval of
+{float(it.told['interval']):g} s: {it.writes}; calls in an interval, each of which is a round: {it.fanout};
+messages lost: {float(it.told['loss']):g} %. All figures go from the least to the most of {len(rules.SEEDS)} seeds.</p>
 <div class="cards">{cards(decision, healing)}</div>
-{what_is_counted(healing)}{paragraphs(missing)}
+{below_the_cards(decision, healing)}{paragraphs(missing)}
 {listed("Mind", answer.warnings(decision), "mind")}
 {pictures(folder, decision, healing)}
 <h2>Worst staleness and share cut</h2>
-<p>In rounds {first} to {last}, by budget in entries and mode. Rising: this budget isn't enough.</p>
+<p>In rounds {first} to {last}, by budget in entries and mode. Rising: this budget isn't enough. A field is empty where
+its runs could change nothing: smaller budgets were run with the chosen mode, down to the first that is worse.</p>
 {table(decision)}
 {listed("Too close to call", answer.too_close(decision))}
 {listed("Left out for this cluster", answer.left_out(decision))}
 <h2>To make it again</h2>
-{made_of(folder, decision, healing, check_sum)}
+{made_of(folder, it, made, check_sum)}
 </body></html>
 """
     files.put(folder / "report.html", text)

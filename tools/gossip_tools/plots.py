@@ -55,7 +55,7 @@ def knee(decision, name, y, figure, capped):
     modes = [it for it in MODES if it in study.fits]
     for at, mode in enumerate(modes):
         (colour, width, point), rows = MODES[mode], []
-        for budget in decision.budgets():
+        for budget in (it for it in decision.budgets() if (it, mode) in found.rows):
             values = figure(budget, mode)
             # (a little beside each other, so that all bands are seen)
             beside = study.whole(budget) * 1.025**(at - (len(modes) - 1) / 2)
@@ -91,7 +91,7 @@ def rounds(decision, name, y, value):
     text, plots = HEAD.format(name=name, x="round", y=y), []
     for at, (mode, (colour, width, _)) in enumerate(MODES.items()):
         if mode in study.fits:
-            budget = study.budget(mode)
+            budget = decision.budget if mode == decision.mode else study.most(mode)
             text += block(f"mode{at}", [(row["round"], value(row)) for row in found.rows[(budget, mode)][0]])
             plots.append(f'$mode{at} with lines linewidth {width} linecolor "{colour}" '
                          f'title "{mode}, {study.whole(budget)}"')
@@ -103,7 +103,7 @@ def healing(healed, stage, name, y, value):
     study, found = healed.study, healed.stages[stage]
     ends, budgets = study.ends(stage), [it for it, _ in found.rows][-len(BUDGETS):]
     taken = [it for budget in budgets for it in healed.taken(stage, budget) if it]
-    shown = max(LEAST_SHOWN, min(max(taken, default=0) + 5, study.healing_rounds() - ends))
+    shown = max(LEAST_SHOWN, min(max(taken, default=0) + 5, study.rounds(stage) - ends))
     text, plots = HEAD.format(name=name, x="rounds since its end", y=y), []
     for at, budget in enumerate(budgets):
         colour, width, _ = BUDGETS[at + len(BUDGETS) - len(budgets)]
@@ -134,21 +134,20 @@ def all_of(decision, healed):
         "stale": rounds(decision, "stale", "stale copies, in per cent",
                         lambda row: round(100 * row["stale"] / copies, 3)),
     }
-    if healed:
-        pictures |= {
-            "split": healing(healed, "split", "split", "greatest, in rounds", lambda row: row["greatest"]),
-            "restart": healing(healed, "restart", "restart", "greatest, in rounds", lambda row: row["greatest"]),
-            "forgotten": healing(healed, "forgotten", "forgotten", "leftover, in states of a node",
-                                 lambda row: round(row["leftover"] / of_node, 4)),
-        }
+    for stage in study.heals() if healed else ():
+        y, value = "greatest, in rounds", lambda row: row["greatest"]
+        if stage == "forgotten":
+            y, value = "leftover, in states of a node", lambda row: round(row["leftover"] / of_node, 4)
+        pictures[stage] = healing(healed, stage, stage, y, value)
     return pictures
 
 
 def lie_on_each_other(decision, figure):
-    """The modes that have the same figures with every budget from some one on, and that budget; or None."""
+    """The least budget from which on the modes have the same figures, of those that were run with all; or None."""
     modes = [it for it in scenario.MODES if it in decision.study.fits]
+    with_all = [it for it in decision.budgets() if all((it, mode) in decision.found.rows for mode in modes)]
     from_here = None
-    for budget in reversed(decision.budgets()):
+    for budget in reversed(with_all):
         if any(figure(budget, mode) != figure(budget, modes[0]) for mode in modes):
             break
         from_here = budget

@@ -1,33 +1,71 @@
 """How far runs are, and about how long the others take."""
+import collections
+import statistics
 import sys
 import time
 
+# So many runs that ended last tell what share of a processor a run has now.
+LAST = 8
+# The least time that is told apart, in seconds.
+LEAST = 0.001
+
 
 class Progress:
-    """The share of work of each run, by STAGE/RUN. On a terminal it shows after each run how far they are."""
+    """The work of each run that is still to be made, by STAGE/RUN. On a terminal it shows after each run how far they
+    are.
 
-    def __init__(self, work, stream=sys.stderr):
-        self.work, self.stream, self.shown = dict(work), stream, stream.isatty()
-        self.what, self.total, self.count = "", 0, 0
-        self.spent, self.done_work = 0.0, 0
-        self.since = None
+    A run takes processor time by its work, whatever else the machine does. So the rest takes the processor time of its
+    work, as that of the runs that have ended, divided by the processors that the runs have now: by the share of one
+    that the last of them had, in the middle, as a single run may be held up for long.
+    """
 
-    def begin(self, what, to_do, there):
-        """A stage in which these runs are to be made, while others are there."""
-        self.what, self.total, self.count = what, len(to_do), 0
+    def __init__(self, work=(), stream=sys.stderr):
+        self.work, self.over = dict(work), set()
+        self.stream, self.shown = stream, stream.isatty()
+        self.what, self.total, self.count, self.at_once = "", 0, 0, 1
+        self.done_work, self.processor = 0, 0.0
+        self.shares = collections.deque(maxlen=LAST)
+        self.since = time.monotonic()
+
+    def plan(self, work):
+        """What is still to be made, besides what is over."""
+        self.work = {name: it for name, it in work.items() if name not in self.over}
+
+    def is_over(self, name):
+        return name in self.over
+
+    def begin(self, what, to_do, there, at_once=1):
+        """A stage in which these runs are to be made, so many at once, while others are there."""
+        self.what, self.total, self.count, self.at_once = what, len(to_do), 0, at_once
         for name in there:
-            self.work.pop(f"{what}/{name}", None)
+            self.drop(name)
         self.since = time.monotonic()
         self.show()
 
-    def left(self):
-        """The seconds that the rest may take, by what the runs took so far; None before the first one."""
-        spent = self.spent + (time.monotonic() - self.since if self.since else 0)
-        return spent / self.done_work * sum(self.work.values()) if self.done_work else None
+    def drop(self, name):
+        """The work of a run that is over."""
+        self.over.add(f"{self.what}/{name}")
+        return self.work.pop(f"{self.what}/{name}", 0)
 
-    def done(self, name):
+    def left(self):
+        """The seconds that the rest may take; None before the first run has ended."""
+        if not self.done_work:
+            return None
+        processors = statistics.median(self.shares) * min(self.at_once, max(len(self.work), 1))
+        return self.processor / self.done_work * sum(self.work.values()) / processors
+
+    def done(self, name, processor=None, seconds=None):
+        """A run that has ended, with its processor time and how long it took. Where they aren't known, as on other
+        machines, both are the time since the run before it."""
+        now = time.monotonic()
+        if processor is None:
+            processor = seconds = now - self.since
+        self.since = now
         self.count += 1
-        self.done_work += self.work.pop(f"{self.what}/{name}", 0)
+        if work := self.drop(name):
+            self.done_work += work
+            self.processor += processor
+            self.shares.append(max(processor, LEAST) / max(seconds, LEAST))
         self.show()
 
     def show(self):
@@ -37,8 +75,6 @@ class Progress:
 
     def end(self):
         """The end of a stage, also where it was stopped."""
-        self.spent += time.monotonic() - self.since if self.since else 0
-        self.since = None
         if self.shown:
             print("\r\033[K", end="", file=self.stream, flush=True)
 

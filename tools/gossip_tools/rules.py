@@ -1,24 +1,25 @@
 """What counts as better, as enough and as healed: the rules of docs/guide.md, each stated here alone.
 
 A run's worst staleness is the most of `greatest` in the rounds of a window. A figure is a list of them, one for each
-seed, and its band goes from the least to the most.
+seed, and its band goes from the least to the most. An interval has as many rounds as a node calls others in it.
 """
 SEEDS = (1, 2, 3, 4, 5)
-# The rounds of a run and its window. In the first rounds the tables fill, so they are left out.
-FEW_ROUNDS, FEW_WINDOW = 60, (31, 60)
-MANY_ROUNDS, MANY_WINDOW = 200, (101, 200)
-# Parts of `nodes * writes` at which the knee is looked for, as numerator and denominator.
-KNEE = ((1, 4), (1, 2), (3, 4), (1, 1), (3, 2), (2, 1))
+# The intervals of a run and its window. In the first ones the tables fill, so they are left out.
+FEW, FEW_WINDOW = 60, (31, 60)
+MANY, MANY_WINDOW = 200, (101, 200)
+# Parts of `nodes * writes` at which a smaller budget is looked at, as numerator and denominator.
+KNEE = ((1, 4), (1, 2), (3, 4), (1, 1), (3, 2))
 USUAL_MODE = "scuttle-depth"
 # By the size of their digests, and scuttle-depth before scuttle-breadth, which lags longer below the knee.
 CHEAPEST_FIRST = (USUAL_MODE, "scuttle-breadth", "precise-oldest", "precise-newest")
 FEW_ENTRIES = 50
 # How far a tenth was seen to hold in scuttle-depth: how many rounds more in `greatest` ten times the nodes had, with
 # which parts of `nodes * writes`.
-TENTH_MORE, TENTH_HOLDS = (2, 5), (0.5, 2)
-TENTH = (f"A tenth of the nodes stands for the whole in scuttle-depth: 1000 nodes had {TENTH_MORE[0]} to "
-         f"{TENTH_MORE[1]} rounds more in `greatest` than 100, with a budget of a half to twice `nodes * writes`. At "
-         "0.14 of it, with one key, 100, 1000 and 4000 nodes had 25 to 28, 33 to 36 and 39 to 41 rounds.")
+TENTH_MORE, TENTH_HOLDS = (2, 6), (1, 2)
+TENTH = ("A tenth of the nodes stands for the whole in scuttle-depth: ten times 100 and 400 nodes had "
+         f"{TENTH_MORE[0]} to {TENTH_MORE[1]} rounds more in `greatest`, with a budget of `nodes * writes` to twice "
+         "that, and with half of it 1 to 8 more. At 0.14 of it, with one key, 100, 1000 and 4000 nodes had 25 to 28, "
+         "33 to 36 and 39 to 41 rounds.")
 
 
 def band(figure):
@@ -41,6 +42,12 @@ def are_close(one, other):
     return not is_better(one, other) and not is_better(other, one)
 
 
+def rounds_of(window, fanout):
+    """The first and the last round of a window of intervals."""
+    first, last = window
+    return (first - 1) * fanout + 1, last * fanout
+
+
 def halves(window):
     first, last = window
     half = (last - first + 1) // 2
@@ -54,7 +61,7 @@ def suffices(in_first_half, in_second_half):
 
 
 def reckoned(figure):
-    """"Run a tenth of them, .. and add five rounds to `greatest`": the most to reckon with for ten times the nodes."""
+    """"Run a tenth of them, .. and add six rounds to `greatest`": the most to reckon with for ten times the nodes."""
     return max(figure) + TENTH_MORE[1]
 
 
@@ -64,37 +71,41 @@ def tenth_holds(of_knee):
     return least <= of_knee <= most
 
 
-def knee(nodes, keys, writes):
-    """"Begin with a budget of `nodes * writes`." A node never lacks more than `nodes * keys` entries."""
-    return nodes * max(1, min(writes, keys))
+def knee(nodes, keys, writes, fanout=1):
+    """"A budget of `nodes * writes`", divided by the calls that a node makes in an interval. A node never lacks more
+    than `nodes * keys` entries."""
+    return max(1, nodes * max(1, min(writes, keys)) // fanout)
 
 
-def least_staleness(budget, nodes, keys, writes):
-    """What the worst staleness is at least, in rounds. "Divide that by the budget: so many deltas it needs at least,
+def least_staleness(budget, nodes, keys, writes, fanout=1):
+    """What the worst staleness is at least, in intervals. "Divide that by the budget: so many deltas it needs at least,
     and it gets about two in each round": a node has `(nodes - 1) * keys` copies, and each of them has to be renewed
-    once its key was written again, which is after `keys / writes` rounds."""
-    return (nodes - 1) * keys / (2 * budget) - keys / max(1, min(writes, keys))
+    once its key was written again, which is after `keys / writes` intervals."""
+    return (nodes - 1) * keys / (2 * budget * fanout) - keys / max(1, min(writes, keys))
 
 
-def budget_of(fits, nodes, keys, writes):
-    """"Room for `nodes * writes` entries, and for twice that if it fits", else what fits. More than `nodes * keys`
-    changes nothing."""
-    return min(fits, 2 * knee(nodes, keys, writes), nodes * keys)
+def most_of(fits, nodes, keys, at_knee):
+    """The largest budget that is looked at: what fits, and no more than twice `nodes * writes`, which hardly cuts, or
+    `nodes * keys`, which never cuts."""
+    return min(fits, 2 * at_knee, nodes * keys)
 
 
-def budgets_of(fits, nodes, keys, writes):
-    """The budgets to look at: around the knee, what fits, and none above `nodes * keys`, which cuts nothing."""
-    most = nodes * keys
-    wanted = [knee(nodes, keys, writes) * over // under for over, under in KNEE]
-    return sorted({max(1, min(it, most)) for it in (*wanted, *fits)})
+def takes_knee(at_knee, others):
+    """"Else take the cheaper one": whether `nodes * writes` is taken in place of more, as none of the others is
+    better."""
+    return not any(is_better(it, at_knee) for it in others)
+
+
+def smaller_budgets(budget, at_knee):
+    """The budgets below one, from the largest on."""
+    return sorted({it for over, under in KNEE if 1 <= (it := at_knee * over // under) < budget}, reverse=True)
 
 
 def mode_of(figures):
     """"`scuttle-depth`", unless another mode is better; "else take the cheaper one". The figures are by mode, of those
     whose budget suffices: those that still rise say nothing."""
-    modes = [it for it in CHEAPEST_FIRST if it in figures] or [USUAL_MODE]
-    chosen = modes[0]
-    for mode in modes[1:]:
+    chosen, *others = [it for it in CHEAPEST_FIRST if it in figures]
+    for mode in others:
         if is_better(figures[mode], figures[chosen]):
             chosen = mode
     return chosen
@@ -107,15 +118,14 @@ def counts_bytes(room):
 
 # When a split and a restart count as healed. What they heal from ends with a last round, the one that counts as 0.
 HEALED = ("the age of the oldest missing write was for the first time at most one round above its highest value in "
-          "rounds {} to {} before the split; it may rise above that again for some rounds. Copies are then as stale as "
+          "rounds {} to {} before that; it may rise above that again for some rounds. Copies are then as stale as "
           "usual, not equal.")
-# Which mode to take where nodes forget and a budget is below `nodes * writes`.
-FORGETFUL = ("take `scuttle-breadth`, or better a larger budget. In `scuttle-depth` a node that has just begun anew "
-             "has few keys, so others come first, and its old state stays")
+# What counts where nodes forget and a budget is below `nodes * writes`.
+FORGETFUL = ("old state goes sooner in `scuttle-breadth`, but a restart heals later there than old state goes in "
+             "`scuttle-depth`, and copies are staler. Take `scuttle-breadth` only where old state does more harm than "
+             "that, or better a larger budget")
 # The most bytes of a packet that is one datagram of UDP.
 DATAGRAM = 65507
-
-
 # How many rounds more than the longest of the seeds to wait between groups of a rolling restart. Each group is one draw
 # more: of 95 that waited so two hadn't caught up, and of 95 that forget none, where without it 19 and 3 hadn't.
 WAIT_MORE = 2

@@ -1,6 +1,7 @@
 """Carries out the runs of a folder: here, on several cores at once, or on several machines by GNU parallel."""
 import contextlib
 import os
+import resource
 import shlex
 import shutil
 import signal
@@ -68,8 +69,9 @@ def close(folder, name, process, program):
 
 
 def here(folder, names, program, jobs, done):
-    """Carries out the runs on this machine, and calls `done` with the name of each. Once one fails none begins."""
-    waiting, running, failed = list(names), {}, ""
+    """Carries out the runs on this machine, and calls `done` with the name of each, its processor time and how long it
+    took. Once one fails none begins."""
+    waiting, running, begun, failed = list(names), {}, {}, ""
     try:
         while running or waiting and not failed:
             while waiting and not failed and len(running) < jobs:
@@ -77,14 +79,15 @@ def here(folder, names, program, jobs, done):
                 given, part = folder.path / f"{name}.toml", folder.part(name)
                 with Signals.hold(), open(given) as scenario, open(part, "wb") as report:
                     # (a group of its own, so that Ctrl-C comes to the sweep alone, which ends its runs)
+                    begun[name] = time.monotonic()
                     running[name] = subprocess.Popen([program, "run"], stdin=scenario, stdout=report,
                                                      stderr=subprocess.PIPE, process_group=0)
-            for name in ended(running):
+            for name, processor in ended(running):
                 with Signals.hold():
                     why = close(folder, name, running.pop(name), program)
                     failed = failed or why
                     if not why:
-                        done(name)
+                        done(name, processor, time.monotonic() - begun[name])
     finally:
         for name, process in running.items():
             # (with what it has started, where GOSSIP_BENCH names a script)
@@ -97,13 +100,24 @@ def here(folder, names, program, jobs, done):
         raise Failed(failed)
 
 
+def processor_of_ended():
+    """The processor time of all processes that have ended and were asked for."""
+    used = resource.getrusage(resource.RUSAGE_CHILDREN)
+    return used.ru_utime + used.ru_stime
+
+
 def ended(running):
-    """The names of runs that have ended, once one has."""
-    pause = 0.001
-    while not (names := [it for it, process in running.items() if process.poll() is not None]):
-        time.sleep(pause)
-        pause = min(2 * pause, 0.02)
-    return names
+    """The runs that have ended, by name with their processor time, once one has."""
+    pause, found = 0.001, []
+    while not found:
+        for name, process in running.items():
+            before = processor_of_ended()
+            if process.poll() is not None:
+                found.append((name, processor_of_ended() - before))
+        if not found:
+            time.sleep(pause)
+            pause = min(2 * pause, 0.02)
+    return found
 
 
 def is_gnu_parallel():

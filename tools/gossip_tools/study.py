@@ -1,22 +1,27 @@
-"""The runs that an answer for a cluster rests on: five stages, each a sweep in a folder of its own.
+"""The runs that an answer for a cluster rests on: stages, each of them a folder of runs of one scenario.
 
-  few         few rounds, for a first answer: all modes with what fits, and where that is less, nodes * writes
-  split       half of the nodes are set apart for some rounds; under the mode that was chosen
+  few         few intervals, for a first answer: each mode with what it may take, and the chosen one with nodes * writes
+  split       half of the nodes are set apart for some intervals; under the mode that was chosen
   restart     nodes restart, by ascending number, and keep their own state
   forgotten   the same, in bytes, and they lose their own state too
-  knee        many rounds: all modes, budgets around nodes * writes and what fits
+  many        many intervals: as few, and the chosen mode with smaller budgets, until one is worse
 
-What heals is run twice: for the first answer with its budget, and for the last one with others too.
+What is run is only what may change the answer. What heals is run with the budget that is taken, and in the end with all
+that fits too, where that is more. An interval has as many rounds as a node calls others in it, and writes in the first
+of them.
 """
 from gossip_tools import cluster, read, rules, scenario
 
-# What is to be healed begins once the tables have filled and `greatest` is level: after so many rounds, of which the
+# What is to be healed begins once the tables have filled and `greatest` is level: after so many intervals, of which the
 # last ones tell the level, and later with a budget below the knee.
 FILLING, LEVEL = 30, 20
 USUAL_SPLIT = 30
 RESTARTING = 10
 # So many mean entries the format that counts bytes takes at least.
 LEAST = 2
+# How much more processor time a round takes, about: in bytes, in a precise mode, and with less than nodes * writes.
+IN_BYTES, IN_PRECISE, IN_SHORT = 3, 1.5, 1.8
+HEALED = ("split", "restart", "forgotten")
 
 
 class Study:
@@ -24,153 +29,181 @@ class Study:
 
     def __init__(self, told):
         self.told = told
+        self.usual = told["mode"] or rules.USUAL_MODE
         self.parts = 10 if cluster.is_too_large(told["nodes"], told["keys"]) else 1
+        if self.parts > 1 and self.usual != rules.USUAL_MODE:
+            raise cluster.Refused(f"{told['nodes']} nodes are more than a scenario takes, and a tenth of them says "
+                                  f"little but in {rules.USUAL_MODE}: leave out mode={self.usual}.")
         it = dict(told)
         if told["shared"] == "no":
             it["digest"] = 0
-        it["nodes"], it["delta"] = int(told["nodes"]) // self.parts, told["delta"] / self.parts
+        it["nodes"], it["packet"] = int(told["nodes"]) // self.parts, told["packet"] / self.parts
         if cluster.is_too_large(it["nodes"], it["keys"]):
             raise cluster.Refused("a tenth of these nodes is still too large for a scenario, which takes 4096 nodes "
                                   f"and {scenario.MOST_TRIPLES} of nodes * nodes * keys.")
         scenario.limited("nodes", it["nodes"])
         self.nodes, self.keys, self.writes = it["nodes"], int(it["keys"]), int(it["writes"])
-        self.knee = rules.knee(self.nodes, self.keys, self.writes)
+        self.fanout, self.seconds = int(told["fanout"]), told["interval"] / told["fanout"]
+        self.knee = max(LEAST, rules.knee(self.nodes, self.keys, self.writes, self.fanout))
+        self.knee_name = "nodes * writes" + (f" / {self.fanout}" if self.fanout > 1 else "")
         self.rooms = {mode: cluster.room_for_delta(it, mode) / it["entry"] for mode in scenario.MODES}
-        modes = scenario.MODES if self.parts == 1 else (rules.USUAL_MODE,)
+        modes = (self.usual,) if told["mode"] or self.parts > 1 else scenario.MODES
         most = scenario.LIMITS["budget"][1]
-        count = told["count"] or ("bytes" if rules.counts_bytes(max(self.rooms.values())) else "entries")
+        count = told["count"] or ("bytes" if rules.counts_bytes(max(self.rooms[it] for it in modes)) else "entries")
         self.in_bytes = count == "bytes"
         self.fits = {mode: min(int(self.rooms[mode]), most) for mode in modes if self.rooms[mode] >= LEAST}
-        if rules.USUAL_MODE not in self.fits:
+        if self.usual not in self.fits:
             raise cluster.Refused(self.why_none_fits())
-        budget = max(self.budget(it) for it in self.fits)
-        rounds = rules.least_staleness(budget, self.nodes, self.keys, self.writes)
-        if rounds > rules.MANY_ROUNDS:
-            raise cluster.Refused(self.why_too_few(self.whole(budget), int(rounds)))
-        budgets = rules.budgets_of(self.fits.values(), self.nodes, self.keys, self.writes)
-        self.budgets = [it for it in budgets if it >= LEAST]
-        slowness = -(-self.knee // self.budget(rules.USUAL_MODE))
-        self.before = FILLING * slowness + 1, (FILLING + LEVEL) * slowness
-        self.begins = self.before[1] + 1
-        self.tail = 40 + min(3 * self.keys * slowness, 400)
-        self.split, self.restarts = self.split_of(int(told["split"])), -(-int(told["restarts"]) // self.parts)
+        budget = max(self.most(it) for it in self.fits)
+        intervals = rules.least_staleness(budget, self.nodes, self.keys, self.writes, self.fanout)
+        if intervals > rules.MANY:
+            raise cluster.Refused(self.why_too_few(self.whole(budget), int(intervals * self.fanout)))
+        self.split = self.split_of(int(told["split"]))
+        self.restarts = None if told["restarts"] is None else -(-int(told["restarts"]) // self.parts)
+        self.place_healing()
         self.loss = int(told["loss"] * 10000)
 
     def why_none_fits(self):
         """Why a delta has no room, and how large it would have to be."""
         told, whole = self.told, self.whole(self.knee)
         lacks = f"no room for {LEAST} entries of {told['entry']} bytes"
-        enough = f"takes delta={self.packet(rules.USUAL_MODE)}"
+        enough = f"takes packet={self.packet(self.usual)}"
         if told["shared"] == "no" or not told["digest"]:
-            return f"{told['delta']} bytes have {lacks}: room for nodes * writes = {whole} of them {enough}."
-        digest, alone = self.digest_bytes(rules.USUAL_MODE), int(told["delta"] / told["entry"])
-        too_large = f", and the digest still fits no packet of {told['delta']}" if digest > told["delta"] else ""
-        return (f"the digest takes {digest} of the {told['delta']} bytes, which leaves {lacks}: with shared=no the "
-                f"delta has room for {alone}, {alone / whole:.2g} times nodes * writes{too_large}; room for the digest "
-                f"and nodes * writes = {whole} entries {enough}.")
+            return f"{told['packet']} bytes have {lacks}: room for {self.knee_name} = {whole} of them {enough}."
+        digest, alone = self.digest_bytes(self.usual), int(told["packet"] / told["entry"])
+        too_large = f", and the digest still fits no packet of {told['packet']}" if digest > told["packet"] else ""
+        return (f"the digest takes {digest} of the {told['packet']} bytes, which leaves {lacks}: with shared=no the "
+                f"delta has room for {alone}, {alone / whole:.2g} times {self.knee_name}{too_large}; room for the "
+                f"digest and {self.knee_name} = {whole} entries {enough}.")
 
     def why_too_few(self, budget, rounds):
-        """Why no run is worth while, and how large a delta would have to be."""
+        """Why no run is worth while, and how large a packet would have to be."""
         return (f"no budget that fits is enough: each node has {(int(self.told['nodes']) - 1) * self.keys} copies to "
                 f"renew and gets about two deltas of {budget} entries in a round, so the worst staleness is at least "
-                f"{rounds} rounds; room for nodes * writes = {self.whole(self.knee)} entries takes "
-                f"delta={self.packet(rules.USUAL_MODE)}.")
+                f"{rounds} rounds; room for {self.knee_name} = {self.whole(self.knee)} entries takes "
+                f"packet={self.packet(self.usual)}.")
 
     def asks_for_healing(self):
         """Whether restarts or a split were asked for."""
-        return bool(self.told["restarts"]) or self.told["split"] != USUAL_SPLIT
+        return bool(self.told["restarts"]) or self.told["split"] not in (0, USUAL_SPLIT)
 
     def digest_bytes(self, mode):
         """The bytes of a whole digest."""
         return int(scenario.digest_numbers(int(self.told["nodes"]), self.keys, mode) * self.told["digest"])
 
     def packet(self, mode):
-        """The bytes that a delta with room for nodes * writes entries takes, with the digest where they share them."""
+        """The bytes of a packet with room for nodes * writes entries, with the digest where they share it."""
         digest = self.digest_bytes(mode) if self.told["shared"] == "yes" else 0
         return int(self.whole(self.knee) * self.told["entry"]) + digest
-
-    def split_of(self, rounds):
-        """How long a split is run: no longer than it takes until each key was written four times, which leaves no more
-        to catch up with, or a hundred rounds."""
-        rewritten = -(-self.keys // self.writes) if self.writes else 0
-        return min(rounds, max(100, 4 * rewritten))
 
     def whole(self, budget):
         """A budget of what is run as one of the whole cluster."""
         return budget * self.parts
 
-    def budget(self, mode):
-        return rules.budget_of(self.fits[mode], self.nodes, self.keys, self.writes)
+    def most(self, mode):
+        """The largest budget that a mode may take."""
+        return rules.most_of(self.fits[mode], self.nodes, self.keys, self.knee)
 
-    def top(self, rounds, in_bytes):
-        # (the budget is another one in each run)
-        fields = scenario.top(self.nodes, self.keys, rounds, self.writes, self.loss, self.knee + 1, in_bytes)
-        return scenario.written(fields)
+    def split_of(self, intervals):
+        """How long a split is run: no longer than it takes until each key was written four times, which leaves no more
+        to catch up with, or a hundred intervals."""
+        rewritten = -(-self.keys // self.writes) if self.writes else 0
+        return min(intervals, max(100, 4 * rewritten))
 
-    def choices(self, budgets, modes, in_bytes):
-        values = [scenario.budget_field(it, in_bytes) for it in budgets]
-        seeds = [str(it) for it in rules.SEEDS]
-        return {values[0][0]: [str(it) for _, it in values], "seed": seeds, "mode": list(modes)}
+    def place_healing(self):
+        """When what is to be healed begins, in intervals, and how many are run after it."""
+        slowness = -(-self.knee // self.most(self.usual))
+        tail = 40 + min(3 * self.keys * slowness, 400)
+        if self.fanout > 1:
+            # (each interval is a section of the scenario)
+            slowness = min(slowness, 10)
+            tail = min(tail, scenario.MOST_SECTIONS - (FILLING + LEVEL) * slowness - max(self.split, RESTARTING))
+        self.waits, self.tail = (FILLING + LEVEL) * slowness, tail
+        self.before = rules.rounds_of((FILLING * slowness + 1, self.waits), self.fanout)
+        self.begins = self.before[1] + 1
 
-    def healing_rounds(self):
-        return self.begins + max(self.split, RESTARTING) + self.tail
+    def intervals(self, stage):
+        """How many intervals a run of a stage has."""
+        usual = {"few": rules.FEW, "many": rules.MANY}
+        return usual.get(stage) or self.waits + max(self.split, RESTARTING) + self.tail
+
+    def rounds(self, stage):
+        return self.intervals(stage) * self.fanout
+
+    def work(self, stage, budget, mode):
+        """About how much processor time a run takes: so many rounds as of a scuttle mode with nodes * writes."""
+        more = (IN_BYTES if self.counts_bytes(stage) else 1) * (IN_PRECISE if mode.startswith("precise") else 1)
+        return self.rounds(stage) * more * (IN_SHORT if budget < self.knee else 1)
+
+    def window(self, stage):
+        """The rounds of a stage that are looked at."""
+        return rules.rounds_of(rules.FEW_WINDOW if stage == "few" else rules.MANY_WINDOW, self.fanout)
 
     def restarting(self):
-        """The nodes that restart in a round, at least one, and the last of the rounds in which they do."""
-        each = max(1, min(self.restarts, self.nodes // 2, scenario.MOST_SECTIONS))
-        count = min(RESTARTING, self.nodes // each, scenario.MOST_SECTIONS // each) if self.restarts else 1
-        return each, self.begins + count - 1
+        """How many nodes restart at once, at least one, and in how many intervals such a group does."""
+        each = max(1, min(self.restarts or 1, self.nodes // 2, scenario.MOST_SECTIONS))
+        most = RESTARTING if self.restarts else 1
+        return each, min(most, self.nodes // each, scenario.MOST_SECTIONS // each)
 
     def ends(self, stage):
         """The last round of what is to be healed."""
-        return self.begins + self.split - 1 if stage == "split" else self.restarting()[1]
+        intervals = self.split if stage == "split" else self.restarting()[1]
+        return self.begins + intervals * self.fanout - 1
 
-    def healing_budgets(self, mode):
-        """A half of the knee, the knee, twice that, and the one that the mode would take."""
-        wanted = {self.knee // 2, self.knee, self.budget(mode), 2 * self.knee}
-        return sorted(it for it in {min(it, self.nodes * self.keys) for it in wanted} if it >= 1)
+    def leaves(self):
+        """The stages that tell what a restart leaves, in their order; none where no restart is looked at."""
+        if self.restarts == 0:
+            return ()
+        return ("restart", "forgotten") if self.told["forget"] == "yes" else ("restart",)
 
-    def few_budgets(self):
-        """What each mode would take, and the knee to hold that against where it is less."""
-        taken = {self.budget(it) for it in self.fits}
-        return sorted(taken | ({self.knee} if max(taken) < self.knee else set()))
+    def heals(self):
+        """The stages of what heals that are looked at, in their order."""
+        return ("split", *self.leaves()) if self.split else self.leaves()
 
-    def stage(self, name, mode=rules.USUAL_MODE, budgets=None):
-        """The scenario of a stage and the choices of values of its fields, with these budgets alone where some are
-        given."""
-        if name in ("few", "knee"):
-            rounds = rules.FEW_ROUNDS if name == "few" else rules.MANY_ROUNDS
-            budgets = budgets or (self.few_budgets() if name == "few" else self.budgets)
-            return self.top(rounds, self.in_bytes), self.choices(budgets, self.fits, self.in_bytes)
-        in_bytes = self.in_bytes or name == "forgotten"
-        text = self.top(self.healing_rounds(), in_bytes)
-        if name == "split":
-            text += scenario.partition(0, self.nodes // 2 - 1, self.begins, self.ends(name))
-        else:
-            each, last = self.restarting()
-            text += scenario.restarts(self.nodes, each, self.begins, last, 1, forget=name == "forgotten")
-        budgets = budgets or self.healing_budgets(mode)
-        return text, self.choices([it for it in budgets if it >= 2], [mode], in_bytes)
+    def wanted(self, mode):
+        """The budgets and modes that decide: each mode with what it may take, and this one with nodes * writes."""
+        return {(self.most(it), it) for it in self.fits} | {(self.knee, mode)}
 
+    def next_smaller(self, budget, mode):
+        """The next budget below one that is worth a look, with this mode; none where there isn't one."""
+        return {(it, mode) for it in rules.smaller_budgets(budget, self.knee)[:1] if it >= LEAST}
 
-HEALED = ("split", "restart", "forgotten")
-STAGES = ("few", *HEALED, "knee")
+    def counts_bytes(self, stage):
+        return self.in_bytes or stage == "forgotten"
+
+    def scene(self, stage):
+        """The scenario of a stage. Its budget, mode and seed are other ones in each run."""
+        rounds, in_bytes = self.rounds(stage), self.counts_bytes(stage)
+        fields = scenario.top(self.nodes, self.keys, rounds, self.writes, self.loss, self.knee + 1, in_bytes)
+        text = scenario.written(fields) + cluster.without_writes(rounds, self.fanout)
+        if stage == "split":
+            text += scenario.partition(0, self.nodes // 2 - 1, self.begins, self.ends(stage))
+        elif stage in HEALED:
+            each, _ = self.restarting()
+            text += scenario.restarts(self.nodes, each, self.begins, self.ends(stage), self.fanout,
+                                      forget=stage == "forgotten", every=self.fanout)
+        return text
+
+    def choices(self, stage, pairs):
+        """The choices of values that make the runs of these budgets and modes, and no others."""
+        modes = {budget: tuple(it for it in scenario.MODES if (budget, it) in pairs) for budget, _ in sorted(pairs)}
+        seeds, in_bytes = [str(it) for it in rules.SEEDS], self.counts_bytes(stage)
+        found = []
+        for those in dict.fromkeys(modes.values()):
+            values = [scenario.budget_field(it, in_bytes) for it in modes if modes[it] == those]
+            found.append({values[0][0]: [str(it) for _, it in values], "seed": seeds, "mode": list(those)})
+        return found
 
 
 class Found:
     """The runs of a stage that are there: the rows of each seed, by budget in entries and mode."""
 
-    def __init__(self, study, folder, choices):
+    def __init__(self, study, stage, folder, pairs):
         self.before = study.before
-        runs = read.Runs(folder)
-        field, values = next(iter(choices.items()))
-        self.rows = {}
-        known = {*study.budgets, *study.healing_budgets(choices["mode"][0]), study.knee, study.knee // 2, 1}
-        entries = {str(scenario.budget_field(it, field == "budget_bytes")[1]): it for it in known}
-        for value in values:
-            for mode in choices["mode"]:
-                seeds = [runs.rows[(value, seed, mode)] for seed in choices["seed"]]
-                self.rows[(entries[value], mode)] = seeds
+        runs, self.rows = read.Runs(folder), {}
+        for budget, mode in sorted(pairs):
+            _, value = scenario.budget_field(budget, study.counts_bytes(stage))
+            self.rows[(budget, mode)] = [runs.rows[(str(value), str(seed), mode)] for seed in rules.SEEDS]
 
     def worst(self, budget, mode, window):
         """The worst staleness in a window, for each seed."""

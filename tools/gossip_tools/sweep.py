@@ -77,7 +77,7 @@ def carry_out(path, text, runs, program, progress, hosts=None, what="gossip_swee
             for name, lacks in lacking.items():
                 if (path / f"{name}.csv").exists():
                     print(f"{what}: {name} is run again, as its report isn't whole: {lacks}.", file=sys.stderr)
-            progress.begin(path.name, list(lacking), runs.keys() - lacking.keys())
+            progress.begin(path.name, list(lacking), runs.keys() - lacking.keys(), 1 if hosts else workers())
             try:
                 if not lacking:
                     return

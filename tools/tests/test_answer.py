@@ -5,7 +5,7 @@ import unittest
 from gossip_tools import advise, answer, cluster, rules, study
 from gossip_tools.progress import Progress, in_words
 
-WINDOW = (101, 200)
+MANY, FEW = "many", "few"
 
 
 class Figures:
@@ -24,26 +24,68 @@ class Figures:
         return (budget, mode) not in self.rising
 
 
-def decided(worst, rising=(), more=""):
+def of(words):
+    return study.Study(cluster.told(words.split(), advise.USUAL, advise.CALL))
+
+
+def decided(worst, rising=(), more="", stage=MANY):
     """What is decided for 300 nodes that write 2 of 4 keys, where 1000 entries fit."""
-    words = f"nodes=300 keys=4 writes=2 entry=40 delta=40000 {more}".split()
-    it = study.Study(cluster.told(words, advise.USUAL, advise.CALL))
+    it = of(f"nodes=300 keys=4 writes=2 entry=40 packet=40000 {more}")
     usual = {(1000, "scuttle-breadth"): [9, 9], (1000, "precise-oldest"): [7, 9], (1000, "precise-newest"): [8, 9]}
-    return answer.Decision(it, Figures({**usual, **worst}, rising), WINDOW)
+    return answer.Decision(it, Figures({**usual, **worst}, rising), stage)
 
 
 class Decided(unittest.TestCase):
     def test_usual(self):
-        depth = {1000: [7, 8], 600: [8, 9], 300: [9, 12]}
+        """With 600 entries, which are nodes * writes, `greatest` is a round higher under one of two seeds: no worse."""
+        depth = {1000: [7, 8], 600: [8, 8], 450: [8, 9], 300: [9, 12]}
         found = decided({(budget, "scuttle-depth"): worst for budget, worst in depth.items()})
-        self.assertEqual(("scuttle-depth", 1000, 600), (found.mode, found.budget, found.smaller()))
+        self.assertEqual(("scuttle-depth", 600, 450), (found.mode, found.budget, found.smaller()))
         self.assertEqual(["precise-oldest", "precise-newest"], found.close)
+        self.assertEqual("scuttle-depth with room for 600 entries in a delta, 24000 bytes (nodes * writes)",
+                         found.takes())
+        self.assertEqual("With the 1000 entries that fit it is 7 to 8 rounds: not better under all seeds by more than "
+                         "they differ. So packet=24000 is enough, and what is above that is a reserve", found.reserve())
+        self.assertIn(f"  a reserve           {found.reserve()}", answer.in_words(found, None))
+
+    def test_what_fits_is_better(self):
+        """With 600 each seed is a round worse, and the seeds of 1000 don't differ: then the 1000 are taken."""
+        depth = {1000: [7, 7], 600: [8, 9]}
+        found = decided({(budget, "scuttle-depth"): worst for budget, worst in depth.items()})
+        self.assertEqual(("scuttle-depth", 1000, None), (found.mode, found.budget, found.smaller()))
         self.assertEqual("scuttle-depth with room for 1000 entries in a delta, 40000 bytes (what fits; 1.7 times nodes "
                          "* writes)", found.takes())
+        self.assertEqual("With nodes * writes = 600 entries it is 8 to 9 rounds: worse under all seeds by more than "
+                         "they differ", found.reserve())
+        self.assertEqual(f"{found.reserve()}.", answer.first_words(found)[2])
+
+    def test_another_mode_with_what_fits_is_better(self):
+        """precise-newest isn't better than scuttle-depth, each with 1000, but than it with 600. So 1000 are taken."""
+        found = decided({(1000, "scuttle-depth"): [7, 8], (600, "scuttle-depth"): [8, 9],
+                         (1000, "precise-newest"): [7, 7]})
+        self.assertEqual(("scuttle-depth", 1000, "With nodes * writes = 600 entries it is 8 to 9 rounds, and another "
+                          "mode with what fits is better than that"), (found.mode, found.budget, found.reserve()))
+
+    def test_nodes_times_writes_still_rise(self):
+        depth = {(1000, "scuttle-depth"): [7, 9], (600, "scuttle-depth"): [8, 9]}
+        found = decided(depth, [(600, "scuttle-depth")])
+        self.assertEqual((1000, "With nodes * writes = 600 entries `greatest` still rises"),
+                         (found.budget, found.reserve()))
 
     def test_another_mode_is_better(self):
         found = decided({(1000, "scuttle-depth"): [10, 11]})
         self.assertEqual(("scuttle-breadth", None), (found.mode, found.smaller()))
+
+    def test_one_mode(self):
+        """None of the others is run, so none is told of."""
+        it = of("nodes=300 keys=4 writes=2 entry=40 packet=24000 digest=10 mode=precise-newest")
+        figures = {(300, "precise-newest"): [12, 13], (600, "precise-newest"): [7, 8]}
+        for rises, first in (([], "Take precise-newest with room for 300 entries"),
+                             ([(300, "precise-newest")], "No budget that fits is enough: still rising after 200 "
+                              "rounds. The most that fits: room for 300 entries")):
+            lines = answer.in_words(answer.Decision(it, Figures(figures, rises), MANY), None)
+            self.assertTrue(lines[0].startswith(first), lines[0])
+            self.assertFalse([line for line in lines if "scuttle" in line or "other mode" in line])
 
     def test_one_mode_is_enough(self):
         """Where scuttle-depth still rises and scuttle-breadth doesn't, the figures of the former say nothing."""
@@ -52,15 +94,15 @@ class Decided(unittest.TestCase):
 
     def test_none_is_enough(self):
         """28 entries fit of 300 * 2, which take 600 * 40 = 24000 bytes; with the digest of 300 numbers, 27000."""
-        cases = {"delta=1120 shared=no": "24000 has room for nodes * writes = 600 entries",
-                 "delta=4120": "27000 has room for nodes * writes = 600 entries and the digest"}
+        cases = {"packet=1120 shared=no": "24000 has room for nodes * writes = 600 entries",
+                 "packet=4120": "27000 has room for nodes * writes = 600 entries and the digest"}
         for words, delta in cases.items():
             words = f"nodes=300 keys=4 writes=2 entry=40 digest=10 {words}"
-            it = study.Study(cluster.told(words.split(), advise.USUAL, advise.CALL))
+            it = of(words)
             modes = it.fits
             worst = {(28, mode): [150, 150] for mode in modes} | {(600, mode): [7, 8] for mode in modes}
-            found = answer.Decision(it, Figures(worst, [(28, mode) for mode in modes]), WINDOW)
-            self.assertEqual(("scuttle-depth", False, f"delta={delta}, worst staleness 7 to 8 rounds with that"),
+            found = answer.Decision(it, Figures(worst, [(28, mode) for mode in modes]), MANY)
+            self.assertEqual(("scuttle-depth", False, f"packet={delta}, worst staleness 7 to 8 rounds with that"),
                              (found.mode, found.suffices, found.to_knee()))
             lines = answer.in_words(found, None)
             self.assertIn("No budget that fits is enough: still rising after 200 rounds. The most that fits: room for "
@@ -72,22 +114,22 @@ class Decided(unittest.TestCase):
     def test_nothing_is_run_that_heals(self):
         """28 entries fit of 600, for which the delta is 24000 bytes. The call has the words that aren't the usual ones,
         and comes where a split or restarts were asked for, and where the 600 are enough."""
-        usual = ("gossip_advise -o 'my advice-enough' nodes=300 keys=4 writes=2 entry=40 delta=24000 digest=10 "
+        usual = ("gossip_advise -o 'my advice-enough' nodes=300 keys=4 writes=2 entry=40 packet=24000 digest=10 "
                  "shared=no ")
         why = "A split, a restart and a rolling restart were not run, as no budget that fits is enough."
         see = f"{why} To see them with a budget that is:"
         cases = {
             ("restarts=5 forget=yes loss=0.5", True): [see, f"  {usual}loss=0.5 restarts=5 forget=yes"],
             ("split=600 count=bytes", True): [see, f"  {usual}split=600 count=bytes"],
-            ("split=30", True): ["Nor was a split or a restart run: give delta=24000 and another folder to see them."],
+            ("split=30", True): ["Nor was a split or a restart run: give packet=24000 and another folder to see them."],
             ("split=600", False): [why], ("", False): [],
         }
         for (more, is_enough), said in cases.items():
-            words = f"nodes=300 keys=4 writes=2 entry=40 digest=10 delta=1120 shared=no {more}"
-            it = study.Study(cluster.told(words.split(), advise.USUAL, advise.CALL))
+            words = f"nodes=300 keys=4 writes=2 entry=40 digest=10 packet=1120 shared=no {more}"
+            it = of(words)
             worst = {(budget, mode): [150, 150] for mode in it.fits for budget in (28, 600)}
             rising = [at for at in worst if at[0] == 28 or not is_enough]
-            found = answer.Decision(it, Figures(worst, rising), WINDOW)
+            found = answer.Decision(it, Figures(worst, rising), MANY)
             call = advise.call_with_enough(found, pathlib.Path("my advice"))
             missing = answer.not_run(found, call)
             self.assertEqual(said, missing)
@@ -101,10 +143,10 @@ class Decided(unittest.TestCase):
         depth, rising = {(300, "scuttle-depth"): [7, 8], (600, "scuttle-depth"): [7, 8]}, (500, "scuttle-depth")
         for more, is_told in (("forget=yes", True), ("", False)):
             for rises in ([], [rising]):
-                words = f"nodes=300 keys=4 writes=2 entry=40 delta=20000 {more}".split()
+                words = f"nodes=300 keys=4 writes=2 entry=40 packet=20000 {more}".split()
                 it = study.Study(cluster.told(words, advise.USUAL, advise.CALL))
                 worst = depth | {(500, mode): [7, 8] for mode in it.fits}
-                found = answer.Decision(it, Figures(worst, rises), WINDOW)
+                found = answer.Decision(it, Figures(worst, rises), MANY)
                 self.assertEqual(is_told, rules.FORGETFUL in found.forgetful())
                 self.assertEqual(is_told, found.forgetful() in answer.warnings(found))
                 self.assertEqual(is_told, found.forgetful() in answer.first_words(found))
@@ -112,40 +154,70 @@ class Decided(unittest.TestCase):
     def test_first_answer_below_the_knee(self):
         """400 entries of 40 bytes fit of 300 * 2, which take 24000, and with the digest of 300 numbers 27000. A knee
         that wasn't run with this mode is told without what it would bring."""
-        cases = {"delta=16000 shared=no": "24000 has room for nodes * writes = 600 entries",
-                 "delta=19000": "27000 has room for nodes * writes = 600 entries and the digest"}
+        cases = {"packet=16000 shared=no": "24000 has room for nodes * writes = 600 entries",
+                 "packet=19000": "27000 has room for nodes * writes = 600 entries and the digest"}
         for words, delta in cases.items():
             words = f"nodes=300 keys=4 writes=2 entry=40 digest=10 {words}"
-            it = study.Study(cluster.told(words.split(), advise.USUAL, advise.CALL))
-            worst = {(it.budget(mode), mode): [12, 13] for mode in it.fits}
+            it = of(words)
+            worst = {(it.most(mode), mode): [12, 13] for mode in it.fits}
             with_that = ", worst staleness 7 to 8 rounds with that"
             for more, said in (({}, ""), ({(600, "scuttle-depth"): [7, 8]}, with_that)):
-                found = answer.Decision(it, Figures(worst | more), WINDOW)
-                self.assertEqual(f"That is below nodes * writes. delta={delta}{said}.",
+                found = answer.Decision(it, Figures(worst | more), MANY)
+                self.assertEqual(f"That is below nodes * writes. packet={delta}{said}.",
                                  answer.first_words(found)[2])
 
     def test_first_answer_from_the_knee_on(self):
+        """The decision, the worst staleness, and what is left in reserve; with 600 entries that fit no reserve."""
         depth = {(budget, "scuttle-depth"): [7, 8] for budget in (300, 600, 1000)}
-        self.assertEqual(2, len(answer.first_words(decided(depth, more="digest=1 shared=no"))))
+        said = answer.first_words(decided(depth, more="digest=1 shared=no", stage=FEW))
+        self.assertEqual(["First answer, from 60 rounds: scuttle-depth with", "Worst staleness 7 to 8 rounds, 7 to 8 s",
+                          "With the 1000 entries that fit it is 7 to 8 rounds"],
+                         [it.partition(sign)[0] for it, sign in zip(said, (" room", ".", ":"))])
+        it = of("nodes=300 keys=4 writes=2 entry=40 packet=24000 digest=1 shared=no")
+        found = answer.Decision(it, Figures({(600, mode): [7, 8] for mode in it.fits}), FEW)
+        self.assertEqual(2, len(answer.first_words(found)))
+
+    def test_calls(self):
+        """Where a node calls three others in an interval of 30 s, a round is 10 s: 10 to 11 rounds are 3.3 to 3.7
+        intervals. A third of 300 * 2 entries is 200."""
+        it = of("nodes=300 keys=4 writes=2 entry=40 packet=8000 fanout=3 interval=30 digest=1 shared=no")
+        found = answer.Decision(it, Figures({(200, mode): [10, 11] for mode in it.fits}), FEW)
+        self.assertEqual(["First answer, from 60 intervals of 3 rounds: scuttle-depth with room for 200 entries in a "
+                          "delta, 8000 bytes (what fits; nodes * writes / 3).",
+                          "Worst staleness 10 to 11 rounds, 3.3 to 3.7 intervals, 100 to 110 s."],
+                         answer.first_words(found))
+        self.assertIn("  worst staleness     10 to 11 rounds, 3.3 to 3.7 intervals, 100 to 110 s: the most of "
+                      "`greatest` in rounds 91 to 180, least and most of 5 seeds", answer.in_words(found, None))
+        self.assertIn("less than the 10 s between two of the 3 calls of an interval", answer.left_out(found)[0])
+
+    def test_calls_of_a_tenth(self):
+        """1000 nodes had 9 to 11 rounds, to which six are added: 17 rounds of a third of a second."""
+        it = of("nodes=10000 keys=4 writes=1 entry=40 packet=400000 digest=10 fanout=3")
+        figures = {(it.most("scuttle-depth"), "scuttle-depth"): [8, 9], (it.knee, "scuttle-depth"): [9, 11]}
+        found = answer.Decision(it, Figures(figures), FEW)
+        self.assertEqual((333, 666, 3330), (found.budget, found.most, found.whole_budget()))
+        self.assertEqual("9 to 11 rounds, 3.0 to 3.7 intervals, 3.0 to 3.7 s (1000 nodes run; reckon with up to 17 "
+                         "rounds, 5.7 intervals, 5.7 s, for 10000)", found.staleness())
+        self.assertIn("With the 6660 entries (2 times nodes * writes / 3) it is 8 to 9 rounds, 2.7 to 3.0 "
+                      "intervals, 2.7 to 3.0 s: not better", found.reserve())
 
     def test_a_tenth(self):
         """1000 of 10000 nodes are run, with a tenth of the 11000 entries that fit. Budgets are told for all."""
-        words = "nodes=10000 keys=4 writes=1 entry=40 delta=640000 digest=20".split()
-        it = study.Study(cluster.told(words, advise.USUAL, advise.CALL))
+        it = of("nodes=10000 keys=4 writes=1 entry=40 packet=640000 digest=20")
         figures = {(750, "scuttle-depth"): [8, 9], (1100, "scuttle-depth"): [8, 8], (500, "scuttle-depth"): [20, 21]}
-        found = answer.Decision(it, Figures(figures), WINDOW)
+        found = answer.Decision(it, Figures(figures), MANY)
         self.assertEqual("scuttle-depth with room for 11000 entries in a delta, 440000 bytes (what fits; 1.1 times "
                          "nodes * writes)", found.takes())
         self.assertEqual(["scuttle-depth with a budget from 7500 entries on, 8 to 9 rounds with that"],
                          answer.too_close(found))
 
     def test_what_to_reckon_with(self):
-        """1000 of 10000 nodes had 8 rounds, to which five are added."""
-        words = "nodes=10000 keys=4 writes=1 entry=40 delta=640000 digest=20".split()
-        it = study.Study(cluster.told(words, advise.USUAL, advise.CALL))
-        found = answer.Decision(it, Figures({(1100, "scuttle-depth"): [8, 8]}), WINDOW)
-        self.assertEqual("8 rounds, 8 s (1000 nodes run; reckon with up to 13 for 10000)", found.staleness())
-        self.assertTrue(any("has to wait longer than 13 rounds" in it for it in answer.left_out(found)))
+        """1000 of 10000 nodes had 8 rounds, to which six are added."""
+        it = of("nodes=10000 keys=4 writes=1 entry=40 packet=640000 digest=20")
+        found = answer.Decision(it, Figures({(1100, "scuttle-depth"): [8, 8]}), MANY)
+        self.assertEqual("8 rounds, 8 s (1000 nodes run; reckon with up to 14 rounds, 14 s, for 10000)",
+                         found.staleness())
+        self.assertTrue(any("has to wait longer than 14 rounds, 14 s." in it for it in answer.left_out(found)))
 
     def test_no_digest(self):
         """300 numbers of 20 bytes are 6000. It is told in the first answer too."""
@@ -153,7 +225,7 @@ class Decided(unittest.TestCase):
         said = answer.of_digest(decided(depth))
         self.assertEqual([f"You gave no digest, so it is free here. With digest=20 its 300 numbers would take 6000 "
                           f"bytes. {answer.TYPICAL}"], said)
-        self.assertEqual(said, answer.first_words(decided(depth))[2:])
+        self.assertEqual(said, answer.first_words(decided(depth))[3:])
         self.assertEqual([], answer.of_digest(decided(depth, more="digest=1 shared=no")))
         large = answer.of_digest(decided(depth, more="digest=200 shared=no"))
         self.assertIn("300 numbers of 200 bytes, which fit no packet of 40000", large[0])
@@ -163,13 +235,13 @@ class Decided(unittest.TestCase):
         """A packet of 65508 bytes is more than a datagram, and so are the 600 * 200 bytes that would be enough."""
         depth = {(budget, "scuttle-depth"): [7, 8] for budget in (300, 600, 1000)}
         self.assertEqual([], answer.of_datagrams(decided(depth)))
-        for more, delta in (("entry=50 delta=65508", 65508), ("entry=200 delta=40000", 120000)):
+        for more, delta in (("entry=50 packet=65508", 65508), ("entry=200 packet=40000", 120000)):
             words = f"nodes=300 keys=4 writes=2 digest=10 shared=no {more}".split()
             it = study.Study(cluster.told(words, advise.USUAL, advise.CALL))
-            worst = {(it.budget(mode), mode): [7, 8] for mode in it.fits}
-            said = answer.of_datagrams(answer.Decision(it, Figures(worst), WINDOW))
+            worst = {(it.most(mode), mode): [7, 8] for mode in it.fits}
+            said = answer.of_datagrams(answer.Decision(it, Figures(worst), MANY))
             self.assertEqual(["The 64 KB of a UDP datagram are at most 65507 bytes: "
-                              f"delta={delta} takes several of them, or TCP."], said)
+                              f"packet={delta} takes several of them, or TCP."], said)
 
 
 class Taken:
@@ -186,8 +258,7 @@ class Taken:
 
 def healing(more="", **taken):
     """What heals of 200 nodes with an interval of half a second, by the rounds that the seeds took."""
-    words = f"nodes=200 keys=4 writes=1 entry=40 delta=8000 interval=0.5 {more}".split()
-    it = study.Study(cluster.told(words, advise.USUAL, advise.CALL))
+    it = of(f"nodes=200 keys=4 writes=1 entry=40 packet=8000 interval=0.5 {more}")
     return answer.Healing(it, "scuttle-depth", {stage: Taken(found) for stage, found in taken.items()})
 
 
@@ -199,18 +270,48 @@ class Healed(unittest.TestCase):
         self.assertEqual("  a split             of half of the nodes for 30 rounds: healed after 10 to 13 rounds, 5.0 "
                          "to 6.5 s", line)
         self.assertEqual(it.counted(), " ".join(map(str.strip, counted)))
-        self.assertEqual(f"N rounds after the last round of the split {rules.HEALED.format(31, 50)}", it.counted())
+        self.assertEqual("Healed after N rounds: N rounds after the last round of the split, or the last with a node "
+                         f"down, {rules.HEALED.format(31, 50)}", it.counted())
         self.assertTrue(all(len(it) <= 120 for it in counted))
+        self.assertEqual(1, len(healing(split=[10, 13], restart=[6, 7]).lines("restart", 200)))
+
+    def test_restart_alone(self):
+        """Without a split what is counted stands below the restart."""
+        it = healing("split=0", restart=[6, 7])
+        line, *counted = it.lines("restart", 200)
+        self.assertEqual("  a restart           of one node: healed after 6 to 7 rounds, 3.0 to 3.5 s", line)
+        self.assertEqual("Healed after N rounds: N rounds after the last with a node down, "
+                         f"{rules.HEALED.format(31, 50)}", " ".join(map(str.strip, counted)))
+
+    def test_nothing_that_leaves(self):
+        """With restarts=0 no wait is told."""
+        self.assertEqual(["a split", "Healed after"],
+                         [it.strip()[:len(name)] for it, name in
+                          zip(healing("restarts=0", split=[10, 13]).all_lines(200), ("a split", "Healed after"))])
+        self.assertFalse([it for it in healing("restarts=0", split=[10, 13]).all_lines(200) if answer.ROLLING in it])
+
+    def test_with_the_reserve(self):
+        """250 entries fit, where 200 are taken. Of what a restart leaves then 5 rounds are the longest, and two more
+        are waited."""
+        it = of("nodes=200 keys=4 writes=1 entry=40 packet=10000 forget=yes")
+        figures = {(250, mode): [7, 8] for mode in it.fits} | {(200, "scuttle-depth"): [7, 8]}
+        found = answer.Decision(it, Figures(figures), MANY)
+        taken = {"split": [8, 9], "restart": [3, 4], "forgotten": [5, 4]}
+        heals = answer.Healing(it, found.mode, {stage: Taken(rounds) for stage, rounds in taken.items()})
+        self.assertIn("  with the reserve    a split is healed after 8 to 9 rounds; a "
+                      "restart is healed after 3 to 4 rounds; a forgotten state is gone from all copies after 4 to 5 "
+                      "rounds; wait 7 rounds between groups", answer.in_words(found, heals))
 
     def test_long_split(self):
         """100 rounds are run, in which each of 4 keys is written anew many times."""
         line = healing("split=600", split=[10, 13]).lines("split", 200)[0]
-        self.assertIn(" of half of the nodes for 100 rounds, which stand for 600, as each key is written anew in them: healed after", line)
+        self.assertIn(" of half of the nodes for 100 rounds, which stand for 600, as each key is written anew in them: "
+                      "healed after", line)
 
     def test_not_in_time(self):
-        """A split lasts from round 51 to 80, and 51 + 30 + 40 + 3 * 4 = 133 rounds are run."""
+        """A split lasts from round 51 to 80, and 50 + 30 + 40 + 3 * 4 = 132 rounds are run."""
         line = healing(split=[10, None, None]).lines("split", 200)[0]
-        self.assertTrue(line.endswith(": not within 53 rounds under 2 of 3 seeds"), line)
+        self.assertTrue(line.endswith(": not within 52 rounds under 2 of 3 seeds"), line)
 
     def test_wait(self):
         """Two rounds more than the longest of what a restart leaves. A forgotten state is none of it where nodes don't
@@ -218,6 +319,8 @@ class Healed(unittest.TestCase):
         both = {"restart": [6, 7], "forgotten": [8, 7]}
         cases = {
             "": "wait 9 rounds, 4.5 s, after a node is up again: 2 more than the longest of a restart",
+            "fanout=5": "wait 9 rounds, 1.8 intervals, 0.9 s, after a node is up again: 2 more than the longest of a "
+                        "restart",
             "restarts=5": "wait 9 rounds, 4.5 s, after a group of 5 nodes is up again: 2 more than the longest of a "
                           "restart",
             "restarts=5 forget=yes": "wait 10 rounds, 5 s, after a group of 5 nodes is up again: 2 more than the "
@@ -267,11 +370,38 @@ class Words(unittest.TestCase):
 
 
 class Ends(unittest.TestCase):
+    def setUp(self):
+        """300 rounds are to be run, two runs at once, and one of 40 rounds is there already."""
+        self.progress = Progress({"few/a": 60, "few/b": 60, "few/c": 40, "many/a": 180})
+        self.progress.begin("few", ["a", "b"], ["c"], at_once=2)
+
     def test_work_that_is_left(self):
-        """Once 60 of 300 rounds took 10 seconds, the others take 40. What is there already counts in neither."""
-        progress = Progress({"few/a": 60, "few/b": 60, "few/c": 40, "knee/a": 180})
-        progress.begin("few", ["a", "b"], ["c"])
-        self.assertIsNone(progress.left())
+        """60 rounds took 10 seconds of a processor, so the other 240 take 40. The run had half of one, in 20 seconds,
+        so two at once have one."""
+        self.assertIsNone(self.progress.left())
+        self.progress.done("a", 10.0, 20.0)
+        self.assertAlmostEqual(40.0, self.progress.left())
+
+    def test_processors_that_are_had_now(self):
+        """120 rounds took 20 seconds, so 180 take 30. The shares of a processor were a half, then a whole: in the
+        middle three quarters, with one run left. Two more whole ones count for more, and a run that was held up not."""
+        self.progress.done("a", 10.0, 20.0)
+        self.progress.done("b", 10.0, 10.0)
+        self.assertAlmostEqual(30 / 0.75, self.progress.left())
+        self.progress.shares.extend([1, 1, 0.01])
+        self.assertAlmostEqual(30.0, self.progress.left())
+
+    def test_another_plan(self):
+        """What is over isn't planned again."""
+        self.progress.done("a", 10.0, 10.0)
+        self.progress.plan({"few/a": 60, "few/c": 40, "many/b": 120})
+        self.assertEqual({"many/b": 120}, self.progress.work)
+        self.assertAlmostEqual(20.0, self.progress.left())
+
+    def test_other_machines(self):
+        """There the time between two runs is known alone: at 60 rounds in 10 seconds, 240 take 40."""
+        progress = Progress({"few/a": 60, "few/b": 240})
+        progress.begin("few", ["a", "b"], [])
+        progress.since -= 10
         progress.done("a")
-        progress.since, progress.spent = None, 10.0
-        self.assertAlmostEqual(40.0, progress.left())
+        self.assertAlmostEqual(40.0, progress.left(), 0)

@@ -42,14 +42,15 @@ class Enough(unittest.TestCase):
         self.assertEqual(cases, {it: rules.suffices(*it) for it in cases})
 
     def test_what_a_sum_says(self):
-        """1999 * 6 copies at two times 28 in a round take 214 rounds, less the 6 in which a key isn't written."""
-        cases = {(28, 2000, 6, 1): 208, (25, 101, 4, 1): 4, (2, 41, 6, 8): 59}
+        """1999 * 6 copies at two times 28 in a round take 214 rounds, less the 6 in which a key isn't written; at two
+        rounds to an interval, 107 of these less 6."""
+        cases = {(28, 2000, 6, 1): 208, (25, 101, 4, 1): 4, (2, 41, 6, 8): 59, (28, 2000, 6, 1, 2): 101}
         self.assertEqual(cases, {it: int(rules.least_staleness(*it)) for it in cases})
 
     def test_a_tenth(self):
-        """"Add five rounds to `greatest`", from a half to twice `nodes * writes`."""
-        self.assertEqual(14, rules.reckoned([8, 9]))
-        self.assertEqual([False, True, True, False], [rules.tenth_holds(it) for it in (0.49, 0.5, 2, 2.1)])
+        """"Add six rounds to `greatest`", from `nodes * writes` to twice that."""
+        self.assertEqual(15, rules.reckoned([8, 9]))
+        self.assertEqual([False, True, True, False], [rules.tenth_holds(it) for it in (0.99, 1, 2, 2.1)])
 
     def test_healed(self):
         """Half of the nodes are set apart where `greatest` was 5 to 7: it is healed at 8."""
@@ -62,17 +63,34 @@ class Enough(unittest.TestCase):
 
 
 class Budgets(unittest.TestCase):
-    def test_first_answer(self):
-        """300 nodes with 4 keys write 2 of them, and 1000 entries fit: "take the 1000"; twice 600 would be 1200."""
-        cases = {(1000, 300, 4, 2): 1000, (1300, 300, 4, 2): 1200, (500, 300, 4, 2): 500, (9999, 100, 4, 8): 400,
-                 (9999, 100, 64, 2): 400, (9999, 100, 4, 0): 200}
-        self.assertEqual(cases, {it: rules.budget_of(*it) for it in cases})
+    def test_what_may_be_taken(self):
+        """300 nodes with 4 keys write 2 of them: no more than twice 600 is looked at, and no more than nodes * keys."""
+        cases = {(1000, 300, 4, 600): 1000, (1300, 300, 4, 600): 1200, (500, 300, 4, 600): 500,
+                 (9999, 100, 4, 400): 400, (9999, 100, 4, 100): 200}
+        self.assertEqual(cases, {it: rules.most_of(*it) for it in cases})
 
-    def test_around_the_knee(self):
-        """A quarter of 600 is 150, and above 300 * 4 = 1200 nothing changes. Of 10 a quarter is 2 and a half."""
-        cases = {((1000, 70), 300, 4, 2): [70, 150, 300, 450, 600, 900, 1000, 1200], ((5000,), 300, 4, 2):
-                 [150, 300, 450, 600, 900, 1200], ((12,), 10, 1, 1): [2, 5, 7, 10]}
-        self.assertEqual(list(cases.values()), [rules.budgets_of(*it) for it in cases])
+    def test_nodes_times_writes(self):
+        """No more than all keys are written anew, and a node that makes three calls gets three times the deltas."""
+        cases = {(300, 4, 2): 600, (300, 4, 8): 1200, (300, 4, 0): 300, (1000, 4, 1, 3): 333, (2, 1, 1, 16): 1}
+        self.assertEqual(cases, {it: rules.knee(*it) for it in cases})
+
+    def test_what_is_taken(self):
+        """By docs/study.md, five seeds of 100 nodes have 7 to 8 rounds with 100 entries and 6 to 7 with 200, so 100 are
+        taken; with 50 they have 18 to 21, which is worse."""
+        at_100, at_200 = DEPTH_AT_100, [7, 6, 7, 7, 6]
+        self.assertTrue(rules.takes_knee(at_100, [at_200]))
+        self.assertFalse(rules.takes_knee(DEPTH_AT_50, [at_200]))
+        self.assertFalse(rules.takes_knee(at_100, [at_200, [6, 6, 6, 6, 6]]))
+
+    def test_smaller(self):
+        """A quarter of 600 is 150. Of 10 a quarter is 2 and a half."""
+        cases = {(600, 600): [450, 300, 150], (1200, 600): [900, 600, 450, 300, 150], (12, 10): [10, 7, 5, 2]}
+        self.assertEqual(cases, {it: rules.smaller_budgets(*it) for it in cases})
+
+    def test_windows(self):
+        """Three rounds to an interval: the second has the rounds 4 to 6."""
+        cases = {((31, 60), 1): (31, 60), ((2, 2), 3): (4, 6), ((31, 60), 3): (91, 180)}
+        self.assertEqual(cases, {it: rules.rounds_of(*it) for it in cases})
 
     def test_what_is_counted(self):
         self.assertEqual([True, True, False], [rules.counts_bytes(room) for room in (5, 49.9, 50)])

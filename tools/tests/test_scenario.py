@@ -9,7 +9,7 @@ from gossip_tools.commands import Refused
 class Budgets(unittest.TestCase):
     def test_room_of_a_packet(self):
         """64000 bytes less 1000 numbers of 20 bytes leave 44000; precise digests have one for each of 4 keys."""
-        it = {"nodes": Fraction(1000), "keys": Fraction(4), "delta": Fraction(64000), "digest": Fraction(20)}
+        it = {"nodes": Fraction(1000), "keys": Fraction(4), "packet": Fraction(64000), "digest": Fraction(20)}
         cases = {"scuttle-depth": 44000, "scuttle-breadth": 44000, "precise-oldest": -16000, "precise-newest": -16000}
         self.assertEqual(cases, {mode: cluster.room_for_delta(it, mode) for mode in cases})
 
@@ -32,7 +32,7 @@ class Advice(unittest.TestCase):
         cases = {
             ("writes", "2.5"): "take writes=2 and give 1 of 2 rounds writes = 3 by [[load]], or take writes=3, which "
                                "is on the safe side",
-            ("delta", "2m"): "write delta=2000000, or delta=2097152 where K is 1024",
+            ("packet", "2m"): "write packet=2000000, or packet=2097152 where K is 1024",
             ("nodes", "1'000"): "write nodes=1000", ("nodes", "many"): "", ("entry", "4.5"): "",
         }
         self.assertEqual(cases, {it: cluster.instead(*it) for it in cases})

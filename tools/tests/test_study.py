@@ -1,12 +1,13 @@
 """What is run for a cluster and what is read of it, with numbers worked out by hand."""
 import unittest
 
-from gossip_tools import advise, cluster, study
+from gossip_tools import advise, cluster, scenario, study
 
-ROOMY = "nodes=300 keys=4 writes=2 entry=40 delta=40000"
-SHARED = "nodes=100 keys=4 writes=1 entry=40 delta=6000 digest=10"
-LARGE = "nodes=10000 keys=4 writes=1 entry=40 delta=640000 digest=20 restarts=50"
-FEW = "nodes=10 keys=4 writes=1 entry=300 delta=1500"
+ROOMY = "nodes=300 keys=4 writes=2 entry=40 packet=40000"
+SHARED = "nodes=100 keys=4 writes=1 entry=40 packet=6000 digest=10"
+LARGE = "nodes=10000 keys=4 writes=1 entry=40 packet=640000 digest=20 restarts=50"
+FEW = "nodes=10 keys=4 writes=1 entry=300 packet=1500"
+DEPTH, BREADTH, OLDEST, NEWEST = "scuttle-depth", "scuttle-breadth", "precise-oldest", "precise-newest"
 
 
 def of(words):
@@ -20,38 +21,126 @@ class Numbers(unittest.TestCase):
                  FEW: [5] * 4}
         self.assertEqual(cases, {words: list(of(words).fits.values()) for words in cases})
 
+    def test_other_name(self):
+        """A packet was called a delta."""
+        self.assertEqual(of(SHARED).told, of(SHARED.replace("packet=", "delta=")).told)
+
     def test_budgets(self):
-        """Around 300 * 2 = 600 up to 300 * 4, around 100 and the two that fit, around 10; a tenth of 10000 is 1000."""
+        """nodes * writes are 300 * 2 = 600, 100 and 10; a tenth of 10000 is 1000. Of 1000, 125, 1100 and 5 that fit no
+        more than twice that is of use."""
+        cases = {ROOMY: (600, 1000), SHARED: (100, 125), LARGE: (1000, 1100), FEW: (10, 5),
+                 ROOMY + " digest=0 shared=no fanout=3": (200, 400), SHARED + " fanout=16": (6, 12)}
+        self.assertEqual(cases, {words: (of(words).knee, of(words).most(DEPTH)) for words in cases})
+
+    def test_what_decides(self):
+        """Each mode with what it may take, and the chosen one with nodes * writes, be that less or more."""
         cases = {
-            ROOMY: ([150, 300, 450, 600, 900, 1000, 1200], 1000), SHARED: ([25, 50, 75, 100, 125, 150, 200], 125),
-            LARGE: ([250, 500, 750, 1000, 1100, 1500, 2000], 1100), FEW: ([2, 5, 7, 10, 15, 20], 5),
+            (ROOMY, DEPTH): {(1000, DEPTH), (1000, BREADTH), (1000, OLDEST), (1000, NEWEST), (600, DEPTH)},
+            (SHARED, NEWEST): {(125, DEPTH), (125, BREADTH), (50, OLDEST), (50, NEWEST), (100, NEWEST)},
+            (LARGE, DEPTH): {(1100, DEPTH), (1000, DEPTH)},
+            (SHARED.replace("6000", "5000"), DEPTH): {(100, DEPTH), (100, BREADTH), (25, OLDEST), (25, NEWEST)},
         }
-        self.assertEqual(cases, {words: (of(words).budgets, of(words).budget("scuttle-depth")) for words in cases})
+        self.assertEqual(cases, {(words, mode): of(words).wanted(mode) for words, mode in cases})
+
+    def test_one_mode(self):
+        """A precise digest of 100 nodes takes 4000 of 6000 bytes, which leaves room for 50 entries; of 4400 bytes for
+        10, which are counted in bytes. With the digest 100 entries take 8000."""
+        it = of(f"{SHARED} mode={NEWEST}")
+        self.assertEqual(({NEWEST: 50}, {(50, NEWEST), (100, NEWEST)}), (it.fits, it.wanted(it.usual)))
+        self.assertEqual([False, True], [of(f"{words} mode={NEWEST}").in_bytes for words in
+                                         (SHARED, SHARED.replace("6000", "4400"))])
+        self.assertEqual(8000, it.packet(it.usual))
+        with self.assertRaisesRegex(cluster.Refused, "10000 nodes are .* leave out mode=precise-newest"):
+            of(f"{LARGE} mode={NEWEST}")
+        self.assertEqual({DEPTH: 1100}, of(f"{LARGE} mode={DEPTH}").fits)
+
+    def test_next_smaller(self):
+        """Of 600 three quarters, of those a half of 600, and then a quarter. A quarter of 10 is 2 and a half."""
+        cases = {(ROOMY, 600): {450}, (ROOMY, 450): {300}, (ROOMY, 300): {150}, (ROOMY, 150): set(),
+                 (ROOMY, 1000): {900}, (FEW, 5): {2}, (FEW, 2): set()}
+        self.assertEqual(cases, {(words, budget): {it for it, _ in of(words).next_smaller(budget, DEPTH)}
+                                 for words, budget in cases})
+
+    def test_work(self):
+        """Three times as much in bytes and half as much again in a precise mode, as was measured."""
+        it = of(f"{SHARED} forget=yes")
+        cases = {("many", 100, DEPTH): 200, ("many", 100, NEWEST): 300, ("many", 75, DEPTH): 360,
+                 ("forgotten", 125, BREADTH): 3 * it.rounds("forgotten")}
+        self.assertEqual(cases, {run: it.work(*run) for run in cases})
+
+    def test_runs(self):
+        """Modes that have the same budgets are one choice of values."""
+        it = of(SHARED)
+        pairs = it.wanted(DEPTH) | {(75, DEPTH)}
+        seeds = ["1", "2", "3", "4", "5"]
+        self.assertEqual([
+            {"budget": ["50"], "seed": seeds, "mode": [OLDEST, NEWEST]},
+            {"budget": ["75", "100"], "seed": seeds, "mode": [DEPTH]},
+            {"budget": ["125"], "seed": seeds, "mode": [BREADTH, DEPTH]},
+        ], it.choices("many", pairs))
 
     def test_bytes(self):
         """Room for 5 entries is counted in bytes, 523.5 each: 5 are 2617, as docs/study.md has them."""
-        text, choices = of(FEW).stage("knee")
-        self.assertEqual(["1047", "2617", "3664", "5235", "7852", "10470"], choices["budget_bytes"])
-        self.assertIn('format = 2\nnodes = 10\nkeys = 4\nrounds = 200\nseed = 1\n', text)
+        it = of(FEW)
+        values = [value for choices in it.choices("many", {(budget, DEPTH) for budget in (2, 5, 7, 10)})
+                  for value in choices["budget_bytes"]]
+        self.assertEqual(["1047", "2617", "3664", "5235"], values)
+        self.assertIn("format = 2\nnodes = 10\nkeys = 4\nrounds = 200\nseed = 1\n", it.scene("many"))
 
     def test_digest_that_takes_all(self):
         with self.assertRaisesRegex(cluster.Refused, "takes 40000 of the 12000 bytes"):
-            of("nodes=5000 keys=4 writes=1 entry=40 delta=12000 digest=8")
+            of("nodes=5000 keys=4 writes=1 entry=40 packet=12000 digest=8")
         # (5000 of 40 bytes are 200000; 12000 bytes have room for 300, which is 0.06 of 5000)
         with self.assertRaisesRegex(cluster.Refused, "room for 300, 0.06 times nodes .* writes, and the digest still "
-                                    "fits no packet of 12000; .* takes delta=240000"):
-            of("nodes=5000 keys=4 writes=1 entry=40 delta=12000 digest=8")
-        with self.assertRaisesRegex(cluster.Refused, "30 bytes have no room .* 8 of them takes delta=320"):
-            of("nodes=8 keys=2 writes=1 entry=40 delta=30")
-
+                                    "fits no packet of 12000; .* takes packet=240000"):
+            of("nodes=5000 keys=4 writes=1 entry=40 packet=12000 digest=8")
+        with self.assertRaisesRegex(cluster.Refused, "30 bytes have no room .* 8 of them takes packet=320"):
+            of("nodes=8 keys=2 writes=1 entry=40 packet=30")
 
     def test_budget_that_a_sum_refuses(self):
-        """Room for 28 entries, where 2000 of 50 bytes take 100000, and with the digest of 2000 numbers 120000."""
-        cases = {"delta=1400 digest=10 shared=no": "at least 208 rounds; .* takes delta=100000",
-                 "delta=21400 digest=10": "at least 208 rounds; .* takes delta=120000"}
+        """Room for 28 entries, where 2000 of 50 bytes take 100000, and with the digest of 2000 numbers 120000. Where a
+        node calls two others, an interval has twice the deltas: with room for 14 it takes 208 of two rounds each."""
+        cases = {"packet=1400 digest=10 shared=no": "at least 208 rounds; .* takes packet=100000",
+                 "packet=21400 digest=10": "at least 208 rounds; .* takes packet=120000"}
         for words, why in cases.items():
             with self.assertRaisesRegex(cluster.Refused, why):
                 of(f"nodes=2000 keys=6 writes=1 entry=50 {words}")
+        of("nodes=2000 keys=6 writes=1 entry=50 packet=1400 digest=10 shared=no fanout=2")
+        with self.assertRaisesRegex(cluster.Refused, "at least 416 rounds; room for nodes .* writes / 2 = 1000 "):
+            of("nodes=2000 keys=6 writes=1 entry=50 packet=700 digest=10 shared=no fanout=2")
+
+
+class Calls(unittest.TestCase):
+    """Three calls in an interval of half a minute: a round takes ten seconds, and an interval three rounds."""
+    def setUp(self):
+        self.it = of(f"{SHARED} fanout=3 interval=30 restarts=5 split=40")
+
+    def test_rounds(self):
+        """The first answer looks at the intervals 31 to 60, which are the rounds 91 to 180."""
+        it = self.it
+        self.assertEqual((180, 600, (91, 180), (301, 600), 10),
+                         (it.rounds("few"), it.rounds("many"), it.window("few"), it.window("many"), it.seconds))
+
+    def test_writes(self):
+        """In the first round of an interval alone: 60 times the two others have none."""
+        text = it = self.it.scene("few")
+        self.assertEqual((60, True), (text.count("[[load]]"), scenario.load(179, 180, 0) in it))
+
+    def test_healing(self):
+        """After 50 intervals, so in round 151. A split of 40 of them ends with round 270; ten groups are down for an
+        interval each, and the last of them until round 180."""
+        it = self.it
+        self.assertEqual(((91, 150), 151, 270, 180), (it.before, it.begins, it.ends("split"), it.ends("restart")))
+        restarts = [line for line in it.scene("restart").splitlines() if line.startswith(("round = ", "down = "))]
+        self.assertEqual(50, restarts.count("down = 3"))
+        self.assertEqual({f"round = {at}": 5 for at in range(151, 180, 3)},
+                         {line: restarts.count(line) for line in restarts if line.startswith("round")})
+
+    def test_sections(self):
+        """A scenario takes 1000 sections, so no run has more intervals: half of 64 keys' nodes * writes, in an
+        eighteenth of which 25 entries fit."""
+        it = of("nodes=900 keys=1 writes=1 entry=40 packet=1000 fanout=2")
+        self.assertEqual((18, True), (-(-it.knee // it.most(DEPTH)), it.intervals("split") <= 1000))
 
 
 class Healing(unittest.TestCase):
@@ -60,16 +149,16 @@ class Healing(unittest.TestCase):
         cases = {ROOMY: (51, 80), FEW: (101, 130), ROOMY + " split=5": (51, 55), ROOMY + " split=900": (51, 150)}
         self.assertEqual(cases, {words: (of(words).begins, of(words).ends("split")) for words in cases})
 
+    def test_what_is_looked_at(self):
+        """A forgotten state is none where nodes don't forget, and what is given as 0 isn't run."""
+        cases = {"": ("split", "restart"), "forget=yes": ("split", "restart", "forgotten"), "split=0": ("restart",),
+                 "split=0 restarts=0 forget=yes": (), "restarts=0": ("split",)}
+        self.assertEqual(cases, {more: of(f"{ROOMY} {more}").heals() for more in cases})
+
     def test_who_restarts(self):
         """One node, or a tenth of 50 in each of ten rounds; of 10 nodes 4 in each of two."""
-        cases = {ROOMY: (1, 51), LARGE: (5, 60), FEW + " restarts=4": (4, 102)}
-        self.assertEqual(cases, {words: of(words).restarting() for words in cases})
-
-    def test_budgets(self):
-        """A half of the knee, the knee, what fits and twice the knee; 50 fit a precise digest, a half of 100."""
-        cases = {(ROOMY, "scuttle-depth"): [300, 600, 1000, 1200], (SHARED, "scuttle-depth"): [50, 100, 125, 200],
-                 (SHARED, "precise-newest"): [50, 100, 200]}
-        self.assertEqual(cases, {(words, mode): of(words).healing_budgets(mode) for words, mode in cases})
+        cases = {ROOMY: (1, 1, 51), LARGE: (5, 10, 60), FEW + " restarts=4": (4, 2, 102)}
+        self.assertEqual(cases, {words: (*of(words).restarting(), of(words).ends("restart")) for words in cases})
 
 
 def rows(*greatest):
@@ -82,21 +171,21 @@ class Reading(unittest.TestCase):
         """Two seeds, whose greatest was at most 3 and 4 in the rounds 1 and 2 and is healed at 4 and 5."""
         self.found = study.Found.__new__(study.Found)
         self.found.before = (1, 2)
-        self.found.rows = {(9, "scuttle-depth"): [rows(2, 3, 8, 9, 5, 4), rows(4, 4, 7, 5, 6, 6)]}
+        self.found.rows = {(9, DEPTH): [rows(2, 3, 8, 9, 5, 4), rows(4, 4, 7, 5, 6, 6)]}
 
     def test_window(self):
         found = self.found
-        self.assertEqual([9, 7], found.worst(9, "scuttle-depth", (3, 4)))
-        self.assertEqual([85.0, 60.0], found.cut(9, "scuttle-depth", (3, 4)))
+        self.assertEqual([9, 7], found.worst(9, DEPTH, (3, 4)))
+        self.assertEqual([85.0, 60.0], found.cut(9, DEPTH, (3, 4)))
 
     def test_healed(self):
         """After round 3 the first seed is back in round 6, the third, and the other in round 4; after round 4 it never
         is."""
         cases = {3: [3, 1], 4: [2, None], 5: [1, None]}
-        self.assertEqual(cases, {ends: self.found.healed_after(9, "scuttle-depth", ends) for ends in cases})
+        self.assertEqual(cases, {ends: self.found.healed_after(9, DEPTH, ends) for ends in cases})
 
     def test_level(self):
         """The first half of the rounds 1 to 4 has 3 and 4, the second 9 and 7; that of 3 to 6 has 9 and 7, then 5 and
         6."""
         cases = {(1, 4): False, (3, 6): True}
-        self.assertEqual(cases, {it: self.found.suffices(9, "scuttle-depth", it) for it in cases})
+        self.assertEqual(cases, {it: self.found.suffices(9, DEPTH, it) for it in cases})

@@ -87,13 +87,14 @@ def captions(decision, healing):
     same = f"All modes have the same figures from {it.whole(same)} entries on. " if same else ""
     band = f"The line has the middle of {many} seeds, the band their least and most"
     healed = captions_of_healing(it, healing.mode, band) if healing else {}
+    most = " Of each interval the round with the most is shown." if it.fanout > 1 else ""
     return {
         "worst": f"The knee: worst staleness in rounds {first} to {last}. Bars go from the least to the most of {many} "
                  f"seeds, points are the seed in the middle. {above}{same}",
         "cut": f"The share of lacking entries that the budget cut, in the same rounds.",
         "greatest": "The age of the oldest write that some copy lacks, round by round, under seed 1. Each mode has the "
-                    "budget that it would take, as the key says. Wide curves lie below narrow ones.",
-        "stale": "The share of copies that are behind their owner, in the same runs.",
+                    f"budget that it would take, as the key says. Wide curves lie below narrow ones.{most}",
+        "stale": f"The share of copies that are behind their owner, in the same runs.{most}",
         **healed,
     }
 

@@ -86,13 +86,16 @@ def spaced(budgets):
 
 
 def rounds(decision, name, y, value):
-    """A column over the rounds, by mode, under the first seed; each mode with the budget that it would take."""
+    """A column over the rounds, by mode, under the first seed: the most of each interval; each mode with the budget that
+    it would take."""
     study, found = decision.study, decision.found
     text, plots = HEAD.format(name=name, x="round", y=y), []
     for at, (mode, (colour, width, _)) in enumerate(MODES.items()):
         if mode in study.fits:
             budget = decision.budget if mode == decision.mode else study.most(mode)
-            text += block(f"mode{at}", [(row["round"], value(row)) for row in found.rows[(budget, mode)][0]])
+            rows = found.rows[(budget, mode)][0]
+            intervals = [rows[first:first + study.fanout] for first in range(0, len(rows), study.fanout)]
+            text += block(f"mode{at}", [(it[-1]["round"], max(value(row) for row in it)) for it in intervals])
             plots.append(f'$mode{at} with lines linewidth {width} linecolor "{colour}" '
                          f'title "{mode}, {study.whole(budget)}"')
     return text + "set xrange [0:*]\nset yrange [0:*]\nplot " + ", \\\n  ".join(plots) + "\n"

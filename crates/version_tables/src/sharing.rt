@@ -6,6 +6,7 @@ ghost use Rattle.bench_types.specs.Budget.{amount_of};
 ghost use Rattle.bench_types.specs.declared.faults.Fault.TheVariants.{OutOfMemory};
 ghost use Rattle.model.specs.Order.{rotated};
 ghost use Rattle.planes.specs.Planes.{HasEach};
+ghost use Rattle.version_tables.specs.inner.Firsts.{by_first};
 ghost use Rattle.version_tables.specs.inner.OfferInMemory.{cells_in, marks, weights_in, IsOffer};
 ghost use Rattle.version_tables.specs.inner.Plans.{weight_on, IsLevel};
 ghost use Rattle.version_tables.specs.inner.Sharing.{AreShared};
@@ -30,7 +31,7 @@ const MANY: usize = 64;
 
 // A level that the owners share out in turn from the rotation on.
 #[derive(Drop)]
-struct Turns<'a, N: Number> {
+struct SharedLevel<'a, N: Number> {
     first: First,
     rotation: usize,
     level: &'a Level<N>,
@@ -48,6 +49,16 @@ fn owner_of_turn(turn: usize, nodes: usize, rotation: usize) -> usize
         rotation + turn
     } else {
         turn - rest
+    }
+}
+
+// Of two lists of marks the one for the oldest first, or for the newest.
+fn by_first<'a, N: Number>(first: First, oldest: &'a [N], newest: &'a [N]) -> &'a [N]
+    ensures { result.now ≡ by_first first oldest.now newest.now }
+{
+    match first {
+        First::Oldest => oldest,
+        First::Newest => newest,
     }
 }
 
@@ -92,34 +103,13 @@ impl<'a, N: Number> Offer<'a, N> {
             self.now.keys (start + r) (marks N.number level.now.near.items (start + r))
             (marks N.number level.now.far.items (start + r))) (map N.number counts.new) }
     {
-        match first {
-            First::Oldest => {
-                count_some_between(
-                    counts,
-                    self.cells,
-                    self.nodes,
-                    self.keys,
-                    start,
-                    &level.near,
-                    &level.far,
-                );
-            }
-            First::Newest => {
-                count_some_between(
-                    counts,
-                    self.cells,
-                    self.nodes,
-                    self.keys,
-                    start,
-                    &level.far,
-                    &level.near,
-                );
-            }
-        }
+        let low = by_first(first, &level.near, &level.far);
+        let high = by_first(first, &level.far, &level.near);
+        count_some_between(counts, self.cells, self.nodes, self.keys, start, low, high);
     }
 
     // How many numbers an owner's part has. Where that isn't known, parts are counted from this owner on.
-    fn count_of_part(&self, turns: &Turns<N>, counts: &mut [N], owner: usize) -> u32
+    fn count_of_part(&self, turns: &SharedLevel<N>, counts: &mut [N], owner: usize) -> u32
         requires offer { IsOffer N.number N.most self.now }
         requires turns { AreTurnsOf N.number self.now turns.now }
         requires owner { owner < self.now.nodes }
@@ -142,7 +132,13 @@ impl<'a, N: Number> Offer<'a, N> {
     }
 
     // Gives the owners in turn the far mark as long as their parts fit. Answers whose part doesn't.
-    fn pass_turns(&self, turns: &Turns<N>, counts: &mut [N], mark: &mut [N], room: u32) -> Passed
+    fn pass_turns(
+        &self,
+        turns: &SharedLevel<N>,
+        counts: &mut [N],
+        mark: &mut [N],
+        room: u32,
+    ) -> Passed
         requires offer { IsOffer N.number N.most self.now }
         requires turns { AreTurnsOf N.number self.now turns.now }
         requires counts { AreKnownCounts turns.now.first N.number N.most self.now turns.now.level.now
@@ -179,7 +175,7 @@ impl<'a, N: Number> Offer<'a, N> {
     }
 
     // Puts the marks that stop at the first number that doesn't fit. Answers how many numbers they let through.
-    fn share_into(&self, turns: &Turns<N>, counts: &mut [N], mark: &mut [N]) -> u32
+    fn share_into(&self, turns: &SharedLevel<N>, counts: &mut [N], mark: &mut [N]) -> u32
         requires offer { IsOffer N.number N.most self.now }
         requires turns { AreTurnsOf N.number self.now turns.now }
         requires counts { AreKnownCounts turns.now.first N.number N.most self.now turns.now.level.now
@@ -219,7 +215,7 @@ pub(crate) fn share<N: Number>(
 {
     let mut counts = all_of(alloc, offer.nodes, N::greatest())?;
     let mut mark = Vec::from_slice(alloc, &level.near)?;
-    let turns = Turns {
+    let turns = SharedLevel {
         first,
         rotation,
         level,

@@ -4,7 +4,7 @@ use Rattle.bench_types.specs.declared.exchanges.First.{First}
 use Rattle.bench_types.specs.Budget.{amount_of}
 use Rattle.planes.specs.Planes.{Cells, HasEach}
 use Rattle.model.specs.Order.{rotated}
-use Rattle.version_tables.specs.declared.sharing.Turns.{Turns}
+use Rattle.version_tables.specs.declared.sharing.SharedLevel.{SharedLevel}
 use Rattle.version_tables.specs.declared.weights.Level.{Level}
 use Rattle.version_tables.specs.declared.weights.Offer.{Offer}
 use Rattle.version_tables.specs.inner.Firsts.{comes_first}
@@ -21,7 +21,7 @@ AreKnownCounts first number most offer level counts =
     (marks number level.near.items r) (marks number level.far.items r))) counts
 
 -- a level that is shared out in turn from a rotation on
-pub record AreTurnsOf {N : Type 0} (number : N → ℕ) (offer : Offer N) (turns : Turns N) : Type 0 where
+pub record AreTurnsOf {N : Type 0} (number : N → ℕ) (offer : Offer N) (turns : SharedLevel N) : Type 0 where
   pub rotation : turns.rotation < offer.nodes
   pub level : IsLevel turns.first number offer turns.level.now
 

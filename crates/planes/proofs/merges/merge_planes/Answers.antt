@@ -2,7 +2,6 @@ use Rattle.std.proofs.Common.{nat_lt, max, ◌∙◌, arith, length, map, if◌t
 use Rattle.std.proofs.lemmas.List.{length-map}
 use Rattle.planes.proofs.Elementwise.{number-at, number-waits, changed_none, changed_all, written_next}
 use Rattle.planes.proofs.Counts.{count_below, number_next, sum_whole}
-use Rattle.planes.proofs.merges.merge_planes.Given as given
 use Rattle.planes.proofs.merges.merge_planes.Goals as goal
 
 pub loop-r-init : goal.loop-r-init

@@ -1,4 +1,4 @@
-use Rattle.std.proofs.Common.{◌≡◌, ◌<◌, ◌&&◌, nat_lt, nat_le, map, slice_index, sym, ◌∙◌, arith}
+use Rattle.std.proofs.Common.{◌&&◌, nat_lt, nat_le, map, slice_index, sym, ◌∙◌, arith}
 use Rattle.std.proofs.lemmas.Bool.{eqb-true}
 use Rattle.version_tables.proofs.Clearing.{plane-none}
 use Rattle.version_tables.proofs.merging.is_current.Goals as goal

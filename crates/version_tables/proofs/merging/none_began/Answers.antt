@@ -1,4 +1,4 @@
-use Rattle.std.proofs.Common.{◌<◌, ◌≤◌, nat_lt, map, slice_index, arith}
+use Rattle.std.proofs.Common.{nat_lt, map, slice_index, arith}
 use Rattle.std.proofs.lemmas.Bool.{eqb-true, ltb-false}
 use Rattle.version_tables.proofs.Clearing.{plane-none}
 use Rattle.version_tables.proofs.merging.none_began.Goals as goal

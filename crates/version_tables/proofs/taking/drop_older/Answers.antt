@@ -1,4 +1,4 @@
-use Rattle.std.proofs.Common.{ℕ, ◌≡◌, false, subst, ◌+◌, ◌*◌, ◌<◌, arith, map, slice_index, sym, ap, ◌∙◌, nat_lt, nat_le}
+use Rattle.std.proofs.Common.{ℕ, ◌≡◌, false, subst, ◌<◌, arith, map, slice_index, sym, ap, ◌∙◌, nat_lt, nat_le}
 use Rattle.std.specs.Prelude.{◌&&◌}
 use Rattle.std.proofs.lemmas.List.{length-map}
 use Rattle.model.specs.OwnerListView.{all_writes}

@@ -1,7 +1,7 @@
 //! Loops over a few owners of a table, each over all of its keys. The others have nothing above one mark and up to
 //! another, and are passed over.
 
-ghost use Rattle.std.specs.Prelude.{◌≡◌, ◌<◌, ◌≤◌, ◌==◌, length, map, slice_index, if◌then◌else◌};
+ghost use Rattle.std.specs.Prelude.{◌≡◌, ◌<◌, ◌≤◌, ◌==◌, length, map, if◌then◌else◌};
 ghost use Rattle.bench_types.specs.declared.limits.TheConstants.{MOST_NODES};
 ghost use Rattle.planes.specs.Planes.{cell, count_above, number_raised, total_above, AreCovered, AreBothCovered, ArePlanesChanged, HasNoneAbove, AreBothRaised, AreSentTaken, IsGrid, MayTake};
 ghost use Rattle.planes.specs.inner.Owners.{HasTakenOwner};

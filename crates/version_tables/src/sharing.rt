@@ -10,7 +10,7 @@ ghost use Rattle.version_tables.specs.inner.Firsts.{by_first};
 ghost use Rattle.version_tables.specs.inner.OfferInMemory.{cells_in, marks, weights_in, IsOffer};
 ghost use Rattle.version_tables.specs.inner.Plans.{weight_on, IsLevel};
 ghost use Rattle.version_tables.specs.inner.Sharing.{AreShared};
-ghost use Rattle.version_tables.specs.inner.Turns.{AreTurnsOf, AreKnownCounts, AreTurnsPassed};
+ghost use Rattle.version_tables.specs.inner.Turns.{part_weight, AreKnownFor, ArePassedBy, AreSharedBy, AreTurnsOf};
 ghost use Rattle.version_tables.specs.inner.Weights.{weight_from};
 
 use crate::weights::{Level, Offer, Share, number_at};
@@ -113,13 +113,9 @@ impl<'a, N: Number> Offer<'a, N> {
         requires offer { IsOffer N.number N.most self.now }
         requires turns { AreTurnsOf N.number self.now turns.now }
         requires owner { owner < self.now.nodes }
-        requires counts { AreKnownCounts turns.now.first N.number N.most self.now turns.now.level.now
-            (map N.number counts.old) }
-        ensures count { result ≡ weight_from turns.now.first (λ _. 1) (cells_in N.number self.now) self.now.keys owner
-            (marks N.number turns.now.level.now.near.items owner)
-            (marks N.number turns.now.level.now.far.items owner) }
-        ensures counts { AreKnownCounts turns.now.first N.number N.most self.now turns.now.level.now
-            (map N.number counts.new) }
+        requires counts { AreKnownFor N.number N.most self.now turns.now counts.old }
+        ensures count { result ≡ part_weight N.number (λ _. 1) self.now turns.now owner }
+        ensures counts { AreKnownFor N.number N.most self.now turns.now counts.new }
     {
         let known = number_at(counts, owner);
         if N::greatest().is_above(known) {
@@ -141,20 +137,15 @@ impl<'a, N: Number> Offer<'a, N> {
     ) -> Passed
         requires offer { IsOffer N.number N.most self.now }
         requires turns { AreTurnsOf N.number self.now turns.now }
-        requires counts { AreKnownCounts turns.now.first N.number N.most self.now turns.now.level.now
-            (map N.number counts.old) }
+        requires counts { AreKnownFor N.number N.most self.now turns.now counts.old }
         requires mark { mark.old ≡ turns.now.level.now.near.items }
         requires room { weight_on turns.now.first N.number self.now
             (marks N.number turns.now.level.now.near.items) + room ≡ amount_of self.now.budget }
         ensures owner { result.owner < self.now.nodes }
         ensures size { length mark.new ≡ self.now.nodes }
-        ensures passed { AreTurnsPassed turns.now.first N.number self.now turns.now.rotation
-            (marks N.number turns.now.level.now.near.items) (marks N.number turns.now.level.now.far.items)
-            (marks N.number mark.new) (rotated self.now.nodes turns.now.rotation result.owner) result.left result.sent }
-        ensures beyond { result.left < weight_from turns.now.first (weights_in self.now result.owner)
-            (cells_in N.number self.now) self.now.keys result.owner
-            (marks N.number turns.now.level.now.near.items result.owner)
-            (marks N.number turns.now.level.now.far.items result.owner) }
+        ensures passed { ArePassedBy N.number self.now turns.now mark.new result }
+        ensures beyond { result.left
+            < part_weight N.number (weights_in self.now result.owner) self.now turns.now result.owner }
     {
         let mut left = room;
         let mut sent = turns.level.whole;
@@ -178,13 +169,10 @@ impl<'a, N: Number> Offer<'a, N> {
     fn share_into(&self, turns: &SharedLevel<N>, counts: &mut [N], mark: &mut [N]) -> u32
         requires offer { IsOffer N.number N.most self.now }
         requires turns { AreTurnsOf N.number self.now turns.now }
-        requires counts { AreKnownCounts turns.now.first N.number N.most self.now turns.now.level.now
-            (map N.number counts.old) }
+        requires counts { AreKnownFor N.number N.most self.now turns.now counts.old }
         requires mark { mark.old ≡ turns.now.level.now.near.items }
         ensures size { length mark.new ≡ self.now.nodes }
-        ensures shared { AreShared turns.now.first turns.now.rotation N.number self.now
-            (marks N.number turns.now.level.now.near.items) (marks N.number turns.now.level.now.far.items)
-            (marks N.number mark.new) result }
+        ensures shared { AreSharedBy N.number self.now turns.now mark.new result }
     {
         let room = self.budget.amount() - self.weight_of_whole(turns.first, turns.level);
         let passed = self.pass_turns(turns, counts, mark, room);

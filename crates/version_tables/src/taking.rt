@@ -1,11 +1,11 @@
 //! What a table holds once it has taken a delta.
 
-ghost use Rattle.std.specs.Prelude.{◌≡◌, ◌==◌, ℕ, ◌<◌, length, map, slice_index, if◌then◌else◌};
+ghost use Rattle.std.specs.Prelude.{◌≡◌, ◌<◌, length, map, slice_index};
 ghost use Rattle.model.specs.OwnerListView.{all_writes, entries_of};
 ghost use Rattle.planes.specs.Planes.{ArePlanesChanged, IsGrid, MayTake};
 ghost use Rattle.version_tables.specs.inner.Offers.{IsNumberedHistory};
 ghost use Rattle.version_tables.specs.inner.Histories.{AreOwners};
-ghost use Rattle.version_tables.specs.inner.Taken.{drop_start, number_kept, AreTakenOf, HasArrived, HasMarksFor, MayArrive};
+ghost use Rattle.version_tables.specs.inner.Taken.{drop_start, number_kept, AreTakenOf, HasArrived, HasMarksFor, IsOwnerKept, MayArrive};
 
 use crate::deltas::DeltaMarks;
 use crate::generations::start_of;
@@ -18,8 +18,7 @@ use planes::{Number, Sent};
 fn clear_column<N: Number>(cells: &mut [N], nodes: usize, keys: usize, owner: usize, start: u32)
     requires grid { IsGrid nodes keys (length cells.old) }
     requires owner { owner < nodes }
-    ensures { ArePlanesChanged (λ r k x y. y ≡ (if r == owner then number_kept start x else x)) nodes keys
-        (map N.number cells.old) (map N.number cells.new) }
+    ensures { IsOwnerKept N.number nodes keys owner start cells.old cells.new }
 {
     for key in 0..keys {
         let cell = &mut cells[key * nodes + owner];
@@ -54,8 +53,7 @@ fn drop_from<N: Number>(list: &OwnerList, old: N, base: N, new: N) -> u32
 fn drop_owner<N: Number>(cells: &mut [N], nodes: usize, keys: usize, owner: usize, start: u32)
     requires grid { IsGrid nodes keys (length cells.old) }
     requires owner { owner < nodes }
-    ensures { ArePlanesChanged (λ r k x y. y ≡ (if r == owner then number_kept start x else x)) nodes keys
-        (map N.number cells.old) (map N.number cells.new) }
+    ensures { IsOwnerKept N.number nodes keys owner start cells.old cells.new }
 {
     if start > 0 {
         clear_column(cells, nodes, keys, owner, start);

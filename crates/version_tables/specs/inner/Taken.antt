@@ -1,9 +1,9 @@
 -- The cells of a table that has taken a delta. Source: this project.
-use Rattle.std.specs.Prelude.{◌≡◌, ℕ, ◌<◌, ◌≤◌, ◌↔◌, ◌⊎◌, ◌&&◌, Bool, true, false, max, nat_lt, nat_le, List, length, map, slice_index, Contains, Some, if◌then◌else◌}
+use Rattle.std.specs.Prelude.{◌≡◌, ℕ, ◌<◌, ◌≤◌, ◌↔◌, ◌⊎◌, ◌==◌, ◌&&◌, Bool, true, false, max, nat_lt, nat_le, List, length, map, slice_index, Contains, Some, if◌then◌else◌}
 use Rattle.bench_types.specs.declared.entries.Entry.{Entry}
 use Rattle.bench_types.specs.declared.entries.Item.{Item}
 use Rattle.model.specs.Table.{Table, entry_at, generation_held}
-use Rattle.planes.specs.Planes.{Cells, cell, numbers_taken, IsRaised}
+use Rattle.planes.specs.Planes.{Cells, cell, numbers_taken, ArePlanesChanged, IsRaised}
 use Rattle.version_tables.specs.Views.{VersionTableView}
 use Rattle.version_tables.specs.Laid.{IsVersionTable}
 use Rattle.model.specs.OwnerListView.{all_writes}
@@ -52,6 +52,12 @@ drop_start writes old base new =
 -- a number that is above a mark, else 0
 abbrev pub number_kept : ℕ → ℕ → ℕ
 number_kept start number = if nat_le number start then 0 else number
+
+-- so it is of an owner's numbers, and the others stay
+abbrev pub IsOwnerKept : {N : Type 0} → (N → ℕ) → ℕ → ℕ → ℕ → ℕ → List N → List N → Type 0
+IsOwnerKept number nodes keys owner start old new =
+    ArePlanesChanged (λ r k x y. y ≡ (if r == owner then number_kept start x else x)) nodes keys
+    (map number old) (map number new)
 
 -- a receiver's numbers and greatest ones once it took them, and dropped what is of older generations
 pub record IsTaken (lists : ℕ → List Entry) (bases : ℕ → ℕ) (nodes keys : ℕ) (cells greatest sent low high new_cells new_greatest : List ℕ) : Type 0 where

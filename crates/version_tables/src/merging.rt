@@ -6,7 +6,7 @@ ghost use Rattle.bench_types.specs.Budget.{amount_of, largest_share};
 ghost use Rattle.bench_types.specs.declared.limits.TheConstants.{MOST_NODES, MOST_KEYS};
 ghost use Rattle.version_tables.specs.Views.{table_in};
 ghost use Rattle.version_tables.specs.inner.Histories.{bases_in, FitsHistories};
-ghost use Rattle.version_tables.specs.inner.Merged.{count_ahead, AreCurrent, HasMerged, MayMerge, StaysMerged, SurelyFits};
+ghost use Rattle.version_tables.specs.inner.Merged.{count_ahead, AreCurrent, HasMerged, HasNoNewer, MayMerge, StaysMerged, SurelyFits};
 
 use crate::histories::Histories;
 use crate::tables::{VersionTable, Written};
@@ -86,8 +86,7 @@ fn has_no_newer<N: Number, H: Written>(
     other: &VersionTable<N, H>,
 ) -> bool
     requires nodes { table.now.nodes ≡ other.now.nodes }
-    ensures { IsTrue result → slice_index table.now.greatest other.now.node
-        ≤ slice_index other.now.greatest other.now.node }
+    ensures { IsTrue result → HasNoNewer table.now other.now }
 {
     let node = other.node() as usize;
     table.greatest()[node].is_upto(other.greatest()[node])

@@ -1,9 +1,8 @@
 //! An owner's part of a level, candidate by candidate up to the first that doesn't fit.
 
 ghost use Rattle.std.specs.Prelude.{◌≡◌, ℕ, ◌+◌, ◌-◌, ◌*◌, ◌<◌, ◌≤◌, length};
-ghost use Rattle.bench_types.specs.declared.exchanges.First.{First};
 ghost use Rattle.version_tables.specs.inner.OfferInMemory.{cells_in, weights_in, IsOffer};
-ghost use Rattle.version_tables.specs.inner.Stops.{AnswersNearer, HasNext, IsNext, IsPast, IsStopFrom};
+ghost use Rattle.version_tables.specs.inner.Stops.{HasNext, IsNearest, IsNext, IsPast, IsStopFrom};
 ghost use Rattle.version_tables.specs.inner.Weights.{weight_from};
 
 use crate::weights::{Offer, pick};
@@ -23,9 +22,7 @@ impl<'a, N: Number> Offer<'a, N> {
         requires offer { IsOffer N.number N.most self.now }
         requires owner { owner < self.now.nodes }
         requires nearer { (next number : N) → F.pre nearer next number }
-        ensures { (first : First) (near : ℕ) → AnswersNearer N.number (F.post nearer) first near
-            → HasNext first (cells_in N.number self.now) self.now.keys owner near (N.number far)
-            → IsNext first (cells_in N.number self.now) self.now.keys owner near (N.number far) (N.number result) }
+        ensures { IsNearest N.number self.now owner far (F.post nearer) result }
     {
         let mut next = far;
         for key in 0..self.keys {

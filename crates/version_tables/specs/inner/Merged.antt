@@ -26,11 +26,15 @@ count_ahead from to = total_above from.nodes from.keys from.cells to.greatest
 abbrev pub SurelyFits : Budget → VersionTableView → VersionTableView → Type 0
 SurelyFits budget from to = most_ahead from.nodes from.keys from.greatest to.greatest * largest_share budget ≤ amount_of budget
 
+-- one table has nothing of the other's node above what that has itself
+abbrev pub HasNoNewer : VersionTableView → VersionTableView → Type 0
+HasNoNewer one other = slice_index one.greatest other.node ≤ slice_index other.greatest other.node
+
 -- all that one table has above the other's greatest numbers surely fits, and of the other's owner there is nothing
 pub record MayTakeAll (budget : Budget) (bases : ℕ → ℕ) (from to : VersionTableView) : Type 0 where
   pub fits : SurelyFits budget from to
   pub current : AreCurrent bases to
-  pub own : slice_index from.greatest to.node ≤ slice_index to.greatest to.node
+  pub own : HasNoNewer from to
 
 -- and so it is both ways
 pub record MayMerge (rules : Rules) (h : HistoriesView) (initiator responder : VersionTableView) : Type 0 where

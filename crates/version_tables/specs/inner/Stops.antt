@@ -3,7 +3,9 @@ use Rattle.std.specs.Prelude.{◌≡◌, ℕ, ◌+◌, ◌<◌, ◌≤◌, max, 
 use Rattle.bench_types.specs.declared.exchanges.First.{First}
 use Rattle.bench_types.specs.declared.exchanges.First.TheVariants.{Oldest, Newest}
 use Rattle.planes.specs.Planes.{Cells}
+use Rattle.version_tables.specs.declared.weights.Offer.{Offer}
 use Rattle.version_tables.specs.inner.Firsts.{by_first}
+use Rattle.version_tables.specs.inner.OfferInMemory.{cells_in}
 use Rattle.version_tables.specs.inner.Weights.{weight_from}
 
 -- a key's number is above one mark and up to another
@@ -46,6 +48,13 @@ pub record IsNext (first : First) (cells : Cells) (keys owner near far next : �
 abbrev pub HasNext : First → Cells → ℕ → ℕ → ℕ → ℕ → Type 0
 HasNext first cells keys owner near far =
     HasBetween cells keys owner (by_first first near far) (by_first first far near)
+
+-- a number is the next one for whichever direction and near mark the answers fit
+abbrev pub IsNearest : {N : Type 0} → (N → ℕ) → Offer N → ℕ → N → (N → N → N → Type 0) → N → Type 0
+IsNearest number offer owner far answers found =
+    (first : First) (near : ℕ) → AnswersNearer number answers first near
+    → HasNext first (cells_in number offer) offer.keys owner near (number far)
+    → IsNext first (cells_in number offer) offer.keys owner near (number far) (number found)
 
 -- the nearest mark that is past a number
 abbrev pub IsPast : First → ℕ → ℕ → Type 0

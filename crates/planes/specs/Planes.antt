@@ -140,7 +140,7 @@ pub record MayTake {N : Type 0} (number : N → ℕ) (cells greatest : List N) (
   pub high_count : length sent.high.now ≡ sent.nodes
   pub covered : AreCovered sent.nodes sent.keys (map number cells) (map number greatest)
 
--- and they and the greatest ones once it took that
+-- its numbers and greatest ones once it took that
 pub record AreSentTaken {N : Type 0} (number : N → ℕ) (sent : Sent N) (old old_greatest new new_greatest : List N) : Type 0 where
   pub cells : AreTaken sent.nodes sent.keys (map number sent.cells.now) (map number sent.low.now) (map number sent.high.now)
       (map number old) (map number new)

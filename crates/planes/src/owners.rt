@@ -3,7 +3,7 @@
 
 ghost use Rattle.std.specs.Prelude.{◌≡◌, ◌<◌, ◌≤◌, ◌==◌, length, map, if◌then◌else◌};
 ghost use Rattle.bench_types.specs.declared.limits.TheConstants.{MOST_NODES};
-ghost use Rattle.planes.specs.Planes.{cell, count_above, number_raised, total_above, AreCovered, AreBothCovered, ArePlanesChanged, HasNoneAbove, AreBothRaised, AreSentTaken, IsGrid, MayTake};
+ghost use Rattle.planes.specs.Planes.{cell, count_above, number_raised, total_above, AreBothCovered, AreBothRaised, AreCovered, ArePlanesChanged, AreSentTaken, HasNoneAbove, IsGrid, MayTake};
 ghost use Rattle.planes.specs.inner.Owners.{HasTakenOwner};
 
 use crate::grids::Sent;

@@ -52,7 +52,7 @@ fn owner_of_turn(turn: usize, nodes: usize, rotation: usize) -> usize
     }
 }
 
-// Of two lists of marks the one for the oldest first, or for the newest.
+// Of two lists of marks the first where the oldest goes first, else the second.
 fn by_first<'a, N: Number>(first: First, oldest: &'a [N], newest: &'a [N]) -> &'a [N]
     ensures { result.now ≡ by_first first oldest.now newest.now }
 {

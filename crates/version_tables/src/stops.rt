@@ -17,7 +17,7 @@ pub(crate) struct Stop<N: Number> {
 }
 
 impl<'a, N: Number> Offer<'a, N> {
-    // From a far mark on the nearest of an owner's numbers, where the nearer of two is told.
+    // The nearest of an owner's numbers, or a far mark where none is nearer. A closure tells the nearer of two.
     fn nearest<F: Fn(N, N) -> N>(&self, owner: usize, far: N, nearer: F) -> N
         requires offer { IsOffer N.number N.most self.now }
         requires owner { owner < self.now.nodes }

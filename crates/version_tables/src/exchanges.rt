@@ -2,11 +2,12 @@
 
 ghost use Rattle.std.specs.Prelude.{◌≡◌, ◌==◌, ℕ, ◌<◌, length, IfOk, IsTrue, OnOk, OnErr, IsOkUnless, false};
 ghost use Rattle.bench_types.specs.declared.faults.Fault.TheVariants.{OutOfMemory};
+ghost use Rattle.bench_types.specs.Budget.{IsLawfulBudget};
 ghost use Rattle.bench_types.specs.Mode.{digest_kind};
-ghost use Rattle.model.specs.Exchanging.{MakesOf};
+ghost use Rattle.model.specs.Exchanging.{MayBeExchanged, MakesOf};
 ghost use Rattle.model.specs.Digests.{digest_size};
 ghost use Rattle.version_tables.specs.Views.{table_in, IsKept, VersionTableView};
-ghost use Rattle.version_tables.specs.inner.Histories.{AreOwners, IsReadyExchange};
+ghost use Rattle.version_tables.specs.inner.Histories.{AreOwners, FitsHistories, IsReadyExchange};
 ghost use Rattle.version_tables.specs.inner.Merged.{MayMerge};
 ghost use Rattle.version_tables.specs.inner.Taken.{HasArrived, HasMarksFor, MayArrive};
 
@@ -31,8 +32,10 @@ pub(crate) fn exchange<N: Number, H: Written>(
     plan: &Exchange,
     rules: &Rules,
 ) -> Result<Record, Fault>
-    requires may { IsReadyExchange rules.now plan.now histories.now (table_in H.lists initiator.old)
-        (table_in H.lists responder.old) }
+    requires budget { IsLawfulBudget rules.now.budget }
+    requires tables { MayBeExchanged plan.now (table_in H.lists initiator.old) (table_in H.lists responder.old) }
+    requires initiator { FitsHistories histories.now (table_in H.lists initiator.old) }
+    requires responder { FitsHistories histories.now (table_in H.lists responder.old) }
     ensures ok { IfOk result
         (MakesOf (table_in H.lists) rules.now plan.now initiator.old responder.old initiator.new responder.new) }
     ensures initiator_stays { OnErr result (initiator.new ≡ initiator.old) }

@@ -15,4 +15,9 @@ pub exchange_deltas-requires-clause-digest1 : goal.exchange_deltas-requires-clau
 exchange_deltas-requires-clause-digest1 g c κs out = c.digest_size-digest1.ensures.size
 
 pub exchange_deltas-requires-clause-may : goal.exchange_deltas-requires-clause-may
-exchange_deltas-requires-clause-may g c κs out = c.requires.may
+exchange_deltas-requires-clause-may g c κs out = record {
+  budget = c.requires.budget;
+  tables = c.requires.tables;
+  initiator_fits = c.requires.initiator;
+  responder_fits = c.requires.responder;
+}

@@ -222,6 +222,11 @@ module _ (nodes keys : ℕ) (cells others : List ℕ) (low : ℕ → ℕ) (owner
   raise-count others_mid mark count to_others waits now =
       now ∙ sum_below-same keys _ _ (λ k lt. ap (λ n. cond (nat_lt mark n) 1 0) (owner-waits to_others nodes keys others owner others_mid waits k in_nodes lt))
 
+  pub raise-fits : (others_mid : List ℕ) (mark total count : ℕ) (to_others : ℕ → ℕ → ℕ → ℕ) → nodes ≤ MOST_NODES → keys ≤ MOST_KEYS → total ≡ sum_below owner (λ r. count_above (cell others nodes) keys r (low r))
+      → ArePlanesChanged (owners_changed to_others owner) nodes keys others others_mid → count ≡ count_above (cell others_mid nodes) keys owner mark → Fits w32 (total + count)
+  raise-fits others_mid mark total count to_others few_nodes few_keys so_far waits now =
+      owners-fit (cell others nodes) nodes keys low owner total count mark few_nodes few_keys in_nodes so_far (raise-count others_mid mark count to_others waits now)
+
   -- none comes
   pub raise-passed : (mid : List ℕ) (high : ℕ) → ArePlanesChanged (owners_changed raised_in owner) nodes keys cells mid → HasNoneAbove (cell others nodes) keys owner high → high ≤ low owner → ArePlanesChanged (owners_changed raised_in (owner + 1)) nodes keys cells mid
   raise-passed mid high before covered le = record {

@@ -6,7 +6,7 @@ ghost use Rattle.bench_types.specs.declared.faults.Fault.TheVariants.{OutOfMemor
 ghost use Rattle.bench_types.specs.declared.limits.TheConstants.{MOST_NODES, MOST_KEYS};
 ghost use Rattle.planes.specs.Elementwise.{AreChanged};
 ghost use Rattle.planes.specs.Planes.{count_above};
-ghost use Rattle.planes.specs.Planes.{cell, number_ahead, total_above, total_of, AreCovered, ArePlanesChanged, AreRaised, AreTaken, HasEach, HasEachPlace, IsGrid, IsNextAbove};
+ghost use Rattle.planes.specs.Planes.{cell, number_ahead, total_above, total_of, AreCovered, ArePlanesChanged, AreSentTaken, HasEach, HasEachPlace, IsGrid, IsNextAbove, MayTake};
 ghost use Rattle.planes.specs.Planes.{count_between};
 ghost use Rattle.bench_types.specs.Sums.{sum_below};
 ghost use Rattle.planes.specs.inner.Answering.{AnswersAs};
@@ -22,6 +22,17 @@ use std::alloc::Global;
 pub struct Masked<N: Number> {
     pub numbers: Vec<N>,
     pub count: u32,
+}
+
+/// The numbers that one table sends another of its size. Of each owner those above the low mark and up to the high one
+/// are taken.
+#[derive(Clone, Copy)]
+pub struct Sent<'a, N: Number> {
+    pub cells: &'a [N],
+    pub nodes: usize,
+    pub keys: usize,
+    pub low: &'a [N],
+    pub high: &'a [N],
 }
 
 // The plane of a key.
@@ -316,32 +327,23 @@ pub fn total_upto<N: Number>(cells: &[N], nodes: usize, keys: usize, high: &[N])
 /// Raises each number to the one sent, where that is above its owner's one mark and up to the other, and each owner's
 /// greatest number to the greatest of its numbers then. No number may be above its owner's greatest before. It goes
 /// over all planes, or where only few owners have anything sent and there are many keys, over the keys of these owners.
-pub fn take<N: Number>(
-    cells: &mut [N],
-    greatest: &mut [N],
-    sent: &[N],
-    nodes: usize,
-    keys: usize,
-    low: &[N],
-    high: &[N],
-)
-    requires grid { IsGrid nodes keys (length cells.old) }
-    requires greatest { length greatest.old ≡ nodes }
-    requires sent { length sent.now ≡ length cells.old }
-    requires low { length low.now ≡ nodes }
-    requires high { length high.now ≡ nodes }
-    requires covered { AreCovered nodes keys (map N.number cells.old) (map N.number greatest.old) }
-    ensures cells { AreTaken nodes keys (map N.number sent.now) (map N.number low.now) (map N.number high.now)
-        (map N.number cells.old) (map N.number cells.new) }
-    ensures greatest { AreRaised nodes keys (map N.number cells.old) (map N.number sent.now) (map N.number low.now)
-        (map N.number high.now) (map N.number greatest.old) (map N.number greatest.new) }
+pub fn take<N: Number>(cells: &mut [N], greatest: &mut [N], sent: Sent<N>)
+    requires may { MayTake N.number cells.old greatest.old sent }
+    ensures { AreSentTaken N.number sent.entry cells.old greatest.old cells.new greatest.new }
 {
-    if owners::are_few(keys, low, high, FEW_TO_CHANGE) {
-        owners::take_owners(cells, greatest, sent, nodes, keys, low, high);
+    if owners::are_few(sent.keys, sent.low, sent.high, FEW_TO_CHANGE) {
+        owners::take_owners(cells, greatest, sent);
         return;
     }
+    let Sent {
+        cells: numbers,
+        nodes,
+        keys,
+        low,
+        high,
+    } = sent;
     for key in 0..keys {
-        let plane = plane_of(sent, nodes, key);
+        let plane = plane_of(numbers, nodes, key);
         let start = key * nodes;
         let block = &mut cells[start..start + nodes];
         planes::take_plane(block, greatest, plane, low, high);

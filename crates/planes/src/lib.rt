@@ -31,9 +31,9 @@ mod owners;
 mod planes;
 
 pub use grids::{
-    Masked, ahead, all_of, count_some_between, counts_above, least_above, take, total_above,
+    Masked, Sent, ahead, all_of, count_some_between, counts_above, least_above, take, total_above,
     total_held, total_upto, zeros,
 };
 pub use lags::{count_behind, least_behind, lower, lower_all};
-pub use merges::{Both, merge, most_ahead, raise_both};
+pub use merges::{BothCounts, BothMarks, merge, most_ahead, raise_both};
 pub use numbers::{Number, Short};

@@ -4,7 +4,7 @@ ghost use Rattle.std.specs.Prelude.{◌≡◌, ◌-◌, ◌≤◌, length, map, 
 ghost use Rattle.bench_types.specs.declared.limits.TheConstants.{MOST_NODES, MOST_KEYS};
 ghost use Rattle.bench_types.specs.Sums.{sum_below};
 ghost use Rattle.planes.specs.Elementwise.{AreChanged};
-ghost use Rattle.planes.specs.Planes.{cell, most_ahead, number_raised, total_above, AreCovered, ArePlanesChanged, IsGrid};
+ghost use Rattle.planes.specs.Planes.{most_ahead, number_raised, AreBothCovered, AreBothRaised};
 
 use crate::numbers::Number;
 use crate::owners::FEW_TO_CHANGE;
@@ -12,9 +12,18 @@ use crate::{owners, planes};
 
 /// A number for what comes to the first of two tables, and one for what comes to the second.
 #[derive(Clone, Copy)]
-pub struct Both {
+pub struct BothCounts {
     pub first: u32,
     pub second: u32,
+}
+
+/// Of two tables of one size the marks of each owner: each table takes what is above its own.
+#[derive(Clone, Copy)]
+pub struct BothMarks<'a, N: Number> {
+    pub first: &'a [N],
+    pub second: &'a [N],
+    pub nodes: usize,
+    pub keys: usize,
 }
 
 // How far a number is ahead of another, but no more than so much.
@@ -26,7 +35,7 @@ fn lead<N: Number>(number: N, other: N, most: u32) -> u32
 
 /// How many numbers may come to each of two tables, by their greatest ones: of an owner no more than keys, and where its
 /// numbers differ, no more than its two greatest ones are apart.
-pub fn most_ahead<N: Number>(first: &[N], second: &[N], keys: u32) -> Both
+pub fn most_ahead<N: Number>(first: &[N], second: &[N], keys: u32) -> BothCounts
     requires second { length second.now ≡ length first.now }
     requires nodes { length first.now ≤ MOST_NODES }
     requires keys { keys ≤ MOST_KEYS }
@@ -43,7 +52,7 @@ pub fn most_ahead<N: Number>(first: &[N], second: &[N], keys: u32) -> Both
         to_first += lead(other, number, keys);
         to_second += lead(number, other, keys);
     }
-    Both {
+    BothCounts {
         first: to_first,
         second: to_second,
     }
@@ -55,7 +64,7 @@ fn merge_planes<N: Number>(
     second: &mut [N],
     first_low: &[N],
     second_low: &[N],
-) -> Both
+) -> BothCounts
     requires second { length second.old ≡ length first.old }
     requires first_low { length first_low.now ≡ length first.old }
     requires second_low { length second_low.now ≡ length first.old }
@@ -83,7 +92,7 @@ fn merge_planes<N: Number>(
         to_first = to_first.plus(comes);
         to_second = to_second.plus(goes);
     }
-    Both {
+    BothCounts {
         first: to_first.widen(),
         second: to_second.widen(),
     }
@@ -92,44 +101,26 @@ fn merge_planes<N: Number>(
 /// Raises each number of both tables to the other's of its place, where that is above their own mark of its owner. No
 /// number may be above its own table's mark. It answers how many numbers come to each. It goes over all planes, or where
 /// only few owners' marks differ and there are many keys, over the keys of these owners.
-pub fn merge<N: Number>(
-    first: &mut [N],
-    second: &mut [N],
-    first_low: &[N],
-    second_low: &[N],
-    nodes: usize,
-    keys: usize,
-) -> Both
-    requires grid { IsGrid nodes keys (length first.old) }
-    requires second { length second.old ≡ length first.old }
-    requires first_low { length first_low.now ≡ nodes }
-    requires second_low { length second_low.now ≡ nodes }
-    requires first_covered { AreCovered nodes keys (map N.number first.old) (map N.number first_low.now) }
-    requires second_covered { AreCovered nodes keys (map N.number second.old) (map N.number second_low.now) }
-    ensures first { ArePlanesChanged (λ r k x y. y ≡ number_raised x (cell (map N.number second.old) nodes r k)
-        (slice_index (map N.number first_low.now) r)) nodes keys (map N.number first.old) (map N.number first.new) }
-    ensures second { ArePlanesChanged (λ r k x y. y ≡ number_raised x (cell (map N.number first.old) nodes r k)
-        (slice_index (map N.number second_low.now) r)) nodes keys (map N.number second.old) (map N.number second.new) }
-    ensures first_count { result.first ≡ total_above nodes keys (map N.number second.old) (map N.number first_low.now) }
-    ensures second_count { result.second
-        ≡ total_above nodes keys (map N.number first.old) (map N.number second_low.now) }
+pub fn merge<N: Number>(first: &mut [N], second: &mut [N], marks: BothMarks<N>) -> BothCounts
+    requires marked { AreBothCovered N.number marks first.old second.old }
+    ensures { AreBothRaised N.number marks.entry first.old second.old first.new second.new result }
 {
-    if owners::are_few(keys, first_low, second_low, FEW_TO_CHANGE)
-        && owners::are_few(keys, second_low, first_low, FEW_TO_CHANGE)
+    if owners::are_few(marks.keys, marks.first, marks.second, FEW_TO_CHANGE)
+        && owners::are_few(marks.keys, marks.second, marks.first, FEW_TO_CHANGE)
     {
-        return owners::merge_owners(first, second, first_low, second_low, nodes, keys);
+        return owners::merge_owners(first, second, marks);
     }
     let mut to_first = 0;
     let mut to_second = 0;
-    for key in 0..keys {
-        let start = key * nodes;
-        let one = &mut first[start..start + nodes];
-        let other = &mut second[start..start + nodes];
-        let both = merge_planes(one, other, first_low, second_low);
+    for key in 0..marks.keys {
+        let start = key * marks.nodes;
+        let one = &mut first[start..start + marks.nodes];
+        let other = &mut second[start..start + marks.nodes];
+        let both = merge_planes(one, other, marks.first, marks.second);
         to_first += both.first;
         to_second += both.second;
     }
-    Both {
+    BothCounts {
         first: to_first,
         second: to_second,
     }

@@ -1,11 +1,13 @@
 //! Loops over a few owners of a table, each over all of its keys. The others have nothing above one mark and up to
 //! another, and are passed over.
 
-ghost use Rattle.std.specs.Prelude.{◌≡◌, ◌<◌, ◌≤◌, ◌==◌, length, map, slice_index, if◌then◌else◌};
+ghost use Rattle.std.specs.Prelude.{◌≡◌, ◌<◌, ◌≤◌, ◌==◌, length, map, if◌then◌else◌};
 ghost use Rattle.bench_types.specs.declared.limits.TheConstants.{MOST_NODES};
-ghost use Rattle.planes.specs.Planes.{cell, count_above, number_raised, number_taken, total_above, AreCovered, AreRaised, AreTaken, ArePlanesChanged, HasNoneAbove, IsGrid, IsRaised};
+ghost use Rattle.planes.specs.Planes.{cell, count_above, number_raised, total_above, AreBothCovered, AreBothRaised, AreCovered, ArePlanesChanged, AreSentTaken, HasNoneAbove, IsGrid, MayTake};
+ghost use Rattle.planes.specs.inner.Owners.{HasTakenOwner};
 
-use crate::merges::Both;
+use crate::grids::Sent;
+use crate::merges::{BothCounts, BothMarks};
 use crate::numbers::Number;
 use crate::planes;
 
@@ -66,30 +68,22 @@ pub(crate) fn total_owners_above<N: Number>(
 
 // Raises an owner's numbers to those sent that are above one mark and up to another. It answers the greatest number
 // that the owner has then, and is given the one that it had.
-fn take_owner<N: Number>(
-    cells: &mut [N],
-    sent: &[N],
-    nodes: usize,
-    keys: usize,
-    owner: usize,
-    low: N,
-    high: N,
-    had: N,
-) -> N
-    requires grid { IsGrid nodes keys (length cells.old) }
-    requires owner { owner < nodes }
-    requires sent { length sent.now ≡ length cells.old }
-    requires covered { HasNoneAbove (cell (map N.number cells.old) nodes) keys owner (N.number had) }
-    ensures cells { ArePlanesChanged (λ r k x y. y ≡ (if r == owner then number_taken x
-        (cell (map N.number sent.now) nodes r k) (N.number low) (N.number high) else x)) nodes keys
-        (map N.number cells.old) (map N.number cells.new) }
-    ensures greatest { IsRaised (λ r k. number_taken (cell (map N.number cells.old) nodes r k)
-        (cell (map N.number sent.now) nodes r k) (N.number low) (N.number high)) keys owner
-        (N.number had) (N.number result) }
+fn take_owner<N: Number>(cells: &mut [N], sent: Sent<N>, owner: usize, low: N, high: N, had: N) -> N
+    requires grid { IsGrid sent.nodes sent.keys (length cells.old) }
+    requires owner { owner < sent.nodes }
+    requires sent { length sent.cells.now ≡ length cells.old }
+    requires covered { HasNoneAbove (cell (map N.number cells.old) sent.nodes) sent.keys owner (N.number had) }
+    ensures { HasTakenOwner N.number sent.entry owner low high cells.old had cells.new result }
 {
+    let Sent {
+        cells: numbers,
+        nodes,
+        keys,
+        ..
+    } = sent;
     let mut greatest = had;
     for key in 0..keys {
-        let number = sent[key * nodes + owner];
+        let number = numbers[key * nodes + owner];
         if planes::is_between(number, low, high) {
             let cell = &mut cells[key * nodes + owner];
             let raised = cell.max_with(number);
@@ -101,33 +95,21 @@ fn take_owner<N: Number>(
 }
 
 // Takes what is sent of the owners alone whose one mark is below the other.
-pub(crate) fn take_owners<N: Number>(
-    cells: &mut [N],
-    greatest: &mut [N],
-    sent: &[N],
-    nodes: usize,
-    keys: usize,
-    low: &[N],
-    high: &[N],
-)
-    requires grid { IsGrid nodes keys (length cells.old) }
-    requires greatest { length greatest.old ≡ nodes }
-    requires sent { length sent.now ≡ length cells.old }
-    requires low { length low.now ≡ nodes }
-    requires high { length high.now ≡ nodes }
-    requires covered { AreCovered nodes keys (map N.number cells.old) (map N.number greatest.old) }
-    ensures cells { AreTaken nodes keys (map N.number sent.now) (map N.number low.now) (map N.number high.now)
-        (map N.number cells.old) (map N.number cells.new) }
-    ensures greatest { AreRaised nodes keys (map N.number cells.old) (map N.number sent.now) (map N.number low.now)
-        (map N.number high.now) (map N.number greatest.old) (map N.number greatest.new) }
+pub(crate) fn take_owners<N: Number>(cells: &mut [N], greatest: &mut [N], sent: Sent<N>)
+    requires may { MayTake N.number cells.old greatest.old sent }
+    ensures { AreSentTaken N.number sent.entry cells.old greatest.old cells.new greatest.new }
 {
+    let Sent {
+        nodes,
+        low,
+        high,
+        ..
+    } = sent;
     for owner in 0..nodes {
         if high[owner].is_above(low[owner]) {
             greatest[owner] = take_owner(
                 cells,
                 sent,
-                nodes,
-                keys,
                 owner,
                 low[owner],
                 high[owner],
@@ -170,25 +152,17 @@ fn raise_owner<N: Number>(
 pub(crate) fn merge_owners<N: Number>(
     first: &mut [N],
     second: &mut [N],
-    first_low: &[N],
-    second_low: &[N],
-    nodes: usize,
-    keys: usize,
-) -> Both
-    requires grid { IsGrid nodes keys (length first.old) }
-    requires second { length second.old ≡ length first.old }
-    requires first_low { length first_low.now ≡ nodes }
-    requires second_low { length second_low.now ≡ nodes }
-    requires first_covered { AreCovered nodes keys (map N.number first.old) (map N.number first_low.now) }
-    requires second_covered { AreCovered nodes keys (map N.number second.old) (map N.number second_low.now) }
-    ensures first { ArePlanesChanged (λ r k x y. y ≡ number_raised x (cell (map N.number second.old) nodes r k)
-        (slice_index (map N.number first_low.now) r)) nodes keys (map N.number first.old) (map N.number first.new) }
-    ensures second { ArePlanesChanged (λ r k x y. y ≡ number_raised x (cell (map N.number first.old) nodes r k)
-        (slice_index (map N.number second_low.now) r)) nodes keys (map N.number second.old) (map N.number second.new) }
-    ensures first_count { result.first ≡ total_above nodes keys (map N.number second.old) (map N.number first_low.now) }
-    ensures second_count { result.second
-        ≡ total_above nodes keys (map N.number first.old) (map N.number second_low.now) }
+    marks: BothMarks<N>,
+) -> BothCounts
+    requires marked { AreBothCovered N.number marks first.old second.old }
+    ensures { AreBothRaised N.number marks.entry first.old second.old first.new second.new result }
 {
+    let BothMarks {
+        first: first_low,
+        second: second_low,
+        nodes,
+        keys,
+    } = marks;
     let mut to_first = 0;
     let mut to_second = 0;
     for owner in 0..nodes {
@@ -200,7 +174,7 @@ pub(crate) fn merge_owners<N: Number>(
             to_second += raise_owner(second, first, nodes, keys, owner, other);
         }
     }
-    Both {
+    BothCounts {
         first: to_first,
         second: to_second,
     }

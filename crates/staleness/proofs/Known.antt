@@ -1,5 +1,5 @@
 -- What copies count for in their owner's generation.
--- Serves `copies_from`, `leftover_of_node`, `leftover_of_nodes`, `most_rounds_behind` and `Seen`.
+-- Serves `copies_from`, `leftover_of_node`, `leftover_of_nodes`, `most_behind` and `Seen`.
 use Rattle.std.proofs.Common.{◌≡◌, ◌≢◌, ℕ, ◌+◌, ◌-◌, ◌<◌, ◌≤◌, max, Bool, cond, eqb, ltb, ◌&&◌, List, [], ◌∷◌, length, get_or, Option, Some, None, All, option_map, inl, inr, refl, sym, ap, ◌∙◌, arith, lt-ltb, le-ltb, eq-eqb, ne_eqb}
 use Rattle.std.specs.Prelude.{unwrap_or}
 use Rattle.std.specs.List.{find}

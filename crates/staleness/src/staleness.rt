@@ -71,13 +71,7 @@ fn rounds_behind(list: &OwnerList, key: u32, version: u32, round: u32) -> u32
 }
 
 // The most rounds that one of the copies of a key has been so, by a look at the list for each of them.
-fn most_rounds_behind(
-    tables: &[NodeTable],
-    lists: &[OwnerList],
-    owner: u32,
-    key: u32,
-    round: u32,
-) -> u32
+fn most_behind(tables: &[NodeTable], lists: &[OwnerList], owner: u32, key: u32, round: u32) -> u32
     requires countable { AreCountable round (tables_in tables.now) (lists_in lists.now) }
     requires owner { owner < length tables.now }
     requires numbered { IsNumbered (writes_of_owner (lists_in lists.now) owner) }
@@ -140,7 +134,7 @@ fn staleness_of_key(
         };
         rounds_behind(list, key, least, round)
     } else {
-        most_rounds_behind(tables, lists, owner, key, round)
+        most_behind(tables, lists, owner, key, round)
     };
     Staleness {
         stale: u64::from(stale),

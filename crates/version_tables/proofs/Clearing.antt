@@ -1,10 +1,10 @@
 -- Numbers of an owner's keys that are dropped.
 -- Serves `drop_older`, `is_current`, `none_began` and `Merged`.
-use Rattle.std.proofs.Common.{◌≡◌, ℕ, zero, suc, ◌+◌, ◌<◌, ◌≤◌, ◌&&◌, Bool, true, false, cond, List, nat_lt, nat_le, inl, inr, refl, ap, subst, arith}
+use Rattle.std.proofs.Common.{◌≡◌, ℕ, zero, suc, ◌+◌, ◌*◌, ◌<◌, ◌≤◌, ◌&&◌, Bool, true, false, cond, List, nat_lt, nat_le, slice_index, inl, inr, refl, ap, subst, arith}
 use Rattle.std.proofs.lemmas.Bool.{cases_lt, lt-leb}
 use Rattle.bench_types.specs.declared.entries.Entry.{Entry}
 use Rattle.bench_types.specs.Sums.{sum_below}
-use Rattle.planes.specs.Planes.{total_of, ArePlanesChanged}
+use Rattle.planes.specs.Planes.{cell, total_of, ArePlanesChanged}
 use Rattle.version_tables.specs.inner.Taken.{drop_start, number_kept}
 use Rattle.version_tables.specs.inner.Offers.{start_of}
 
@@ -31,6 +31,12 @@ test-none false none = refl
 
 pub total-none : (nodes : ℕ) (test : ℕ → ℕ → Bool) → total_of nodes 1 test ≤ 0 → (r : ℕ) → r < nodes → test r 0 ≡ false
 total-none nodes test none r lt = test-none (test r 0) (sum-none nodes (λ owner. sum_below 1 (λ key. cond (test owner key) 1 0)) none r lt)
+
+-- and so of one plane
+pub plane-none : (nodes total : ℕ) (xs : List ℕ) (test : ℕ → ℕ → Bool) → total ≡ total_of nodes 1 (λ r k. test r (cell xs nodes r k)) → total ≡ 0 → (r : ℕ) → r < nodes → test r (slice_index xs r) ≡ false
+plane-none nodes total xs test is none r lt =
+    subst (λ i. test r (slice_index xs i) ≡ false) {x = 0 * nodes + r} {y = r} (omega arith)
+    (total-none nodes (λ r k. test r (cell xs nodes r k)) (omega (arith, is, none)) r lt)
 
 pub no_start : (writes : List Entry) (old base new : ℕ) → (nat_lt 0 old && nat_le old base) ≡ false → drop_start writes old base new ≡ 0
 no_start writes old base new none = ap (λ b. cond (b && nat_lt old new) (start_of writes new) 0) none

@@ -161,8 +161,8 @@ module _ (written : ℕ → List Entry) (v : VersionTableView) (kept : IsKept wr
       };
     }
 
-    pub forgets-table : table_of_cells written v.node v.nodes v.keys (v.generation + 1) (cell cells v.nodes) ≡ without_all t
-    forgets-table = lies-table written (without_all t) cells greatest forgets
+    pub forgets-table : (now : VersionTableView) → v ≡ now → table_of_cells written v.node v.nodes v.keys (v.generation + 1) (cell cells v.nodes) ≡ without_all (table_in written now)
+    forgets-table now is = lies-table written (without_all t) cells greatest forgets ∙ ap (λ (w : VersionTableView). without_all (table_in written w)) is
 
     pub forgets-kept : IsVersionTable written v.node v.nodes v.keys (v.generation + 1) cells greatest
     forgets-kept = lies-kept written (without_all t) cells greatest forgets
@@ -220,8 +220,8 @@ module _ (written : ℕ → List Entry) (v : VersionTableView) (kept : IsKept wr
       most = restart_most;
     }
 
-    pub restarts-table : table_of_cells written v.node v.nodes v.keys v.generation (cell cells v.nodes) ≡ without_others t
-    restarts-table = lies-table written (without_others t) cells greatest restarts
+    pub restarts-table : (now : VersionTableView) → v ≡ now → table_of_cells written v.node v.nodes v.keys v.generation (cell cells v.nodes) ≡ without_others (table_in written now)
+    restarts-table now is = lies-table written (without_others t) cells greatest restarts ∙ ap (λ (w : VersionTableView). without_others (table_in written w)) is
 
     pub restarts-kept : IsVersionTable written v.node v.nodes v.keys v.generation cells greatest
     restarts-kept = lies-kept written (without_others t) cells greatest restarts

@@ -1,14 +1,14 @@
 -- An owner's numbers gone over one after another.
--- Serves `Offer::next_down`, `Offer::next_up` and `Offer::stop_from`.
-use Rattle.std.proofs.Common.{◌≡◌, ◌≢◌, ℕ, zero, suc, ◌+◌, ◌-◌, ◌<◌, ◌≤◌, ◌⊎◌, min, max, inl, inr, refl, sym, ap, ◌∙◌, subst, arith}
-use Rattle.std.proofs.lemmas.Bool.{cases_lt}
+-- Serves `Offer::nearest` and `Offer::stop_from`.
+use Rattle.std.proofs.Common.{◌≡◌, ◌≢◌, ℕ, Bool, zero, suc, ◌+◌, ◌-◌, ◌<◌, ◌≤◌, ◌⊎◌, cond, min, max, inl, inr, refl, sym, ap, ◌∙◌, subst, arith}
+use Rattle.std.proofs.lemmas.Bool.{cases_lt, lt-ltb, le-ltb, lt-leb, le-leb}
 use Rattle.bench_types.specs.declared.exchanges.First.{First}
 use Rattle.bench_types.specs.declared.exchanges.First.TheVariants.{Oldest, Newest}
 use Rattle.planes.specs.Planes.{Cells}
 use Rattle.bench_types.specs.Sums.{sum_below}
 use Rattle.version_tables.specs.inner.Firsts.{by_first}
 use Rattle.version_tables.specs.inner.LevelMarks.{NumbersDiffer}
-use Rattle.version_tables.specs.inner.Stops.{HasBetween, HasNext, IsNext, IsNextUp, IsNextDown, IsOn, IsPast, IsStopFrom}
+use Rattle.version_tables.specs.inner.Stops.{HasBetween, HasNext, IsBeyond, IsNext, IsOn, IsPast, IsStopFrom, nearer_beyond}
 use Rattle.version_tables.specs.inner.Weights.{weight_of, weight_from}
 use Rattle.version_tables.proofs.WeightLaws.{part, part-in, part-low, part-high, part-cases, weight_of-none, weight_of-split, count_between-most}
 
@@ -54,27 +54,27 @@ has-between weight cells (suc keys) owner low high some = elim (part-cases weigh
 
 module _ (weight : ℕ → ℕ) (cells : Cells) (keys owner : ℕ) (differ : NumbersDiffer cells keys owner) where
   -- up to the next number there is that one more
-  pub up-next : (low mark high next : ℕ) → low ≤ mark → IsNextUp cells keys owner mark high next → weight_of weight cells keys owner low next ≡ weight_of weight cells keys owner low mark + weight next
+  pub up-next : (low mark high next : ℕ) → low ≤ mark → IsNext Oldest cells keys owner mark high next → weight_of weight cells keys owner low next ≡ weight_of weight cells keys owner low mark + weight next
   up-next low mark high next le is =
       weight_of-split weight cells keys owner low mark next le (omega (arith, is.above))
       ∙ ap (λ n. weight_of weight cells keys owner low mark + n)
       (weight_of-one weight cells keys owner mark next is.key next is.in_keys is.is is.above (omega arith)
-      (λ k lt above upto. differ k is.key lt is.in_keys (omega (arith, above)) (omega (arith, is.is, upto, is.no_less k lt above))))
+      (λ k lt above upto. differ k is.key lt is.in_keys (omega (arith, above)) (omega (arith, is.is, upto, is.nearest k lt above))))
 
-  pub up-rest : (mark high next : ℕ) → IsNextUp cells keys owner mark high next → weight_of weight cells keys owner mark high ≡ weight next + weight_of weight cells keys owner next high
+  pub up-rest : (mark high next : ℕ) → IsNext Oldest cells keys owner mark high next → weight_of weight cells keys owner mark high ≡ weight next + weight_of weight cells keys owner next high
   up-rest mark high next is =
       weight_of-split weight cells keys owner mark next high (omega (arith, is.above)) is.upto
       ∙ ap (λ n. n + weight_of weight cells keys owner next high)
       (weight_of-one weight cells keys owner mark next is.key next is.in_keys is.is is.above (omega arith)
-      (λ k lt above upto. differ k is.key lt is.in_keys (omega (arith, above)) (omega (arith, is.is, upto, is.no_less k lt above))))
+      (λ k lt above upto. differ k is.key lt is.in_keys (omega (arith, above)) (omega (arith, is.is, upto, is.nearest k lt above))))
 
   -- and the same downwards
-  down-one : (low mark next below : ℕ) → IsNextDown cells keys owner low mark next → below + 1 ≡ next → weight_of weight cells keys owner below mark ≡ weight next
+  down-one : (low mark next below : ℕ) → IsNext Newest cells keys owner mark low next → below + 1 ≡ next → weight_of weight cells keys owner below mark ≡ weight next
   down-one low mark next below is under =
       weight_of-one weight cells keys owner below mark is.key next is.in_keys is.is (omega (arith, under)) is.upto
-      (λ k lt above upto. differ k is.key lt is.in_keys (omega (arith, above)) (omega (arith, is.is, under, above, is.no_more k lt upto)))
+      (λ k lt above upto. differ k is.key lt is.in_keys (omega (arith, above)) (omega (arith, is.is, under, above, is.nearest k lt upto)))
 
-  pub down-next : (low mark high next below : ℕ) → mark ≤ high → IsNextDown cells keys owner low mark next → below + 1 ≡ next
+  pub down-next : (low mark high next below : ℕ) → mark ≤ high → IsNext Newest cells keys owner mark low next → below + 1 ≡ next
       → weight_of weight cells keys owner below high ≡ weight_of weight cells keys owner mark high + weight next
   down-next low mark high next below le is under =
       omega (
@@ -83,7 +83,7 @@ module _ (weight : ℕ → ℕ) (cells : Cells) (keys owner : ℕ) (differ : Num
         down-one low mark next below is under,
       )
 
-  pub down-rest : (low mark next below : ℕ) → IsNextDown cells keys owner low mark next → below + 1 ≡ next
+  pub down-rest : (low mark next below : ℕ) → IsNext Newest cells keys owner mark low next → below + 1 ≡ next
       → weight_of weight cells keys owner low mark ≡ weight next + weight_of weight cells keys owner low below
   down-rest low mark next below is under =
       omega (
@@ -115,8 +115,7 @@ module _ (cells : Cells) (keys owner : ℕ) where
   few-from first near far = count_between-most cells keys owner (by_first first near far) (by_first first far near)
 
   pub next-held : (first : First) (near far next : ℕ) → IsNext first cells keys owner near far next → (key : ℕ) × (key < keys) × (cells owner key ≡ next) × (0 < next)
-  next-held Oldest near far next is = (is.key, is.in_keys, is.is, omega (arith, is.above))
-  next-held Newest near far next is = (is.key, is.in_keys, is.is, omega (arith, is.above))
+  next-held first near far next is = (is.key, is.in_keys, is.is, omega (arith, is.above))
 
   pub past-on : (first : First) (near mark far next past : ℕ) → IsOn first near mark → IsNext first cells keys owner mark far next → IsPast first next past → IsOn first near past
   past-on Oldest near mark far next past on is same = omega (arith, on, is.above, same)
@@ -174,11 +173,6 @@ module _ (first : First) (weight : ℕ → ℕ) (cells : Cells) (keys owner near
       beyond = omega (arith, so_far.rest, so_far.takes, over);
       count = so_far.count;
     }
-
--- a number is beyond a near mark, which it is in one of the two directions
-abbrev pub IsBeyond : First → ℕ → ℕ → Type 0
-IsBeyond Oldest near number = near < number
-IsBeyond Newest near number = number ≤ near
 
 -- the nearer of two numbers
 abbrev pub nearer_of : First → ℕ → ℕ → ℕ
@@ -238,17 +232,32 @@ module _ (first : First) (cells : Cells) (key owner near far next nearer : ℕ) 
     held = still_held;
   })
 
+pub next-nearer : (first : First) (cells : Cells) (key owner near far next nearer : ℕ) → IsNextSoFar first cells key owner near far next → nearer ≡ nearer_beyond first near next (cells owner key)
+    → IsNextSoFar first cells (key + 1) owner near far nearer
+next-nearer Oldest cells key owner near far next nearer so_far is =
+    let test : Bool → ℕ = (λ b. min next (cond b (cells owner key) next)) in
+    elim (cases_lt near (cells owner key)) [
+      | inl over ↦ next-here Oldest cells key owner near far next nearer so_far over (is ∙ ap test (lt-ltb near (cells owner key) over))
+      | inr short ↦ next-past Oldest cells key owner near far next nearer so_far (λ over. omega (arith, over, short)) (is ∙ ap test (le-ltb near (cells owner key) (omega (arith, short))) ∙ omega arith)
+    ]
+next-nearer Newest cells key owner near far next nearer so_far is =
+    let test : Bool → ℕ = (λ b. max next (cond b (cells owner key) next)) in
+    elim (cases_lt near (cells owner key)) [
+      | inl short ↦ next-past Newest cells key owner near far next nearer so_far (λ over. omega (arith, over, short)) (is ∙ ap test (lt-leb (cells owner key) near short) ∙ omega arith)
+      | inr over ↦ next-here Newest cells key owner near far next nearer so_far (omega (arith, over)) (is ∙ ap test (le-leb (cells owner key) near (omega (arith, over))))
+    ]
+
 pub next-found : (first : First) (cells : Cells) (key keys owner near far next : ℕ) → key ≡ keys → IsNextSoFar first cells key owner near far next → HasNext first cells keys owner near far → IsNext first cells keys owner near far next
 next-found first cells key keys owner near far next all so_far has = found first (subst (λ n. IsNextSoFar first cells n owner near far next) all so_far) has
   where
     found : (first : First) → IsNextSoFar first cells keys owner near far next → HasNext first cells keys owner near far → IsNext first cells keys owner near far next
     found Oldest so_far has = elim so_far.held [
-      | inr some ↦ record { key = some.0; in_keys = some.1; is = some.2; above = some.3; upto = so_far.to_far; no_less = so_far.nearest }
+      | inr some ↦ record { key = some.0; in_keys = some.1; is = some.2; above = some.3; upto = so_far.to_far; nearest = so_far.nearest }
       | inl all ↦
           let same : cells owner has.key ≡ next = omega (arith, all, has.upto, so_far.nearest has.key has.in_keys has.above) in
-          record { key = has.key; in_keys = has.in_keys; is = same; above = omega (arith, same, has.above); upto = so_far.to_far; no_less = so_far.nearest }
+          record { key = has.key; in_keys = has.in_keys; is = same; above = omega (arith, same, has.above); upto = so_far.to_far; nearest = so_far.nearest }
     ]
     found Newest so_far has = elim so_far.held [
-      | inr some ↦ record { key = some.0; in_keys = some.1; is = some.2; above = omega (arith, has.above, so_far.nearest has.key has.in_keys has.upto); upto = some.3; no_more = so_far.nearest }
+      | inr some ↦ record { key = some.0; in_keys = some.1; is = some.2; above = omega (arith, has.above, so_far.nearest has.key has.in_keys has.upto); upto = some.3; nearest = so_far.nearest }
       | inl all ↦ absurd (omega (arith, all, has.above, so_far.nearest has.key has.in_keys has.upto))
     ]

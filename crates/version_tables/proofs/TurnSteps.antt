@@ -62,7 +62,7 @@ module _ (weight : ℕ → ℕ) (cells : Cells) (keys owner near far room mark s
     outside = lt-leb (cells owner up.next.key) near (omega (arith, up.next.is, up.next.above, up.on));
     inside = le-leb (cells owner up.next.key) far (omega (arith, up.next.is, up.next.upto));
     own = λ k lt. elim (cases_lt mark (cells owner k)) [
-      | inl over ↦ lt-leb (cells owner k) mark over ∙ sym (le-ltb (cells owner k) (cells owner up.next.key) (omega (arith, up.next.is, up.next.no_less k lt over)))
+      | inl over ↦ lt-leb (cells owner k) mark over ∙ sym (le-ltb (cells owner k) (cells owner up.next.key) (omega (arith, up.next.is, up.next.nearest k lt over)))
       | inr within ↦ le-leb (cells owner k) mark (omega (arith, within)) ∙ sym (lt-ltb (cells owner k) (cells owner up.next.key) (omega (arith, up.next.is, up.next.above, within)))
     ];
     between = (up.on, omega (arith, up.next.above, up.next.upto));
@@ -77,7 +77,7 @@ module _ (weight : ℕ → ℕ) (cells : Cells) (keys owner near far room mark s
     inside = lt-ltb far (cells owner down.next.key) (omega (arith, down.next.is, down.next.above));
     own = λ k lt. elim (cases_lt mark (cells owner k)) [
       | inl over ↦ lt-ltb mark (cells owner k) over ∙ sym (lt-ltb (cells owner down.next.key) (cells owner k) (omega (arith, down.next.is, down.next.upto, over)))
-      | inr within ↦ le-ltb mark (cells owner k) (omega (arith, within)) ∙ sym (le-ltb (cells owner down.next.key) (cells owner k) (omega (arith, down.next.is, down.next.no_more k lt (omega (arith, within)))))
+      | inr within ↦ le-ltb mark (cells owner k) (omega (arith, within)) ∙ sym (le-ltb (cells owner down.next.key) (cells owner k) (omega (arith, down.next.is, down.next.nearest k lt (omega (arith, within)))))
     ];
     between = (down.on, omega (arith, down.next.above, down.next.upto));
     within = down.within;

@@ -17,6 +17,7 @@ pub mod Plans
 pub mod RoundLevels
 pub mod Sharing
 pub mod Marked
+pub mod Offered
 pub mod Stops
 pub mod Turns
 pub mod FitsKept

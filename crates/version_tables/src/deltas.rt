@@ -1,18 +1,14 @@
 //! What one table sends another, as marks.
 
-ghost use Rattle.std.specs.Prelude.{◌≡◌, ◌<◌, length, map, slice_index, IfOk, IsOkUnless};
+ghost use Rattle.std.specs.Prelude.{◌≡◌, ◌<◌, length, map, IfOk, IsOkUnless};
 ghost use Rattle.bench_types.specs.declared.exchanges.DigestKind.TheVariants.{Precise};
 ghost use Rattle.bench_types.specs.declared.faults.Fault.TheVariants.{OutOfMemory};
-ghost use Rattle.bench_types.specs.Budget.{IsLawfulBudget};
 ghost use Rattle.bench_types.specs.Mode.{digest_kind, first_sent};
-ghost use Rattle.model.specs.OwnerListView.{all_writes};
-ghost use Rattle.planes.specs.Planes.{cell, number_ahead, total_above, HasEach, HasEachPlace};
 ghost use Rattle.version_tables.specs.Views.{table_in, IsKept};
-ghost use Rattle.version_tables.specs.inner.Deltas.{AreMarksOf};
+ghost use Rattle.version_tables.specs.inner.Deltas.{AreMarksOf, MaySend};
 ghost use Rattle.version_tables.specs.inner.Histories.{FitsHistories};
 ghost use Rattle.version_tables.specs.inner.Firsts.{by_first};
-ghost use Rattle.version_tables.specs.inner.Marked.{AreOffered};
-ghost use Rattle.version_tables.specs.inner.Offers.{told_number};
+ghost use Rattle.version_tables.specs.inner.Offered.{AreAhead, AreTold, IsOffered};
 
 use crate::histories::{Histories, Owners};
 use crate::marked::{Marked, planned};
@@ -33,10 +29,11 @@ pub(crate) struct DeltaMarks<N: Number> {
     pub(crate) counts: DeltaCounts,
 }
 
-// The numbers that are offered, and how many of them are above the low marks.
+// The numbers that are offered, the low marks, and how many are above these.
 #[derive(Clone, Copy)]
 struct Offered<'a, N: Number> {
     cells: &'a [N],
+    low: &'a [N],
     found: u32,
 }
 
@@ -49,12 +46,7 @@ pub(crate) fn delta<N: Number, H: Written>(
     rules: &Rules,
     rotation: u32,
 ) -> Result<DeltaMarks<N>, Fault>
-    requires budget { IsLawfulBudget rules.now.budget }
-    requires nodes { sender.now.nodes ≡ receiver.now.nodes }
-    requires keys { sender.now.keys ≡ receiver.now.keys }
-    requires rotation { rotation < sender.now.nodes }
-    requires sender { FitsHistories histories.now (table_in H.lists sender.now) }
-    requires receiver { FitsHistories histories.now (table_in H.lists receiver.now) }
+    requires may { MaySend rules.now rotation H.lists histories.now sender.now receiver.now }
     ensures delta { IfOk result (λ d. AreMarksOf rules.now rotation H.lists sender.now receiver.now
         (map N.number d.low.items) (map N.number d.high.items) d.counts.sent d.counts.cut) }
     ensures only { IsOkUnless result OutOfMemory }
@@ -63,9 +55,7 @@ pub(crate) fn delta<N: Number, H: Written>(
     let low = told_to(alloc, receiver, histories, kind)?;
     let ahead = ahead_of(alloc, sender, receiver, kind, &low)?;
     let offered = either(sender, receiver, kind, &low, &ahead);
-    let marked = marks_sent(
-        alloc, sender, receiver, histories, rules, rotation, &low, offered,
-    )?;
+    let marked = marks_sent(alloc, sender, receiver, offered, histories, rules, rotation)?;
     let marks = marks_of(alloc, rules.mode.first(), low, sender.greatest(), marked)?;
     Ok(marks)
 }
@@ -75,27 +65,17 @@ fn marks_sent<N: Number, H: Written>(
     alloc: Global,
     sender: &VersionTable<N, H>,
     receiver: &VersionTable<N, H>,
+    offered: Offered<N>,
     histories: &Histories<N, H>,
     rules: &Rules,
     rotation: u32,
-    low: &[N],
-    offered: Offered<N>,
 ) -> Result<Marked<N>, Fault>
-    requires nodes { sender.now.nodes ≡ receiver.now.nodes }
-    requires keys { sender.now.keys ≡ receiver.now.keys }
-    requires rotation { rotation < sender.now.nodes }
-    requires sender { FitsHistories histories.now (table_in H.lists sender.now) }
-    requires receiver { FitsHistories histories.now (table_in H.lists receiver.now) }
+    requires may { MaySend rules.now rotation H.lists histories.now sender.now receiver.now }
     requires kept { IsKept H.lists receiver.now }
-    requires low { HasEach (length histories.now.lists)
-        (λ r n. n ≡ told_number (digest_kind rules.now.mode) N.most receiver.now.node (all_writes histories.now.lists)
-        (slice_index receiver.now.greatest) r) (map N.number low.now) }
-    requires cells { AreOffered (digest_kind rules.now.mode) sender.now receiver.now (map N.number low.now)
-        (map N.number offered.cells.now) }
-    requires found { offered.found ≡ total_above sender.now.nodes sender.now.keys (map N.number offered.cells.now)
-        (map N.number low.now) }
+    requires low { AreTold N.number N.most (digest_kind rules.now.mode) receiver.now histories.now offered.low.now }
+    requires offered { IsOffered N.number (digest_kind rules.now.mode) sender.now receiver.now offered }
     ensures marks { IfOk result (λ m. AreMarksOf rules.now rotation H.lists sender.now receiver.now
-        (by_first (first_sent rules.now.mode) (map N.number low.now) (map N.number m.mark.items))
+        (by_first (first_sent rules.now.mode) (map N.number offered.entry.low.now) (map N.number m.mark.items))
         (by_first (first_sent rules.now.mode) (map N.number m.mark.items) sender.now.greatest) m.counts.sent
         m.counts.cut) }
     ensures only { IsOkUnless result OutOfMemory }
@@ -104,7 +84,7 @@ fn marks_sent<N: Number, H: Written>(
         cells: offered.cells,
         nodes: sender.nodes() as usize,
         keys: sender.keys() as usize,
-        low,
+        low: offered.low,
         high: sender.greatest(),
         lists: histories.lists(),
         budget: rules.budget,
@@ -132,11 +112,7 @@ fn told_to<N: Number, H: Written>(
     kind: DigestKind,
 ) -> Result<Vec<N>, Fault>
     requires receiver { FitsHistories histories.now (table_in H.lists receiver.now) }
-    ensures told { IfOk result (λ v. HasEach (length histories.now.lists)
-        (λ r n. n
-        ≡ told_number kind N.most receiver.now.node (all_writes histories.now.lists)
-        (slice_index receiver.now.greatest) r)
-        (map N.number v.items)) }
+    ensures told { IfOk result (λ v. AreTold N.number N.most kind receiver.now histories.now v.items) }
     ensures kept { IfOk result (λ _. IsKept H.lists receiver.now) }
     ensures only { IsOkUnless result OutOfMemory }
 {
@@ -164,12 +140,7 @@ fn ahead_of<N: Number, H: Written>(
     requires nodes { sender.now.nodes ≡ receiver.now.nodes }
     requires keys { sender.now.keys ≡ receiver.now.keys }
     requires low { length low.now ≡ sender.now.nodes }
-    ensures ahead { kind ≡ Precise → IfOk result (λ m. HasEachPlace sender.now.nodes sender.now.keys
-        (λ r k n. n ≡ number_ahead (cell sender.now.cells sender.now.nodes r k)
-        (cell receiver.now.cells sender.now.nodes r k) (slice_index (map N.number low.now) r))
-        (map N.number m.numbers.items)) }
-    ensures count { kind ≡ Precise → IfOk result (λ m. m.count
-        ≡ total_above sender.now.nodes sender.now.keys (map N.number m.numbers.items) (map N.number low.now)) }
+    ensures ahead { kind ≡ Precise → IfOk result (AreAhead N.number sender.now receiver.now low.now) }
     ensures only { IsOkUnless result OutOfMemory }
 {
     match kind {
@@ -190,20 +161,14 @@ fn either<'a, N: Number, H: Written>(
     sender: &'a VersionTable<N, H>,
     receiver: &VersionTable<N, H>,
     kind: DigestKind,
-    low: &[N],
+    low: &'a [N],
     ahead: &'a Masked<N>,
 ) -> Offered<'a, N>
     requires nodes { sender.now.nodes ≡ receiver.now.nodes }
     requires low { length low.now ≡ sender.now.nodes }
-    requires ahead { kind ≡ Precise → HasEachPlace sender.now.nodes sender.now.keys
-        (λ r k n. n ≡ number_ahead (cell sender.now.cells sender.now.nodes r k)
-        (cell receiver.now.cells sender.now.nodes r k) (slice_index (map N.number low.now) r))
-        (map N.number ahead.now.numbers.items) }
-    requires count { kind ≡ Precise → ahead.now.count
-        ≡ total_above sender.now.nodes sender.now.keys (map N.number ahead.now.numbers.items) (map N.number low.now) }
-    ensures cells { AreOffered kind sender.now receiver.now (map N.number low.now) (map N.number result.cells.now) }
-    ensures found { result.found
-        ≡ total_above sender.now.nodes sender.now.keys (map N.number result.cells.now) (map N.number low.now) }
+    requires ahead { kind ≡ Precise → AreAhead N.number sender.now receiver.now low.now ahead.now }
+    ensures low { result.low.now ≡ low.now }
+    ensures offered { IsOffered N.number kind sender.now receiver.now result }
 {
     match kind {
         DigestKind::Scuttle => {
@@ -211,10 +176,11 @@ fn either<'a, N: Number, H: Written>(
             let keys = sender.keys() as usize;
             let cells = sender.cells();
             let found = planes::total_above(cells, nodes, keys, low, sender.greatest());
-            Offered { cells, found }
+            Offered { cells, low, found }
         }
         DigestKind::Precise => Offered {
             cells: &ahead.numbers,
+            low,
             found: ahead.count,
         },
     }

@@ -1,23 +1,22 @@
 //! The exchange of an initiator and a responder whose tables keep versions alone.
 
-ghost use Rattle.std.specs.Prelude.{◌≡◌, ◌==◌, ℕ, ◌<◌, length, map, IfOk, IsTrue, OnOk, OnErr, IsOkUnless, false};
+ghost use Rattle.std.specs.Prelude.{◌≡◌, ◌==◌, ℕ, ◌<◌, length, IfOk, IsTrue, OnOk, OnErr, IsOkUnless, false};
 ghost use Rattle.bench_types.specs.declared.faults.Fault.TheVariants.{OutOfMemory};
 ghost use Rattle.bench_types.specs.Budget.{IsLawfulBudget};
 ghost use Rattle.bench_types.specs.Mode.{digest_kind};
 ghost use Rattle.model.specs.Exchanging.{MayBeExchanged, MakesOf};
-ghost use Rattle.model.specs.OwnerListView.{all_writes};
 ghost use Rattle.model.specs.Digests.{digest_size};
 ghost use Rattle.version_tables.specs.Views.{table_in, IsKept, VersionTableView};
-ghost use Rattle.version_tables.specs.inner.Histories.{bases_in, AreOwners, FitsHistories, IsReadyExchange};
+ghost use Rattle.version_tables.specs.inner.Histories.{AreOwners, FitsHistories, IsReadyExchange};
 ghost use Rattle.version_tables.specs.inner.Merged.{MayMerge};
-ghost use Rattle.version_tables.specs.inner.Taken.{HasTakenUnless, StaysOne};
+ghost use Rattle.version_tables.specs.inner.Taken.{HasArrived, HasMarksFor, MayArrive};
 
-use crate::deltas::{DeltaMarks, delta};
+use crate::deltas::delta;
 use crate::digests::digest_size;
 use crate::histories::{Histories, Owners};
 use crate::merging::{may_merge, merge};
 use crate::tables::{VersionTable, Written};
-use crate::taking::take_unless;
+use crate::taking::{Arrival, take_unless};
 use bench_types::{Exchange, Fault, Record, Rules};
 use model::{DeltaCounts, sent_back, sent_before_an_answer, sent_both};
 use planes::Number;
@@ -135,16 +134,15 @@ fn exchange_deltas<N: Number, H: Written>(
         lists: histories.lists(),
         bases: histories.bases(),
     };
-    take_both(
-        alloc,
-        initiator,
-        responder,
-        &back,
-        &forth,
-        owners,
-        is_nothing(back.counts.sent),
-        plan.lost3 | is_nothing(forth.counts.sent),
-    )?;
+    let came_back = Arrival {
+        marks: &back,
+        nothing: is_nothing(back.counts.sent),
+    };
+    let came_forth = Arrival {
+        marks: &forth,
+        nothing: plan.lost3 | is_nothing(forth.counts.sent),
+    };
+    take_both(alloc, initiator, responder, came_back, came_forth, owners)?;
     Ok(sent_both(digest1, digest2, back.counts, forth.counts, plan.lost3))
 }
 
@@ -159,34 +157,23 @@ fn take_both<N: Number, H: Written>(
     alloc: Global,
     initiator: &mut VersionTable<N, H>,
     responder: &mut VersionTable<N, H>,
-    back: &DeltaMarks<N>,
-    forth: &DeltaMarks<N>,
+    back: Arrival<N>,
+    forth: Arrival<N>,
     owners: Owners<N>,
-    nothing_back: bool,
-    nothing_forth: bool,
 ) -> Result<(), Fault>
     requires cells { length responder.old.cells ≡ length initiator.old.cells }
     requires nodes { responder.old.nodes ≡ initiator.old.nodes }
-    requires back_low { length (map N.number back.now.low.items) ≡ initiator.old.nodes }
-    requires back_high { length (map N.number back.now.high.items) ≡ initiator.old.nodes }
-    requires forth_low { length (map N.number forth.now.low.items) ≡ initiator.old.nodes }
-    requires forth_high { length (map N.number forth.now.high.items) ≡ initiator.old.nodes }
+    requires back { HasMarksFor initiator.old.nodes back.marks.now }
+    requires forth { HasMarksFor initiator.old.nodes forth.marks.now }
     requires owners { AreOwners N.number initiator.old.nodes owners }
-    requires initiator { StaysOne H.lists (all_writes owners.lists.now) (bases_in owners.lists.now) initiator.old
-        responder.old.cells (map N.number back.now.low.items) (map N.number back.now.high.items) }
+    requires initiator { MayArrive N.number H.lists owners initiator.old responder.old.cells back }
     requires responder { (after : VersionTableView)
-        → HasTakenUnless nothing_back (all_writes owners.lists.now) (bases_in owners.lists.now) initiator.old
-        responder.old.cells (map N.number back.now.low.items) (map N.number back.now.high.items) after
-        → StaysOne H.lists (all_writes owners.lists.now) (bases_in owners.lists.now) responder.old after.cells
-        (map N.number forth.now.low.items) (map N.number forth.now.high.items) }
-    ensures initiator { OnOk result (HasTakenUnless nothing_back (all_writes owners.entry.lists.now)
-        (bases_in owners.entry.lists.now) initiator.old responder.old.cells
-        (map N.number back.now.low.items) (map N.number back.now.high.items)
-        initiator.new) }
-    ensures responder { OnOk result (HasTakenUnless nothing_forth (all_writes owners.entry.lists.now)
-        (bases_in owners.entry.lists.now) responder.old initiator.new.cells
-        (map N.number forth.now.low.items) (map N.number forth.now.high.items)
-        responder.new) }
+        → HasArrived N.number owners initiator.old responder.old.cells back after
+        → MayArrive N.number H.lists owners responder.old after.cells forth }
+    ensures initiator { OnOk result
+        (HasArrived N.number owners.entry initiator.old responder.old.cells back.entry initiator.new) }
+    ensures responder { OnOk result
+        (HasArrived N.number owners.entry responder.old initiator.new.cells forth.entry responder.new) }
     ensures initiator_stays { OnErr result (initiator.new ≡ initiator.old) }
     ensures responder_stays { OnErr result (responder.new ≡ responder.old) }
     ensures only { IsOkUnless result OutOfMemory }
@@ -194,22 +181,8 @@ fn take_both<N: Number, H: Written>(
     let initiator_before = Vec::from_slice(alloc, initiator.greatest())?;
     let responder_before = Vec::from_slice(alloc, responder.greatest())?;
     let came_back = responder.cells();
-    take_unless(
-        nothing_back,
-        initiator,
-        came_back,
-        back,
-        &initiator_before,
-        owners,
-    );
+    take_unless(initiator, came_back, back, &initiator_before, owners);
     let came_forth = initiator.cells();
-    take_unless(
-        nothing_forth,
-        responder,
-        came_forth,
-        forth,
-        &responder_before,
-        owners,
-    );
+    take_unless(responder, came_forth, forth, &responder_before, owners);
     Ok(())
 }

@@ -4,7 +4,7 @@ ghost use Rattle.std.specs.Prelude.{◌≡◌, ℕ, ◌<◌, ◌≤◌, length, 
 ghost use Rattle.bench_types.specs.declared.faults.Fault.TheVariants.{OutOfMemory};
 ghost use Rattle.bench_types.specs.Mode.{first_sent};
 ghost use Rattle.version_tables.specs.inner.Firsts.{by_first};
-ghost use Rattle.version_tables.specs.inner.Marked.{HasShapeIn, AreMarked};
+ghost use Rattle.version_tables.specs.inner.Marked.{HasShapeOf, AreMarked};
 ghost use Rattle.version_tables.specs.inner.OfferInMemory.{marks, IsCountOffered, IsOffer, IsTooLarge};
 ghost use Rattle.version_tables.specs.inner.Plans.{IsLevel};
 ghost use Rattle.version_tables.specs.inner.RoundLevels.{AreEndsOf};
@@ -92,8 +92,7 @@ fn level_of<N: Number>(
     requires ends { AreEndsOf N.number offer.now ends }
     requires found { IsCountOffered N.number offer.now found }
     ensures level { IfOk result (λ l. IsLevel (first_sent mode) N.number offer.now l) }
-    ensures shape { IfOk result
-        (λ l. HasShapeIn mode N.number offer.now (marks N.number l.near.items) (marks N.number l.far.items)) }
+    ensures shape { IfOk result (λ l. HasShapeOf mode N.number offer.now l) }
     ensures only { IsOkUnless result OutOfMemory }
 {
     match mode {

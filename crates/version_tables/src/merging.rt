@@ -4,16 +4,15 @@
 ghost use Rattle.std.specs.Prelude.{◌≡◌, ℕ, ◌*◌, ◌<◌, ◌≤◌, ◌↔◌, IsTrue, slice_index};
 ghost use Rattle.bench_types.specs.Budget.{amount_of, largest_share};
 ghost use Rattle.bench_types.specs.declared.limits.TheConstants.{MOST_NODES, MOST_KEYS};
-ghost use Rattle.planes.specs.Planes.{most_ahead, total_above};
 ghost use Rattle.version_tables.specs.Views.{table_in};
 ghost use Rattle.version_tables.specs.inner.Histories.{bases_in, FitsHistories};
-ghost use Rattle.version_tables.specs.inner.Merged.{AreCurrent, HasMerged, MayMerge, StaysMerged};
+ghost use Rattle.version_tables.specs.inner.Merged.{count_ahead, AreCurrent, HasMerged, HasNoNewer, MayMerge, StaysMerged, SurelyFits};
 
 use crate::histories::Histories;
 use crate::tables::{VersionTable, Written};
 use bench_types::limits::MOST_ENTRY_SIZE;
 use bench_types::{Budget, DigestKind, Rules};
-use planes::{Both, Number};
+use planes::{BothCounts, BothMarks, Number};
 
 // Whether so many entries surely fit.
 fn surely_fit(budget: Budget, count: u32) -> bool
@@ -34,10 +33,8 @@ fn all_fits<N: Number, H: Written>(
 ) -> bool
     requires nodes { initiator.now.nodes ≡ responder.now.nodes }
     requires keys { initiator.now.keys ≡ responder.now.keys }
-    ensures back { IsTrue result → most_ahead responder.now.nodes responder.now.keys responder.now.greatest
-        initiator.now.greatest * largest_share budget ≤ amount_of budget }
-    ensures forth { IsTrue result → most_ahead initiator.now.nodes initiator.now.keys initiator.now.greatest
-        responder.now.greatest * largest_share budget ≤ amount_of budget }
+    ensures back { IsTrue result → SurelyFits budget responder.now initiator.now }
+    ensures forth { IsTrue result → SurelyFits budget initiator.now responder.now }
 {
     let most = planes::most_ahead(initiator.greatest(), responder.greatest(), initiator.keys());
     surely_fit(budget, most.first) && surely_fit(budget, most.second)
@@ -89,8 +86,7 @@ fn has_no_newer<N: Number, H: Written>(
     other: &VersionTable<N, H>,
 ) -> bool
     requires nodes { table.now.nodes ≡ other.now.nodes }
-    ensures { IsTrue result → slice_index table.now.greatest other.now.node
-        ≤ slice_index other.now.greatest other.now.node }
+    ensures { IsTrue result → HasNoNewer table.now other.now }
 {
     let node = other.node() as usize;
     table.greatest()[node].is_upto(other.greatest()[node])
@@ -125,28 +121,23 @@ pub(crate) fn may_merge<N: Number, H: Written>(
 pub(crate) fn merge<N: Number, H: Written>(
     initiator: &mut VersionTable<N, H>,
     responder: &mut VersionTable<N, H>,
-) -> Both
+) -> BothCounts
     requires nodes { initiator.old.nodes ≡ responder.old.nodes }
     requires keys { initiator.old.keys ≡ responder.old.keys }
     requires initiator { StaysMerged H.lists initiator.old responder.old.cells responder.old.greatest }
     requires responder { StaysMerged H.lists responder.old initiator.old.cells initiator.old.greatest }
     ensures initiator { HasMerged responder.old initiator.old initiator.new }
     ensures responder { HasMerged initiator.old responder.old responder.new }
-    ensures back { result.first
-        ≡ total_above responder.old.nodes responder.old.keys responder.old.cells initiator.old.greatest }
-    ensures forth { result.second
-        ≡ total_above initiator.old.nodes initiator.old.keys initiator.old.cells responder.old.greatest }
+    ensures back { result.first ≡ count_ahead responder.old initiator.old }
+    ensures forth { result.second ≡ count_ahead initiator.old responder.old }
 {
-    let nodes = initiator.nodes as usize;
-    let keys = initiator.keys as usize;
-    let came = planes::merge(
-        &mut initiator.cells,
-        &mut responder.cells,
-        &initiator.greatest,
-        &responder.greatest,
-        nodes,
-        keys,
-    );
+    let marks = BothMarks {
+        first: &initiator.greatest,
+        second: &responder.greatest,
+        nodes: initiator.nodes as usize,
+        keys: initiator.keys as usize,
+    };
+    let came = planes::merge(&mut initiator.cells, &mut responder.cells, marks);
     planes::raise_both(&mut initiator.greatest, &mut responder.greatest);
     came
 }

@@ -10,7 +10,7 @@ ghost use Rattle.planes.specs.Elementwise.{AreChanged};
 ghost use Rattle.version_tables.specs.inner.LevelMarks.{AreRounds};
 ghost use Rattle.version_tables.specs.inner.OfferInMemory.{low_in, marks, IsCountOffered, IsOffer, IsTooLarge};
 ghost use Rattle.version_tables.specs.inner.Plans.{weight_on, count_on, IsLevel};
-ghost use Rattle.version_tables.specs.inner.RoundLevels.{round_at, end_mark, round_mark, AreEndsOf, AreFewAndEnough};
+ghost use Rattle.version_tables.specs.inner.RoundLevels.{round_at, end_mark, round_mark, AreEndsOf, AreFewAndEnough, AreRoundMarks};
 
 use crate::weights::{Level, Offer};
 use bench_types::{Fault, First};
@@ -138,11 +138,7 @@ impl<'a, N: Number> Ends<'a, N> {
         requires offer { IsOffer N.number N.most offer.now }
         requires ends { length self.now.numbers.now ≡ (self.now.rounds + 1) * offer.now.nodes }
         requires count { count ≤ self.now.rounds }
-        ensures marks { IfOk result (λ v. HasEach offer.now.nodes
-            (λ r n. n
-            ≡ round_mark first self.now.rounds (map N.number self.now.numbers.now) offer.now.nodes
-            (marks N.number offer.now.low.now) count r)
-            (map N.number v.items)) }
+        ensures marks { IfOk result (λ v. AreRoundMarks first count N.number self.now offer.now v.items) }
         ensures only { IsOkUnless result OutOfMemory }
     {
         let round = match first {

@@ -6,10 +6,11 @@ ghost use Rattle.bench_types.specs.Budget.{amount_of};
 ghost use Rattle.bench_types.specs.declared.faults.Fault.TheVariants.{OutOfMemory};
 ghost use Rattle.model.specs.Order.{rotated};
 ghost use Rattle.planes.specs.Planes.{HasEach};
+ghost use Rattle.version_tables.specs.inner.Firsts.{by_first};
 ghost use Rattle.version_tables.specs.inner.OfferInMemory.{cells_in, marks, weights_in, IsOffer};
 ghost use Rattle.version_tables.specs.inner.Plans.{weight_on, IsLevel};
 ghost use Rattle.version_tables.specs.inner.Sharing.{AreShared};
-ghost use Rattle.version_tables.specs.inner.Turns.{AreTurnsOf, AreKnownCounts, AreTurnsPassed};
+ghost use Rattle.version_tables.specs.inner.Turns.{part_weight, AreKnownFor, ArePassedBy, AreSharedBy, AreTurnsOf};
 ghost use Rattle.version_tables.specs.inner.Weights.{weight_from};
 
 use crate::weights::{Level, Offer, Share, number_at};
@@ -30,7 +31,7 @@ const MANY: usize = 64;
 
 // A level that the owners share out in turn from the rotation on.
 #[derive(Drop)]
-struct Turns<'a, N: Number> {
+struct SharedLevel<'a, N: Number> {
     first: First,
     rotation: usize,
     level: &'a Level<N>,
@@ -48,6 +49,16 @@ fn owner_of_turn(turn: usize, nodes: usize, rotation: usize) -> usize
         rotation + turn
     } else {
         turn - rest
+    }
+}
+
+// Of two lists of marks the first where the oldest goes first, else the second.
+fn by_first<'a, N: Number>(first: First, oldest: &'a [N], newest: &'a [N]) -> &'a [N]
+    ensures { result.now ≡ by_first first oldest.now newest.now }
+{
+    match first {
+        First::Oldest => oldest,
+        First::Newest => newest,
     }
 }
 
@@ -92,44 +103,19 @@ impl<'a, N: Number> Offer<'a, N> {
             self.now.keys (start + r) (marks N.number level.now.near.items (start + r))
             (marks N.number level.now.far.items (start + r))) (map N.number counts.new) }
     {
-        match first {
-            First::Oldest => {
-                count_some_between(
-                    counts,
-                    self.cells,
-                    self.nodes,
-                    self.keys,
-                    start,
-                    &level.near,
-                    &level.far,
-                );
-            }
-            First::Newest => {
-                count_some_between(
-                    counts,
-                    self.cells,
-                    self.nodes,
-                    self.keys,
-                    start,
-                    &level.far,
-                    &level.near,
-                );
-            }
-        }
+        let low = by_first(first, &level.near, &level.far);
+        let high = by_first(first, &level.far, &level.near);
+        count_some_between(counts, self.cells, self.nodes, self.keys, start, low, high);
     }
 
     // How many numbers an owner's part has. Where that isn't known, parts are counted from this owner on.
-    fn count_of_part(&self, turns: &Turns<N>, counts: &mut [N], owner: usize) -> u32
+    fn count_of_part(&self, turns: &SharedLevel<N>, counts: &mut [N], owner: usize) -> u32
         requires offer { IsOffer N.number N.most self.now }
         requires turns { AreTurnsOf N.number self.now turns.now }
         requires owner { owner < self.now.nodes }
-        requires counts { AreKnownCounts turns.now.first N.number N.most self.now turns.now.level.now
-            (map N.number counts.old) }
-        ensures count { result ≡ weight_from turns.now.first (λ _. 1) (cells_in N.number self.now) self.now.keys owner
-            (marks N.number turns.now.level.now.near.items owner)
-            (marks N.number turns.now.level.now.far.items owner) }
-        ensures counts { AreKnownCounts turns.now.first N.number N.most self.now turns.now.level.now
-            (map N.number counts.new) }
+        requires counts { AreKnownFor N.number N.most self.now turns.now counts.old }
+        ensures count { result ≡ part_weight N.number (λ _. 1) self.now turns.now owner }
+        ensures counts { AreKnownFor N.number N.most self.now turns.now counts.new }
     {
         let known = number_at(counts, owner);
         if N::greatest().is_above(known) {
@@ -142,23 +128,24 @@ impl<'a, N: Number> Offer<'a, N> {
     }
 
     // Gives the owners in turn the far mark as long as their parts fit. Answers whose part doesn't.
-    fn pass_turns(&self, turns: &Turns<N>, counts: &mut [N], mark: &mut [N], room: u32) -> Passed
+    fn pass_turns(
+        &self,
+        turns: &SharedLevel<N>,
+        counts: &mut [N],
+        mark: &mut [N],
+        room: u32,
+    ) -> Passed
         requires offer { IsOffer N.number N.most self.now }
         requires turns { AreTurnsOf N.number self.now turns.now }
-        requires counts { AreKnownCounts turns.now.first N.number N.most self.now turns.now.level.now
-            (map N.number counts.old) }
+        requires counts { AreKnownFor N.number N.most self.now turns.now counts.old }
         requires mark { mark.old ≡ turns.now.level.now.near.items }
         requires room { weight_on turns.now.first N.number self.now
             (marks N.number turns.now.level.now.near.items) + room ≡ amount_of self.now.budget }
         ensures owner { result.owner < self.now.nodes }
         ensures size { length mark.new ≡ self.now.nodes }
-        ensures passed { AreTurnsPassed turns.now.first N.number self.now turns.now.rotation
-            (marks N.number turns.now.level.now.near.items) (marks N.number turns.now.level.now.far.items)
-            (marks N.number mark.new) (rotated self.now.nodes turns.now.rotation result.owner) result.left result.sent }
-        ensures beyond { result.left < weight_from turns.now.first (weights_in self.now result.owner)
-            (cells_in N.number self.now) self.now.keys result.owner
-            (marks N.number turns.now.level.now.near.items result.owner)
-            (marks N.number turns.now.level.now.far.items result.owner) }
+        ensures passed { ArePassedBy N.number self.now turns.now mark.new result }
+        ensures beyond { result.left
+            < part_weight N.number (weights_in self.now result.owner) self.now turns.now result.owner }
     {
         let mut left = room;
         let mut sent = turns.level.whole;
@@ -179,16 +166,13 @@ impl<'a, N: Number> Offer<'a, N> {
     }
 
     // Puts the marks that stop at the first number that doesn't fit. Answers how many numbers they let through.
-    fn share_into(&self, turns: &Turns<N>, counts: &mut [N], mark: &mut [N]) -> u32
+    fn share_into(&self, turns: &SharedLevel<N>, counts: &mut [N], mark: &mut [N]) -> u32
         requires offer { IsOffer N.number N.most self.now }
         requires turns { AreTurnsOf N.number self.now turns.now }
-        requires counts { AreKnownCounts turns.now.first N.number N.most self.now turns.now.level.now
-            (map N.number counts.old) }
+        requires counts { AreKnownFor N.number N.most self.now turns.now counts.old }
         requires mark { mark.old ≡ turns.now.level.now.near.items }
         ensures size { length mark.new ≡ self.now.nodes }
-        ensures shared { AreShared turns.now.first turns.now.rotation N.number self.now
-            (marks N.number turns.now.level.now.near.items) (marks N.number turns.now.level.now.far.items)
-            (marks N.number mark.new) result }
+        ensures shared { AreSharedBy N.number self.now turns.now mark.new result }
     {
         let room = self.budget.amount() - self.weight_of_whole(turns.first, turns.level);
         let passed = self.pass_turns(turns, counts, mark, room);
@@ -219,7 +203,7 @@ pub(crate) fn share<N: Number>(
 {
     let mut counts = all_of(alloc, offer.nodes, N::greatest())?;
     let mut mark = Vec::from_slice(alloc, &level.near)?;
-    let turns = Turns {
+    let turns = SharedLevel {
         first,
         rotation,
         level,

@@ -2,10 +2,10 @@
 
 ghost use Rattle.std.specs.Prelude.{◌≡◌, ℕ, ◌+◌, ◌-◌, ◌*◌, ◌<◌, ◌≤◌, length};
 ghost use Rattle.version_tables.specs.inner.OfferInMemory.{cells_in, weights_in, IsOffer};
-ghost use Rattle.version_tables.specs.inner.Stops.{HasBetween, HasNext, IsNext, IsNextUp, IsNextDown, IsPast, IsStopFrom};
+ghost use Rattle.version_tables.specs.inner.Stops.{HasNext, IsNearest, IsNext, IsPast, IsStopFrom};
 ghost use Rattle.version_tables.specs.inner.Weights.{weight_from};
 
-use crate::weights::Offer;
+use crate::weights::{Offer, pick};
 use bench_types::First;
 use planes::Number;
 
@@ -17,38 +17,16 @@ pub(crate) struct Stop<N: Number> {
 }
 
 impl<'a, N: Number> Offer<'a, N> {
-    // The least of an owner's numbers above one mark and up to another.
-    fn next_up(&self, owner: usize, low: N, high: N) -> N
+    // The nearest of an owner's numbers, or a far mark where none is nearer. A closure tells the nearer of two.
+    fn nearest<F: Fn(N, N) -> N>(&self, owner: usize, far: N, nearer: F) -> N
         requires offer { IsOffer N.number N.most self.now }
         requires owner { owner < self.now.nodes }
-        requires some { HasBetween (cells_in N.number self.now) self.now.keys owner (N.number low) (N.number high) }
-        ensures { IsNextUp (cells_in N.number self.now) self.now.keys owner (N.number low) (N.number high)
-            (N.number result) }
+        requires nearer { (next number : N) → F.pre nearer next number }
+        ensures { IsNearest N.number self.now owner far (F.post nearer) result }
     {
-        let mut next = high;
+        let mut next = far;
         for key in 0..self.keys {
-            let cell = self.cell_of(owner, key);
-            if cell.is_above(low) {
-                next = next.min_with(cell);
-            }
-        }
-        next
-    }
-
-    // The greatest of them.
-    fn next_down(&self, owner: usize, low: N, high: N) -> N
-        requires offer { IsOffer N.number N.most self.now }
-        requires owner { owner < self.now.nodes }
-        requires some { HasBetween (cells_in N.number self.now) self.now.keys owner (N.number low) (N.number high) }
-        ensures { IsNextDown (cells_in N.number self.now) self.now.keys owner (N.number low) (N.number high)
-            (N.number result) }
-    {
-        let mut next = low;
-        for key in 0..self.keys {
-            let cell = self.cell_of(owner, key);
-            if cell.is_upto(high) {
-                next = next.max_with(cell);
-            }
+            next = nearer(next, self.cell_of(owner, key));
         }
         next
     }
@@ -63,8 +41,12 @@ impl<'a, N: Number> Offer<'a, N> {
             (N.number near) (N.number far) (N.number result) }
     {
         match first {
-            First::Oldest => self.next_up(owner, near, far),
-            First::Newest => self.next_down(owner, far, near),
+            First::Oldest => self.nearest(owner, far, |next, number| {
+                next.min_with(pick(number.is_above(near), number, next))
+            }),
+            First::Newest => self.nearest(owner, far, |next, number| {
+                next.max_with(pick(number.is_upto(near), number, next))
+            }),
         }
     }
 

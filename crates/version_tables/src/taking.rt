@@ -1,25 +1,24 @@
 //! What a table holds once it has taken a delta.
 
-ghost use Rattle.std.specs.Prelude.{◌≡◌, ◌==◌, ℕ, ◌<◌, length, map, slice_index, if◌then◌else◌};
+ghost use Rattle.std.specs.Prelude.{◌≡◌, ◌<◌, length, map, slice_index};
 ghost use Rattle.model.specs.OwnerListView.{all_writes, entries_of};
-ghost use Rattle.planes.specs.Planes.{cell, ArePlanesChanged, IsGrid};
+ghost use Rattle.planes.specs.Planes.{ArePlanesChanged, IsGrid, MayTake};
 ghost use Rattle.version_tables.specs.inner.Offers.{IsNumberedHistory};
-ghost use Rattle.version_tables.specs.inner.Histories.{bases_in, AreOwners};
-ghost use Rattle.version_tables.specs.inner.Taken.{drop_start, number_kept, HasTakenUnless, IsTaken, MayTake, StaysOne};
+ghost use Rattle.version_tables.specs.inner.Histories.{AreOwners};
+ghost use Rattle.version_tables.specs.inner.Taken.{drop_start, number_kept, AreTakenOf, HasArrived, HasMarksFor, IsOwnerKept, MayArrive};
 
 use crate::deltas::DeltaMarks;
 use crate::generations::start_of;
 use crate::histories::Owners;
 use crate::tables::{VersionTable, Written};
 use owner_lists::OwnerList;
-use planes::Number;
+use planes::{Number, Sent};
 
 // Drops what an owner's keys have up to a mark.
 fn clear_column<N: Number>(cells: &mut [N], nodes: usize, keys: usize, owner: usize, start: u32)
     requires grid { IsGrid nodes keys (length cells.old) }
     requires owner { owner < nodes }
-    ensures { ArePlanesChanged (λ r k x y. y ≡ (if r == owner then number_kept start x else x)) nodes keys
-        (map N.number cells.old) (map N.number cells.new) }
+    ensures { IsOwnerKept N.number nodes keys owner start cells.old cells.new }
 {
     for key in 0..keys {
         let cell = &mut cells[key * nodes + owner];
@@ -54,8 +53,7 @@ fn drop_from<N: Number>(list: &OwnerList, old: N, base: N, new: N) -> u32
 fn drop_owner<N: Number>(cells: &mut [N], nodes: usize, keys: usize, owner: usize, start: u32)
     requires grid { IsGrid nodes keys (length cells.old) }
     requires owner { owner < nodes }
-    ensures { ArePlanesChanged (λ r k x y. y ≡ (if r == owner then number_kept start x else x)) nodes keys
-        (map N.number cells.old) (map N.number cells.new) }
+    ensures { IsOwnerKept N.number nodes keys owner start cells.old cells.new }
 {
     if start > 0 {
         clear_column(cells, nodes, keys, owner, start);
@@ -94,59 +92,51 @@ fn drop_older<N: Number>(
 fn take_numbers<N: Number>(
     cells: &mut [N],
     greatest: &mut [N],
-    nodes: usize,
-    keys: usize,
-    sent: &[N],
-    marks: &DeltaMarks<N>,
+    sent: Sent<N>,
     before: &[N],
     owners: Owners<N>,
 )
-    requires may { MayTake N.number nodes keys cells.old greatest.old sent.now
-        marks.now.low.items marks.now.high.items }
+    requires may { MayTake N.number cells.old greatest.old sent }
     requires before { map N.number before.now ≡ map N.number greatest.old }
-    requires owners { AreOwners N.number nodes owners }
-    ensures { IsTaken (all_writes owners.entry.lists.now) (bases_in owners.entry.lists.now) nodes keys
-        (map N.number cells.old) (map N.number greatest.old) (map N.number sent.now)
-        (map N.number marks.now.low.items) (map N.number marks.now.high.items)
-        (map N.number cells.new) (map N.number greatest.new) }
+    requires owners { AreOwners N.number sent.nodes owners }
+    ensures { AreTakenOf N.number owners.entry sent.entry cells.old greatest.old cells.new greatest.new }
 {
-    planes::take(cells, greatest, sent, nodes, keys, &marks.low, &marks.high);
-    drop_older(cells, nodes, keys, before, greatest, owners);
+    planes::take(cells, greatest, sent);
+    drop_older(cells, sent.nodes, sent.keys, before, greatest, owners);
 }
 
-/// Takes what marks let through of a sender's numbers, and drops of each owner what is of older generations than its
-/// newest, unless there is nothing to take. The greatest numbers before it are given.
+/// What comes to a table: what a delta's marks let through, or nothing, as it has none or was lost.
+#[derive(Clone, Copy)]
+pub(crate) struct Arrival<'a, N: Number> {
+    pub(crate) marks: &'a DeltaMarks<N>,
+    pub(crate) nothing: bool,
+}
+
+/// Takes what comes of a sender's numbers, and drops of each owner what is of older generations than its newest, unless
+/// there is nothing to take. The greatest numbers before it are given.
 pub(crate) fn take_unless<N: Number, H: Written>(
-    nothing: bool,
     table: &mut VersionTable<N, H>,
-    sent: &[N],
-    marks: &DeltaMarks<N>,
+    cells: &[N],
+    arrival: Arrival<N>,
     before: &[N],
     owners: Owners<N>,
 )
-    requires sent { length sent.now ≡ length table.old.cells }
-    requires low { length marks.now.low.items ≡ table.old.nodes }
-    requires high { length marks.now.high.items ≡ table.old.nodes }
+    requires cells { length cells.now ≡ length table.old.cells }
+    requires marks { HasMarksFor table.old.nodes arrival.marks.now }
     requires before { map N.number before.now ≡ table.old.greatest }
     requires owners { AreOwners N.number table.old.nodes owners }
-    requires stays { StaysOne H.lists (all_writes owners.lists.now) (bases_in owners.lists.now) table.old
-        (map N.number sent.now) (map N.number marks.now.low.items) (map N.number marks.now.high.items) }
-    ensures { HasTakenUnless nothing (all_writes owners.entry.lists.now) (bases_in owners.entry.lists.now) table.old
-        (map N.number sent.now) (map N.number marks.now.low.items) (map N.number marks.now.high.items) table.new }
+    requires stays { MayArrive N.number H.lists owners table.old (map N.number cells.now) arrival }
+    ensures { HasArrived N.number owners.entry table.old (map N.number cells.now) arrival.entry table.new }
 {
-    if nothing {
+    if arrival.nothing {
         return;
     }
-    let nodes = table.nodes as usize;
-    let keys = table.keys as usize;
-    take_numbers(
-        &mut table.cells,
-        &mut table.greatest,
-        nodes,
-        keys,
-        sent,
-        marks,
-        before,
-        owners,
-    );
+    let sent = Sent {
+        cells,
+        nodes: table.nodes as usize,
+        keys: table.keys as usize,
+        low: &arrival.marks.low,
+        high: &arrival.marks.high,
+    };
+    take_numbers(&mut table.cells, &mut table.greatest, sent, before, owners);
 }

@@ -7,7 +7,7 @@ ghost use Rattle.model.specs.OwnerListView.{all_writes, entries_of};
 ghost use Rattle.planes.specs.Planes.{HasEach};
 ghost use Rattle.planes.specs.Elementwise.{AreChanged};
 ghost use Rattle.version_tables.specs.inner.Offers.{start_of, told_by, told_number, IsNumberedHistory};
-ghost use Rattle.version_tables.specs.inner.Told.{AreKnown, IsEarlierStart};
+ghost use Rattle.version_tables.specs.inner.Told.{AreEarlierStarts, AreKnownOf, AreStarts, IsEarlierStart};
 
 use crate::generations::start_of;
 use crate::histories::Owners;
@@ -26,7 +26,7 @@ pub(crate) fn told<N: Number>(
     owners: Owners<N>,
 ) -> Result<Vec<N>, Fault>
     requires node { node < length owners.lists.now }
-    requires known { AreKnown N.most owners.lists.now (map N.number greatest.now) (map N.number owners.bases.now) }
+    requires known { AreKnownOf N.number N.most owners greatest.now }
     ensures told { IfOk result (λ v. HasEach (length owners.entry.lists.now)
         (λ r n. n
         ≡ told_number kind N.most node (all_writes owners.entry.lists.now) (slice_index (map N.number greatest.now)) r)
@@ -41,7 +41,7 @@ pub(crate) fn told<N: Number>(
 // Puts what is told in place of each greatest number.
 fn put_told<N: Number>(numbers: &mut [N], kind: DigestKind, node: usize, owners: Owners<N>)
     requires node { node < length owners.lists.now }
-    requires known { AreKnown N.most owners.lists.now (map N.number numbers.old) (map N.number owners.bases.now) }
+    requires known { AreKnownOf N.number N.most owners numbers.old }
     ensures { AreChanged (λ r x y. y ≡ told_number kind N.most node (all_writes owners.entry.lists.now) (λ _. x) r)
         (map N.number numbers.old) (map N.number numbers.new) }
 {
@@ -51,7 +51,7 @@ fn put_told<N: Number>(numbers: &mut [N], kind: DigestKind, node: usize, owners:
 
 // The same, but for the receiver itself.
 fn put_marks<N: Number>(numbers: &mut [N], kind: DigestKind, owners: Owners<N>)
-    requires { AreKnown N.most owners.lists.now (map N.number numbers.old) (map N.number owners.bases.now) }
+    requires { AreKnownOf N.number N.most owners numbers.old }
     ensures { AreChanged (λ r x y. y ≡ told_by kind (all_writes owners.entry.lists.now r) x)
         (map N.number numbers.old) (map N.number numbers.new) }
 {
@@ -63,9 +63,8 @@ fn put_marks<N: Number>(numbers: &mut [N], kind: DigestKind, owners: Owners<N>)
 
 // Puts in place of each number where the generation of that write starts.
 fn put_starts<N: Number>(numbers: &mut [N], owners: Owners<N>)
-    requires { AreKnown N.most owners.lists.now (map N.number numbers.old) (map N.number owners.bases.now) }
-    ensures { AreChanged (λ r x y. y ≡ start_of (all_writes owners.entry.lists.now r) x)
-        (map N.number numbers.old) (map N.number numbers.new) }
+    requires { AreKnownOf N.number N.most owners numbers.old }
+    ensures { AreStarts N.number owners.entry numbers.old numbers.new }
 {
     put_earlier_starts(numbers, owners);
     planes::lower(numbers, owners.bases);
@@ -73,10 +72,8 @@ fn put_starts<N: Number>(numbers: &mut [N], owners: Owners<N>)
 
 // Puts the starts of earlier generations. Most often there are none, which one fast loop tells.
 fn put_earlier_starts<N: Number>(numbers: &mut [N], owners: Owners<N>)
-    requires { AreKnown N.most owners.lists.now (map N.number numbers.old) (map N.number owners.bases.now) }
-    ensures { AreChanged (λ r x y. IsEarlierStart (all_writes owners.entry.lists.now r)
-        (slice_index (map N.number owners.entry.bases.now) r) x y) (map N.number numbers.old)
-        (map N.number numbers.new) }
+    requires { AreKnownOf N.number N.most owners numbers.old }
+    ensures { AreEarlierStarts N.number owners.entry numbers.old numbers.new }
 {
     if planes::total_upto(numbers, numbers.len(), 1, owners.bases) > 0 {
         put_each_start(numbers, owners);
@@ -84,10 +81,8 @@ fn put_earlier_starts<N: Number>(numbers: &mut [N], owners: Owners<N>)
 }
 
 fn put_each_start<N: Number>(numbers: &mut [N], owners: Owners<N>)
-    requires { AreKnown N.most owners.lists.now (map N.number numbers.old) (map N.number owners.bases.now) }
-    ensures { AreChanged (λ r x y. IsEarlierStart (all_writes owners.entry.lists.now r)
-        (slice_index (map N.number owners.entry.bases.now) r) x y) (map N.number numbers.old)
-        (map N.number numbers.new) }
+    requires { AreKnownOf N.number N.most owners numbers.old }
+    ensures { AreEarlierStarts N.number owners.entry numbers.old numbers.new }
 {
     let Owners { lists, bases } = owners;
     for r in 0..numbers.len() {

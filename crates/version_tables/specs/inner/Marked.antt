@@ -9,8 +9,9 @@ use Rattle.bench_types.specs.Mode.{first_sent}
 use Rattle.model.specs.OwnerListView.{all_writes}
 use Rattle.planes.specs.Planes.{cell}
 use Rattle.version_tables.specs.Views.{VersionTableView}
+use Rattle.version_tables.specs.declared.weights.Level.{Level}
 use Rattle.version_tables.specs.declared.weights.Offer.{Offer}
-use Rattle.version_tables.specs.inner.OfferInMemory.{cells_in, low_in, high_in, count_in}
+use Rattle.version_tables.specs.inner.OfferInMemory.{cells_in, low_in, high_in, count_in, marks}
 use Rattle.version_tables.specs.inner.Offers.{offered_by}
 use Rattle.version_tables.specs.inner.Plans.{weight_on, count_on}
 use Rattle.version_tables.specs.inner.LevelMarks.{lets_through, HasShape}
@@ -21,6 +22,11 @@ abbrev pub HasShapeIn : {N : Type 0} → Mode → (N → ℕ) → Offer N → (�
 HasShapeIn mode number offer near far =
     HasShape mode (all_writes offer.lists.now) (cells_in number offer) offer.nodes offer.keys
     (low_in number offer) near far
+
+-- of a level in memory
+abbrev pub HasShapeOf : {N : Type 0} → Mode → (N → ℕ) → Offer N → Level N → Type 0
+HasShapeOf mode number offer level =
+    HasShapeIn mode number offer (marks number level.near.items) (marks number level.far.items)
 
 -- marks that let all through, which fits
 pub record LetAll {N : Type 0} (first : First) (number : N → ℕ) (offer : Offer N) (mark : ℕ → ℕ) : Type 0 where

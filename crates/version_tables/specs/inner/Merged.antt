@@ -7,7 +7,7 @@ use Rattle.bench_types.specs.declared.exchanges.Rules.{Rules}
 use Rattle.bench_types.specs.Budget.{amount_of, largest_share}
 use Rattle.bench_types.specs.Mode.{digest_kind}
 use Rattle.planes.specs.Elementwise.{AreChanged}
-use Rattle.planes.specs.Planes.{cell, most_ahead, number_raised, ArePlanesChanged}
+use Rattle.planes.specs.Planes.{cell, most_ahead, number_raised, total_above, ArePlanesChanged}
 use Rattle.version_tables.specs.Views.{VersionTableView, HistoriesView}
 use Rattle.version_tables.specs.Laid.{IsVersionTable}
 use Rattle.version_tables.specs.inner.Histories.{bases_in}
@@ -18,11 +18,23 @@ AreCurrent bases v =
     (owner : ℕ) → owner < v.nodes
     → (nat_lt 0 (slice_index v.greatest owner) && nat_le (slice_index v.greatest owner) (bases owner)) ≡ false
 
+-- how many numbers one table has above the other's greatest ones
+abbrev pub count_ahead : VersionTableView → VersionTableView → ℕ
+count_ahead from to = total_above from.nodes from.keys from.cells to.greatest
+
+-- these surely fit
+abbrev pub SurelyFits : Budget → VersionTableView → VersionTableView → Type 0
+SurelyFits budget from to = most_ahead from.nodes from.keys from.greatest to.greatest * largest_share budget ≤ amount_of budget
+
+-- one table has nothing of the other's node above what that has itself
+abbrev pub HasNoNewer : VersionTableView → VersionTableView → Type 0
+HasNoNewer one other = slice_index one.greatest other.node ≤ slice_index other.greatest other.node
+
 -- all that one table has above the other's greatest numbers surely fits, and of the other's owner there is nothing
 pub record MayTakeAll (budget : Budget) (bases : ℕ → ℕ) (from to : VersionTableView) : Type 0 where
-  pub fits : most_ahead from.nodes from.keys from.greatest to.greatest * largest_share budget ≤ amount_of budget
+  pub fits : SurelyFits budget from to
   pub current : AreCurrent bases to
-  pub own : slice_index from.greatest to.node ≤ slice_index to.greatest to.node
+  pub own : HasNoNewer from to
 
 -- and so it is both ways
 pub record MayMerge (rules : Rules) (h : HistoriesView) (initiator responder : VersionTableView) : Type 0 where

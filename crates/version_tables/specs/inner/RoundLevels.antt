@@ -4,10 +4,11 @@ use Rattle.bench_types.specs.declared.exchanges.First.{First}
 use Rattle.bench_types.specs.declared.exchanges.First.TheVariants.{Oldest, Newest}
 use Rattle.bench_types.specs.Budget.{amount_of}
 use Rattle.model.specs.OwnerListView.{all_writes}
-use Rattle.planes.specs.Planes.{cell}
+use Rattle.planes.specs.Planes.{cell, HasEach}
 use Rattle.version_tables.specs.declared.rounds.Ends.{Ends}
 use Rattle.version_tables.specs.declared.weights.Offer.{Offer}
 use Rattle.version_tables.specs.inner.Histories.{AreMadeBy}
+use Rattle.version_tables.specs.inner.OfferInMemory.{marks}
 use Rattle.version_tables.specs.inner.Plans.{weight_on, count_on}
 use Rattle.version_tables.specs.inner.RoundEnds.{AreEnds}
 
@@ -27,6 +28,12 @@ end_mark ends nodes low round owner = max (low owner) (cell ends nodes owner rou
 
 abbrev pub round_mark : First → ℕ → List ℕ → ℕ → (ℕ → ℕ) → ℕ → ℕ → ℕ
 round_mark first rounds ends nodes low count owner = end_mark ends nodes low (round_at first rounds count) owner
+
+-- the marks of so many rounds of what is offered
+abbrev pub AreRoundMarks : {N : Type 0} → First → ℕ → (N → ℕ) → Ends N → Offer N → List N → Type 0
+AreRoundMarks first count number ends offer mark =
+    HasEach offer.nodes (λ r n. n ≡ round_mark first ends.rounds (map number ends.numbers.now) offer.nodes
+    (marks number offer.low.now) count r) (map number mark)
 
 -- a few rounds fit, which have so many numbers, and enough rounds don't
 pub record AreFewAndEnough {N : Type 0} (first : First) (number : N → ℕ) (offer : Offer N) (mark : ℕ → ℕ → ℕ)

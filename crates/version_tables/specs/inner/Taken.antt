@@ -1,11 +1,17 @@
 -- The cells of a table that has taken a delta. Source: this project.
-use Rattle.std.specs.Prelude.{◌≡◌, ℕ, ◌<◌, ◌≤◌, ◌↔◌, ◌⊎◌, ◌&&◌, Bool, true, false, max, nat_lt, nat_le, List, length, map, slice_index, Contains, Some, if◌then◌else◌}
+use Rattle.std.specs.Prelude.{◌≡◌, ℕ, ◌<◌, ◌≤◌, ◌↔◌, ◌⊎◌, ◌==◌, ◌&&◌, Bool, true, false, max, nat_lt, nat_le, List, length, map, slice_index, Contains, Some, if◌then◌else◌}
 use Rattle.bench_types.specs.declared.entries.Entry.{Entry}
 use Rattle.bench_types.specs.declared.entries.Item.{Item}
 use Rattle.model.specs.Table.{Table, entry_at, generation_held}
-use Rattle.planes.specs.Planes.{Cells, cell, numbers_taken, AreCovered, IsGrid, IsRaised}
+use Rattle.planes.specs.Planes.{Cells, cell, numbers_taken, ArePlanesChanged, IsRaised}
 use Rattle.version_tables.specs.Views.{VersionTableView}
 use Rattle.version_tables.specs.Laid.{IsVersionTable}
+use Rattle.model.specs.OwnerListView.{all_writes}
+use Rattle.planes.specs.declared.grids.Sent.{Sent}
+use Rattle.version_tables.specs.declared.deltas.DeltaMarks.{DeltaMarks}
+use Rattle.version_tables.specs.declared.histories.Owners.{Owners}
+use Rattle.version_tables.specs.declared.taking.Arrival.{Arrival}
+use Rattle.version_tables.specs.inner.Histories.{bases_in}
 use Rattle.version_tables.specs.inner.Offers.{start_of}
 
 -- a sent number is taken that is above the receiver's and one mark, and up to another
@@ -47,14 +53,11 @@ drop_start writes old base new =
 abbrev pub number_kept : ℕ → ℕ → ℕ
 number_kept start number = if nat_le number start then 0 else number
 
--- a receiver's numbers, of which none is above its owner's greatest one, may take what marks let through of those sent
-pub record MayTake {N : Type 0} (number : N → ℕ) (nodes keys : ℕ) (cells greatest sent low high : List N) : Type 0 where
-  pub grid : IsGrid nodes keys (length cells)
-  pub greatest_count : length greatest ≡ nodes
-  pub sent_count : length sent ≡ length cells
-  pub low_count : length low ≡ nodes
-  pub high_count : length high ≡ nodes
-  pub covered : AreCovered nodes keys (map number cells) (map number greatest)
+-- so it is of an owner's numbers, and the others stay
+abbrev pub IsOwnerKept : {N : Type 0} → (N → ℕ) → ℕ → ℕ → ℕ → ℕ → List N → List N → Type 0
+IsOwnerKept number nodes keys owner start old new =
+    ArePlanesChanged (λ r k x y. y ≡ (if r == owner then number_kept start x else x)) nodes keys
+    (map number old) (map number new)
 
 -- a receiver's numbers and greatest ones once it took them, and dropped what is of older generations
 pub record IsTaken (lists : ℕ → List Entry) (bases : ℕ → ℕ) (nodes keys : ℕ) (cells greatest sent low high new_cells new_greatest : List ℕ) : Type 0 where
@@ -82,3 +85,26 @@ pub record HasTaken (lists : ℕ → List Entry) (bases : ℕ → ℕ) (to : Ver
 abbrev pub HasTakenUnless : Bool → (ℕ → List Entry) → (ℕ → ℕ) → VersionTableView → List ℕ → List ℕ → List ℕ → VersionTableView → Type 0
 HasTakenUnless true lists bases to sent low high new = new ≡ to
 HasTakenUnless false lists bases to sent low high new = HasTaken lists bases to sent low high new
+
+-- the same of numbers in memory, of what is sent and of what the owners wrote
+abbrev pub AreTakenOf : {N : Type 0} → (N → ℕ) → Owners N → Sent N → List N → List N → List N → List N → Type 0
+AreTakenOf number owners sent cells greatest new_cells new_greatest =
+    IsTaken (all_writes owners.lists.now) (bases_in owners.lists.now) sent.nodes sent.keys (map number cells) (map number greatest)
+    (map number sent.cells.now) (map number sent.low.now) (map number sent.high.now) (map number new_cells) (map number new_greatest)
+
+-- a delta's marks are as many as the nodes
+pub record HasMarksFor {N : Type 0} (nodes : ℕ) (marks : DeltaMarks N) : Type 0 where
+  pub low : length marks.low.items ≡ nodes
+  pub high : length marks.high.items ≡ nodes
+
+-- a table may take what comes of a sender's numbers, and stays one
+abbrev pub MayArrive : {N : Type 0} → (N → ℕ) → (ℕ → List Entry) → Owners N → VersionTableView → List ℕ → Arrival N → Type 0
+MayArrive number written owners to sent arrival =
+    StaysOne written (all_writes owners.lists.now) (bases_in owners.lists.now) to sent
+    (map number arrival.marks.now.low.items) (map number arrival.marks.now.high.items)
+
+-- and it has taken that
+abbrev pub HasArrived : {N : Type 0} → (N → ℕ) → Owners N → VersionTableView → List ℕ → Arrival N → VersionTableView → Type 0
+HasArrived number owners to sent arrival new =
+    HasTakenUnless arrival.nothing (all_writes owners.lists.now) (bases_in owners.lists.now) to sent
+    (map number arrival.marks.now.low.items) (map number arrival.marks.now.high.items) new

@@ -1,16 +1,18 @@
 -- The owners' turns in a level, from the rotation on. Source: this project.
-use Rattle.std.specs.Prelude.{◌≡◌, ◌⊎◌, ℕ, ◌+◌, ◌<◌, ◌≤◌, List, true, false}
+use Rattle.std.specs.Prelude.{◌≡◌, ◌⊎◌, ℕ, ◌+◌, ◌<◌, ◌≤◌, List, map, true, false}
 use Rattle.bench_types.specs.declared.exchanges.First.{First}
 use Rattle.bench_types.specs.Budget.{amount_of}
 use Rattle.planes.specs.Planes.{Cells, HasEach}
 use Rattle.model.specs.Order.{rotated}
-use Rattle.version_tables.specs.declared.sharing.Turns.{Turns}
+use Rattle.version_tables.specs.declared.sharing.Passed.{Passed}
+use Rattle.version_tables.specs.declared.sharing.SharedLevel.{SharedLevel}
 use Rattle.version_tables.specs.declared.weights.Level.{Level}
 use Rattle.version_tables.specs.declared.weights.Offer.{Offer}
 use Rattle.version_tables.specs.inner.Firsts.{comes_first}
 use Rattle.version_tables.specs.inner.OfferInMemory.{cells_in, marks}
 use Rattle.version_tables.specs.inner.Plans.{weight_on, count_on, IsLevel}
 use Rattle.version_tables.specs.inner.LevelMarks.{lets_through}
+use Rattle.version_tables.specs.inner.Sharing.{AreShared}
 use Rattle.version_tables.specs.inner.Stops.{IsOn}
 use Rattle.version_tables.specs.inner.Weights.{weight_from}
 
@@ -21,9 +23,26 @@ AreKnownCounts first number most offer level counts =
     (marks number level.near.items r) (marks number level.far.items r))) counts
 
 -- a level that is shared out in turn from a rotation on
-pub record AreTurnsOf {N : Type 0} (number : N → ℕ) (offer : Offer N) (turns : Turns N) : Type 0 where
+pub record AreTurnsOf {N : Type 0} (number : N → ℕ) (offer : Offer N) (turns : SharedLevel N) : Type 0 where
   pub rotation : turns.rotation < offer.nodes
   pub level : IsLevel turns.first number offer turns.level.now
+
+-- what is known of the parts of such a level
+abbrev pub AreKnownFor : {N : Type 0} → (N → ℕ) → ℕ → Offer N → SharedLevel N → List N → Type 0
+AreKnownFor number most offer turns counts =
+    AreKnownCounts turns.first number most offer turns.level.now (map number counts)
+
+-- what an owner's part of it weighs
+abbrev pub part_weight : {N : Type 0} → (N → ℕ) → (ℕ → ℕ) → Offer N → SharedLevel N → ℕ → ℕ
+part_weight number weight offer turns owner =
+    weight_from turns.first weight (cells_in number offer) offer.keys owner
+    (marks number turns.level.now.near.items owner) (marks number turns.level.now.far.items owner)
+
+-- marks that share it out
+abbrev pub AreSharedBy : {N : Type 0} → (N → ℕ) → Offer N → SharedLevel N → List N → ℕ → Type 0
+AreSharedBy number offer turns mark sent =
+    AreShared turns.first turns.rotation number offer (marks number turns.level.now.near.items)
+    (marks number turns.level.now.far.items) (marks number mark) sent
 
 -- owners whose turn has come have the far mark, and the others the near one
 pub record AreTurnsPassed {N : Type 0} (first : First) (number : N → ℕ) (offer : Offer N) (rotation : ℕ)
@@ -32,6 +51,13 @@ pub record AreTurnsPassed {N : Type 0} (first : First) (number : N → ℕ) (off
   pub waiting : (r : ℕ) → r < offer.nodes → turn ≤ rotated offer.nodes rotation r → mark r ≡ near r
   pub left : weight_on first number offer mark + room ≡ amount_of offer.budget
   pub count : sent ≡ count_on first number offer mark
+
+-- and so they have up to the one whose part doesn't fit
+abbrev pub ArePassedBy : {N : Type 0} → (N → ℕ) → Offer N → SharedLevel N → List N → Passed → Type 0
+ArePassedBy number offer turns mark passed =
+    AreTurnsPassed turns.first number offer turns.rotation (marks number turns.level.now.near.items)
+    (marks number turns.level.now.far.items) (marks number mark) (rotated offer.nodes turns.rotation passed.owner)
+    passed.left passed.sent
 
 -- an owner's mark that stops at the first number of its part that doesn't fit into some room
 pub record IsStop (first : First) (weight : ℕ → ℕ) (cells : Cells)

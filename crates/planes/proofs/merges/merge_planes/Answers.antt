@@ -2,7 +2,6 @@ use Rattle.std.proofs.Common.{nat_lt, max, ◌∙◌, arith, length, map, if◌t
 use Rattle.std.proofs.lemmas.List.{length-map}
 use Rattle.planes.proofs.Elementwise.{number-at, number-waits, changed_none, changed_all, written_next}
 use Rattle.planes.proofs.Counts.{count_below, number_next, sum_whole}
-use Rattle.planes.proofs.merges.merge_planes.Given as given
 use Rattle.planes.proofs.merges.merge_planes.Goals as goal
 
 pub loop-r-init : goal.loop-r-init
@@ -44,18 +43,14 @@ loop-r-preserved g c =
       second_count = number_next _ c.loop-r.r (g.N.Number.number c.loop-r.to_second) _ c.loop-r.invariant.second_count c.plus-to_second.ensures (λ i. if goes i then 1 else 0);
     }
 
-pub returns-clause-first : goal.returns-clause-first
-returns-clause-first g c =
-    changed_all _ (map g.N.Number.number c.args.first.now) (map g.N.Number.number c.loop-r.first) c.loop-r.r c.loop-r.invariant.first
-    (omega (arith, c.loop-r-test.false, length-map c.args.first.now g.N.Number.number))
-
-pub returns-clause-second : goal.returns-clause-second
-returns-clause-second g c =
-    changed_all _ (map g.N.Number.number c.args.second.now) (map g.N.Number.number c.loop-r.second) c.loop-r.r c.loop-r.invariant.second
-    (omega (arith, c.loop-r-test.false, c.requires.second, length-map c.args.second.now g.N.Number.number))
-
-pub returns-clause-first_count : goal.returns-clause-first_count
-returns-clause-first_count g c = c.widen.ensures ∙ sum_whole _ c.loop-r.r (length c.args.first.now) (g.N.Number.number c.loop-r.to_first) c.loop-r.invariant.first_count c.loop-r-test.false c.loop-r.auto.r-end
-
-pub returns-clause-second_count : goal.returns-clause-second_count
-returns-clause-second_count g c = c.widen-2.ensures ∙ sum_whole _ c.loop-r.r (length c.args.first.now) (g.N.Number.number c.loop-r.to_second) c.loop-r.invariant.second_count c.loop-r-test.false c.loop-r.auto.r-end
+pub returns : goal.returns
+returns g c =
+    let number = g.N.Number.number in
+    let size = length c.args.first.now in
+    let past = c.loop-r-test.false in
+    record {
+      first = changed_all _ (map number c.args.first.now) (map number c.loop-r.first) c.loop-r.r c.loop-r.invariant.first (omega (arith, past, length-map c.args.first.now number));
+      second = changed_all _ (map number c.args.second.now) (map number c.loop-r.second) c.loop-r.r c.loop-r.invariant.second (omega (arith, past, c.requires.second, length-map c.args.second.now number));
+      first_count = c.widen.ensures ∙ sum_whole _ c.loop-r.r size (number c.loop-r.to_first) c.loop-r.invariant.first_count past c.loop-r.auto.r-end;
+      second_count = c.widen-2.ensures ∙ sum_whole _ c.loop-r.r size (number c.loop-r.to_second) c.loop-r.invariant.second_count past c.loop-r.auto.r-end;
+    }

@@ -24,12 +24,10 @@ loop-r-preserved g c =
           (c.max_with-in-loop-r.ensures ∙ (λ i. max (second i) (first i)));
     }
 
-pub returns-clause-first : goal.returns-clause-first
-returns-clause-first g c =
-    changed_all _ (map g.N.Number.number c.args.first.now) (map g.N.Number.number c.loop-r.first) c.loop-r.r c.loop-r.invariant.first
-    (omega (arith, c.loop-r-test.false, length-map c.args.first.now g.N.Number.number))
-
-pub returns-clause-second : goal.returns-clause-second
-returns-clause-second g c =
-    changed_all _ (map g.N.Number.number c.args.second.now) (map g.N.Number.number c.loop-r.second) c.loop-r.r c.loop-r.invariant.second
-    (omega (arith, c.loop-r-test.false, c.requires.second, length-map c.args.second.now g.N.Number.number))
+pub returns : goal.returns
+returns g c =
+    let number = g.N.Number.number in
+    record {
+      first = changed_all _ (map number c.args.first.now) (map number c.loop-r.first) c.loop-r.r c.loop-r.invariant.first (omega (arith, c.loop-r-test.false, length-map c.args.first.now number));
+      second = changed_all _ (map number c.args.second.now) (map number c.loop-r.second) c.loop-r.r c.loop-r.invariant.second (omega (arith, c.loop-r-test.false, c.requires.second, length-map c.args.second.now number));
+    }

@@ -6,8 +6,8 @@ use Rattle.planes.proofs.owners.take_owners.Given as goal
 
 abbrev pub invariant-loop-owner : goal.invariant-loop-owner
 invariant-loop-owner g l = record {
-  cells : ArePlanesChanged (owners_changed (λ r k x. number_taken x (cell (map g.N.Number.number l.sent) l.nodes r k) (slice_index (map g.N.Number.number l.low) r) (slice_index (map g.N.Number.number l.high) r)) l.owner) l.nodes l.keys
+  cells : ArePlanesChanged (owners_changed (λ r k x. number_taken x (cell (map g.N.Number.number l.sent.cells.now) l.sent.nodes r k) (slice_index (map g.N.Number.number l.sent.low.now) r) (slice_index (map g.N.Number.number l.sent.high.now) r)) l.owner) l.sent.nodes l.sent.keys
       (map g.N.Number.number l.initial.cells) (map g.N.Number.number l.cells);
-  greatest : AreChangedUpto (λ r x y. IsRaised (numbers_taken l.nodes (map g.N.Number.number l.initial.cells) (map g.N.Number.number l.sent) (map g.N.Number.number l.low) (map g.N.Number.number l.high)) l.keys r x y)
+  greatest : AreChangedUpto (λ r x y. IsRaised (numbers_taken l.sent.nodes (map g.N.Number.number l.initial.cells) (map g.N.Number.number l.sent.cells.now) (map g.N.Number.number l.sent.low.now) (map g.N.Number.number l.sent.high.now)) l.sent.keys r x y)
       (map g.N.Number.number l.initial.greatest) (map g.N.Number.number l.greatest) l.owner;
 }

@@ -75,7 +75,7 @@ returns c =
           ∙ ap (λ ws. rounds_behind (version_staleness round ws key (least_of (copies_of tables lists owner key n) (others round tables lists owner key n)))) writes_is
           ∙ sym (most_seen round tables lists owner key nodes numbered few in_order n (omega arith))
       | else-in_order w ↦
-          w.greatest-is ∙ w.most_rounds_behind-greatest.ensures
+          w.greatest-is ∙ w.most_behind-greatest.ensures
           ∙ ap (λ m. most_below m (λ p. rounds_behind (staleness_at round tables lists p owner key))) (sym counted)
     ] in
     λ i. record { stale = stale i; greatest = greatest i }

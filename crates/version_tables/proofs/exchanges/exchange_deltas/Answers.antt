@@ -1,5 +1,6 @@
 use Rattle.std.proofs.Common.{◌≡◌, ◌*◌, ◌<◌, length, map, ap, sym, subst, ◌∙◌}
 use Rattle.std.specs.Prelude.{◌||◌}
+use Rattle.std.proofs.lemmas.List.{length-map}
 use Rattle.model.specs.OwnerListView.{all_writes}
 use Rattle.planes.specs.Planes.{HasEach}
 use Rattle.version_tables.specs.inner.Histories.{bases_in}
@@ -33,56 +34,43 @@ returns-clause-ok g c =
     c.args.digest1 c.digest_size-digest2.result c.requires.digest1 c.digest_size-digest2.ensures.size c.requires.came c.if-plan.false _ _ c.is_nothing.ensures (ap (λ b. c.args.plan.now.lost3 || b) c.is_nothing-2.ensures)
     c.take_both.new.initiator c.take_both.new.responder c.in_ok-take_both.ensures.initiator c.in_ok-take_both.ensures.responder c.sent_both.result c.sent_both.ensures
 
-pub delta-requires-clause-budget : goal.delta-requires-clause-budget
-delta-requires-clause-budget g c κs out = c.requires.may.budget
+pub delta-requires-clause-may : goal.delta-requires-clause-may
+delta-requires-clause-may g c κs out =
+    let may = c.requires.may in
+    record {
+      budget = may.budget;
+      nodes = sym may.tables.nodes;
+      keys = sym may.tables.keys;
+      rotation = subst (λ n. c.args.plan.now.rotation < n) may.tables.nodes may.tables.rotation;
+      sender = may.responder_fits;
+      receiver = may.initiator_fits;
+    }
 
-pub delta-requires-clause-nodes : goal.delta-requires-clause-nodes
-delta-requires-clause-nodes g c κs out = sym c.requires.may.tables.nodes
-
-pub delta-requires-clause-keys : goal.delta-requires-clause-keys
-delta-requires-clause-keys g c κs out = sym c.requires.may.tables.keys
-
-pub delta-requires-clause-rotation : goal.delta-requires-clause-rotation
-delta-requires-clause-rotation g c κs out = subst (λ n. c.args.plan.now.rotation < n) c.requires.may.tables.nodes c.requires.may.tables.rotation
-
-pub delta-requires-clause-sender : goal.delta-requires-clause-sender
-delta-requires-clause-sender g c κs out = c.requires.may.responder_fits
-
-pub delta-requires-clause-receiver : goal.delta-requires-clause-receiver
-delta-requires-clause-receiver g c κs out = c.requires.may.initiator_fits
-
-pub delta-requires-2-clause-budget : goal.delta-requires-2-clause-budget
-delta-requires-2-clause-budget g c κs out = c.requires.may.budget
-
-pub delta-requires-2-clause-nodes : goal.delta-requires-2-clause-nodes
-delta-requires-2-clause-nodes g c κs out = c.requires.may.tables.nodes
-
-pub delta-requires-2-clause-keys : goal.delta-requires-2-clause-keys
-delta-requires-2-clause-keys g c κs out = c.requires.may.tables.keys
-
-pub delta-requires-2-clause-rotation : goal.delta-requires-2-clause-rotation
-delta-requires-2-clause-rotation g c κs out = c.requires.may.tables.rotation
-
-pub delta-requires-2-clause-sender : goal.delta-requires-2-clause-sender
-delta-requires-2-clause-sender g c κs out = c.requires.may.initiator_fits
-
-pub delta-requires-2-clause-receiver : goal.delta-requires-2-clause-receiver
-delta-requires-2-clause-receiver g c κs out = c.requires.may.responder_fits
+pub delta-requires-2-clause-may : goal.delta-requires-2-clause-may
+delta-requires-2-clause-may g c κs out =
+    let may = c.requires.may in
+    record { budget = may.budget; nodes = may.tables.nodes; keys = may.tables.keys; rotation = may.tables.rotation; sender = may.initiator_fits; receiver = may.responder_fits }
 
 pub take_both-requires-clause-nodes : goal.take_both-requires-clause-nodes
 take_both-requires-clause-nodes g c κs out = sym c.requires.may.tables.nodes
 
-pub take_both-requires-clause-back_low : goal.take_both-requires-clause-back_low
-take_both-requires-clause-back_low g c κs out = c.in_ok-back.ensures.delta.low_count ∙ sym c.requires.may.tables.nodes
+pub take_both-requires-clause-back : goal.take_both-requires-clause-back
+take_both-requires-clause-back g c κs out =
+    let number = g.N.Number.number in
+    let marks = c.in_ok-back.back in
+    record {
+      low = sym (length-map marks.low.items number) ∙ c.in_ok-back.ensures.delta.low_count ∙ sym c.requires.may.tables.nodes;
+      high = sym (length-map marks.high.items number) ∙ c.in_ok-back.ensures.delta.high_count ∙ sym c.requires.may.tables.nodes;
+    }
 
-pub take_both-requires-clause-back_high : goal.take_both-requires-clause-back_high
-take_both-requires-clause-back_high g c κs out = c.in_ok-back.ensures.delta.high_count ∙ sym c.requires.may.tables.nodes
-
-pub take_both-requires-clause-forth_low : goal.take_both-requires-clause-forth_low
-take_both-requires-clause-forth_low g c κs out = c.in_ok-forth.ensures.delta.low_count
-
-pub take_both-requires-clause-forth_high : goal.take_both-requires-clause-forth_high
-take_both-requires-clause-forth_high g c κs out = c.in_ok-forth.ensures.delta.high_count
+pub take_both-requires-clause-forth : goal.take_both-requires-clause-forth
+take_both-requires-clause-forth g c κs out =
+    let number = g.N.Number.number in
+    let marks = c.in_ok-forth.forth in
+    record {
+      low = sym (length-map marks.low.items number) ∙ c.in_ok-forth.ensures.delta.low_count;
+      high = sym (length-map marks.high.items number) ∙ c.in_ok-forth.ensures.delta.high_count;
+    }
 
 pub take_both-requires-clause-owners : goal.take_both-requires-clause-owners
 take_both-requires-clause-owners g c κs out =

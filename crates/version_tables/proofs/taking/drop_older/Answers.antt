@@ -1,13 +1,12 @@
-use Rattle.std.proofs.Common.{ℕ, ◌≡◌, false, subst, ◌+◌, ◌*◌, ◌<◌, arith, map, slice_index, sym, ap, ◌∙◌, nat_lt, nat_le}
+use Rattle.std.proofs.Common.{ℕ, ◌≡◌, false, subst, ◌<◌, arith, map, slice_index, sym, ap, ◌∙◌, nat_lt, nat_le}
 use Rattle.std.specs.Prelude.{◌&&◌}
 use Rattle.std.proofs.lemmas.List.{length-map}
 use Rattle.model.specs.OwnerListView.{all_writes}
-use Rattle.planes.specs.Planes.{cell}
 use Rattle.planes.proofs.Elementwise.{number-at}
 use Rattle.planes.proofs.ByOwner.{owners-none, owners-next, owners-all}
 use Rattle.version_tables.specs.inner.Offers.{IsNumberedHistory}
 use Rattle.version_tables.specs.inner.Taken.{drop_start, number_kept}
-use Rattle.version_tables.proofs.Clearing.{planes-stay, no_start, kept-all, total-none}
+use Rattle.version_tables.proofs.Clearing.{planes-stay, no_start, kept-all, plane-none}
 use Rattle.version_tables.proofs.Starts.{all_writes-here}
 use Rattle.version_tables.proofs.taking.drop_older.Given as given
 use Rattle.version_tables.proofs.taking.drop_older.Goals as goal
@@ -19,9 +18,9 @@ returns-then-total_upto-eq0 g c =
     (none r lt))))
   where
     none : (r : ℕ) → r < c.args.nodes → (nat_lt 0 (slice_index (map g.N.Number.number c.args.before.now) r) && nat_le (slice_index (map g.N.Number.number c.args.before.now) r) (slice_index (map g.N.Number.number c.args.owners.bases.now) r)) ≡ false
-    none r lt =
-        subst (λ i. (nat_lt 0 (slice_index (map g.N.Number.number c.args.before.now) i) && nat_le (slice_index (map g.N.Number.number c.args.before.now) i) (slice_index (map g.N.Number.number c.args.owners.bases.now) r)) ≡ false) {x = 0 * c.args.nodes + r} {y = r} (omega arith)
-        (total-none c.args.nodes (λ r k. nat_lt 0 (cell (map g.N.Number.number c.args.before.now) c.args.nodes r k) && nat_le (cell (map g.N.Number.number c.args.before.now) c.args.nodes r k) (slice_index (map g.N.Number.number c.args.owners.bases.now) r)) (omega (arith, c.total_upto.ensures, c.if-total_upto-eq0.true)) r lt)
+    none =
+        plane-none c.args.nodes c.total_upto.result (map g.N.Number.number c.args.before.now) (λ r n. nat_lt 0 n && nat_le n (slice_index (map g.N.Number.number c.args.owners.bases.now) r)) c.total_upto.ensures
+        (omega (arith, c.if-total_upto-eq0.true))
 
 -- what an owner's numbers are dropped up to
 starts : (g : given.Over) (c : goal.After-cells-1 g) → c.drop_from-start.result ≡ drop_start (all_writes c.args.owners.lists.now c.loop-owner.owner)

@@ -1,9 +1,8 @@
-use Rattle.std.proofs.Common.{◌≡◌, map, sym, ap, ◌∙◌, subst}
+use Rattle.std.proofs.Common.{◌≡◌, map, sym, ◌∙◌, subst}
 use Rattle.std.specs.Vec.{with_items}
 use Rattle.std.proofs.lemmas.List.{with_items_is}
-use Rattle.model.specs.Table.{without_all}
 use Rattle.planes.specs.Elementwise.{AreChanged}
-use Rattle.version_tables.specs.Views.{VersionTableView, table_in}
+use Rattle.version_tables.specs.Views.{VersionTableView}
 use Rattle.version_tables.proofs.Laid.{seen}
 use Rattle.version_tables.proofs.OwnCalls.{forgets-table, forgets-kept}
 use Rattle.version_tables.proofs.tables.VersionTable.forget_all.Given as given
@@ -29,6 +28,4 @@ pub invariant_of-self : goal.invariant_of-self
 invariant_of-self g c = forgets-kept g.H.Written.lists (old g c) c.self.invariant _ _ (no_cells g c) (no_greatest g c)
 
 pub returns : goal.returns
-returns g c =
-    forgets-table g.H.Written.lists (old g c) c.self.invariant _ _ (no_cells g c) (no_greatest g c)
-    ∙ ap (λ (v : VersionTableView). without_all (table_in g.H.Written.lists v)) c.self.view_is
+returns g c = forgets-table g.H.Written.lists (old g c) c.self.invariant _ _ (no_cells g c) (no_greatest g c) c.args.self.now c.self.view_is

@@ -1,10 +1,9 @@
-use Rattle.std.proofs.Common.{◌≡◌, ◌==◌, if◌then◌else◌, map, sym, ap, ◌∙◌, subst}
+use Rattle.std.proofs.Common.{◌≡◌, ◌==◌, if◌then◌else◌, map, sym, ◌∙◌, subst}
 use Rattle.std.specs.Vec.{with_items}
 use Rattle.std.proofs.lemmas.List.{with_items_is}
-use Rattle.model.specs.Table.{without_others}
 use Rattle.planes.specs.Planes.{ArePlanesChanged}
 use Rattle.planes.specs.Elementwise.{AreChanged}
-use Rattle.version_tables.specs.Views.{VersionTableView, table_in}
+use Rattle.version_tables.specs.Views.{VersionTableView}
 use Rattle.version_tables.proofs.Laid.{seen}
 use Rattle.version_tables.proofs.OwnCalls.{restarts-table, restarts-kept}
 use Rattle.version_tables.proofs.tables.VersionTable.forget_others.Given as given
@@ -30,6 +29,4 @@ pub invariant_of-self : goal.invariant_of-self
 invariant_of-self g c = restarts-kept g.H.Written.lists (old g c) c.self.invariant _ _ (own_cells g c) (own_greatest g c)
 
 pub returns : goal.returns
-returns g c =
-    restarts-table g.H.Written.lists (old g c) c.self.invariant _ _ (own_cells g c) (own_greatest g c)
-    ∙ ap (λ (v : VersionTableView). without_others (table_in g.H.Written.lists v)) c.self.view_is
+returns g c = restarts-table g.H.Written.lists (old g c) c.self.invariant _ _ (own_cells g c) (own_greatest g c) c.args.self.now c.self.view_is

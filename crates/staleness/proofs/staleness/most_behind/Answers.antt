@@ -8,8 +8,8 @@ use Rattle.model.proofs.Owners.{length-lists_in, list_read}
 use Rattle.model.specs.Figures.{writes_of_owner, generation_at, staleness_of, staleness_at, rounds_behind}
 use Rattle.staleness.specs.inner.Copies.{version_known, version_staleness}
 use Rattle.staleness.proofs.Known.{staleness_known}
-use Rattle.staleness.proofs.staleness.most_rounds_behind.Goals as goal
-use Rattle.staleness.proofs.staleness.most_rounds_behind.Goals.{then-node-owner, else-node-owner}
+use Rattle.staleness.proofs.staleness.most_behind.Goals as goal
+use Rattle.staleness.proofs.staleness.most_behind.Goals.{then-node-owner, else-node-owner}
 
 pub loop-table-preserved : goal.loop-table-preserved
 loop-table-preserved c =

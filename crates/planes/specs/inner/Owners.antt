@@ -1,0 +1,15 @@
+-- One owner's numbers, key by key. Source: this project.
+use Rattle.std.specs.Prelude.{◌≡◌, ℕ, ◌==◌, List, map, if◌then◌else◌}
+use Rattle.planes.specs.Planes.{cell, number_taken, ArePlanesChanged, IsRaised}
+use Rattle.planes.specs.declared.grids.Sent.{Sent}
+
+-- an owner's numbers once it took those sent above one mark and up to another, and the greatest of them then, which was
+-- another one before
+pub record HasTakenOwner {N : Type 0} (number : N → ℕ) (sent : Sent N) (owner : ℕ) (low high : N) (old : List N) (had : N)
+    (new : List N) (now : N) : Type 0 where
+  pub cells : ArePlanesChanged (λ r k x y. y ≡ (if r == owner then number_taken x
+      (cell (map number sent.cells.now) sent.nodes r k) (number low) (number high) else x)) sent.nodes sent.keys
+      (map number old) (map number new)
+  pub greatest : IsRaised (λ r k. number_taken (cell (map number old) sent.nodes r k)
+      (cell (map number sent.cells.now) sent.nodes r k) (number low) (number high)) sent.keys owner
+      (number had) (number now)

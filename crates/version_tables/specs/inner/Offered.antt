@@ -1,0 +1,27 @@
+-- What is offered from one table to another, in memory. Source: this project.
+use Rattle.std.specs.Prelude.{◌≡◌, ℕ, List, length, map, slice_index}
+use Rattle.bench_types.specs.declared.exchanges.DigestKind.{DigestKind}
+use Rattle.model.specs.OwnerListView.{all_writes}
+use Rattle.planes.specs.Planes.{cell, number_ahead, total_above, HasEach, HasEachPlace}
+use Rattle.planes.specs.declared.grids.Masked.{Masked}
+use Rattle.version_tables.specs.Views.{VersionTableView, HistoriesView}
+use Rattle.version_tables.specs.declared.deltas.Offered.{Offered}
+use Rattle.version_tables.specs.inner.Marked.{AreOffered}
+use Rattle.version_tables.specs.inner.Offers.{told_number}
+
+-- the marks that a receiver tells
+abbrev pub AreTold : {N : Type 0} → (N → ℕ) → ℕ → DigestKind → VersionTableView → HistoriesView → List N → Type 0
+AreTold number most kind to h low =
+    HasEach (length h.lists) (λ r n. n ≡ told_number kind most to.node (all_writes h.lists) (slice_index to.greatest) r) (map number low)
+
+-- the sender's numbers that are above the receiver's and the marks, and how many these are
+pub record AreAhead {N : Type 0} (number : N → ℕ) (from to : VersionTableView) (low : List N) (ahead : Masked N) : Type 0 where
+  pub numbers : HasEachPlace from.nodes from.keys
+      (λ r k n. n ≡ number_ahead (cell from.cells from.nodes r k) (cell to.cells from.nodes r k) (slice_index (map number low) r))
+      (map number ahead.numbers.items)
+  pub count : ahead.count ≡ total_above from.nodes from.keys (map number ahead.numbers.items) (map number low)
+
+-- the numbers offered over low marks, and how many these are
+pub record IsOffered {N : Type 0} (number : N → ℕ) (kind : DigestKind) (from to : VersionTableView) (offered : Offered N) : Type 0 where
+  pub cells : AreOffered kind from to (map number offered.low.now) (map number offered.cells.now)
+  pub found : offered.found ≡ total_above from.nodes from.keys (map number offered.cells.now) (map number offered.low.now)

@@ -285,8 +285,8 @@ fn greatest_lag<N: Number>(
 // How many numbers are worth a thread of their own.
 const NUMBERS_OF_A_THREAD: usize = 65_536;
 
-// How many tables a thread gets: all where they are too few for a second thread, else about half as many as would give
-// each thread a part. It bears on time and memory alone.
+// How many tables a thread gets: all where they are too few for a second thread, else as many as give each processor a
+// thread. It bears on time and memory alone.
 fn tables_of_a_thread(rt: &impl Threads, tables: usize, keys: usize) -> usize
     ensures { 1 ≤ result }
 {
@@ -295,7 +295,7 @@ fn tables_of_a_thread(rt: &impl Threads, tables: usize, keys: usize) -> usize
     if tables <= least {
         return tables.saturating_add(1);
     }
-    (tables / current_num_threads(rt) / 2)
+    (tables / current_num_threads(rt))
         .max(least)
         .saturating_add(1)
 }

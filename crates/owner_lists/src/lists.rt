@@ -86,9 +86,9 @@ impl OwnerList {
         self.write(key, 0, born)
     }
 
-    /// The owner writes a value to a key in a round: the version is one above the last one's. A binary
-    /// search among the keys that it has written. An error is lack of memory (`OutOfMemory`), and then nothing was
-    /// added.
+    /// The owner writes a value to a key in a round: the version is one above the last one's. One step where it has
+    /// written all lesser keys, else a binary search among those that it has written. An error is lack of memory
+    /// (`OutOfMemory`), and then nothing was added.
     pub fn write(&mut self, key: u32, value: u32, born: u32) -> Result<(), Fault>
         requires { length self.old.current + 1 < 2 ^ 32 }
         ensures ok { OnOk result (self.new ≡ with_write self.old key value born) }
@@ -211,8 +211,8 @@ impl OwnerList {
     }
 
     /// The first write of a key above a version in its generation. Where the write of that version has the
-    /// key, this is one step; above 0 it is a binary search among the keys; else it is looked for behind that
-    /// version.
+    /// key, this is one step; above 0 it is a search among the keys, as for a write; else it is looked for behind
+    /// that version.
     pub fn first_missed(&self, key: u32, version: u32) -> Option<Write>
         ensures { result ≡ first_missed (written self.now) key version }
     {
@@ -379,12 +379,16 @@ fn searched_entry(links: &[Link], mark: Mark) -> Option<Entry>
     }
 }
 
-// Where the write of a key is, or where it would go.
+// Where the write of a key is, or where it would go. It is at its own place where all lesser keys have one.
 fn search(writes: &[Write], key: u32) -> Result<usize, usize>
     requires { KeysRise writes.now }
     ensures found { IfOk result (IsIndexOfKey writes.now key) }
     ensures absent { IfErr result (IsGapForKey writes.now key) }
 {
+    let place = key as usize;
+    if place < writes.len() && writes[place].key == key {
+        return Ok(place);
+    }
     writes.binary_search_by_key(&key, |write| write.key)
 }
 

@@ -1,6 +1,6 @@
 -- Tables that take all that the other has above their own greatest numbers exchange as the model's do.
 -- Serves `exchange_all`.
-use Rattle.std.proofs.Common.{◌≡◌, ℕ, zero, suc, ◌+◌, ◌-◌, ◌<◌, ◌≤◌, ◌&&◌, true, false, cond, min, max, nat_lt, nat_le, List, length, get_or, set, map, ◌⊎◌, inl, inr, refl, sym, ap, ◌∙◌, subst, arith}
+use Rattle.std.proofs.Common.{◌≡◌, ℕ, zero, suc, ◌+◌, ◌-◌, ◌*◌, ◌<◌, ◌≤◌, ◌&&◌, true, false, cond, min, max, nat_lt, nat_le, List, length, get_or, set, map, ◌⊎◌, inl, inr, refl, sym, ap, ◌∙◌, subst, arith}
 use Rattle.std.specs.Prelude.{◌≢◌, Some, None}
 use Rattle.std.proofs.Math.Bool.{and-true}
 use Rattle.std.proofs.Math.Nat.{mul-le-mul_right}
@@ -219,7 +219,7 @@ module _ (written : ℕ → List Entry) (rules : Rules) (rotation most : ℕ) (h
   own-upto : (owner key : ℕ) → owner < from.nodes → key < from.keys → owner ≡ to.node → cell from.cells from.nodes owner key ≤ get_or to.greatest owner 0
   own-upto owner key in_owners in_keys own = omega (arith, sender-upto owner key in_owners in_keys, ap (λ r. get_or from.greatest r 0) own, ap (λ r. get_or to.greatest r 0) own, may.own)
 
-  -- all fits
+  -- no more than the greatest numbers are apart
   count-few : count_in id offer (low_in id offer) (high_in id offer) ≤ most_ahead from.nodes from.keys from.greatest to.greatest
   count-few = sum_below-le from.nodes _ _ (λ r lt. here r lt)
     where
@@ -234,12 +234,6 @@ module _ (written : ℕ → List Entry) (rules : Rules) (rotation most : ℕ) (h
         | inr other ↦
             omega (arith, few-between (cells_in id offer) r from.keys (low_in id offer r) (high_in id offer r) (is-offer.differ r lt), high-at r, low-at r, told-other r other)
       ]
-
-  within : weight_in id offer (low_in id offer) (high_in id offer) ≤ amount_of rules.budget
-  within =
-      let weighs = weight_between-most (weights_in offer) (largest_share rules.budget) (cells_in id offer) from.nodes from.keys (low_in id offer) (high_in id offer) (λ owner number. largest-share rules.budget (lists owner) number) in
-      let times = mul-le-mul_right {m = count_in id offer (low_in id offer) (high_in id offer)} {n = most_ahead from.nodes from.keys from.greatest to.greatest} (largest_share rules.budget) count-few in
-      omega (arith, weighs, times, may.fits)
 
   -- so many
   same-total : total_above from.nodes from.keys from.cells to.greatest ≡ count_in id offer (low_in id offer) (high_in id offer)
@@ -256,6 +250,17 @@ module _ (written : ℕ → List Entry) (rules : Rules) (rotation most : ℕ) (h
             | inr other ↦ ap (λ n. nat_lt n (cell from.cells from.nodes r k)) (sym (told-other r other))
           ]
           ∙ (λ i. nat_lt (sym (low-at r) i) (cell (sym (map-id from.cells) i) from.nodes r k))
+
+  -- so all of it fits
+  within : weight_in id offer (low_in id offer) (high_in id offer) ≤ amount_of rules.budget
+  within =
+      let weighs = weight_between-most (weights_in offer) (largest_share rules.budget) (cells_in id offer) from.nodes from.keys (low_in id offer) (high_in id offer) (λ owner number. largest-share rules.budget (lists owner) number) in
+      elim may.fits [
+        | inl apart ↦
+            let times = mul-le-mul_right {m = count_in id offer (low_in id offer) (high_in id offer)} {n = most_ahead from.nodes from.keys from.greatest to.greatest} (largest_share rules.budget) count-few in
+            omega (arith, weighs, times, apart)
+        | inr counted ↦ omega (arith, weighs, subst (λ n. n * largest_share rules.budget ≤ amount_of rules.budget) same-total counted)
+      ]
 
   module _ (sent : ℕ) (sent-is : sent ≡ total_above from.nodes from.keys from.cells to.greatest) where
     abbrev first : First

@@ -12,7 +12,8 @@ use Rattle.round_tables.specs.Histories.{BirthsRise}
 use Rattle.bench_types.specs.Sums.{most_below}
 use Rattle.model.specs.Figures.{rounds_behind}
 use Rattle.version_tables.specs.inner.Missed.{base_of, number_staleness, IsMissed, IsLastNumber, NonePassUpto}
-use Rattle.version_tables.specs.inner.Pieces.{MayWalk, WalksFrom}
+use Rattle.version_tables.specs.inner.LevelMarks.{IsRoundMark}
+use Rattle.version_tables.specs.inner.Pieces.{MayWalk, WalksFrom, most_lag}
 use Rattle.version_tables.proofs.Offers.{write_from-at, numbers-born}
 use Rattle.version_tables.proofs.Numbers.{numbered-within}
 use Rattle.version_tables.proofs.Missed.{missed_cases}
@@ -115,6 +116,36 @@ module _ (round most nodes keys owner first : ℕ) (v : OwnerListView) (least : 
       let at = write_from-at (entries_of v) place e e (ap (write_numbered (entries_of v)) {x = suc place} {y = place + 1} (omega arith) ∙ is) in
       subst (λ (x : Entry). x.born ≤ round) at.1 (walks.may.born place e at.0)
 
+-- where all behind the number was written after a round, no copy has been behind for longer than since then
+pub lag-since : (round most nodes keys owner first : ℕ) (v : OwnerListView) (least : List ℕ) → WalksFrom round most nodes keys owner first v least
+    → (since mark greatest : ℕ) → IsRoundMark (entries_of v) 0 since mark → mark ≤ first → round ≤ since + greatest → most_lag round nodes keys owner v least ≤ greatest
+lag-since round most nodes keys owner first v least walks since mark greatest marked upto_first recent =
+    most_below-le _ keys greatest (λ k in_keys. elim (missed_cases v walks.may.writes k (cell least nodes owner k) (walks.may.written k in_keys) round) [
+      | inl nothing ↦ omega (arith, ap rounds_behind nothing.1)
+      | inr found ↦
+          let missed = found.1.1.0.missed in
+          let start = max (base_of v) first in
+          elim (cases_lt start found.0) [
+            | inl past ↦ omega (
+              arith,
+              ap rounds_behind found.1.1.1,
+              marked.above found.0 found.1.0 (omega (arith, past)) missed.written (omega (arith, upto_first, past)),
+              born-upto found.0 found.1.0 missed.written,
+              recent,
+            )
+            | inr before ↦ absurd (omega (arith, missed.over, walks.start found.0 found.1.0 missed.written missed.current before, ap (cell least nodes owner) missed.keyed))
+          ]
+    ])
+  where
+    born-upto : (m : ℕ) (e : Entry) → write_numbered (entries_of v) m ≡ Some e → e.born ≤ round
+    born-upto zero e is = absurd (nothing e is)
+      where
+        nothing : (x : Entry) → write_numbered (entries_of v) zero ≡ Some x → ⊥
+        nothing x h = cc
+    born-upto (suc place) e is =
+        let at = write_from-at (entries_of v) place e e is in
+        subst (λ (x : Entry). x.born ≤ round) at.1 (walks.may.born place e at.0)
+
 -- an owner's list among those of all
 pub walks-from : (round most nodes keys r first : ℕ) (lists : List OwnerListView) (v : OwnerListView) (least last : List ℕ) → v ≡ list_of_owner lists r → MayWalk round most nodes keys r (list_of_owner lists r) least
     → ((k : ℕ) → k < keys → IsLastNumber (list_of_owner lists r) k (cell last nodes r k))
@@ -124,6 +155,10 @@ walks-from round most nodes keys r first lists v least last is may lasts upto =
       may = may;
       start = walk-start (list_of_owner lists r) (cell least nodes r) keys first (cell last nodes r) may.keyed lasts upto;
     })
+
+-- one more owner that has been behind for no longer
+pub most-stays : (f : ℕ → ℕ) (r x : ℕ) → x ≡ most_below r f → f r ≤ x → x ≡ most_below (r + 1) f
+most-stays f r x is le = omega (arith, is, le) ∙ ap (λ m. most_below m f) {x = suc r} {y = r + 1} (omega arith)
 
 -- one more owner
 pub most-next : (f : ℕ → ℕ) (r x y z : ℕ) → x ≡ most_below r f → z ≡ max x y → y ≡ f r → z ≡ most_below (r + 1) f

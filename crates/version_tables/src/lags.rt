@@ -1,11 +1,11 @@
 //! How far the copies lag behind their owners, where tables keep versions alone: the figures of a round.
 
-ghost use Rattle.std.specs.Prelude.{◌≡◌, ℕ, ◌+◌, ◌-◌, ◌*◌, ◌/◌, ◌^◌, ◌<◌, ◌≤◌, ◌&&◌, map, length, nat_lt, nat_le, slice_index, IfOk, IsFalse, IsOkUnless};
+ghost use Rattle.std.specs.Prelude.{◌≡◌, ℕ, ◌+◌, ◌-◌, ◌*◌, ◌/◌, ◌^◌, ◌<◌, ◌≤◌, ◌&&◌, map, length, nat_lt, nat_le, slice_index, IfOk, IsFalse, IsTrue, IsOkUnless};
 ghost use Rattle.std.specs.List.{AllZip, range_with_len};
 ghost use Rattle.bench_types.specs.declared.faults.Fault.TheVariants.{OutOfMemory};
 ghost use Rattle.bench_types.specs.declared.limits.TheConstants.{MOST_NODES, MOST_KEYS, MOST_ROUNDS};
 ghost use Rattle.model.specs.Tables.{IsCluster, HoldsOfEach};
-ghost use Rattle.model.specs.OwnerListView.{list_of_owner, lists_in, entries_of, AreWrites};
+ghost use Rattle.model.specs.OwnerListView.{all_writes, list_of_owner, lists_in, entries_of, AreWrites};
 ghost use Rattle.model.specs.Numbers.{write_numbered};
 ghost use Rattle.planes.specs.Elementwise.{AreChanged};
 ghost use Rattle.planes.specs.Lags.{IsLeastBehind};
@@ -14,9 +14,11 @@ ghost use Rattle.round_tables.specs.Histories.{BirthsRise, AreWrittenBy, StandsA
 ghost use Rattle.bench_types.specs.Sums.{most_below};
 ghost use Rattle.model.specs.Figures.{rounds_behind, figures_of};
 ghost use Rattle.version_tables.specs.inner.Missed.{IsLastNumber};
+ghost use Rattle.version_tables.specs.inner.RoundEnds.{AreEnds};
 ghost use Rattle.version_tables.specs.inner.Pieces.{keys_in, tables_of_views, AreAlike, MayBeCounted, AreLaidAsNumbers, AreLastNumbers, AreCellsOf, AreCountedGrids, CountsPieceOf, CountsPartOf, numbers_in, IsOwnNumber, IsPieceOf, MayWalk, WalksFrom, most_lag};
 
 use crate::histories::Histories;
+use crate::rounds::{Ends, row_of};
 use crate::tables::{VersionTable, Written};
 use bench_types::{Fault, Figures};
 use owner_lists::OwnerList;
@@ -254,12 +256,29 @@ fn lag_of_owner<N: Number>(
     0
 }
 
-// The most rounds that a copy of any owner has missed a write.
+// Whether all that an owner wrote behind a number was written after a round.
+fn is_after<N: Number>(ends: Ends<N>, nodes: usize, owner: usize, number: N, round: u32) -> bool
+    requires nodes { nodes ≤ MOST_NODES }
+    requires ends { length ends.numbers.now ≡ (ends.rounds + 1) * nodes }
+    requires owner { owner < nodes }
+    ensures { IsTrue result → (round ≤ ends.entry.rounds)
+        × (cell (map N.number ends.entry.numbers.now) nodes owner round ≤ N.number number) }
+{
+    if ends.rounds < round {
+        return false;
+    }
+    let row = row_of(ends.numbers, nodes, ends.rounds, round);
+    row[owner].is_upto(number)
+}
+
+// The most rounds that a copy of any owner has missed a write. An owner's list is read only where that may be more than
+// of the owners before it.
 fn greatest_lag<N: Number>(
     alloc: Global,
     lists: &[OwnerList],
     least: &[N],
     last: &[N],
+    ends: Ends<N>,
     keys: usize,
     round: u32,
 ) -> Result<u32, Fault>
@@ -268,6 +287,7 @@ fn greatest_lag<N: Number>(
         → MayWalk round N.most (length lists.now) keys r (list_of_owner lists.now r) (map N.number least.now) }
     requires last { HasEachPlace (length lists.now) keys (λ r k y. IsLastNumber (list_of_owner lists.now r) k y)
         (map N.number last.now) }
+    requires ends { AreEnds (all_writes lists.now) (length lists.now) ends.rounds (map N.number ends.numbers.now) }
     ensures lag { IfOk result (λ x. x ≡ most_below (length lists.now)
         (λ r. most_lag round (length lists.now) keys r (list_of_owner lists.now r) (map N.number least.now))) }
     ensures only { IsOkUnless result OutOfMemory }
@@ -276,7 +296,11 @@ fn greatest_lag<N: Number>(
     let firsts = least_behind(alloc, least, last, nodes, keys)?;
     let mut greatest = 0;
     for owner in 0..nodes {
-        let lag = lag_of_owner(&lists[owner], owner, firsts[owner], least, nodes, round);
+        let first = firsts[owner];
+        if is_after(ends, nodes, owner, first, round.saturating_sub(greatest)) {
+            continue;
+        }
+        let lag = lag_of_owner(&lists[owner], owner, first, least, nodes, round);
         greatest = greatest.max(lag);
     }
     Ok(greatest)
@@ -285,8 +309,8 @@ fn greatest_lag<N: Number>(
 // How many numbers are worth a thread of their own.
 const NUMBERS_OF_A_THREAD: usize = 65_536;
 
-// How many tables a thread gets: all where they are too few for a second thread, else about half as many as would give
-// each thread a part. It bears on time and memory alone.
+// How many tables a thread gets: all where they are too few for a second thread, else as many as give each processor a
+// thread. It bears on time and memory alone.
 fn tables_of_a_thread(rt: &impl Threads, tables: usize, keys: usize) -> usize
     ensures { 1 ≤ result }
 {
@@ -295,7 +319,7 @@ fn tables_of_a_thread(rt: &impl Threads, tables: usize, keys: usize) -> usize
     if tables <= least {
         return tables.saturating_add(1);
     }
-    (tables / current_num_threads(rt) / 2)
+    (tables / current_num_threads(rt))
         .max(least)
         .saturating_add(1)
 }
@@ -356,9 +380,10 @@ fn counted<N: Number, H: Written>(
 /// entries of copies are of an older generation than their owner's.
 ///
 /// It works in threads, where there are enough nodes, and what it answers does not depend on how. Each
-/// goes once over the numbers of some of the tables. Then each owner's list is walked over from the first
-/// write that some copy misses, if any, to the next one. It takes memory for the numbers of a table for
-/// each part of the tables and twice more. An error is lack of that memory (`OutOfMemory`).
+/// goes once over the numbers of some of the tables. Then an owner's list is walked over from the first
+/// write that some copy misses, if any, to the next one, where that may be older than what was found so far.
+/// It takes memory for the numbers of a table for each part of the tables and twice more. An error is lack of
+/// that memory (`OutOfMemory`).
 pub fn figures<N: Number, H: Written>(
     rt: &(impl Threads + Sync),
     alloc: Global,
@@ -379,7 +404,11 @@ pub fn figures<N: Number, H: Written>(
     let lists = histories.lists();
     let last = last_numbers(alloc, tables, keys)?;
     let whole = counted(rt, alloc, tables, histories, &last)?;
-    let greatest = greatest_lag(alloc, lists, &whole.least, &last, keys, round)?;
+    let ends = Ends {
+        numbers: histories.ends(),
+        rounds: histories.rounds(),
+    };
+    let greatest = greatest_lag(alloc, lists, &whole.least, &last, ends, keys, round)?;
     Ok(Figures {
         stale: whole.stale,
         greatest,

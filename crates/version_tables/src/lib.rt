@@ -15,9 +15,9 @@
 //!   at hand.
 //! - What surely fits isn't planned. A table has of an owner no more numbers above another's greatest one than keys,
 //!   and no more than the two greatest ones are apart, since an owner's numbers differ. Where the sum of these fits the
-//!   budget both ways, no message is lost and no copy is of an earlier generation, both tables take all in one pass
-//!   over their cells (`may_merge`, `merge`): there is no delta, and no memory is taken. On the scenarios of
-//!   `scripts/benchmark` in a scuttle mode that is most exchanges.
+//!   budget, or else the count of the numbers does, both ways, no message is lost and no copy is of an earlier
+//!   generation, both tables take all in one pass over their cells (`may_merge`, `merge`): there is no delta, and no
+//!   memory is taken. On the scenarios of `scripts/benchmark` in a scuttle mode that is most exchanges.
 //! - The round up to which a precise delta goes is found by halving with a step that doubles from the near end: mostly
 //!   it is one of the first. No clause says that sizes rise with the rounds; that few fit and enough don't is all that
 //!   is kept.
@@ -27,8 +27,9 @@
 //!   the plan doesn't go over all planes once more.
 //! - Where entries are counted nothing is weighed, and where bytes are, sizes are looked up only if the count times the
 //!   largest size doesn't fit.
-//! - The figures are worked out in threads over numbers alone, slices of each table's cells, in about twice as many
-//!   pieces as there are threads.
+//! - The figures are worked out in threads over numbers alone, slices of each table's cells, in as many pieces as there
+//!   are threads: each piece has a thread of its own, whose start takes time. Then an owner's list is read only where
+//!   the ends of the rounds show that a copy of it may be behind for longer than those of the owners before it.
 #![tactic(auto)]
 
 mod breadths;

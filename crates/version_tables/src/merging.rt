@@ -4,6 +4,7 @@
 ghost use Rattle.std.specs.Prelude.{◌≡◌, ℕ, ◌*◌, ◌<◌, ◌≤◌, ◌↔◌, IsTrue, slice_index};
 ghost use Rattle.bench_types.specs.Budget.{amount_of, largest_share};
 ghost use Rattle.bench_types.specs.declared.limits.TheConstants.{MOST_NODES, MOST_KEYS};
+ghost use Rattle.planes.specs.Planes.{most_ahead};
 ghost use Rattle.version_tables.specs.Views.{table_in};
 ghost use Rattle.version_tables.specs.inner.Histories.{bases_in, FitsHistories};
 ghost use Rattle.version_tables.specs.inner.Merged.{count_ahead, AreCurrent, HasMerged, HasNoNewer, MayMerge, StaysMerged, SurelyFits};
@@ -25,7 +26,28 @@ fn surely_fit(budget: Budget, count: u32) -> bool
     }
 }
 
-// Whether all that each of two tables may have above the other's greatest numbers surely fits.
+// Whether all that one table has above another's greatest numbers surely fits. It is counted only where it doesn't fit by
+// how far these are apart.
+fn all_ahead_fits<N: Number, H: Written>(
+    from: &VersionTable<N, H>,
+    to: &VersionTable<N, H>,
+    budget: Budget,
+    most: u32,
+) -> bool
+    requires nodes { from.now.nodes ≡ to.now.nodes }
+    requires most { most ≡ most_ahead from.now.nodes from.now.keys from.now.greatest to.now.greatest }
+    ensures { IsTrue result → SurelyFits budget from.now to.now }
+{
+    let nodes = from.nodes() as usize;
+    let keys = from.keys() as usize;
+    if surely_fit(budget, most) {
+        return true;
+    }
+    let count = planes::total_above(from.cells(), nodes, keys, to.greatest(), from.greatest());
+    surely_fit(budget, count)
+}
+
+// Whether all that each of two tables has above the other's greatest numbers surely fits.
 fn all_fits<N: Number, H: Written>(
     initiator: &VersionTable<N, H>,
     responder: &VersionTable<N, H>,
@@ -37,7 +59,8 @@ fn all_fits<N: Number, H: Written>(
     ensures forth { IsTrue result → SurelyFits budget initiator.now responder.now }
 {
     let most = planes::most_ahead(initiator.greatest(), responder.greatest(), initiator.keys());
-    surely_fit(budget, most.first) && surely_fit(budget, most.second)
+    all_ahead_fits(responder, initiator, budget, most.first)
+        && all_ahead_fits(initiator, responder, budget, most.second)
 }
 
 // Whether no owner of a table has begun a second generation.
@@ -110,8 +133,8 @@ pub(crate) fn may_merge<N: Number, H: Written>(
         DigestKind::Scuttle => {
             has_no_newer(initiator, responder)
                 && has_no_newer(responder, initiator)
-                && all_fits(initiator, responder, rules.budget)
                 && are_current(initiator, responder, histories)
+                && all_fits(initiator, responder, rules.budget)
         }
         DigestKind::Precise => false,
     }

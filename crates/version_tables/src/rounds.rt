@@ -164,8 +164,8 @@ fn raise_to_end<N: Number>(marks: &mut [N], ends: &[N], rounds: u32, round: u32)
     raise(marks, row);
 }
 
-// The ends of a round.
-fn row_of<N: Number>(ends: &[N], nodes: usize, rounds: u32, round: u32) -> &[N]
+/// The ends of a round.
+pub(crate) fn row_of<N: Number>(ends: &[N], nodes: usize, rounds: u32, round: u32) -> &[N]
     requires nodes { nodes ≤ MOST_NODES }
     requires ends { length ends.now ≡ (rounds + 1) * nodes }
     requires round { round ≤ rounds }

@@ -94,7 +94,9 @@ impl<'a, N: Number> Offer<'a, N> {
         }
     }
 
-    // How many numbers the parts of some owners have, from a first one on.
+    // How many numbers the parts of some owners have, from a first one on. It stands outside the loop over turns, which
+    // seldom needs it.
+    #[inline(never)]
     fn count_parts(&self, first: First, level: &Level<N>, start: usize, counts: &mut [N])
         requires offer { IsOffer N.number N.most self.now }
         requires level { IsLevel first N.number self.now level.now }

@@ -89,6 +89,7 @@ impl<'a, N: Number> Offer<'a, N> {
     }
 
     /// What an owner's numbers above one mark and up to another take of it.
+    #[inline(never)]
     pub(crate) fn weight_of(&self, owner: usize, low: N, high: N) -> u32
         requires offer { IsOffer N.number N.most self.now }
         requires owner { owner < self.now.nodes }

@@ -1,5 +1,5 @@
 -- Two tables that take of each other all that is above their own greatest numbers. Source: this project.
-use Rattle.std.specs.Prelude.{◌≡◌, ℕ, ◌*◌, ◌<◌, ◌≤◌, ◌&&◌, false, max, nat_lt, nat_le, List, slice_index}
+use Rattle.std.specs.Prelude.{◌≡◌, ℕ, ◌*◌, ◌<◌, ◌≤◌, ◌&&◌, ◌⊎◌, false, max, nat_lt, nat_le, List, slice_index}
 use Rattle.bench_types.specs.declared.entries.Entry.{Entry}
 use Rattle.bench_types.specs.declared.exchanges.Budget.{Budget}
 use Rattle.bench_types.specs.declared.exchanges.DigestKind.TheVariants.{Scuttle}
@@ -22,9 +22,11 @@ AreCurrent bases v =
 abbrev pub count_ahead : VersionTableView → VersionTableView → ℕ
 count_ahead from to = total_above from.nodes from.keys from.cells to.greatest
 
--- these surely fit
+-- these surely fit, as few as the greatest numbers are apart, or as they are counted
 abbrev pub SurelyFits : Budget → VersionTableView → VersionTableView → Type 0
-SurelyFits budget from to = most_ahead from.nodes from.keys from.greatest to.greatest * largest_share budget ≤ amount_of budget
+SurelyFits budget from to =
+    (most_ahead from.nodes from.keys from.greatest to.greatest * largest_share budget ≤ amount_of budget)
+    ⊎ (count_ahead from to * largest_share budget ≤ amount_of budget)
 
 -- one table has nothing of the other's node above what that has itself
 abbrev pub HasNoNewer : VersionTableView → VersionTableView → Type 0

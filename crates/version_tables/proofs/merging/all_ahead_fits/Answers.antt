@@ -12,8 +12,12 @@ ahead-most nodes keys numbers others few_nodes few_keys =
 -- no more numbers pass a test than there are
 total-most : (nodes keys : ℕ) (test : ℕ → ℕ → Bool) → nodes ≤ MOST_NODES → keys ≤ MOST_KEYS → total_of nodes keys test ≤ MOST_NODES * MOST_KEYS
 total-most nodes keys test few_nodes few_keys =
-    omega (arith, few_nodes, sum_below-most (λ r. sum_below keys (λ key. if test r key then 1 else 0)) nodes MOST_KEYS
-    (λ r lt. omega (arith, few_keys, sum_below-most (λ key. if test r key then 1 else 0) keys 1 (λ key in_keys. one (test r key)))))
+    omega (
+      arith,
+      few_nodes,
+      sum_below-most (λ r. sum_below keys (λ key. if test r key then 1 else 0)) nodes MOST_KEYS
+          (λ r lt. omega (arith, few_keys, sum_below-most (λ key. if test r key then 1 else 0) keys 1 (λ key in_keys. one (test r key)))),
+    )
   where
     one : (b : Bool) → (if b then 1 else 0) ≤ 1
     one true = omega arith

@@ -232,8 +232,7 @@ class Decision:
         between = [smaller for smaller, _ in it.next_smaller(self.budget, self.mode) if smaller > it.knee]
         if not between or not self.suffices or (between[0], self.mode) in self.found.rows:
             return ""
-        return (f"The last answer has {it.whole(between[0])} entries too, and takes them if nothing is better than they "
-                "are")
+        return f"The last answer has {it.whole(between[0])} entries too, and takes them if nothing is better than that"
 
     def all_that_fits(self):
         """The largest budget that was looked at, in words."""
@@ -523,7 +522,7 @@ def of_calls(it):
                 "More than one peer in an interval: such a cluster is faster. fanout=3 looks at three."]
     return [f"Latency: right where an exchange takes much less than the {float(it.seconds):.2g} s between two of the "
             f"{it.fanout} calls of an interval, which come one after another here; else, and where a node makes them "
-            "all at once, the cluster is slower."]
+            "all at once, the cluster is slower than these figures."]
 
 
 def left_out(decision):

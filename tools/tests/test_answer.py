@@ -60,7 +60,7 @@ class Decided(unittest.TestCase):
         self.assertEqual("With nodes * writes = 600 entries it is 8 to 9 rounds: worse under all seeds by more than "
                          "they differ", found.why_not_knee())
         self.assertEqual(["", f"{found.why_not_knee()}.", "The last answer has 900 entries too, and takes them if "
-                          "nothing is better than they are."], [found.reserve(), *answer.first_words(found)[2:4]])
+                          "nothing is better than that."], [found.reserve(), *answer.first_words(found)[2:4]])
 
     def test_between(self):
         """With 900, one and a half times 600, no seed of the 1000 is better by more than they differ: 900 are taken,
@@ -336,8 +336,8 @@ class Healed(unittest.TestCase):
         both = (200, found.mode), (250, found.mode)
         heals = answer.Healing(it, found.mode, {stage: Taken(rounds, *both) for stage, rounds in taken.items()})
         self.assertIn("  with the reserve    if your program fills the packet anyway, a split is healed after 8 to 9 "
-                      "rounds; a restart is healed after 3 to 4 rounds; a forgotten state is gone from all copies after "
-                      "4 to 5 rounds; wait 7 rounds between groups", answer.in_words(found, heals))
+                      "rounds; a restart is healed after 3 to 4 rounds; a forgotten state is gone from all copies "
+                      "after 4 to 5 rounds; wait 7 rounds between groups", answer.in_words(found, heals))
         # (for the first answer it isn't run, so that says where to read it)
         heals = answer.Healing(it, found.mode, {stage: Taken(rounds, both[0]) for stage, rounds in taken.items()})
         self.assertFalse(heals.has_reserve(found))

@@ -57,7 +57,7 @@ class Enough(unittest.TestCase):
         self.assertEqual(8, rules.healed_level(7))
 
     def test_words_of_the_guide(self):
-        guide = (pathlib.Path(__file__).resolve().parents[2] / "docs/guide.md").read_text()
+        guide = " ".join((pathlib.Path(__file__).resolve().parents[2] / "docs/guide.md").read_text().split())
         self.assertIn(rules.HEALED.format(31, 50), guide)
         self.assertIn(rules.FORGETFUL, guide)
 

@@ -135,7 +135,7 @@ class Stages:
         it = self.study
         if stage != "split" or it.split == it.told["split"]:
             return ""
-        return f" (a split of {it.split} in place of {it.told['split']}, as each key is written anew in them)"
+        return f" (a split of {it.split} stands for {it.told['split']}, as each key is written anew in it)"
 
     def decide(self, stage, pairs):
         """What follows from these runs of a stage, once the mode that is chosen was run with nodes * writes too."""

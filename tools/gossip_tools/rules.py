@@ -133,9 +133,8 @@ DATAGRAM = 65507
 WAIT_MORE = 2
 NO_GUARANTEE = "no guarantee, as of 95 groups that waited so in a test two weren't healed"
 # What a restart takes where nodes are down for longer than the one round of the test.
-DOWN_FOR_LONGER = ("Nodes that are down for longer take a round or two more: one group of 5 of 200 nodes with 6 keys "
-                   "was healed after 4 to 7 rounds where it was down for one, and after 6 to 8 where it was down for "
-                   "60.")
+DOWN_FOR_LONGER = ("Nodes that are down for longer take up to two rounds more: one group of 5 of 200 nodes with 6 keys "
+                   "took 4 to 7 rounds to heal where it was down for one, and 6 to 8 where it was down for 60.")
 
 
 def healed_level(most_before):

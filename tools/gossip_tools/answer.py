@@ -451,8 +451,9 @@ def warnings(decision):
         said.append("With room for so few entries a large one holds up smaller ones behind it: give the delta room for "
                     "one mean entry more than the sum says.")
     if it.parts > 1:
+        calls = f" {rules.TENTH_OF_CALLS}" if it.fanout > 1 else ""
         said.append(f"A tenth was run, {it.nodes} nodes with a tenth of the packet, in scuttle-depth alone. "
-                    f"{rules.TENTH}")
+                    f"{rules.TENTH}{calls}")
         if not rules.tenth_holds(decision.of_knee()):
             said.append(f"This budget is {decision.times()}, where a tenth wasn't seen to hold.")
     return said + (of_healing(it) if decision.suffices else [])

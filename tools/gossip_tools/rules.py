@@ -20,6 +20,8 @@ TENTH = ("A tenth of the nodes stands for the whole in scuttle-depth: ten times 
          f"{TENTH_MORE[0]} to {TENTH_MORE[1]} rounds more in `greatest`, with a budget of `nodes * writes` to twice "
          "that, and with half of it 1 to 8 more. At 0.14 of it, with one key, 100, 1000 and 4000 nodes had 25 to 28, "
          "33 to 36 and 39 to 41 rounds.")
+TENTH_OF_CALLS = ("Where each calls three others, ten times 100 and 400 nodes had 2 to 4 more, but under three seeds "
+                  f"alone, so {TENTH_MORE[1]} are added there too.")
 
 
 def band(figure):

@@ -4,9 +4,10 @@ gossip_advise -o FOLDER
 Says which mode and which budget to take for a cluster, how stale its copies get, and how long it takes to heal. It runs
 the modes with what fits and with nodes * writes, under five seeds, on all cores: first few intervals, for a first
 answer, then what is to heal, then many intervals. Where no budget that fits is enough, it says so, and what would be.
-The folder, `advice` where none is named, gets the scenarios, the reports, `answer.txt` and the page `report.html`. It
-can be stopped, which loses the runs under way: the same call goes on. Without numbers it takes those that the folder
-has. Restarts and a split may be asked for in one call, so that what comes before them is run once.
+The folder, `advice` where none is named, gets the scenarios, the reports, `answer.txt` and the page `report.html`; both
+have the first answer until the last one comes. It can be stopped, which loses the runs under way: the same call goes
+on. Without numbers it takes those that the folder has. Restarts and a split may be asked for in one call, so that what
+comes before them is run once.
 
   nodes, keys, writes    how many nodes; the things that each tells of itself; how many of these change in an interval
   entry     the bytes of a mean entry: key, version and value
@@ -122,11 +123,19 @@ class Stages:
         text, runs = self.runs(stage, pairs)
         if to_do := [name for name in runs if not self.progress.is_over(f"{stage}/{name}")]:
             left = f", {in_words(self.progress.left())} in all" if self.progress.left() else ""
-            print(f"{stage}: {len(to_do)} runs of {self.study.rounds(stage)} rounds{left}", file=sys.stderr, flush=True)
+            print(f"{stage}: {len(to_do)} runs of {self.study.rounds(stage)} rounds{self.shorter(stage)}{left}",
+                  file=sys.stderr, flush=True)
         sweep.carry_out(self.folder / stage, text, runs, self.program, self.progress, os.environ.get("HOSTS"),
                         "gossip_advise")
         self.made[stage] = self.made.get(stage, set()) | pairs
         return study.Found(self.study, stage, self.folder / stage, pairs)
+
+    def shorter(self, stage):
+        """Why a stage has fewer rounds than were asked for, in words."""
+        it = self.study
+        if stage != "split" or it.split == it.told["split"]:
+            return ""
+        return f" (a split of {it.split} stands for {it.told['split']}, as each key is written anew in it)"
 
     def decide(self, stage, pairs):
         """What follows from these runs of a stage, once the mode that is chosen was run with nodes * writes too."""
@@ -169,11 +178,24 @@ def call_with_enough(decision, folder):
     return shlex.join(["gossip_advise", "-o", f"{folder}-enough", *asked])
 
 
-def first_answer(it, stages):
-    """The first answer, from few intervals, and what heals with its budget."""
+class Told:
+    """What is told of an answer, line by line, which the folder keeps as answer.txt as far as it is told."""
+
+    def __init__(self, folder):
+        self.folder, self.lines = folder, []
+
+    def tell(self, lines):
+        print(*lines, sep="\n", flush=True)
+        self.lines += lines
+        files.put(self.folder / "answer.txt", "\n".join(self.lines) + "\n")
+
+
+def first_answer(it, stages, check_sum):
+    """The first answer, from few intervals, and what heals with its budget. The folder has it until the last answer
+    comes."""
     stages.expect(it.usual, min(it.knee, it.most(it.usual)), "few", "many", *it.heals())
-    few = stages.decide("few", it.wanted(it.usual))
-    print(*answer.first_words(few, call_with_enough(few, stages.folder)), sep="\n", flush=True)
+    few, told = stages.decide("few", it.wanted(it.usual)), Told(stages.folder)
+    told.tell(answer.first_words(few, call_with_enough(few, stages.folder)))
     if not few.suffices:
         print(flush=True)
         return few
@@ -181,8 +203,10 @@ def first_answer(it, stages):
     healed = {}
     for stage in it.heals():
         healed[stage] = stages.carry_out(stage, {(few.budget, few.mode)})
-        print(*answer.Healing(it, few.mode, healed).lines_now(stage, few.budget), sep="\n", flush=True)
-    print("Now all of it is refined, which takes longer.", "", sep="\n", flush=True)
+        told.tell(answer.Healing(it, few.mode, healed).lines_now(stage, few.budget))
+    page.make(stages.folder, few, answer.Healing(it, few.mode, healed) if healed else None, stages.made, check_sum)
+    told.tell(answer.last_of_first_words(few, stages.folder))
+    print(flush=True)
     return few
 
 
@@ -201,13 +225,12 @@ def last_answer(it, stages, few):
 def study_of(it, folder, program, check_sum):
     """Carries out the stages, and prints the answers."""
     stages = Stages(it, folder, program)
-    few = first_answer(it, stages)
+    few = first_answer(it, stages, check_sum)
     decision, healing = last_answer(it, stages, few)
     missing = answer.not_run(decision, call_with_enough(decision, folder), few.suffices)
     lines = answer.in_words(decision, healing, missing)
-    files.put(folder / "answer.txt", "\n".join(lines) + "\n")
-    said = page.make(folder, decision, healing, stages.made, check_sum, missing)
-    print(*lines, "", said, sep="\n")
+    Told(folder).tell(lines)
+    print("", page.make(folder, decision, healing, stages.made, check_sum, missing), sep="\n")
 
 
 def main(words):

@@ -43,6 +43,9 @@ def unit(study):
     return "rounds" if study.fanout == 1 else "intervals"
 
 
+SURELY = "under all seeds by more than they differ"
+
+
 class Decision:
     """What follows from the runs of a stage by the rules."""
 
@@ -54,9 +57,13 @@ class Decision:
         self.suffices = bool(enough)
         self.mode = rules.mode_of(enough) if enough else study.usual
         self.most = self.budget = study.most(self.mode)
-        if self.suffices and study.knee < self.most and self.is_enough(study.knee, self.mode):
-            if rules.takes_knee(self.worst_with(study.knee, self.mode), enough.values()):
-                self.budget = study.knee
+        # (what that is held against: all that suffices from nodes * writes on, and the other modes)
+        self.others = list(enough.values())
+        if self.suffices and study.knee < self.most:
+            from_knee = {it: self.worst_with(it, self.mode) for it in self.of_mode()
+                         if it >= study.knee and self.is_enough(it, self.mode)}
+            self.others += from_knee.values()
+            self.budget = rules.least_that_is_taken(from_knee, enough.values()) or self.most
         self.worst = self.worst_with(self.budget, self.mode)
         self.cut = found.cut(self.budget, self.mode, self.window)
         self.close = [it for it in self.figures if it != self.mode and rules.are_close(self.figures[it], self.worst)]
@@ -68,15 +75,26 @@ class Decision:
         """Whether a budget was run with a mode, and is enough."""
         return (budget, mode) in self.found.rows and self.found.suffices(budget, mode, self.window)
 
+    def of_mode(self):
+        """The budgets that were run with the chosen mode."""
+        return sorted(it for it, mode in self.found.rows if mode == self.mode)
+
     def is_worse(self, budget):
         """Whether a budget that was run is worse than the one that is taken."""
         return rules.is_better(self.worst, self.worst_with(budget, self.mode))
 
+    def is_out(self, budget):
+        """Whether a budget that was run isn't taken, be it that it still rises, or that something is better."""
+        worst = self.worst_with(budget, self.mode)
+        return not self.is_enough(budget, self.mode) or any(
+            rules.is_better(it, worst) for it in [self.worst, *self.others])
+
     def smaller(self):
-        """The least budget from which on all are too close to call with the chosen one, if it isn't that itself."""
+        """The least budget from which on nothing is better, if that isn't the chosen one itself. It is below nodes *
+        writes, as from there on it would be taken."""
         least = self.budget
-        for it in sorted((it for it, mode in self.found.rows if mode == self.mode and it < self.budget), reverse=True):
-            if self.is_worse(it):
+        for it in reversed([it for it in self.of_mode() if it < self.budget]):
+            if self.is_out(it):
                 break
             least = it
         return least if least < self.budget else None
@@ -111,9 +129,9 @@ class Decision:
         it = self.study
         if self.budget >= it.knee:
             return ""
-        at_knee, with_digest = it.knee, it.told["shared"] == "yes" and it.told["digest"]
+        at_knee = it.knee
         said = (f"packet={it.packet(self.mode)} has room for {it.knee_name} = {it.whole(at_knee)} entries"
-                f"{' and the digest' if with_digest else ''}")
+                f"{' and the digest' if self.shares() else ''}")
         if (at_knee, self.mode) not in self.found.rows:
             return said
         if not self.knee_suffices():
@@ -135,9 +153,29 @@ class Decision:
     def whole_budget(self):
         return self.study.whole(self.budget)
 
+    def packet(self):
+        """The bytes of a packet with room for the budget."""
+        return self.study.packet(self.mode, self.whole_budget())
+
+    def shares(self):
+        """Whether the digest takes some of the packet."""
+        return self.study.told["shared"] == "yes" and bool(self.study.told["digest"])
+
     def takes(self):
         """The decision, in words."""
-        return f"{self.mode} with {self.room()}"
+        with_digest = "with the digest " if self.shares() else ""
+        return f"{self.mode} with {self.room()}; {with_digest}packet={self.packet()}"
+
+    def tells_all(self):
+        """What to reckon with where a node tells all its keys as it starts, in words; empty where no groups forget."""
+        it = self.study
+        if it.tells_all() is None:
+            return ""
+        entries, name = it.tells_all()
+        packet = f"packet={it.packet(self.mode, entries)}"
+        packet = packet if entries > self.whole_budget() else f"{packet}; this budget has room for them"
+        return (f"In Cassandra a node tells all its keys as it starts, here as many as it writes. For that reckon with "
+                f"{name} = {entries} entries, {packet}")
 
     def most_that_fits(self):
         """The largest budget where none is enough, in words. The modes there all still rise, so none is named."""
@@ -164,20 +202,37 @@ class Decision:
         return f"room for {self.whole_budget()} entries in a delta, {int(in_bytes)} bytes ({why})"
 
     def reserve(self):
-        """What more than nodes * writes brings, in words; empty where no more fits."""
-        it = self.study
-        if not self.suffices or self.most <= it.knee:
+        """What more than the budget brings, in words; empty where no more fits."""
+        if not self.suffices or self.budget == self.most:
             return ""
-        if self.budget < self.most:
-            return (f"With {self.all_that_fits()} it is {briefly(it, self.figures[self.mode])}: not better under all "
-                    f"seeds by more than they differ. So packet={it.packet(self.mode)} is enough, and what is above "
-                    "that is a reserve")
+        worst = briefly(self.study, self.figures[self.mode])
+        return (f"With {self.all_that_fits()} it is {worst}: not better {SURELY}. So packet={self.packet()} is enough, "
+                "and what is above that is a reserve")
+
+    def why_not_knee(self):
+        """Why more than nodes * writes is taken, in words; empty where it isn't."""
+        it = self.study
+        if not self.suffices or self.budget <= it.knee:
+            return ""
         at_knee = f"With {it.knee_name} = {it.whole(it.knee)} entries"
         if not self.knee_suffices():
             return f"{at_knee} `greatest` still rises"
-        why = (": worse under all seeds by more than they differ" if self.is_worse(it.knee) else
-               ", and another mode with what fits is better than that")
-        return f"{at_knee} it is {briefly(it, self.worst_with(it.knee, self.mode))}{why}"
+        worst = self.worst_with(it.knee, self.mode)
+        why = ", and another mode with what fits is better than that"
+        if self.is_worse(it.knee):
+            why = f": worse {SURELY}"
+        elif rules.is_better(self.figures[self.mode], worst):
+            why = f": worse than {self.all_that_fits()} {SURELY}"
+        return f"{at_knee} it is {briefly(it, worst)}{why}"
+
+    def still_to_run(self):
+        """Which budget between nodes * writes and a larger one the last answer may take, in words; empty where there is
+        none."""
+        it = self.study
+        between = [smaller for smaller, _ in it.next_smaller(self.budget, self.mode) if smaller > it.knee]
+        if not between or not self.suffices or (between[0], self.mode) in self.found.rows:
+            return ""
+        return f"The last answer has {it.whole(between[0])} entries too, and takes them if nothing is better than that"
 
     def all_that_fits(self):
         """The largest budget that was looked at, in words."""
@@ -227,7 +282,9 @@ class Healing:
             return f"of half of the nodes for {it.split} {unit(it)}{for_all}"
         each, groups = it.restarting()
         harder = ", a harder test than one group" if groups > 1 else ""
-        return f"of {in_nodes(each)} in each of {groups} {unit(it)}{harder}" if it.restarts else "of one node"
+        if not it.restarts:
+            return f"of one node, down for one {unit(it)[:-1]}"
+        return f"of {in_nodes(each)} in each of {groups} {unit(it)}, each down for one{harder}"
 
     def lines_now(self, stage, budget):
         """The lines of a stage as soon as it is run. How long to wait is known from the restart; where nodes forget,
@@ -236,7 +293,7 @@ class Healing:
         if stage in leaves[-1:]:
             lines.append(self.rolling(budget))
         elif stage == "restart" and None not in self.taken(stage, budget):
-            lines.append(row(ROLLING, f"{self.wait_at_least(budget)}{self.run}"))
+            lines.append(row(AT_LEAST, f"{self.wait_at_least(budget)}{self.run}"))
         return lines
 
     def all_lines(self, budget):
@@ -264,8 +321,8 @@ class Healing:
     def wait_at_least(self, budget):
         """How long to wait as far as the restart alone tells, in words."""
         rounds = [max(self.taken("restart", budget)) + rules.WAIT_MORE]
-        return (f"wait at least {lasting(self.study, rounds)}, by the restart alone; the forgotten state is still to "
-                "be run")
+        return (f"{lasting(self.study, rounds)}, by the restart alone; the line `{ROLLING}` takes the place of this "
+                "one, once the forgotten state was run")
 
     def wait(self, budget):
         """How long to wait between the groups of a rolling restart, in words."""
@@ -275,7 +332,12 @@ class Healing:
             return "no wait is known, as not all of this is over in the rounds that were run: take a larger budget"
         who = f"a group of {restarts} nodes" if restarts and restarts > 1 else "a node"
         return (f"wait {lasting(self.study, [rounds])}, after {who} is up again: {rules.WAIT_MORE} more than "
-                f"{longest}, as a later group may take longer")
+                f"{longest}, as a later group may take longer; {rules.NO_GUARANTEE}")
+
+    def has_reserve(self, decision):
+        """Whether what heals was run with a reserve."""
+        return decision.budget < decision.most and all((decision.most, self.mode) in it.rows
+                                                       for it in self.stages.values())
 
     def with_reserve(self, decision):
         """How soon all that fits would heal, in words."""
@@ -286,13 +348,14 @@ class Healing:
             said.append(f"{HEALED[stage]} is {healed}")
         rounds = self.waited(decision.most) if self.study.leaves() else None
         said += [f"wait {briefly(self.study, [rounds])} between groups"] if rounds else []
-        return f"{'; '.join(said)}{self.run}"
+        return f"if your program fills the packet anyway, {'; '.join(said)}{self.run}"
 
 
 # What heals, by its stage, and the words for that.
 HEALED = {"split": "a split", "restart": "a restart", "forgotten": "a forgotten state"}
 ENDS = {"split": "healed", "restart": "healed", "forgotten": "gone from all copies"}
 ROLLING = "a rolling restart"
+AT_LEAST = "wait at least"
 IN_A_ROW = 98
 
 
@@ -304,19 +367,34 @@ def row(name, said):
 def first_words(decision, call=""):
     """The first answer, from few intervals."""
     it, few, to_knee = decision.study, decision.window[1], decision.to_knee()
-    free = [] if it.told["digest"] else of_digest(decision)
     since = f"{few} rounds" if it.fanout == 1 else f"{few // it.fanout} intervals of {it.fanout} rounds"
     if decision.suffices:
-        said = [f"First answer, from {since}: {decision.takes()}.", f"Worst staleness {decision.staleness()}.",
-                f"{decision.reserve()}." if decision.reserve() else "",
-                f"That is below {it.knee_name}. {to_knee}." if to_knee else "", decision.forgetful(), *free]
+        more = (decision.reserve(), decision.why_not_knee(), decision.still_to_run())
+        said = [f"First answer, from {since}: {decision.takes()}.",
+                f"{decision.tells_all()}." if decision.tells_all() else "",
+                f"Worst staleness {decision.staleness()}.", *(f"{it}." for it in more if it),
+                f"That is below {it.knee_name}. {to_knee}." if to_knee else "", decision.forgetful(), *limits(decision),
+                *(of_calls(it) if it.fanout > 1 else [])]
     else:
         said = [f"First answer, from {since}: no budget that fits is enough, still rising after {few} rounds.",
-                decision.most_that_fits(), decision.forgetful(), f"{to_knee}." if to_knee else "", *free,
+                decision.most_that_fits(), decision.forgetful(), f"{to_knee}." if to_knee else "", *limits(decision),
                 f"Whether it levels off later is seen from {it.rounds('many')} rounds now."]
         if call and it.asks_for_healing():
             said += [f"{WHAT_HEALS} are run only if it does. To see them with a budget that is enough:", f"  {call}"]
     return [it for it in said if it]
+
+
+def last_of_first_words(decision, folder):
+    """What to know where one stops at the first answer, a budget being enough."""
+    it = decision.study
+    said = [rules.DOWN_FOR_LONGER] if it.leaves() else []
+    if it.heals() and decision.reserve():
+        said.append(f"All these times are for packet={decision.packet()}. If your program fills a larger one anyway, "
+                    "copies heal sooner: the last answer has that in the line `with the reserve`.")
+    other = ", and by that another budget be taken" if decision.most > it.knee else ""
+    return [*said, "Now all of it is refined, which takes longer. As more rounds are looked at then, the worst "
+            f"staleness may be a round or so higher{other}. Until then {folder / 'answer.txt'} and "
+            f"{folder / 'report.html'} have this first answer."]
 
 
 WHAT_HEALS = "A split, a restart and a rolling restart"
@@ -347,8 +425,12 @@ def too_close(decision):
     if smaller := decision.smaller():
         worst = briefly(it, decision.worst_with(smaller, decision.mode))
         said.append(f"{decision.mode} with a budget from {whole(smaller)} entries on, {worst} with that")
+        if decision.budget >= it.knee:
+            said[-1] += f"; below {it.knee_name}, where staleness rises steeply, none is taken for that"
     others = "other mode and smaller budget" if len(it.fits) > 1 else "smaller budget"
-    return said or [f"none: each {others} that was run is worse under all seeds by more than they differ"]
+    smaller = [budget for budget in decision.of_mode() if budget < decision.budget]
+    than = "" if all(map(decision.is_worse, smaller)) else " than this one or a larger one"
+    return said or [f"none: each {others} that was run is worse{than} {SURELY}"]
 
 
 def warnings(decision):
@@ -365,19 +447,26 @@ def warnings(decision):
                     f"lag more than they have to. {decision.to_knee()}. Else "
                     f"{own}a shorter entry or fewer writes would help.")
     said += [decision.forgetful()] if decision.forgetful() else []
-    said += of_digest(decision) + of_datagrams(decision)
+    said += limits(decision)
     if it.in_bytes:
         said.append("With room for so few entries a large one holds up smaller ones behind it: give the delta room for "
                     "one mean entry more than the sum says.")
-    no_room = [mode for mode in scenario.MODES if it.rooms[mode] < 1]
-    if no_room and it.parts == 1 and not it.told["mode"]:
-        said.append(f"{' and '.join(no_room)} have no room: their digest alone takes the packet.")
     if it.parts > 1:
+        calls = f" {rules.TENTH_OF_CALLS}" if it.fanout > 1 else ""
         said.append(f"A tenth was run, {it.nodes} nodes with a tenth of the packet, in scuttle-depth alone. "
-                    f"{rules.TENTH}")
+                    f"{rules.TENTH}{calls}")
         if not rules.tenth_holds(decision.of_knee()):
             said.append(f"This budget is {decision.times()}, where a tenth wasn't seen to hold.")
     return said + (of_healing(it) if decision.suffices else [])
+
+
+def limits(decision):
+    """What of the digest and the packet limits the decision."""
+    it, said = decision.study, of_digest(decision) + of_datagrams(decision)
+    no_room = [mode for mode in scenario.MODES if it.rooms[mode] < 1]
+    if no_room and it.parts == 1 and not it.told["mode"]:
+        said.append(f"{' and '.join(no_room)} have no room: their digest alone takes the packet.")
+    return said
 
 
 def of_healing(it):
@@ -394,7 +483,7 @@ def of_healing(it):
                     "the last one is up again.")
         said.append(f"While nodes restart in each {unit(it)[:-1]}, `greatest` is the number of the round and bounds "
                     "nothing.")
-    return said
+    return said + ([rules.DOWN_FOR_LONGER] if it.leaves() else [])
 
 
 # The bytes of a number in a sum that shows what a digest that wasn't told would take, and where they come from.
@@ -435,7 +524,7 @@ def of_calls(it):
                 "More than one peer in an interval: such a cluster is faster. fanout=3 looks at three."]
     return [f"Latency: right where an exchange takes much less than the {float(it.seconds):.2g} s between two of the "
             f"{it.fanout} calls of an interval, which come one after another here; else, and where a node makes them "
-            "all at once, the cluster is slower."]
+            "all at once, the cluster is slower than these figures."]
 
 
 def left_out(decision):
@@ -456,10 +545,8 @@ def left_out(decision):
     elif told["digest"]:
         size = int(numbers * told["digest"])
         said.append(f"A digest of up to {numbers} numbers, {size} bytes, comes on top of the delta.")
-    if told["forget"] == "yes" and told["restarts"]:
-        more = int(told["nodes"] * it.writes + told["restarts"] * it.keys)
-        said.append("In Cassandra a node tells all its keys as it starts, here as many as it writes: reckon with "
-                    f"nodes * writes + restarts * keys = {more} in place of nodes * writes.")
+    if it.tells_all():
+        said += [] if decision.suffices else [f"{decision.tells_all()}."]
     elif decision.suffices and it.leaves():
         said.append(GENERATIONS if told["restarts"] else GROUPS)
     return said
@@ -483,13 +570,14 @@ def in_words(decision, healing, missing=()):
     in_window = f": the most of `greatest` in rounds {first} to {last}, least and most of {len(rules.SEEDS)} seeds"
     in_window = in_window if decision.suffices else ""
     in_mode = "" if decision.suffices else f", in {decision.mode}"
-    lines = [takes, "", row("worst staleness", f"{decision.staleness()}{in_window}")]
-    if reserve := decision.reserve():
-        lines.append(row("a reserve" if decision.budget < decision.most else decision.study.knee_name, reserve))
+    lines = [takes, *([f"{decision.tells_all()}."] if decision.suffices and decision.tells_all() else []), "",
+             row("worst staleness", f"{decision.staleness()}{in_window}")]
+    for name, said in (("a reserve", decision.reserve()), (decision.study.knee_name, decision.why_not_knee())):
+        lines += [row(name, said)] if said else []
     lines.append(row("share cut", f"{span(decision.cut, 2)} % of what was lacking{in_mode}"))
     if healing:
         lines += healing.all_lines(decision.budget)
-        if decision.budget < decision.most:
+        if healing.has_reserve(decision):
             lines.append(row("with the reserve", healing.with_reserve(decision)))
     if not decision.suffices and decision.to_knee():
         lines.append(row("enough", decision.to_knee()))

@@ -11,7 +11,8 @@ Prints a scenario from the numbers of a cluster, with what it leaves out in fron
   digest   the bytes that the digest has for each node (in a precise mode for each key), where it shares the packet
            with the delta: what names the node, its generation and its version, as sent; 0 where it doesn't
   loss     how many messages of a hundred are lost, 0 where it isn't given
-  count    `bytes`, a scenario of format 2, or `entries`, one of format 1 for entries of about one size
+  count    `bytes`, as where it isn't given, a scenario of format 2, or `entries`, one of format 1 for entries of about
+           one size
   fanout   how many peers a node calls in an interval, 1 where it isn't given. Each call is a round of its own then, so
            divide `greatest` by it; only the first round of an interval has writes
   mode, rounds, seed    `scuttle-depth`, 60 for each call of an interval, and 1 where they aren't given

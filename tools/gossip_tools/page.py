@@ -44,6 +44,7 @@ def cards(decision, healing):
     it, budget = decision.study, decision.whole_budget()
     of_budget = f"{int(budget * it.told['entry'])} bytes, {decision.times()}"
     if decision.suffices:
+        of_budget += f"; packet={decision.packet()}"
         rounds, _, time = answer.lasting(it, decision.worst).partition(", ")
         rows = [("mode", decision.mode, "", "first"), ("budget", f"{budget} entries", of_budget, "first"),
                 ("worst staleness", rounds, "; ".join(filter(None, (time, decision.reckon()))), "")]
@@ -64,10 +65,11 @@ def cards(decision, healing):
 
 
 def below_the_cards(decision, healing):
-    """What more than nodes * writes brings, and what the rounds of healing are."""
-    said = [decision.reserve()] if decision.reserve() else []
+    """What other budgets bring, and what the rounds of healing are."""
+    said = [decision.tells_all() if decision.suffices else "", decision.reserve(), decision.why_not_knee()]
+    said = [it for it in said if it]
     if healing:
-        said += [f"With the reserve {healing.with_reserve(decision)}"] if decision.budget < decision.most else []
+        said += [f"With the reserve: {healing.with_reserve(decision)}"] if healing.has_reserve(decision) else []
         said.append(healing.counted())
     return "".join(f"<p><small>{told(it)}</small></p>" for it in said)
 
@@ -166,14 +168,17 @@ def made_of(folder, study, made, check_sum):
 
 def make(folder, decision, healing, made, check_sum, missing=()):
     """Writes the page, and says where it is. It names the runs that were made, by stage their budgets and modes.
-    Without healing it has lines on what is missing."""
+    Without healing it has lines on what is missing. That of a first answer says so."""
     it = decision.study
     first, last = decision.window
     tenth = f", of which {it.nodes} were run; budgets are those of all" if it.parts > 1 else ""
     found = f"{decision.mode} with {decision.whole_budget()} entries"
     if not decision.suffices:
         found = f"no budget that fits is enough, still rising after {decision.window[1]} rounds"
-    title = f"{int(it.told['nodes'])} nodes: {found}"
+    first_answer = "First answer. " if decision.stage == "few" else ""
+    smaller = ("are run for the last answer" if first_answer else
+               "were run with the chosen mode, down to the first that is worse")
+    title = f"{first_answer}{int(it.told['nodes'])} nodes: {found}"
     text = f"""<!DOCTYPE html>
 <html lang="en"><head><meta charset="utf-8"><meta name="viewport" content="width=device-width, initial-scale=1">
 <title>{told(title)}</title><style>{STYLE}</style></head><body>
@@ -187,7 +192,7 @@ messages lost: {float(it.told['loss']):g} %. All figures go from the least to th
 {pictures(folder, decision, healing)}
 <h2>Worst staleness and share cut</h2>
 <p>In rounds {first} to {last}, by budget in entries and mode. Rising: this budget isn't enough. A field is empty where
-its runs could change nothing: smaller budgets were run with the chosen mode, down to the first that is worse.</p>
+its runs could change nothing: smaller budgets {smaller}.</p>
 {table(decision)}
 {listed("Too close to call", answer.too_close(decision))}
 {listed("Left out for this cluster", answer.left_out(decision))}

@@ -20,6 +20,8 @@ TENTH = ("A tenth of the nodes stands for the whole in scuttle-depth: ten times 
          f"{TENTH_MORE[0]} to {TENTH_MORE[1]} rounds more in `greatest`, with a budget of `nodes * writes` to twice "
          "that, and with half of it 1 to 8 more. At 0.14 of it, with one key, 100, 1000 and 4000 nodes had 25 to 28, "
          "33 to 36 and 39 to 41 rounds.")
+TENTH_OF_CALLS = ("Where each calls three others, ten times 100 and 400 nodes had 2 to 4 more, but under three seeds "
+                  f"alone, so {TENTH_MORE[1]} are added there too.")
 
 
 def band(figure):
@@ -90,10 +92,12 @@ def most_of(fits, nodes, keys, at_knee):
     return min(fits, 2 * at_knee, nodes * keys)
 
 
-def takes_knee(at_knee, others):
-    """"Else take the cheaper one": whether `nodes * writes` is taken in place of more, as none of the others is
-    better."""
-    return not any(is_better(it, at_knee) for it in others)
+def least_that_is_taken(figures, others):
+    """"Otherwise take the cheaper one": the least budget than which nothing is better, neither a larger one nor one of
+    the others. The figures are by budget, of those from `nodes * writes` on that suffice. None where there is none."""
+    all_of_them = [*figures.values(), *others]
+    taken = [budget for budget, it in figures.items() if not any(is_better(other, it) for other in all_of_them)]
+    return min(taken, default=None)
 
 
 def smaller_budgets(budget, at_knee):
@@ -118,8 +122,8 @@ def counts_bytes(room):
 
 # When a split and a restart count as healed. What they heal from ends with a last round, the one that counts as 0.
 HEALED = ("the age of the oldest missing write was for the first time at most one round above its highest value in "
-          "rounds {} to {} before that; it may rise above that again for some rounds. Copies are then as stale as "
-          "usual, not equal.")
+          "rounds {} to {} of the run, when all was well. It may rise above that again for some rounds. Copies are "
+          "then as stale as usual, not equal.")
 # What counts where nodes forget and a budget is below `nodes * writes`.
 FORGETFUL = ("old state goes sooner in `scuttle-breadth`, but a restart heals later there than old state goes in "
              "`scuttle-depth`, and copies are staler. Take `scuttle-breadth` only where old state does more harm than "
@@ -129,6 +133,10 @@ DATAGRAM = 65507
 # How many rounds more than the longest of the seeds to wait between groups of a rolling restart. Each group is one draw
 # more: of 95 that waited so two hadn't caught up, and of 95 that forget none, where without it 19 and 3 hadn't.
 WAIT_MORE = 2
+NO_GUARANTEE = "no guarantee, as of 95 groups that waited so in a test two weren't healed"
+# What a restart takes where nodes are down for longer than the one round of the test.
+DOWN_FOR_LONGER = ("Nodes that are down for longer take up to two rounds more: one group of 5 of 200 nodes with 6 keys "
+                   "took 4 to 7 rounds to heal where it was down for one, and 6 to 8 where it was down for 60.")
 
 
 def healed_level(most_before):

@@ -91,10 +91,21 @@ class Study:
         """The bytes of a whole digest."""
         return int(scenario.digest_numbers(int(self.told["nodes"]), self.keys, mode) * self.told["digest"])
 
-    def packet(self, mode):
-        """The bytes of a packet with room for nodes * writes entries, with the digest where they share it."""
+    def packet(self, mode, entries=None):
+        """The bytes of a packet with room for so many entries of the whole cluster, nodes * writes where it isn't told,
+        with the digest where they share it."""
         digest = self.digest_bytes(mode) if self.told["shared"] == "yes" else 0
-        return int(self.whole(self.knee) * self.told["entry"]) + digest
+        return int((entries or self.whole(self.knee)) * self.told["entry"]) + digest
+
+    def tells_all(self):
+        """The entries to reckon with in place of nodes * writes where a node tells all its keys as it starts, and the
+        sum in words; None where no groups forget."""
+        if self.told["forget"] == "no" or not self.told["restarts"]:
+            return None
+        nodes = int(self.told["nodes"])
+        more = min(nodes * self.writes + int(self.told["restarts"]) * self.keys, nodes * self.keys) // self.fanout
+        name = "nodes * writes + restarts * keys"
+        return more, name if self.fanout == 1 else f"({name}) / {self.fanout}"
 
     def whole(self, budget):
         """A budget of what is run as one of the whole cluster."""

@@ -42,8 +42,10 @@ class Decided(unittest.TestCase):
         found = decided({(budget, "scuttle-depth"): worst for budget, worst in depth.items()})
         self.assertEqual(("scuttle-depth", 600, 450), (found.mode, found.budget, found.smaller()))
         self.assertEqual(["precise-oldest", "precise-newest"], found.close)
-        self.assertEqual("scuttle-depth with room for 600 entries in a delta, 24000 bytes (nodes * writes)",
-                         found.takes())
+        self.assertEqual("scuttle-depth with room for 600 entries in a delta, 24000 bytes (nodes * writes); "
+                         "packet=24000", found.takes())
+        self.assertIn("scuttle-depth with a budget from 450 entries on, 8 to 9 rounds with that; below nodes * writes, "
+                      "where staleness rises steeply, none is taken for that", answer.too_close(found))
         self.assertEqual("With the 1000 entries that fit it is 7 to 8 rounds: not better under all seeds by more than "
                          "they differ. So packet=24000 is enough, and what is above that is a reserve", found.reserve())
         self.assertIn(f"  a reserve           {found.reserve()}", answer.in_words(found, None))
@@ -54,23 +56,56 @@ class Decided(unittest.TestCase):
         found = decided({(budget, "scuttle-depth"): worst for budget, worst in depth.items()})
         self.assertEqual(("scuttle-depth", 1000, None), (found.mode, found.budget, found.smaller()))
         self.assertEqual("scuttle-depth with room for 1000 entries in a delta, 40000 bytes (what fits; 1.7 times nodes "
-                         "* writes)", found.takes())
+                         "* writes); packet=40000", found.takes())
         self.assertEqual("With nodes * writes = 600 entries it is 8 to 9 rounds: worse under all seeds by more than "
-                         "they differ", found.reserve())
-        self.assertEqual(f"{found.reserve()}.", answer.first_words(found)[2])
+                         "they differ", found.why_not_knee())
+        self.assertEqual(["", f"{found.why_not_knee()}.", "The last answer has 900 entries too, and takes them if "
+                          "nothing is better than that."], [found.reserve(), *answer.first_words(found)[2:4]])
+
+    def test_between(self):
+        """With 900, one and a half times 600, no seed of the 1000 is better by more than they differ: 900 are taken,
+        which are 36000 bytes. 600 aren't worse than these, but than the 1000."""
+        depth = {1000: [9, 9], 900: [9, 10], 600: [10, 12], 450: [13, 14]}
+        found = decided({(budget, "scuttle-depth"): worst for budget, worst in depth.items()})
+        self.assertEqual(("scuttle-depth", 900, None, ""),
+                         (found.mode, found.budget, found.smaller(), found.still_to_run()))
+        self.assertEqual(["With the 1000 entries that fit it is 9 rounds: not better under all seeds by more than they "
+                          "differ. So packet=36000 is enough, and what is above that is a reserve",
+                          "With nodes * writes = 600 entries it is 10 to 12 rounds: worse than the 1000 entries that "
+                          "fit under all seeds by more than they differ"], [found.reserve(), found.why_not_knee()])
+        lines = answer.in_words(found, None)
+        self.assertIn(f"  a reserve           {found.reserve()}", lines)
+        self.assertIn(f"  nodes * writes      {found.why_not_knee()}", lines)
+
+    def test_between_is_worse_or_rises(self):
+        """900 are worse than the 1000 under both seeds, or `greatest` still rises with them: then 1000 are taken. Where
+        600 are no worse than the 1000, 900 that are worse by accident change nothing."""
+        cases = {((10, 10), (10, 12), ()): 1000, ((9, 10), (10, 12), ((900, "scuttle-depth"),)): 1000,
+                 ((10, 10), (9, 10), ()): 600}
+        for (at_900, at_600, rising), budget in cases.items():
+            worst = {(1000, "scuttle-depth"): [9, 9], (900, "scuttle-depth"): at_900, (600, "scuttle-depth"): at_600}
+            found = decided(worst | {(1000, "precise-oldest"): [9, 9], (1000, "precise-newest"): [9, 9]}, rising)
+            self.assertEqual(budget, found.budget)
+
+    def test_no_smaller_one_close(self):
+        """450 aren't worse than 600, which are taken, but than the 1000."""
+        depth = {1000: [7, 7], 600: [7, 8], 450: [8, 9]}
+        found = decided({(budget, "scuttle-depth"): worst for budget, worst in depth.items()})
+        self.assertEqual((600, None), (found.budget, found.smaller()))
+        self.assertNotIn("450", " ".join(answer.too_close(found)))
 
     def test_another_mode_with_what_fits_is_better(self):
         """precise-newest isn't better than scuttle-depth, each with 1000, but than it with 600. So 1000 are taken."""
         found = decided({(1000, "scuttle-depth"): [7, 8], (600, "scuttle-depth"): [8, 9],
                          (1000, "precise-newest"): [7, 7]})
         self.assertEqual(("scuttle-depth", 1000, "With nodes * writes = 600 entries it is 8 to 9 rounds, and another "
-                          "mode with what fits is better than that"), (found.mode, found.budget, found.reserve()))
+                          "mode with what fits is better than that"), (found.mode, found.budget, found.why_not_knee()))
 
     def test_nodes_times_writes_still_rise(self):
         depth = {(1000, "scuttle-depth"): [7, 9], (600, "scuttle-depth"): [8, 9]}
         found = decided(depth, [(600, "scuttle-depth")])
         self.assertEqual((1000, "With nodes * writes = 600 entries `greatest` still rises"),
-                         (found.budget, found.reserve()))
+                         (found.budget, found.why_not_knee()))
 
     def test_another_mode_is_better(self):
         found = decided({(1000, "scuttle-depth"): [10, 11]})
@@ -183,9 +218,9 @@ class Decided(unittest.TestCase):
         it = of("nodes=300 keys=4 writes=2 entry=40 packet=8000 fanout=3 interval=30 digest=1 shared=no")
         found = answer.Decision(it, Figures({(200, mode): [10, 11] for mode in it.fits}), FEW)
         self.assertEqual(["First answer, from 60 intervals of 3 rounds: scuttle-depth with room for 200 entries in a "
-                          "delta, 8000 bytes (what fits; nodes * writes / 3).",
-                          "Worst staleness 10 to 11 rounds, 3.3 to 3.7 intervals, 100 to 110 s."],
-                         answer.first_words(found))
+                          "delta, 8000 bytes (what fits; nodes * writes / 3); packet=8000.",
+                          "Worst staleness 10 to 11 rounds, 3.3 to 3.7 intervals, 100 to 110 s.",
+                          answer.left_out(found)[0]], answer.first_words(found))
         self.assertIn("  worst staleness     10 to 11 rounds, 3.3 to 3.7 intervals, 100 to 110 s: the most of "
                       "`greatest` in rounds 91 to 180, least and most of 5 seeds", answer.in_words(found, None))
         self.assertIn("less than the 10 s between two of the 3 calls of an interval", answer.left_out(found)[0])
@@ -207,9 +242,9 @@ class Decided(unittest.TestCase):
         figures = {(750, "scuttle-depth"): [8, 9], (1100, "scuttle-depth"): [8, 8], (500, "scuttle-depth"): [20, 21]}
         found = answer.Decision(it, Figures(figures), MANY)
         self.assertEqual("scuttle-depth with room for 11000 entries in a delta, 440000 bytes (what fits; 1.1 times "
-                         "nodes * writes)", found.takes())
-        self.assertEqual(["scuttle-depth with a budget from 7500 entries on, 8 to 9 rounds with that"],
-                         answer.too_close(found))
+                         "nodes * writes); with the digest packet=640000", found.takes())
+        self.assertEqual(["scuttle-depth with a budget from 7500 entries on, 8 to 9 rounds with that; below nodes * "
+                          "writes, where staleness rises steeply, none is taken for that"], answer.too_close(found))
 
     def test_what_to_reckon_with(self):
         """1000 of 10000 nodes had 8 rounds, to which six are added."""
@@ -247,8 +282,8 @@ class Decided(unittest.TestCase):
 class Taken:
     """A stage whose rounds until it is healed are given."""
 
-    def __init__(self, taken):
-        self.taken = taken
+    def __init__(self, taken, *pairs):
+        self.taken, self.rows = taken, pairs
 
     def healed_after(self, *_):
         return self.taken
@@ -279,7 +314,8 @@ class Healed(unittest.TestCase):
         """Without a split what is counted stands below the restart."""
         it = healing("split=0", restart=[6, 7])
         line, *counted = it.lines("restart", 200)
-        self.assertEqual("  a restart           of one node: healed after 6 to 7 rounds, 3.0 to 3.5 s", line)
+        self.assertEqual("  a restart           of one node, down for one round: healed after 6 to 7 rounds, 3.0 to "
+                         "3.5 s", line)
         self.assertEqual("Healed after N rounds: N rounds after the last with a node down, "
                          f"{rules.HEALED.format(31, 50)}", " ".join(map(str.strip, counted)))
 
@@ -297,10 +333,40 @@ class Healed(unittest.TestCase):
         figures = {(250, mode): [7, 8] for mode in it.fits} | {(200, "scuttle-depth"): [7, 8]}
         found = answer.Decision(it, Figures(figures), MANY)
         taken = {"split": [8, 9], "restart": [3, 4], "forgotten": [5, 4]}
-        heals = answer.Healing(it, found.mode, {stage: Taken(rounds) for stage, rounds in taken.items()})
-        self.assertIn("  with the reserve    a split is healed after 8 to 9 rounds; a "
-                      "restart is healed after 3 to 4 rounds; a forgotten state is gone from all copies after 4 to 5 "
-                      "rounds; wait 7 rounds between groups", answer.in_words(found, heals))
+        both = (200, found.mode), (250, found.mode)
+        heals = answer.Healing(it, found.mode, {stage: Taken(rounds, *both) for stage, rounds in taken.items()})
+        self.assertIn("  with the reserve    if your program fills the packet anyway, a split is healed after 8 to 9 "
+                      "rounds; a restart is healed after 3 to 4 rounds; a forgotten state is gone from all copies "
+                      "after 4 to 5 rounds; wait 7 rounds between groups", answer.in_words(found, heals))
+        # (for the first answer it isn't run, so that says where to read it)
+        heals = answer.Healing(it, found.mode, {stage: Taken(rounds, both[0]) for stage, rounds in taken.items()})
+        self.assertFalse(heals.has_reserve(found))
+        said = " ".join(answer.last_of_first_words(found, pathlib.Path("mine")))
+        self.assertIn("All these times are for packet=8000. If your program fills a larger one anyway, copies heal",
+                      said)
+        self.assertIn("a round or so higher, and by that another budget be taken. Until then mine/answer.txt", said)
+
+    def test_all_keys_at_the_start(self):
+        """200 nodes and 5 that restart with 4 keys make 200 + 5 * 4 = 220 entries, 8800 bytes, and with the digest of
+        200 numbers 10800. A budget of 250 has room for them. Where each calls two others, it is half of that."""
+        for more, said, is_told in (
+                ("packet=8000 shared=no", "nodes * writes + restarts * keys = 220 entries, packet=8800", True),
+                ("packet=10000", "nodes * writes + restarts * keys = 220 entries, packet=10800", True),
+                ("packet=4000 shared=no fanout=2", "(nodes * writes + restarts * keys) / 2 = 110 entries, packet=4400",
+                 True),
+                ("packet=8000 shared=no forget=no", "", False), ("packet=8000 shared=no restarts=0", "", False)):
+            words = {it.partition("=")[0]: it for it in f"nodes=200 keys=4 writes=1 entry=40 digest=10 forget=yes "
+                     f"restarts=5 {more}".split()}
+            it = of(" ".join(words.values()))
+            worst = {(budget, mode): [7, 8] for mode in it.fits for budget in (it.most(mode), it.knee)}
+            found = answer.Decision(it, Figures(worst), MANY)
+            self.assertEqual(is_told, found.tells_all().endswith(said) and bool(said))
+            for lines in (answer.in_words(found, None), answer.first_words(found)):
+                self.assertEqual(is_told, lines[1] == f"{found.tells_all()}.")
+        it = of("nodes=200 keys=4 writes=1 entry=40 packet=10000 forget=yes restarts=5")
+        worst = {(250, mode): [7, 7] for mode in it.fits} | {(200, "scuttle-depth"): [8, 8]}
+        self.assertTrue(answer.Decision(it, Figures(worst), MANY).tells_all().endswith(
+            " = 220 entries, packet=8800; this budget has room for them"))
 
     def test_long_split(self):
         """100 rounds are run, in which each of 4 keys is written anew many times."""
@@ -326,7 +392,8 @@ class Healed(unittest.TestCase):
             "restarts=5 forget=yes": "wait 10 rounds, 5 s, after a group of 5 nodes is up again: 2 more than the "
                                      "longest of these two",
         }
-        cases = {more: f"{said}, as a later group may take longer" for more, said in cases.items()}
+        why = f", as a later group may take longer; {rules.NO_GUARANTEE}"
+        cases = {more: said + why for more, said in cases.items()}
         self.assertEqual(cases, {more: healing(more, **both).wait(200) for more in cases})
         self.assertEqual(f"  a rolling restart   {cases['']}", healing(**both).rolling(200))
         self.assertEqual("no wait is known, as not all of this is over in the rounds that were run: take a larger "
@@ -336,9 +403,10 @@ class Healed(unittest.TestCase):
         """Where nodes forget, the restart alone tells the least wait; where they don't, the wait."""
         def waits(stage, more, **taken):
             lines = healing(f"restarts=5 {more}", **taken).lines_now(stage, 200)
-            return [it.partition(", ")[0] for it in lines if it.startswith(f"  {answer.ROLLING} ")]
+            return [it.partition(", ")[0] for it in lines
+                    if it.startswith((f"  {answer.ROLLING} ", f"  {answer.AT_LEAST} "))]
 
-        at_least, known = "  a rolling restart   wait at least 9 rounds", "  a rolling restart   wait 9 rounds"
+        at_least, known = "  wait at least       9 rounds", "  a rolling restart   wait 9 rounds"
         restart, forgotten = {"restart": [6, 7]}, {"restart": [6, 7], "forgotten": [8, 6]}
         self.assertEqual([at_least], waits("restart", "forget=yes", **restart))
         self.assertEqual([known.replace("9", "10")], waits("forgotten", "forget=yes", **forgotten))
@@ -349,8 +417,9 @@ class Healed(unittest.TestCase):
     def test_groups(self):
         """Ten groups are a harder test than the one node that is looked at otherwise."""
         line = healing("restarts=5", restart=[6, 7]).lines("restart", 200)[0]
-        self.assertIn(" of 5 nodes in each of 10 rounds, a harder test than one group: healed", line)
-        self.assertIn(" of one node: healed", healing(restart=[6, 7]).lines("restart", 200)[0])
+        self.assertIn(" of 5 nodes in each of 10 rounds, each down for one, a harder test than one group: healed", line)
+        self.assertIn(" of one node, down for one interval: healed",
+                      healing("fanout=3", restart=[6, 7]).lines("restart", 200)[0])
 
 
 class Words(unittest.TestCase):

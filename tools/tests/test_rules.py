@@ -57,7 +57,7 @@ class Enough(unittest.TestCase):
         self.assertEqual(8, rules.healed_level(7))
 
     def test_words_of_the_guide(self):
-        guide = (pathlib.Path(__file__).resolve().parents[2] / "docs/guide.md").read_text()
+        guide = " ".join((pathlib.Path(__file__).resolve().parents[2] / "docs/guide.md").read_text().split())
         self.assertIn(rules.HEALED.format(31, 50), guide)
         self.assertIn(rules.FORGETFUL, guide)
 
@@ -78,9 +78,20 @@ class Budgets(unittest.TestCase):
         """By docs/study.md, five seeds of 100 nodes have 7 to 8 rounds with 100 entries and 6 to 7 with 200, so 100 are
         taken; with 50 they have 18 to 21, which is worse."""
         at_100, at_200 = DEPTH_AT_100, [7, 6, 7, 7, 6]
-        self.assertTrue(rules.takes_knee(at_100, [at_200]))
-        self.assertFalse(rules.takes_knee(DEPTH_AT_50, [at_200]))
-        self.assertFalse(rules.takes_knee(at_100, [at_200, [6, 6, 6, 6, 6]]))
+        cases = (
+            ({100: at_100, 200: at_200}, [at_200], 100), ({100: DEPTH_AT_50, 200: at_200}, [at_200], 200),
+            ({100: at_100, 200: at_200}, [at_200, [6, 6, 6, 6, 6]], 200), ({100: at_100}, [[5, 5]], None),
+            ({}, [], None),
+        )
+        for figures, others, taken in cases:
+            self.assertEqual(taken, rules.least_that_is_taken(figures, others))
+
+    def test_what_is_taken_between(self):
+        """1000 nodes that call three others, five seeds: 9 rounds with 666 entries, 9 to 10 with 499, which isn't worse
+        than those, and 10 to 12 with 333, which isn't worse than 499, but than 666. So 499 are taken."""
+        figures = {333: [10, 11, 10, 12, 11], 499: [9, 10, 9, 10, 10], 666: [9, 9, 9, 9, 9]}
+        self.assertEqual(499, rules.least_that_is_taken(figures, [figures[666]]))
+        self.assertEqual(666, rules.least_that_is_taken(figures | {499: [10, 10, 10, 11, 10]}, [figures[666]]))
 
     def test_smaller(self):
         """A quarter of 600 is 150. Of 10 a quarter is 2 and a half."""

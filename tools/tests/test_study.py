@@ -149,6 +149,11 @@ class Healing(unittest.TestCase):
         cases = {ROOMY: (51, 80), FEW: (101, 130), ROOMY + " split=5": (51, 55), ROOMY + " split=900": (51, 150)}
         self.assertEqual(cases, {words: (of(words).begins, of(words).ends("split")) for words in cases})
 
+    def test_what_is_told_of_it(self):
+        """Of 600 intervals 100 are run, and of 30 all."""
+        said = [advise.Stages(of(f"{ROOMY} {more}"), None, None).shorter("split") for more in ("split=600", "")]
+        self.assertEqual([" (a split of 100 stands for 600, as each key is written anew in it)", ""], said)
+
     def test_what_is_looked_at(self):
         """A forgotten state is none where nodes don't forget, and what is given as 0 isn't run."""
         cases = {"": ("split", "restart"), "forget=yes": ("split", "restart", "forgotten"), "split=0": ("restart",),

@@ -107,21 +107,23 @@ class Decision:
         """The most rounds to reckon with, for the whole cluster."""
         return rules.reckoned(self.worst) if self.study.parts > 1 else max(self.worst)
 
+    def at_most(self):
+        """The worst staleness to reckon with for the whole cluster, of which a tenth was run."""
+        more = "up to" if rules.tenth_holds(self.of_knee()) else "more than"
+        return f"{more} {lasting(self.study, [self.most_rounds()])}, for {int(self.study.told['nodes'])} nodes"
+
     def reckon(self):
         """What was run, and what to reckon with for the whole cluster; empty where that is what was run."""
         it = self.study
-        if it.parts == 1:
-            return ""
-        more = "up to" if rules.tenth_holds(self.of_knee()) else "more than"
-        return (f"{it.nodes} nodes run; reckon with {more} {lasting(it, [self.most_rounds()])}, for "
-                f"{int(it.told['nodes'])}")
+        return f"{it.nodes} nodes run; reckon with {self.at_most()}" if it.parts > 1 else ""
 
     def staleness(self):
         """The worst staleness, in words."""
         if not self.suffices:
             return f"not known: still rising after {self.window[1]} rounds"
-        more = f" ({self.reckon()})" if self.reckon() else ""
-        return f"{lasting(self.study, self.worst)}{more}"
+        it = self.study
+        run = lasting(it, self.worst)
+        return f"{self.at_most()}: the {it.nodes} that were run had {run}" if it.parts > 1 else run
 
     def to_knee(self):
         """The bytes with which nodes * writes entries fit, and what they would bring, in words. Empty where they do
@@ -172,8 +174,12 @@ class Decision:
         if it.tells_all() is None:
             return ""
         entries, name = it.tells_all()
-        packet = f"packet={it.packet(self.mode, entries)}"
-        packet = packet if entries > self.whole_budget() else f"{packet}; this budget has room for them"
+        needed = it.packet(self.mode, entries)
+        packet = f"packet={needed}"
+        if entries <= self.whole_budget():
+            packet += "; this budget has room for them"
+        elif needed > it.told["packet"]:
+            packet += ", more than yours"
         return (f"In Cassandra a node tells all its keys as it starts, here as many as it writes. For that reckon with "
                 f"{name} = {entries} entries, {packet}")
 
@@ -507,13 +513,13 @@ def of_digest(decision):
 
 def of_datagrams(decision):
     """That a packet is more than one datagram."""
-    needed = decision.study.packet(decision.mode)
-    largest = max(int(decision.study.told["packet"]), needed) if decision.to_knee() else \
-        int(decision.study.told["packet"])
+    told, it = int(decision.study.told["packet"]), decision
+    largest = max(told, it.study.packet(it.mode)) if it.to_knee() else told
     if largest <= rules.DATAGRAM:
         return []
+    fits = f", and packet={it.packet()} fits in one" if it.suffices and it.packet() <= rules.DATAGRAM < told else ""
     return [f"The 64 KB of a UDP datagram are at most {rules.DATAGRAM} bytes: packet={largest} takes several of them, "
-            "or TCP."]
+            f"or TCP{fits}."]
 
 
 def of_calls(it):

@@ -86,8 +86,8 @@ def spaced(budgets):
 
 
 def rounds(decision, name, y, value):
-    """A column over the rounds, by mode, under the first seed: the most of each interval; each mode with the budget that
-    it would take."""
+    """A column over the rounds, by mode, under the first seed: the most of each interval; each mode with the budget
+    that it would take."""
     study, found = decision.study, decision.found
     text, plots = HEAD.format(name=name, x="round", y=y), []
     for at, (mode, (colour, width, _)) in enumerate(MODES.items()):

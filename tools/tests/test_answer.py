@@ -231,8 +231,8 @@ class Decided(unittest.TestCase):
         figures = {(it.most("scuttle-depth"), "scuttle-depth"): [8, 9], (it.knee, "scuttle-depth"): [9, 11]}
         found = answer.Decision(it, Figures(figures), FEW)
         self.assertEqual((333, 666, 3330), (found.budget, found.most, found.whole_budget()))
-        self.assertEqual("9 to 11 rounds, 3.0 to 3.7 intervals, 3.0 to 3.7 s (1000 nodes run; reckon with up to 17 "
-                         "rounds, 5.7 intervals, 5.7 s, for 10000)", found.staleness())
+        self.assertEqual("up to 17 rounds, 5.7 intervals, 5.7 s, for 10000 nodes: the 1000 that were run had 9 to 11 "
+                         "rounds, 3.0 to 3.7 intervals, 3.0 to 3.7 s", found.staleness())
         self.assertIn("With the 6660 entries (2 times nodes * writes / 3) it is 8 to 9 rounds, 2.7 to 3.0 "
                       "intervals, 2.7 to 3.0 s: not better", found.reserve())
 
@@ -250,7 +250,7 @@ class Decided(unittest.TestCase):
         """1000 of 10000 nodes had 8 rounds, to which six are added."""
         it = of("nodes=10000 keys=4 writes=1 entry=40 packet=640000 digest=20")
         found = answer.Decision(it, Figures({(1100, "scuttle-depth"): [8, 8]}), MANY)
-        self.assertEqual("8 rounds, 8 s (1000 nodes run; reckon with up to 14 rounds, 14 s, for 10000)",
+        self.assertEqual("up to 14 rounds, 14 s, for 10000 nodes: the 1000 that were run had 8 rounds, 8 s",
                          found.staleness())
         self.assertTrue(any("has to wait longer than 14 rounds, 14 s." in it for it in answer.left_out(found)))
 
@@ -270,13 +270,14 @@ class Decided(unittest.TestCase):
         """A packet of 65508 bytes is more than a datagram, and so are the 600 * 200 bytes that would be enough."""
         depth = {(budget, "scuttle-depth"): [7, 8] for budget in (300, 600, 1000)}
         self.assertEqual([], answer.of_datagrams(decided(depth)))
-        for more, delta in (("entry=50 packet=65508", 65508), ("entry=200 packet=40000", 120000)):
+        for more, delta, less in (("entry=50 packet=65508", 65508, ", and packet=60000 fits in one"),
+                                  ("entry=200 packet=40000", 120000, "")):
             words = f"nodes=300 keys=4 writes=2 digest=10 shared=no {more}".split()
             it = study.Study(cluster.told(words, advise.USUAL, advise.CALL))
             worst = {(it.most(mode), mode): [7, 8] for mode in it.fits}
             said = answer.of_datagrams(answer.Decision(it, Figures(worst), MANY))
             self.assertEqual(["The 64 KB of a UDP datagram are at most 65507 bytes: "
-                              f"packet={delta} takes several of them, or TCP."], said)
+                              f"packet={delta} takes several of them, or TCP{less}."], said)
 
 
 class Taken:
@@ -350,10 +351,12 @@ class Healed(unittest.TestCase):
         """200 nodes and 5 that restart with 4 keys make 200 + 5 * 4 = 220 entries, 8800 bytes, and with the digest of
         200 numbers 10800. A budget of 250 has room for them. Where each calls two others, it is half of that."""
         for more, said, is_told in (
-                ("packet=8000 shared=no", "nodes * writes + restarts * keys = 220 entries, packet=8800", True),
-                ("packet=10000", "nodes * writes + restarts * keys = 220 entries, packet=10800", True),
-                ("packet=4000 shared=no fanout=2", "(nodes * writes + restarts * keys) / 2 = 110 entries, packet=4400",
+                ("packet=8000 shared=no",
+                 "nodes * writes + restarts * keys = 220 entries, packet=8800, more than yours", True),
+                ("packet=10000", "nodes * writes + restarts * keys = 220 entries, packet=10800, more than yours",
                  True),
+                ("packet=4000 shared=no fanout=2", "(nodes * writes + restarts * keys) / 2 = 110 entries, packet=4400, "
+                 "more than yours", True),
                 ("packet=8000 shared=no forget=no", "", False), ("packet=8000 shared=no restarts=0", "", False)):
             words = {it.partition("=")[0]: it for it in f"nodes=200 keys=4 writes=1 entry=40 digest=10 forget=yes "
                      f"restarts=5 {more}".split()}

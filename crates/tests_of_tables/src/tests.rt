@@ -1,7 +1,6 @@
 //! The modules of tests, and what they share.
 
 mod above_marks;
-mod comparing;
 mod deltas;
 mod exchanges;
 mod fixtures;

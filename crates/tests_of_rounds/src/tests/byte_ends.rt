@@ -1,10 +1,10 @@
 //! Sources and sinks that work and that fail.
 
-use crate::tests::comparing::expect;
 use bench_types::{Discard, Failed, Pull, Push, Sink, Source};
+use fixtures::expect;
 use std::alloc::AllocGlobal;
-use std::io;
 use std::io::{Read, Write};
+use std::io;
 use std::process::Abort;
 
 // What four bytes take of "gossip", call by call, and how many bytes that is.

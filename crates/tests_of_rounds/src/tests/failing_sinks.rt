@@ -1,18 +1,18 @@
 //! Lines that are written to sinks that fail.
 
-use crate::tests::comparing::expect_at;
 use crate::tests::exchange_lists::{PAIR, list_of};
 use crate::tests::written_lines::{
     REPORT_HEADER, TRACE_HEADER, TWO_NODES, TWO_NODES_LINE, TWO_NODES_TRACE, two_nodes_records,
 };
 use bench_types::{Fault, Mode, Push};
+use fixtures::expect_at;
 use report::{
     compare_header, report_header, trace_header, write_compare_row, write_report_row,
     write_trace_rows,
 };
 use std::alloc::AllocGlobal;
-use std::io;
 use std::io::Write;
+use std::io;
 use std::process::Abort;
 
 // What a writer holds at first.

@@ -51,8 +51,8 @@ impl<T: MemoryTable + Send + Sync, H: RoundHistories<T>> Cluster<T, H> {
         requires round { IsRoundOf H.may_write scenario.now round }
         requires ended { H.has_ended self.old.histories (round - 1) }
         requires words { self.old.words ≡ run_words_of scenario.now round }
-        requires standing
-            { TablesStand T.table H.lists scenario.now (round - 1) self.old.tables.items self.old.histories }
+        requires standing { TablesStand T.table H.lists scenario.now (round - 1)
+            self.old.tables.items self.old.histories }
         ensures standing { OnOk result
             (TablesStand T.table H.lists scenario.now round self.new.tables.items self.new.histories) }
         ensures tables { OnOk result (AreBegun T.table scenario.now round self.old.tables.items self.new.tables.items) }

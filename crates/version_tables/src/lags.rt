@@ -1,6 +1,6 @@
 //! How far the copies lag behind their owners, where tables keep versions alone: the figures of a round.
 
-ghost use Rattle.std.specs.Prelude.{◌≡◌, ℕ, ◌+◌, ◌-◌, ◌*◌, ◌/◌, ◌^◌, ◌<◌, ◌≤◌, ◌&&◌, map, length, nat_lt, nat_le, slice_index, IfOk, IsFalse, IsTrue, IsOkUnless};
+ghost use Rattle.std.specs.Prelude.{◌≡◌, ℕ, ◌+◌, ◌-◌, ◌*◌, ◌/◌, ◌^◌, ◌<◌, ◌≤◌, ◌&&◌, ◌↔◌, map, length, nat_lt, nat_le, slice_index, IfOk, IsFalse, IsTrue, IsOkUnless};
 ghost use Rattle.std.specs.List.{AllZip, range_with_len};
 ghost use Rattle.bench_types.specs.declared.faults.Fault.TheVariants.{OutOfMemory};
 ghost use Rattle.bench_types.specs.declared.limits.TheConstants.{MOST_NODES, MOST_KEYS, MOST_ROUNDS};
@@ -261,8 +261,8 @@ fn is_after<N: Number>(ends: Ends<N>, nodes: usize, owner: usize, number: N, rou
     requires nodes { nodes ≤ MOST_NODES }
     requires ends { length ends.numbers.now ≡ (ends.rounds + 1) * nodes }
     requires owner { owner < nodes }
-    ensures { IsTrue result → (round ≤ ends.entry.rounds)
-        × (cell (map N.number ends.entry.numbers.now) nodes owner round ≤ N.number number) }
+    ensures { IsTrue result ↔ ((round ≤ ends.entry.rounds)
+        × (cell (map N.number ends.entry.numbers.now) nodes owner round ≤ N.number number)) }
 {
     if ends.rounds < round {
         return false;
@@ -306,8 +306,8 @@ fn greatest_lag<N: Number>(
     Ok(greatest)
 }
 
-// How many numbers are worth a thread of their own.
-const NUMBERS_OF_A_THREAD: usize = 65_536;
+// How many numbers are worth a thread of their own: to start it takes as long as to go over half of them.
+const NUMBERS_OF_A_THREAD: usize = 2_097_152;
 
 // How many tables a thread gets: all where they are too few for a second thread, else as many as give each processor a
 // thread. It bears on time and memory alone.

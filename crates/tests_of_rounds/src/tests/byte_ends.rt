@@ -3,8 +3,8 @@
 use bench_types::{Discard, Failed, Pull, Push, Sink, Source};
 use fixtures::expect;
 use std::alloc::AllocGlobal;
-use std::io::{Read, Write};
 use std::io;
+use std::io::{Read, Write};
 use std::process::Abort;
 
 // What four bytes take of "gossip", call by call, and how many bytes that is.

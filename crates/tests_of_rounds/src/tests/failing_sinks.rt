@@ -11,8 +11,8 @@ use report::{
     write_trace_rows,
 };
 use std::alloc::AllocGlobal;
-use std::io::Write;
 use std::io;
+use std::io::Write;
 use std::process::Abort;
 
 // What a writer holds at first.

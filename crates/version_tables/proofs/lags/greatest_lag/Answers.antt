@@ -51,7 +51,7 @@ loop-owner-preserved-then-is_after g c =
     let walks = walks-from c.args.round g.N.Number.most (length lists) c.args.keys r (number c.index-first.result.now) lists (list_of_owner lists r) least (map number c.args.last.now)
     refl (c.requires.walk r lt) (λ k in_k. c.requires.last.each r k lt in_k)
     (λ k in_k behind. omega (arith, first, (firsts.each r lt).no_less k in_k behind)) in
-    let after = c.is_after.ensures c.if-is_after.true in
+    let after = c.is_after.ensures.0 c.if-is_after.true in
     let recent : c.args.round ≤ since + c.loop-owner.greatest = omega (arith, c.saturating_sub.ensures) in
     most-stays (λ q. most_lag c.args.round (length lists) c.args.keys q (list_of_owner lists q) least) r c.loop-owner.greatest c.loop-owner.invariant
     (lag-since c.args.round g.N.Number.most (length lists) c.args.keys r (number c.index-first.result.now) (list_of_owner lists r) least walks since (cell (map number ends.numbers.now) (length lists) r since) c.loop-owner.greatest

@@ -1,5 +1,6 @@
 //! The modules of tests, and what they share.
 
+mod comparing;
 mod gates;
 mod jobs;
 mod long_lists;

@@ -1,6 +1,7 @@
 //! The modules of tests, and what they share.
 
 mod byte_ends;
+mod comparing;
 mod exchange_lists;
 mod failing_sinks;
 mod planned_rounds;

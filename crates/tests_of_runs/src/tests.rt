@@ -2,6 +2,7 @@
 
 mod both_tables;
 mod broken_simulations;
+mod comparing;
 mod failing_ends;
 mod forgetting;
 mod inputs;

@@ -1,6 +1,7 @@
 //! The modules of tests, and what they share.
 
 mod above_marks;
+mod comparing;
 mod deltas;
 mod exchanges;
 mod fixtures;

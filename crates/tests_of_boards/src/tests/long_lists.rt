@@ -5,13 +5,14 @@ ghost use Rattle.bench_types.specs.declared.limits.TheConstants.{MOST_WORKERS};
 ghost use Rattle.bench_types.specs.Budget.{IsLawfulBudget};
 ghost use Rattle.tests_of_boards.specs.declared.tests.long_lists.TheConstants.{NODES};
 
+use crate::tests::comparing::expect;
 use crate::tests::jobs::{Job, expect_tables_of};
 use crate::tests::pools::run_fresh;
 use crate::tests::threads::{Order, Worked, work_in_four, work_in_three, work_in_two};
 use bench_types::limits::MOST_WORKERS;
 use bench_types::{Budget, Exchange, Fault, Mode, Record, Rules};
 use exchange::exchange;
-use fixtures::{Writers, expect, tables_of};
+use fixtures::{Writers, tables_of};
 use node_table::NodeTable;
 use pool::FreeGate;
 use round_plan::RoundList;

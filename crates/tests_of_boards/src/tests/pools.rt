@@ -4,11 +4,12 @@ ghost use Rattle.std.specs.Prelude.{◌≤◌};
 ghost use Rattle.bench_types.specs.declared.limits.TheConstants.{MOST_WORKERS, MOST_KEYS};
 ghost use Rattle.bench_types.specs.Budget.{IsLawfulBudget};
 
+use crate::tests::comparing::expect;
 use crate::tests::gates::{Call, Gathering, Handover, Meeting, Notes, Theft};
 use crate::tests::small_boards::{CROSSING, ONE_ENTRY, TWICE, list_of};
 use bench_types::limits::{MOST_KEYS, MOST_WORKERS};
 use bench_types::{Fault, Record, Rules};
-use fixtures::{Writers, expect, tables_of};
+use fixtures::{Writers, tables_of};
 use node_table::NodeTable;
 use pool::{FreeGate, Gate, run_list};
 use round_plan::RoundList;

@@ -5,13 +5,13 @@ ghost use Rattle.node_table.specs.NodeTableView.{kept_table};
 ghost use Rattle.board.specs.Boards.{exchanges_of, IsSeatOf};
 ghost use Rattle.tests_of_boards.specs.Seats.{AreSeatsOf};
 
+use crate::tests::comparing::expect;
 use crate::tests::jobs::Job;
 use crate::tests::small_boards::{ONE_ENTRY, TWICE, expect_owners, list_of};
 use crate::tests::tables::{Board, Seat};
 use crate::tests::threads::{Worked, together};
 use crate::tests::turns::{expect_next, held};
 use bench_types::Fault;
-use fixtures::expect;
 use node_table::NodeTable;
 use std::alloc::AllocGlobal;
 use std::process::Abort;

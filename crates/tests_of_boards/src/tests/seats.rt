@@ -5,11 +5,11 @@ ghost use Rattle.board.specs.Weights.{Has};
 ghost use Rattle.node_table.specs.NodeTableView.{kept_table};
 ghost use Rattle.board.specs.Boards.{exchanges_of, IsSeatOf, seat_view};
 
+use crate::tests::comparing::expect;
 use crate::tests::small_boards::{ONE_ENTRY, TWICE, board_of, expect_owners, list_of};
 use crate::tests::tables::{Board, Hold, Seat};
 use bench_types::Fault;
 use board::{Claim, Progress};
-use fixtures::expect;
 use node_table::NodeTable;
 use std::alloc::AllocGlobal;
 use std::process::Abort;

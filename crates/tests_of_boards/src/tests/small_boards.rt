@@ -6,10 +6,11 @@ ghost use Rattle.node_table.specs.NodeTableView.{kept_table};
 ghost use Rattle.board.specs.Boards.{plan_of, IsSeatOf, seat_view};
 ghost use Rattle.board.specs.SeatView.{first_seat};
 
+use crate::tests::comparing::expect_at;
 use crate::tests::tables::{Board, Seat};
 use bench_types::{Budget, Fault, Mode, Rules};
 use dependencies::Deps;
-use fixtures::{WRITTEN, Writers, expect_at, tables_of};
+use fixtures::{WRITTEN, Writers, tables_of};
 use node_table::NodeTable;
 use round_plan::RoundList;
 use std::alloc::AllocGlobal;

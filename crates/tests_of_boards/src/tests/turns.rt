@@ -6,13 +6,13 @@ ghost use Rattle.board.specs.SeatView.{first_seat};
 ghost use Rattle.node_table.specs.NodeTableView.{kept_table};
 ghost use Rattle.board.specs.Boards.{plan_of, exchanges_of, IsSeatOf, IsHoldOf, seat_view};
 
+use crate::tests::comparing::expect;
 use crate::tests::jobs::Job;
 use crate::tests::seats::expect_claim;
 use crate::tests::small_boards::{ONE_ENTRY, list_of};
 use crate::tests::tables::{Board, Hold, Seat};
 use bench_types::Fault;
 use board::{Claim, Freed};
-use fixtures::expect;
 use std::alloc::AllocGlobal;
 use std::process::Abort;
 

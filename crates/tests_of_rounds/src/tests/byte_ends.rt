@@ -1,7 +1,7 @@
 //! Sources and sinks that work and that fail.
 
+use crate::tests::comparing::expect;
 use bench_types::{Discard, Failed, Pull, Push, Sink, Source};
-use fixtures::expect;
 use std::alloc::AllocGlobal;
 use std::io;
 use std::io::{Read, Write};

@@ -1,11 +1,11 @@
 //! Lines that are written to sinks that fail.
 
+use crate::tests::comparing::expect_at;
 use crate::tests::exchange_lists::{PAIR, list_of};
 use crate::tests::written_lines::{
     REPORT_HEADER, TRACE_HEADER, TWO_NODES, TWO_NODES_LINE, TWO_NODES_TRACE, two_nodes_records,
 };
 use bench_types::{Fault, Mode, Push};
-use fixtures::expect_at;
 use report::{
     compare_header, report_header, trace_header, write_compare_row, write_report_row,
     write_trace_rows,

@@ -1,11 +1,11 @@
 //! Rounds of rings that can be followed by hand: their lists, who is out of reach, and the writes.
 
+use crate::tests::comparing::{expect, expect_at};
 use crate::tests::exchange_lists::{CROSSING, between, list_of, try_list_of};
 use crate::tests::small_scenarios::{
     PLAIN, RING, RING_IN_BYTES, expect_counts, listed, scenario_of,
 };
 use bench_types::limits::MOST_ROUNDS;
-use fixtures::{expect, expect_at};
 use round_plan::{
     OwnWrite, RoundList, Writes, forgets_now, is_up, peer, restarts_now, separated, writes_in,
     writes_of,

@@ -1,8 +1,9 @@
 //! Schedules of lists of four nodes, carried out.
 
+use crate::tests::comparing::{expect, expect_at};
 use crate::tests::exchange_lists::{CROSSING, TWICE, list_of};
 use bench_types::{Budget, Fate, Fault, Mode, Record, Rules};
-use fixtures::{WRITTEN, Writers, expect, expect_at, tables_of};
+use fixtures::{WRITTEN, Writers, tables_of};
 use node_table::NodeTable;
 use planner::Event::{self, Finish, Start};
 use planner::play;

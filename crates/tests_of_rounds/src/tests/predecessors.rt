@@ -1,7 +1,7 @@
 //! What the exchanges of small lists wait for.
 
+use crate::tests::comparing::{expect, expect_at};
 use crate::tests::exchange_lists::{CROSSING, PAIR, TWICE, between, list_of};
-use fixtures::{expect, expect_at};
 use planner::{After, Deps, Schedule};
 use std::alloc::AllocGlobal;
 use std::process::Abort;

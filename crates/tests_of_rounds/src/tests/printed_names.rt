@@ -1,10 +1,7 @@
 //! What faults, fields and tables print.
 
+use crate::tests::comparing::expect_printed;
 use bench_types::{Fault, Field, TableName};
-use fixtures::expect;
-use std::alloc::AllocGlobal;
-use std::fmt::Display;
-use std::process::Abort;
 
 const LINES: [(Fault, &str); 20] = [
     (Fault::OutOfMemory, "fault 1: out of memory"),
@@ -88,12 +85,6 @@ const TABLES: [(TableName, &str); 4] = [
     (TableName::Restart, "restart"),
     (TableName::Load, "load"),
 ];
-
-// Compares what a value prints with a text.
-fn expect_printed(rt: &(impl Abort + AllocGlobal), value: &impl Display, text: &str) {
-    let printed = value.to_string(rt.alloc()).expect(rt, "memory");
-    expect(rt, printed.as_str(), text);
-}
 
 #[test]
 fn lines_of_the_faults(rt: HostRuntime) {

@@ -1,11 +1,11 @@
 //! The words of nodes, and what a round takes from them.
 
+use crate::tests::comparing::{expect, expect_at};
 use crate::tests::exchange_lists::between;
 use crate::tests::small_scenarios::{PLAIN, RANDOM, expect_counts, listed, scenario_of};
 use crate::tests::word_tables::{NODES, PLACES, SEEDS, WORDS};
 use bench_types::Exchange;
 use bench_types::limits::MOST_ROUNDS;
-use fixtures::{expect, expect_at};
 use round_plan::{OwnWrite, ROUND_WORDS, RunWords, draw, peer, round_list_by, writes_of};
 use scenario::Scenario;
 use std::process::Abort;

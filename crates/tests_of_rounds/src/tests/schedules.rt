@@ -1,9 +1,9 @@
 //! How far a schedule comes, event by event.
 
+use crate::tests::comparing::expect_at;
 use crate::tests::exchange_lists::CROSSING;
 use crate::tests::predecessors::schedule_of;
 use bench_types::Fault;
-use fixtures::expect_at;
 use planner::{Event, Schedule};
 use std::process::Abort;
 

@@ -1,7 +1,7 @@
 //! Scenarios of four rounds, and their lists.
 
+use crate::tests::comparing::expect;
 use bench_types::limits::MOST_ROUNDS;
-use fixtures::expect;
 use round_plan::{RoundList, round_list};
 use scenario::{Scenario, read};
 use std::alloc::AllocGlobal;

@@ -1,8 +1,9 @@
 //! Lines that are written to memory.
 
+use crate::tests::comparing::{expect, expect_at};
 use crate::tests::exchange_lists::{PAIR, list_of};
 use bench_types::{Fate, Mode, Push, Record, Row};
-use fixtures::{expect, expect_at, row};
+use fixtures::row;
 use report::{
     compare_header, report_header, trace_header, write_compare_row, write_report_row,
     write_trace_rows,

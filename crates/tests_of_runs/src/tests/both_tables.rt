@@ -4,12 +4,13 @@
 ghost use Rattle.simulation.specs.Simulation.{MayWriteAll};
 ghost use Rattle.runs.specs.inner.Writes.{AreWrittenIn, HasWritesBelow};
 
+use crate::tests::comparing::expect;
 use crate::tests::several_workers::expect_same_round;
 use crate::tests::steps::{begin, step};
 use bench::{FreeGate, Sim};
 use bench_types::limits::MOST_WRITES;
 use bench_types::{Entry, Fault, Mode};
-use fixtures::{changed, expect};
+use fixtures::changed;
 use model::MemoryTable;
 use node_table::NodeTable;
 use round_tables::RoundHistories;

@@ -1,8 +1,9 @@
 //! A simulation in whose second round memory is refused: what that step answers, and each step behind it.
 
+use crate::tests::comparing::{expect, expect_at};
 use bench::{EntryHistories, FreeGate};
 use bench_types::{Exchange, Fault, Figures, Record, Rules};
-use fixtures::{FOUR_MODES, Team, expect, expect_at};
+use fixtures::{FOUR_MODES, Team};
 use model::{Exchanging, MemoryTable};
 use node_table::NodeTable;
 use round_tables::{RoundHistories, TakesAll};

@@ -1,11 +1,11 @@
 //! Ends that go byte by byte and fail at each place of a run of two rounds, and flushes of what else the program
 //! prints. How the program meets reads and writes that fail is tried by `scripts/try_program`.
 
+use crate::tests::comparing::{expect, expect_at};
 use bench::{compare, run};
 use bench_types::{Fault, Field, Pull, Push, write_text};
 use fixtures::{
     ALL, Drip, FOUR_MODES, FOUR_MODES_COMPARED, Halting, RESTART_WITHOUT_DOWNTIME, Taking, Team,
-    expect, expect_at,
 };
 use std::alloc::{AllocError, AllocGlobal, Global};
 use std::io::ErrorKind;

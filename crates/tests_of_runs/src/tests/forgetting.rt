@@ -1,9 +1,10 @@
 //! Simulations of two nodes of which one forgets, round by round.
 
+use crate::tests::comparing::{expect, expect_at};
 use crate::tests::steps::{sim_of, step};
 use bench::Sim;
 use bench_types::{Fault, Figures};
-use fixtures::{changed_in_bytes, expect, expect_at};
+use fixtures::changed_in_bytes;
 use node_table::NodeTable;
 use std::alloc::Global;
 use std::process::Abort;

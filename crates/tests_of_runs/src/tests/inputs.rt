@@ -1,8 +1,9 @@
 //! Inputs whose reader fails.
 
+use crate::tests::comparing::expect_at;
 use bench::read_all;
 use bench_types::{Fault, Pull};
-use fixtures::{Halting, expect_at};
+use fixtures::Halting;
 use std::io::ErrorKind;
 
 // Four bytes at each call take three, and the fourth call is the one that gives no byte.

@@ -2,13 +2,14 @@
 
 ghost use Rattle.model.specs.Runs.{AreWorkers};
 
+use crate::tests::comparing::expect;
 use crate::tests::steps::{sim_of, step};
 use bench::{FreeGate, Round, Sim};
 use bench_types::limits::MOST_WORKERS;
 use bench_types::{Fault, Row};
 use fixtures::{
     A_NODE_DOWN, RESTART_WITHOUT_DOWNTIME, RING_OF_FOUR, TWO_NODES, TWO_NODES_CUT, changed,
-    changed_in_bytes, expect, row,
+    changed_in_bytes, row,
 };
 use node_table::NodeTable;
 use std::alloc::AllocGlobal;

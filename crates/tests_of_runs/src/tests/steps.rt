@@ -1,8 +1,9 @@
 //! Simulations, step by step.
 
+use crate::tests::comparing::{expect, expect_at};
 use bench::{FreeGate, Round, Sim};
 use bench_types::{Fault, Figures, Mark};
-use fixtures::{RING_OF_FOUR, TWO_NODES, between, expect, expect_at, row, sent};
+use fixtures::{RING_OF_FOUR, TWO_NODES, between, row, sent};
 use node_table::NodeTable;
 use scenario::{Scenario, read};
 use std::alloc::Global;

@@ -1,8 +1,9 @@
 //! What an accepted scenario says.
 
+use crate::tests::comparing::expect;
 use bench::check_input;
 use bench_types::{Budget, Fault, Mode, Pull};
-use fixtures::{changed, changed_in_bytes, expect};
+use fixtures::{changed, changed_in_bytes};
 use scenario::{Choice, Load, Partition, Peers, Restart, Rotation, Scenario, read};
 use std::process::Abort;
 

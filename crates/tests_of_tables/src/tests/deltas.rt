@@ -1,12 +1,12 @@
 //! Deltas by hand: what is sent of one table in each mode, and of many tables against a program that
 //! places each candidate by counting those that come before it.
 
+use crate::tests::comparing::expect_at;
 use crate::tests::fixtures::{expect_mark, item, lawful, new_table, next, take};
 use crate::tests::plain_tables::{
     BUDGETS, NODES, Turn, count_before, is_sent, lacked, list_of, small_table,
 };
 use bench_types::{Budget, Item, Mode};
-use fixtures::expect_at;
 use node_table::NodeTable;
 use reconcile::{Delta, Digest, delta};
 use std::alloc::Global;

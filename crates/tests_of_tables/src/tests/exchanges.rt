@@ -1,11 +1,11 @@
 //! Exchanges of two tables, with records and tables worked out from the rules.
 
+use crate::tests::comparing::expect_at;
 use crate::tests::deltas::unturned;
 use crate::tests::fixtures::{expect_held, item, lawful, new_table, take, write};
 use crate::tests::plain_tables::Turn;
 use bench_types::{Budget, Exchange, Fate, Fault, Item, Mode, Record, Rules};
 use exchange::exchange;
-use fixtures::expect_at;
 use node_table::NodeTable;
 use std::alloc::Global;
 use std::process::Abort;

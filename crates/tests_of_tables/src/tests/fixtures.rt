@@ -5,8 +5,8 @@ ghost use Rattle.bench_types.specs.Budget.{IsLawfulBudget};
 ghost use Rattle.model.specs.Table.{empty_table};
 ghost use Rattle.model.specs.Table.{IsItemInPlace};
 
+use crate::tests::comparing::expect_at;
 use bench_types::{Budget, Entry, Fault, Item, Mark};
-use fixtures::expect_at;
 use node_table::NodeTable;
 use std::alloc::Global;
 use std::process::Abort;

@@ -1,12 +1,12 @@
 //! Nodes that forgot: what their tables hold, and which of two generations is sent and kept.
 
+use crate::tests::comparing::expect_at;
 use crate::tests::deltas::answer;
 use crate::tests::fixtures::{
     expect_entries, expect_held, expect_mark, forget, item, new_table, take, write,
 };
 use crate::tests::plain_tables::Turn;
 use bench_types::{Budget, Item, Mark, Mode};
-use fixtures::expect_at;
 use node_table::NodeTable;
 use reconcile::Digest;
 use std::alloc::Global;

@@ -1,7 +1,7 @@
 //! An owner that wrote in two of its three generations: what stands under each mark.
 
+use crate::tests::comparing::expect_at;
 use bench_types::{Entry, Mark};
-use fixtures::expect_at;
 use staleness::OwnerList;
 use std::alloc::Global;
 use std::process::Abort;

@@ -1,9 +1,9 @@
 //! A plain model of what a node holds, as a list of items, and of the orders in which candidates are sent,
 //! and small tables to hold the program against it.
 
+use crate::tests::comparing::expect_at;
 use crate::tests::fixtures::{forget, item, new_table, next, take, try_write};
 use bench_types::{Budget, Item, Mark, Mode};
-use fixtures::expect_at;
 use node_table::NodeTable;
 use std::alloc::Global;
 use std::cmp::Ordering;

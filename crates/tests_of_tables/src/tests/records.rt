@@ -1,8 +1,8 @@
 //! Records that come in another order than they go out.
 
+use crate::tests::comparing::expect;
 use bench_types::{Fate, Fault, Record};
 use collector::{Collector, Stamped};
-use fixtures::expect;
 use std::process::Abort;
 
 // The record of an exchange in which this many entries were sent back.

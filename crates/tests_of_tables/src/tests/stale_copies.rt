@@ -6,9 +6,9 @@ ghost use Rattle.model.specs.OwnerListView.{written};
 ghost use Rattle.model.specs.Writes.{AreBornBy};
 ghost use Rattle.tests_of_tables.specs.Missed.{missed, missed_in};
 
+use crate::tests::comparing::expect_at;
 use crate::tests::fixtures::{item, may_take, new_table};
 use bench_types::{Figures, Item};
-use fixtures::expect_at;
 use node_table::NodeTable;
 use staleness::{OwnerList, figures};
 use std::alloc::Global;

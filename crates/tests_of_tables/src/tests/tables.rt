@@ -1,11 +1,11 @@
 //! Tables by hand: what they hold is worked out from the rules, and for long lists by a plain model.
 
+use crate::tests::comparing::expect_at;
 use crate::tests::fixtures::{
     expect_held, expect_mark, expect_same, item, items, new_table, next, take, try_write, write,
 };
 use crate::tests::plain_tables::{expect_listed, merge};
 use bench_types::{Entry, Item, Mark};
-use fixtures::expect_at;
 use node_table::NodeTable;
 use std::alloc::Global;
 use std::process::Abort;

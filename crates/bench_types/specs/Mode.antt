@@ -1,6 +1,6 @@
 -- The modes: what a digest tells in each, and its name. The scuttle modes are those of the LADIS 2008 paper, in
--- which a digest tells one mark of each owner, there a version. Source: that paper; the names and the order of all
--- modes are this project's.
+-- which a digest tells one mark of each owner, there a version. Source: that paper; the names precise-oldest and
+-- precise-newest and the order of all modes are this project's.
 use Rattle.std.specs.Prelude.{ℕ, List, [], ◌∷◌, Option, codes, bytes_eq, find}
 use Rattle.bench_types.specs.declared.exchanges.Mode.{Mode}
 use Rattle.bench_types.specs.declared.exchanges.Mode.TheVariants.{ScuttleBreadth, ScuttleDepth, PreciseOldest, PreciseNewest}

@@ -17,8 +17,8 @@ use Rattle.model.specs.Table.{Table, mark_at, greatest_mark, generation_held, it
 abbrev pub IsScuttleMode : Mode → Type 0
 IsScuttleMode mode = digest_kind mode ≡ Scuttle
 
--- the mark up to which a receiver knows what an item tells, by what its digest tells: of a key that its copy lacks it
--- knows nothing of the copy's generation, and of an older one all
+-- the mark up to which a receiver knows what an item tells, by what its digest tells: a key that its copy lacks counts
+-- as version 0 of the copy's generation, so that nothing of an older one is sent
 abbrev pub known_mark : DigestKind → Table → Item → Mark
 known_mark Scuttle to i = greatest_mark to i.owner
 known_mark Precise to i =

@@ -16,10 +16,11 @@ fate_name Lost1 = codes "lost1"
 fate_name Lost2 = codes "lost2"
 fate_name Lost3 = codes "lost3"
 
--- what stands before the fate, and what stands behind it
+-- what stands before the fate
 abbrev pub trace_ends : ℕ → ℕ → Exchange → List ℕ
 trace_ends round index e = round ∷ index ∷ e.initiator ∷ e.responder ∷ []
 
+-- what stands behind it
 abbrev pub trace_counts : Record → List ℕ
 trace_counts r = r.digest1 ∷ r.digest2 ∷ r.back ∷ r.forth ∷ r.back_cut ∷ r.forth_cut ∷ []
 

@@ -12,7 +12,7 @@ use Rattle.round_plan.specs.Peer.{peer_of}
 use Rattle.round_plan.specs.Words.{word_of}
 use Rattle.model.specs.RoundLists.{RoundListView, round_list_view}
 
--- a message is lost where its word, among as many as there are parts of a rate, is below the scenario's rate
+-- a message is lost where its word, modulo a million, which is a rate of 1, is below the scenario's rate
 abbrev pub is_lost : Settings → ℕ → Bool
 is_lost s word = nat_lt (word % MOST_LOSS) s.loss_ppm
 

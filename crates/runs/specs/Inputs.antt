@@ -1,6 +1,6 @@
 -- What reading an input comes to. `source` has the words of a source: what it has left, and whether it has failed.
--- `old` and `new` are its states before and after the call. What is said of the bytes holds where the source doesn't
--- tell them. Source: this project.
+-- `old` and `new` are its states before and after the call. Where the source doesn't tell its bytes, what is said of
+-- them says nothing. Source: this project.
 use Rattle.std.specs.Prelude.{ℕ, ◌≡◌, ◌≢◌, ◌⊎◌, ◌+◌, ◌<◌, ◌≤◌, true, false, List, Some, None, Result, Err, IfSome, IfOk, OnOk, IfErr, IsSomeAnd, length}
 use Rattle.std.specs.Io.KnownBytes.{Consumes, IsAtEnd}
 use Rattle.bench_types.specs.declared.faults.Fault.{Fault}

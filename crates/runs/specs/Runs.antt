@@ -1,7 +1,8 @@
 -- What a run writes, and what stands where it fails. It writes a report and a trace: both headers, the report's
--- first, and then for each round the lines of the trace and the row of the report. None of this depends on the number
--- of workers; where there are several, one may not start. `sink` has the words of the sink of
--- the report, and `old` and `new` are its states before and after the call; with a prime they are those of the trace.
+-- first, and then for each round the lines of the trace and the row of the report. The texts don't depend on the number
+-- of workers; where there are several, one may not start. `sink` has the words of the sink of the report, and `old` and
+-- `new` are its states before and after the call; `sink'`, `old'` and `new'` are those of the trace. `reader` and
+-- `reader'` are the source before and after it.
 -- Source: this project.
 use Rattle.std.specs.Prelude.{◌≡◌, ℕ, ◌+◌, ◌<◌, ◌⊎◌, true, false, List, Ok}
 use Rattle.bench_types.specs.declared.faults.Fault.{Fault}

@@ -1,6 +1,6 @@
--- What a field of a table holds, or the fault that reading it comes to: a field that is absent is
--- missing, but for one of true or false, which is then false; a value of another type than the field's
--- is of the wrong type, and one of the type that the field does not take is out of range. Source: this
+-- What a field of a table holds, or the fault that reading it comes to: a field that is absent is missing, but for one
+-- of true or false, which is then false (arrays, which may be absent, stand in `Elements`); a value of another type than
+-- the field's is of the wrong type, and one of the type that the field doesn't take is out of range. Source: this
 -- project.
 use Rattle.std.specs.Prelude.{ℕ, ℤ, pos, negsuc, Bool, true, false, ◌&&◌, List, Option, None, Some, Result, Ok, Err, bytes_eq, nat_le, if◌then◌else◌}
 use Rattle.std.specs.List.{list_any}

@@ -6,7 +6,7 @@ ghost use Rattle.node_table.specs.NodeTableView.{kept_table};
 ghost use Rattle.board.specs.Boards.{plan_of, IsSeatOf, seat_view};
 ghost use Rattle.board.specs.SeatView.{first_seat};
 
-use crate::tests::comparing::expect_at;
+use crate::tests::comparing::expect;
 use crate::tests::tables::{Board, Seat};
 use bench_types::{Budget, Fault, Mode, Rules};
 use dependencies::Deps;
@@ -68,8 +68,9 @@ pub(crate) fn board_of(
 /// A table that holds the first keys of these owners, and nothing else.
 pub(crate) fn expect_owners(rt: &impl Abort, table: &NodeTable, owners: &[u32]) {
     let node = table.node();
-    expect_at(rt, table.count() as usize, owners.len(), node);
+    expect(rt, (node, table.count() as usize), (node, owners.len()));
     for owner in owners {
-        expect_at(rt, table.get(*owner, 0), Some(WRITTEN), (owner, node));
+        let held = table.get(*owner, 0);
+        expect(rt, (node, *owner, held), (node, *owner, Some(WRITTEN)));
     }
 }

@@ -5,7 +5,7 @@ ghost use Rattle.model.specs.OwnerListView.{all_writes, entries_of};
 ghost use Rattle.planes.specs.Planes.{ArePlanesChanged, IsGrid, MayTake};
 ghost use Rattle.version_tables.specs.inner.Offers.{IsNumberedHistory};
 ghost use Rattle.version_tables.specs.inner.Histories.{AreOwners};
-ghost use Rattle.version_tables.specs.inner.Taken.{drop_start, number_kept, AreTakenOf, HasArrived, HasMarksFor, IsOwnerKept, MayArrive};
+ghost use Rattle.version_tables.specs.inner.Taken.{drop_start, number_kept, AreTakenOf, HasArrived, IsOwnerKept, MayArrive};
 
 use crate::deltas::DeltaMarks;
 use crate::generations::start_of;
@@ -121,11 +121,8 @@ pub(crate) fn take_unless<N: Number, H: Written>(
     before: &[N],
     owners: Owners<N>,
 )
-    requires cells { length cells.now ≡ length table.old.cells }
-    requires marks { HasMarksFor table.old.nodes arrival.marks.now }
+    requires may { MayArrive N.number H.lists owners table.old (map N.number cells.now) arrival }
     requires before { map N.number before.now ≡ table.old.greatest }
-    requires owners { AreOwners N.number table.old.nodes owners }
-    requires stays { MayArrive N.number H.lists owners table.old (map N.number cells.now) arrival }
     ensures { HasArrived N.number owners.entry table.old (map N.number cells.now) arrival.entry table.new }
 {
     if arrival.nothing {

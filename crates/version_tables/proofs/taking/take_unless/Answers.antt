@@ -27,7 +27,7 @@ module _ (g : given.Over) (c : goal.After-table-2-1 g) where
 
 pub invariant_of-table : goal.invariant_of-table
 invariant_of-table g c =
-    take-stays (all_writes c.args.owners.lists.now) (bases_in c.args.owners.lists.now) _ _ _ (old g c) c.args.table.now c.table.view_is _ _ (taken g c) g.H.Written.lists c.requires.stays
+    take-stays (all_writes c.args.owners.lists.now) (bases_in c.args.owners.lists.now) _ _ _ (old g c) c.args.table.now c.table.view_is _ _ (taken g c) g.H.Written.lists c.requires.may.stays
 
 pub returns : goal.returns
 returns g c =
@@ -46,9 +46,9 @@ take_numbers-requires-clause-may g c κs out =
         few_keys = c.table.invariant.proper.keys_limit;
       };
       greatest_count = ap length c.deref_mut-2.ensures.value ∙ sym (length-map inside.greatest.items number) ∙ c.table.invariant.greatest_count;
-      sent_count = c.requires.cells ∙ sym (ap (λ (v : VersionTableView). length v.cells) c.table.view_is) ∙ length-map inside.cells.items number ∙ sym (ap length c.deref_mut.ensures.value);
-      low_count = ap length c.deref.ensures.value ∙ c.requires.marks.low ∙ nodes;
-      high_count = ap length c.deref-2.ensures.value ∙ c.requires.marks.high ∙ nodes;
+      sent_count = sym (length-map c.args.cells.now number) ∙ c.requires.may.cells ∙ sym (ap (λ (v : VersionTableView). length v.cells) c.table.view_is) ∙ length-map inside.cells.items number ∙ sym (ap length c.deref_mut.ensures.value);
+      low_count = ap length c.deref.ensures.value ∙ c.requires.may.low_count ∙ nodes;
+      high_count = ap length c.deref-2.ensures.value ∙ c.requires.may.high_count ∙ nodes;
       covered =
           subst (λ xs. AreCovered inside.nodes inside.keys (map number xs) (map number c.deref_mut-2.result.now)) (sym c.deref_mut.ensures.value)
           (subst (λ xs. AreCovered inside.nodes inside.keys (map number inside.cells.items) (map number xs)) (sym c.deref_mut-2.ensures.value) (λ owner lt. (c.table.invariant.most owner lt).upto));
@@ -60,4 +60,4 @@ take_numbers-requires-clause-before g c κs out =
 
 pub take_numbers-requires-clause-owners : goal.take_numbers-requires-clause-owners
 take_numbers-requires-clause-owners g c κs out =
-    subst (λ nodes. AreOwners g.N.Number.number nodes c.args.owners) (sym (ap (λ (v : VersionTableView). v.nodes) c.table.view_is)) c.requires.owners
+    subst (λ nodes. AreOwners g.N.Number.number nodes c.args.owners) (sym (ap (λ (v : VersionTableView). v.nodes) c.table.view_is)) c.requires.may.known

@@ -7,7 +7,6 @@ use Rattle.planes.specs.Planes.{Cells, cell, numbers_taken, ArePlanesChanged, Is
 use Rattle.version_tables.specs.Views.{VersionTableView}
 use Rattle.version_tables.specs.Laid.{IsVersionTable}
 use Rattle.model.specs.OwnerListView.{all_writes}
-use Rattle.planes.specs.declared.grids.Sent.{Sent}
 use Rattle.version_tables.specs.declared.histories.Owners.{Owners}
 use Rattle.version_tables.specs.declared.taking.Arrival.{Arrival}
 use Rattle.version_tables.specs.inner.Histories.{bases_in, AreOwners}
@@ -84,12 +83,6 @@ pub record HasTaken (lists : ℕ → List Entry) (bases : ℕ → ℕ) (to : Ver
 abbrev pub HasTakenUnless : Bool → (ℕ → List Entry) → (ℕ → ℕ) → VersionTableView → List ℕ → List ℕ → List ℕ → VersionTableView → Type 0
 HasTakenUnless true lists bases to sent low high new = new ≡ to
 HasTakenUnless false lists bases to sent low high new = HasTaken lists bases to sent low high new
-
--- the same of numbers in memory, of what is sent and of what the owners wrote
-abbrev pub AreTakenOf : {N : Type 0} → (N → ℕ) → Owners N → Sent N → List N → List N → List N → List N → Type 0
-AreTakenOf number owners sent cells greatest new_cells new_greatest =
-    IsTaken (all_writes owners.lists.now) (bases_in owners.lists.now) sent.nodes sent.keys (map number cells) (map number greatest)
-    (map number sent.cells.now) (map number sent.low.now) (map number sent.high.now) (map number new_cells) (map number new_greatest)
 
 -- a table may take what comes of a sender's numbers: these are as many as its own, there are marks and owners for each
 -- node, and it stays one

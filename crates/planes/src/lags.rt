@@ -5,7 +5,7 @@ ghost use Rattle.bench_types.specs.declared.faults.Fault.TheVariants.{OutOfMemor
 ghost use Rattle.bench_types.specs.declared.limits.TheConstants.{MOST_NODES};
 ghost use Rattle.planes.specs.Elementwise.{AreChanged};
 ghost use Rattle.planes.specs.Lags.{next_behind, IsLeastBehind};
-ghost use Rattle.planes.specs.inner.Counting.{count_passing};
+ghost use Rattle.planes.specs.inner.Counting.{count_less};
 ghost use Rattle.planes.specs.Planes.{cell, total_of, ArePlanesChanged, HasEach, IsGrid, IsLowered};
 
 use crate::grids::{all_of, plane_of};
@@ -28,8 +28,8 @@ fn lower_counting<N: Number>(least: &mut [N], plane: &[N], last: &[N]) -> u32
     requires plane { length plane.now ≡ length least.old }
     requires last { length last.now ≡ length least.old }
     requires room { length least.old ≤ MOST_NODES }
-    ensures count { result ≡ count_passing (length least.old)
-        (λ r. nat_lt (slice_index (map N.number plane.now) r) (slice_index (map N.number last.now) r)) }
+    ensures count { result ≡ count_less (length least.old)
+        (map N.number plane.now) (map N.number last.now) }
     ensures least { AreChanged (λ r x y. y ≡ min x (slice_index (map N.number plane.now) r))
         (map N.number least.old) (map N.number least.new) }
 {

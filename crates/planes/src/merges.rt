@@ -4,7 +4,7 @@ ghost use Rattle.std.specs.Prelude.{◌≡◌, ◌-◌, ◌≤◌, length, map, 
 ghost use Rattle.bench_types.specs.declared.limits.TheConstants.{MOST_NODES, MOST_KEYS};
 ghost use Rattle.planes.specs.Elementwise.{AreChanged};
 ghost use Rattle.planes.specs.Planes.{most_ahead, number_raised, AreBothCovered, AreBothRaised};
-ghost use Rattle.planes.specs.inner.Counting.{count_passing};
+ghost use Rattle.planes.specs.inner.Counting.{count_less};
 
 use crate::numbers::Number;
 use crate::owners::FEW_TO_CHANGE;
@@ -73,10 +73,10 @@ fn merge_planes<N: Number>(
         (slice_index (map N.number first_low.now) r)) (map N.number first.old) (map N.number first.new) }
     ensures second { AreChanged (λ r x y. y ≡ number_raised x (slice_index (map N.number first.old) r)
         (slice_index (map N.number second_low.now) r)) (map N.number second.old) (map N.number second.new) }
-    ensures first_count { result.first ≡ count_passing (length first.old)
-        (λ r. nat_lt (slice_index (map N.number first_low.now) r) (slice_index (map N.number second.old) r)) }
-    ensures second_count { result.second ≡ count_passing (length first.old)
-        (λ r. nat_lt (slice_index (map N.number second_low.now) r) (slice_index (map N.number first.old) r)) }
+    ensures first_count { result.first ≡ count_less (length first.old)
+        (map N.number first_low.now) (map N.number second.old) }
+    ensures second_count { result.second ≡ count_less (length first.old)
+        (map N.number second_low.now) (map N.number first.old) }
 {
     let mut to_first = N::zero();
     let mut to_second = N::zero();

@@ -4,7 +4,7 @@ ghost use Rattle.std.specs.Prelude.{◌≡◌, ℕ, ◌+◌, ◌<◌, ◌≤◌,
 ghost use Rattle.bench_types.specs.declared.limits.TheConstants.{MOST_NODES};
 ghost use Rattle.planes.specs.Elementwise.{AreChanged};
 ghost use Rattle.planes.specs.inner.Answering.{AnswersAs};
-ghost use Rattle.planes.specs.inner.Counting.{count_passing};
+ghost use Rattle.planes.specs.inner.Counting.{count_less, count_passing};
 ghost use Rattle.planes.specs.Planes.{next_above, IsLowered, number_ahead, number_taken};
 
 use crate::numbers::Number;
@@ -80,7 +80,8 @@ pub fn keep_ahead<N: Number>(numbers: &mut [N], peer: &[N], low: &[N]) -> u32
     ensures numbers { AreChanged (λ r x y. y ≡ number_ahead x (slice_index (map N.number peer.now) r)
         (slice_index (map N.number low.now) r)) (map N.number numbers.old) (map N.number numbers.new) }
     ensures count { result ≡ count_passing (length numbers.old)
-        (λ r. nat_lt (max (slice_index (map N.number peer.now) r) (slice_index (map N.number low.now) r))
+        (λ r. nat_lt
+        (max (slice_index (map N.number peer.now) r) (slice_index (map N.number low.now) r))
         (slice_index (map N.number numbers.old) r)) }
 {
     let mut count = N::zero();
@@ -124,7 +125,8 @@ pub fn how_many<N: Number, F: Fn(usize, N) -> bool>(plane: &[N], passes: F) -> u
     requires passes { (r : ℕ) (n : N) → r < length plane.now → F.pre passes r n }
     ensures upto { result ≤ length plane.now }
     ensures count { (test : ℕ → ℕ → Bool) → AnswersAs N.number (F.post passes) (length plane.now) test
-        → result ≡ count_passing (length plane.now) (λ r. test r (slice_index (map N.number plane.now) r)) }
+        → result ≡ count_passing (length plane.now)
+        (λ r. test r (slice_index (map N.number plane.now) r)) }
 {
     let mut count = N::zero();
     for r in 0..plane.len() {
@@ -137,8 +139,7 @@ pub fn how_many<N: Number, F: Fn(usize, N) -> bool>(plane: &[N], passes: F) -> u
 pub fn how_many_above<N: Number>(plane: &[N], low: &[N]) -> u32
     requires low { length low.now ≡ length plane.now }
     requires room { length plane.now ≤ MOST_NODES }
-    ensures { result ≡ count_passing (length plane.now)
-        (λ r. nat_lt (slice_index (map N.number low.now) r) (slice_index (map N.number plane.now) r)) }
+    ensures { result ≡ count_less (length plane.now) (map N.number low.now) (map N.number plane.now) }
 {
     how_many(plane, |r, number| number.is_above(low[r]))
 }

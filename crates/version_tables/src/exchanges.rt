@@ -154,8 +154,8 @@ fn take_both<N: Number, H: Written>(
     owners: Owners<N>,
 ) -> Result<(), Fault>
     requires may { MayTakeBoth N.number H.lists owners initiator.old responder.old back forth }
-    ensures ok { OnOk result (HaveTakenBoth N.number owners.entry initiator.old responder.old back.entry forth.entry
-        initiator.new responder.new) }
+    ensures ok { OnOk result (HaveTakenBoth N.number owners.entry initiator.old responder.old
+        back.entry forth.entry initiator.new responder.new) }
     ensures initiator_stays { OnErr result (initiator.new ≡ initiator.old) }
     ensures responder_stays { OnErr result (responder.new ≡ responder.old) }
     ensures only { IsOkUnless result OutOfMemory }

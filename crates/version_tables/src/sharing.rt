@@ -102,7 +102,8 @@ impl<'a, N: Number> Offer<'a, N> {
         requires turns { AreTurnsOf N.number self.now turns.now }
         requires owner { owner < self.now.nodes }
         requires counts { AreKnownFor N.number N.most self.now turns.now counts.old }
-        ensures count { marks N.number counts.new owner ≡ part_weight N.number (λ _. 1) self.now turns.now owner }
+        ensures count { marks N.number counts.new owner
+            ≡ part_weight N.number (λ _. 1) self.now turns.now owner }
         ensures counts { AreKnownFor N.number N.most self.now turns.now counts.new }
     {
         let end = (owner + MANY).min(self.nodes);

@@ -86,8 +86,8 @@ HasTakenUnless false lists bases to sent low high new = HasTaken lists bases to 
 
 -- a table may take what comes of a sender's numbers: these are as many as its own, there are marks and owners for each
 -- node, and it stays one
-pub record MayArrive {N : Type 0} (number : N → ℕ) (written : ℕ → List Entry) (owners : Owners N) (to : VersionTableView)
-    (sent : List ℕ) (arrival : Arrival N) : Type 0 where
+pub record MayArrive {N : Type 0} (number : N → ℕ) (written : ℕ → List Entry) (owners : Owners N)
+    (to : VersionTableView) (sent : List ℕ) (arrival : Arrival N) : Type 0 where
   pub cells : length sent ≡ length to.cells
   pub low_count : length arrival.marks.now.low.items ≡ to.nodes
   pub high_count : length arrival.marks.now.high.items ≡ to.nodes
@@ -105,11 +105,13 @@ HasArrived number owners to sent arrival new =
 pub record MayTakeBoth {N : Type 0} (number : N → ℕ) (written : ℕ → List Entry) (owners : Owners N)
     (initiator responder : VersionTableView) (back forth : Arrival N) : Type 0 where
   pub first : MayArrive number written owners initiator responder.cells back
-  pub second : (after : VersionTableView) → HasArrived number owners initiator responder.cells back after
+  pub second : (after : VersionTableView)
+      → HasArrived number owners initiator responder.cells back after
       → MayArrive number written owners responder after.cells forth
 
 -- and they have taken that
-pub record HaveTakenBoth {N : Type 0} (number : N → ℕ) (owners : Owners N) (initiator responder : VersionTableView)
-    (back forth : Arrival N) (new_initiator new_responder : VersionTableView) : Type 0 where
+pub record HaveTakenBoth {N : Type 0} (number : N → ℕ) (owners : Owners N)
+    (initiator responder : VersionTableView) (back forth : Arrival N)
+    (new_initiator new_responder : VersionTableView) : Type 0 where
   pub first : HasArrived number owners initiator responder.cells back new_initiator
   pub second : HasArrived number owners responder new_initiator.cells forth new_responder

@@ -1,4 +1,4 @@
-use Rattle.std.proofs.Common.{◌≡◌, nat_lt, get_or, length, map, sym, ap, subst, ◌∙◌, arith, if◌then◌else◌}
+use Rattle.std.proofs.Common.{nat_lt, get_or, length, map, sym, ap, subst, ◌∙◌, arith, if◌then◌else◌}
 use Rattle.std.proofs.lemmas.List.{length-map, with_items_is}
 use Rattle.planes.specs.Planes.{HasEach, IsNextAbove}
 use Rattle.planes.proofs.Elementwise.{number-at}

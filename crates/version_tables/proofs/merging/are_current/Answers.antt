@@ -1,9 +1,7 @@
-use Rattle.std.proofs.Common.{ℕ, ◌≡◌, ◌<◌, ◌&&◌, cond, false, zero, suc, nat_lt, nat_le, map, slice_index, refl, sym, ap, ◌∙◌, arith}
-use Rattle.std.proofs.lemmas.Bool.{le-leb, lt-leb, ltb-false}
+use Rattle.std.proofs.Common.{ℕ, ◌≡◌, ◌<◌, nat_lt, map, slice_index, refl, arith}
+use Rattle.std.proofs.lemmas.Bool.{ltb-false}
 use Rattle.version_tables.specs.inner.Histories.{bases_in}
-use Rattle.version_tables.specs.inner.Merged.{AreCurrent}
 use Rattle.version_tables.proofs.Clearing.{plane-none, none-current}
-use Rattle.version_tables.proofs.merging.are_current.Given as given
 use Rattle.version_tables.proofs.merging.are_current.Goals as goal
 
 pub returns-then-total_held-eq0 : goal.returns-then-total_held-eq0

@@ -1,10 +1,9 @@
 use Rattle.std.proofs.Common.{◌≡◌, length, map, max, get_or, ap, sym, subst, ◌∙◌, arith}
 use Rattle.std.specs.Vec.{with_items}
 use Rattle.std.proofs.lemmas.List.{length-map, with_items_is}
-use Rattle.planes.specs.Planes.{cell, HasEach}
+use Rattle.planes.specs.Planes.{HasEach}
 use Rattle.version_tables.specs.inner.OfferInMemory.{marks}
 use Rattle.version_tables.specs.inner.RoundLevels.{round_at, end_mark}
-use Rattle.version_tables.proofs.rounds.Ends.mark_after.Given as given
 use Rattle.version_tables.proofs.rounds.Ends.mark_after.Goals as goal
 use Rattle.version_tables.proofs.rounds.Ends.mark_after.Goals.{in-Oldest, in-Newest}
 

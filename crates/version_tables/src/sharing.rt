@@ -1,11 +1,10 @@
 //! A level that doesn't fit, shared out: the owners take turns from the rotation on, up to the first number that
 //! doesn't fit.
 
-ghost use Rattle.std.specs.Prelude.{◌≡◌, ◌+◌, ◌-◌, ◌<◌, ◌≤◌, IfOk, IsOkUnless, length, map};
+ghost use Rattle.std.specs.Prelude.{◌≡◌, ◌+◌, ◌-◌, ◌<◌, IfOk, IsOkUnless, length};
 ghost use Rattle.bench_types.specs.Budget.{amount_of};
 ghost use Rattle.bench_types.specs.declared.faults.Fault.TheVariants.{OutOfMemory};
 ghost use Rattle.model.specs.Order.{rotated};
-ghost use Rattle.planes.specs.Planes.{HasEach};
 ghost use Rattle.version_tables.specs.inner.Firsts.{by_first};
 ghost use Rattle.version_tables.specs.inner.OfferInMemory.{cells_in, marks, weights_in, IsOffer};
 ghost use Rattle.version_tables.specs.inner.Plans.{weight_on, IsLevel};

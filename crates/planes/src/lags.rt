@@ -1,11 +1,11 @@
 //! Loops over all planes of a table that compare its numbers with the last ones.
 
-ghost use Rattle.std.specs.Prelude.{◌≡◌, ◌<◌, ◌≤◌, length, map, min, nat_lt, slice_index, IfOk, IsOkUnless, if◌then◌else◌};
+ghost use Rattle.std.specs.Prelude.{◌≡◌, ◌<◌, ◌≤◌, length, map, min, nat_lt, slice_index, IfOk, IsOkUnless};
 ghost use Rattle.bench_types.specs.declared.faults.Fault.TheVariants.{OutOfMemory};
 ghost use Rattle.bench_types.specs.declared.limits.TheConstants.{MOST_NODES};
 ghost use Rattle.planes.specs.Elementwise.{AreChanged};
 ghost use Rattle.planes.specs.Lags.{next_behind, IsLeastBehind};
-ghost use Rattle.bench_types.specs.Sums.{sum_below};
+ghost use Rattle.planes.specs.inner.Counting.{count_less};
 ghost use Rattle.planes.specs.Planes.{cell, total_of, ArePlanesChanged, HasEach, IsGrid, IsLowered};
 
 use crate::grids::{all_of, plane_of};
@@ -28,9 +28,8 @@ fn lower_counting<N: Number>(least: &mut [N], plane: &[N], last: &[N]) -> u32
     requires plane { length plane.now ≡ length least.old }
     requires last { length last.now ≡ length least.old }
     requires room { length least.old ≤ MOST_NODES }
-    ensures count { result ≡ sum_below (length least.old)
-        (λ r. if nat_lt (slice_index (map N.number plane.now) r) (slice_index (map N.number last.now) r)
-        then 1 else 0) }
+    ensures count { result ≡ count_less (length least.old)
+        (map N.number plane.now) (map N.number last.now) }
     ensures least { AreChanged (λ r x y. y ≡ min x (slice_index (map N.number plane.now) r))
         (map N.number least.old) (map N.number least.new) }
 {

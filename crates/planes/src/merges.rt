@@ -1,10 +1,10 @@
 //! Two tables that take of each other all that is above their marks, both ways in one pass.
 
-ghost use Rattle.std.specs.Prelude.{◌≡◌, ◌-◌, ◌≤◌, length, map, max, min, nat_lt, slice_index, if◌then◌else◌};
+ghost use Rattle.std.specs.Prelude.{◌≡◌, ◌-◌, ◌≤◌, length, map, max, min, slice_index};
 ghost use Rattle.bench_types.specs.declared.limits.TheConstants.{MOST_NODES, MOST_KEYS};
-ghost use Rattle.bench_types.specs.Sums.{sum_below};
 ghost use Rattle.planes.specs.Elementwise.{AreChanged};
 ghost use Rattle.planes.specs.Planes.{most_ahead, number_raised, AreBothCovered, AreBothRaised};
+ghost use Rattle.planes.specs.inner.Counting.{count_less};
 
 use crate::numbers::Number;
 use crate::owners::FEW_TO_CHANGE;
@@ -33,8 +33,8 @@ fn lead<N: Number>(number: N, other: N, most: u32) -> u32
     number.widen().saturating_sub(other.widen()).min(most)
 }
 
-/// How many numbers may come to each of two tables, by their greatest ones: of an owner no more than keys, and where its
-/// numbers differ, no more than its two greatest ones are apart.
+/// How many numbers may come to each of two tables, by their greatest ones: of an owner no more than keys, and where
+/// its numbers differ, no more than its two greatest ones are apart.
 pub fn most_ahead<N: Number>(first: &[N], second: &[N], keys: u32) -> BothCounts
     requires second { length second.now ≡ length first.now }
     requires nodes { length first.now ≤ MOST_NODES }
@@ -73,12 +73,10 @@ fn merge_planes<N: Number>(
         (slice_index (map N.number first_low.now) r)) (map N.number first.old) (map N.number first.new) }
     ensures second { AreChanged (λ r x y. y ≡ number_raised x (slice_index (map N.number first.old) r)
         (slice_index (map N.number second_low.now) r)) (map N.number second.old) (map N.number second.new) }
-    ensures first_count { result.first ≡ sum_below (length first.old)
-        (λ r. if nat_lt (slice_index (map N.number first_low.now) r) (slice_index (map N.number second.old) r)
-        then 1 else 0) }
-    ensures second_count { result.second ≡ sum_below (length first.old)
-        (λ r. if nat_lt (slice_index (map N.number second_low.now) r) (slice_index (map N.number first.old) r)
-        then 1 else 0) }
+    ensures first_count { result.first ≡ count_less (length first.old)
+        (map N.number first_low.now) (map N.number second.old) }
+    ensures second_count { result.second ≡ count_less (length first.old)
+        (map N.number second_low.now) (map N.number first.old) }
 {
     let mut to_first = N::zero();
     let mut to_second = N::zero();
@@ -99,8 +97,8 @@ fn merge_planes<N: Number>(
 }
 
 /// Raises each number of both tables to the other's of its place, where that is above their own mark of its owner. No
-/// number may be above its own table's mark. It answers how many numbers come to each. It goes over all planes, or where
-/// only few owners' marks differ and there are many keys, over the keys of these owners.
+/// number may be above its own table's mark. It answers how many numbers come to each. It goes over all planes, or
+/// where only few owners' marks differ and there are many keys, over the keys of these owners.
 pub fn merge<N: Number>(first: &mut [N], second: &mut [N], marks: BothMarks<N>) -> BothCounts
     requires marked { AreBothCovered N.number marks first.old second.old }
     ensures { AreBothRaised N.number marks.entry first.old second.old first.new second.new result }

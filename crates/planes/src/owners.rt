@@ -147,8 +147,8 @@ fn raise_owner<N: Number>(
     count
 }
 
-// Two tables take of each other what is above their marks, of the owners alone of which one mark is above the other. The
-// numbers of such an owner come from the table with the higher mark.
+// Two tables take of each other what is above their marks, of the owners alone of which one mark is above the other.
+// The numbers of such an owner come from the table with the higher mark.
 pub(crate) fn merge_owners<N: Number>(
     first: &mut [N],
     second: &mut [N],

@@ -4,7 +4,7 @@ ghost use Rattle.std.specs.Prelude.{◌≡◌, ℕ, ◌+◌, ◌<◌, ◌≤◌,
 ghost use Rattle.bench_types.specs.declared.limits.TheConstants.{MOST_NODES};
 ghost use Rattle.planes.specs.Elementwise.{AreChanged};
 ghost use Rattle.planes.specs.inner.Answering.{AnswersAs};
-ghost use Rattle.bench_types.specs.Sums.{sum_below};
+ghost use Rattle.planes.specs.inner.Counting.{count_less, count_passing};
 ghost use Rattle.planes.specs.Planes.{next_above, IsLowered, number_ahead, number_taken};
 
 use crate::numbers::Number;
@@ -79,9 +79,10 @@ pub fn keep_ahead<N: Number>(numbers: &mut [N], peer: &[N], low: &[N]) -> u32
     requires room { length numbers.old ≤ MOST_NODES }
     ensures numbers { AreChanged (λ r x y. y ≡ number_ahead x (slice_index (map N.number peer.now) r)
         (slice_index (map N.number low.now) r)) (map N.number numbers.old) (map N.number numbers.new) }
-    ensures count { result ≡ sum_below (length numbers.old)
-        (λ r. if nat_lt (max (slice_index (map N.number peer.now) r) (slice_index (map N.number low.now) r))
-        (slice_index (map N.number numbers.old) r) then 1 else 0) }
+    ensures count { result ≡ count_passing (length numbers.old)
+        (λ r. nat_lt
+        (max (slice_index (map N.number peer.now) r) (slice_index (map N.number low.now) r))
+        (slice_index (map N.number numbers.old) r)) }
 {
     let mut count = N::zero();
     for r in 0..numbers.len() {
@@ -124,8 +125,8 @@ pub fn how_many<N: Number, F: Fn(usize, N) -> bool>(plane: &[N], passes: F) -> u
     requires passes { (r : ℕ) (n : N) → r < length plane.now → F.pre passes r n }
     ensures upto { result ≤ length plane.now }
     ensures count { (test : ℕ → ℕ → Bool) → AnswersAs N.number (F.post passes) (length plane.now) test
-        → result
-        ≡ sum_below (length plane.now) (λ r. if test r (slice_index (map N.number plane.now) r) then 1 else 0) }
+        → result ≡ count_passing (length plane.now)
+        (λ r. test r (slice_index (map N.number plane.now) r)) }
 {
     let mut count = N::zero();
     for r in 0..plane.len() {
@@ -138,8 +139,7 @@ pub fn how_many<N: Number, F: Fn(usize, N) -> bool>(plane: &[N], passes: F) -> u
 pub fn how_many_above<N: Number>(plane: &[N], low: &[N]) -> u32
     requires low { length low.now ≡ length plane.now }
     requires room { length plane.now ≤ MOST_NODES }
-    ensures { result ≡ sum_below (length plane.now)
-        (λ r. if nat_lt (slice_index (map N.number low.now) r) (slice_index (map N.number plane.now) r) then 1 else 0) }
+    ensures { result ≡ count_less (length plane.now) (map N.number low.now) (map N.number plane.now) }
 {
     how_many(plane, |r, number| number.is_above(low[r]))
 }

@@ -1,12 +1,13 @@
 -- Numbers of an owner's keys that are dropped.
--- Serves `drop_older`, `is_current`, `none_began` and `Merged`.
-use Rattle.std.proofs.Common.{◌≡◌, ℕ, zero, suc, ◌+◌, ◌*◌, ◌<◌, ◌≤◌, ◌&&◌, Bool, true, false, cond, List, nat_lt, nat_le, slice_index, inl, inr, refl, ap, subst, arith}
-use Rattle.std.proofs.lemmas.Bool.{cases_lt, lt-leb}
+-- Serves `are_current`, `drop_older`, `is_current` and `Merged`.
+use Rattle.std.proofs.Common.{◌≡◌, ℕ, zero, suc, ◌+◌, ◌*◌, ◌<◌, ◌≤◌, ◌&&◌, Bool, true, false, cond, List, nat_lt, nat_le, slice_index, inl, inr, refl, ap, ◌∙◌, subst, arith}
+use Rattle.std.proofs.lemmas.Bool.{cases_lt, lt-leb, lt-ltb}
 use Rattle.bench_types.specs.declared.entries.Entry.{Entry}
 use Rattle.bench_types.specs.Sums.{sum_below}
 use Rattle.planes.specs.Planes.{cell, total_of, ArePlanesChanged}
 use Rattle.version_tables.specs.inner.Taken.{drop_start, number_kept}
 use Rattle.version_tables.specs.inner.Offers.{start_of}
+use Rattle.version_tables.proofs.Columns.{sum_below-none}
 
 -- nothing is dropped up to 0
 pub kept-all : (x : ℕ) → number_kept 0 x ≡ x
@@ -37,6 +38,17 @@ pub plane-none : (nodes total : ℕ) (xs : List ℕ) (test : ℕ → ℕ → Boo
 plane-none nodes total xs test is none r lt =
     subst (λ i. test r (slice_index xs i) ≡ false) {x = 0 * nodes + r} {y = r} (omega arith)
     (total-none nodes (λ r k. test r (cell xs nodes r k)) (omega (arith, is, none)) r lt)
+
+-- and where no number of a plane passes a test none is counted
+pub plane-zero : (nodes total : ℕ) (xs : List ℕ) (test : ℕ → ℕ → Bool) → total ≡ total_of nodes 1 (λ r k. test r (cell xs nodes r k)) → ((r : ℕ) → r < nodes → test r (slice_index xs r) ≡ false) → total ≡ 0
+plane-zero nodes total xs test is none =
+    is
+    ∙ sum_below-none nodes _ (λ r lt. ap (λ b. 0 + cond b 1 0) (subst (λ i. test r (slice_index xs i) ≡ false) {x = r} {y = 0 * nodes + r} (omega arith) (none r lt)))
+
+-- no number is of an earlier generation where there is none
+pub none-current : (x base : ℕ) → base ≡ 0 → (nat_lt 0 x && nat_le x base) ≡ false
+none-current zero base none = refl
+none-current (suc x) base none = λ i. lt-ltb 0 (suc x) (omega arith) i && lt-leb (suc x) base (omega (arith, none)) i
 
 pub no_start : (writes : List Entry) (old base new : ℕ) → (nat_lt 0 old && nat_le old base) ≡ false → drop_start writes old base new ≡ 0
 no_start writes old base new none = ap (λ b. cond (b && nat_lt old new) (start_of writes new) 0) none

@@ -1,5 +1,5 @@
 -- Nodes' numbers changed one after another, of which some are counted.
--- Serves `raise_runs` and `settle`.
+-- Serves `next_runs` and `one_more`.
 use Rattle.std.proofs.Common.{◌≡◌, ℕ, ◌+◌, ◌<◌, ◌≤◌, Bool, true, false, cond, List, length, get_or, set, map, refl, arith}
 use Rattle.std.proofs.Common.{Fits, w32}
 use Rattle.std.proofs.lemmas.List.{length-map}

@@ -1,5 +1,5 @@
 -- Where generations start in an owner's list.
--- Serves `drop_older`, `put_each_start`, `put_earlier_starts`, `put_starts` and `put_told`.
+-- Serves `drop_older`, `put_each_start`, `put_earlier_starts`, `put_starts` and `told`.
 use Rattle.std.proofs.Common.{◌≡◌, ℕ, zero, suc, ◌+◌, ◌-◌, ◌*◌, ◌<◌, ◌≤◌, min, Bool, true, false, cond, List, [], ◌∷◌, ◌++◌, length, get_or, set, Some, None, inl, inr, refl, sym, ap, ◌∙◌, arith}
 use Rattle.std.specs.Prelude.{nat_lt, nat_le, ◌&&◌}
 use Rattle.std.proofs.lemmas.Bool.{cases_lt, cases_eq, lt-ltb, le-leb, eq-eqb, ne_eqb}

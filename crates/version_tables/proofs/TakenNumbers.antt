@@ -1,12 +1,12 @@
 -- One number, taken or not, and kept or dropped; and a table that has taken such numbers.
 -- Serves `take_unless`, `TakenByOwner` and `TakenViews`.
-use Rattle.std.proofs.Common.{◌≡◌, ℕ, ◌<◌, ◌≤◌, ◌&&◌, Bool, true, false, cond, max, nat_lt, nat_le, List, inl, inr, refl, sym, ap, ◌∙◌, subst, arith}
+use Rattle.std.proofs.Common.{◌≡◌, ℕ, ◌<◌, ◌≤◌, ◌&&◌, Bool, true, false, cond, max, nat_lt, nat_le, List, slice_index, inl, inr, refl, sym, ap, ◌∙◌, subst, arith}
 use Rattle.std.proofs.lemmas.Bool.{cases_lt, lt-ltb, le-leb, lt-leb, ltb-true, and_parts}
-use Rattle.planes.specs.Planes.{number_taken}
+use Rattle.planes.specs.Planes.{number_taken, ArePlanesChanged, AreRaised, AreTaken, HasEach}
 use Rattle.bench_types.specs.declared.entries.Entry.{Entry}
 use Rattle.version_tables.specs.Views.{VersionTableView}
 use Rattle.version_tables.specs.Laid.{IsVersionTable}
-use Rattle.version_tables.specs.inner.Taken.{is_taken, number_kept, IsTaken, HasTaken, HasTakenUnless, StaysOne}
+use Rattle.version_tables.specs.inner.Taken.{drop_start, is_taken, number_kept, IsTaken, HasTaken, HasTakenUnless, StaysOne}
 
 -- a number that is taken is the one that is sent
 pub taken-number : (x s low high : ℕ) → is_taken x s low high ≡ true → number_taken x s low high ≡ s
@@ -39,6 +39,20 @@ kept-none start x le = ap (λ b. cond b 0 x) (le-leb x start le)
 
 pub kept-zero : (start : ℕ) → number_kept start 0 ≡ 0
 kept-zero start = kept-none start 0 (omega arith)
+
+-- numbers were taken, and some of them dropped then
+pub taken-kept : (lists : ℕ → List Entry) (bases : ℕ → ℕ) (nodes keys : ℕ) (cells greatest sent low high taken new_cells new_greatest before based : List ℕ)
+    → AreTaken nodes keys sent low high cells taken → AreRaised nodes keys cells sent low high greatest new_greatest → before ≡ greatest → HasEach nodes (λ r n. n ≡ bases r) based
+    → ArePlanesChanged (λ r k x y. y ≡ number_kept (drop_start (lists r) (slice_index before r) (slice_index based r) (slice_index new_greatest r)) x) nodes keys taken new_cells
+    → IsTaken lists bases nodes keys cells greatest sent low high new_cells new_greatest
+taken-kept lists bases nodes keys cells greatest sent low high taken new_cells new_greatest before based came raises same known kept = record {
+  cell_count = kept.size ∙ came.size;
+  greatest_count = raises.size;
+  raised = raises.each;
+  kept = λ owner key in_nodes in_keys.
+      kept.each owner key in_nodes in_keys
+      ∙ (λ i. number_kept (drop_start (lists owner) (slice_index (same i) owner) (known.each owner in_nodes i) (slice_index new_greatest owner)) (came.each owner key in_nodes in_keys i));
+}
 
 -- what is known of a table's numbers is known of its fields
 module _ (lists : ℕ → List Entry) (bases : ℕ → ℕ) (sent low high : List ℕ) (old v : VersionTableView) (is : old ≡ v) (cells greatest : List ℕ)

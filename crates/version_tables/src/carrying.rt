@@ -1,13 +1,11 @@
 //! Tables of versions as tables that a simulation carries through its rounds.
 
-ghost use Rattle.std.specs.Prelude.{◌≡◌, ◌+◌, ◌-◌, ◌<◌, ◌≤◌, length, OnOk, IsOkUnless};
+ghost use Rattle.std.specs.Prelude.{◌≡◌, ◌+◌, OnOk, IsOkUnless};
 ghost use Rattle.bench_types.specs.declared.faults.Fault.TheVariants.{OutOfMemory};
-ghost use Rattle.bench_types.specs.declared.limits.TheConstants.{MOST_ROUNDS};
-ghost use Rattle.model.specs.Table.{Table, with_own_write};
-ghost use Rattle.model.specs.OwnerListView.{list_of_owner};
-ghost use Rattle.round_tables.specs.Histories.{AddsWrite, AreWrittenBy, MayWrite, StandsAmong};
+ghost use Rattle.model.specs.Table.{with_own_write};
+ghost use Rattle.round_tables.specs.Histories.{AddsWrite, MayWrite};
 ghost use Rattle.version_tables.specs.Views.{table_in};
-ghost use Rattle.version_tables.specs.inner.Histories.{FitsHistories, IsWriteUnder};
+ghost use Rattle.version_tables.specs.inner.Histories.{IsWriteUnder};
 
 use crate::histories::Histories;
 use crate::lags::figures;
@@ -23,14 +21,6 @@ impl Written for Brand {
     ghost use Rattle.std.specs.Prelude.{[]};
 
     ghost lists = { λ _. [] };
-}
-
-// How many writes of its generation an owner has made.
-fn count_of<N: Number, H: Written>(histories: &Histories<N, H>, owner: u32) -> u32
-    requires { owner < length histories.now.lists }
-    ensures { result ≡ length (list_of_owner histories.now.lists owner).current }
-{
-    histories.lists()[owner as usize].len()
 }
 
 // A node's own write: its list tells what stands under the number that the table keeps.
@@ -56,15 +46,6 @@ fn write<N: Number, H: Written>(
     let number = histories.write(node, key, value, born)?;
     table.write_own(key, number);
     Ok(())
-}
-
-// Tables that stand in a round fit what its exchanges read.
-fn stand_ready<N: Number, H: Written>(histories: &Histories<N, H>, round: u32)
-    requires ended { histories.now.rounds ≡ round }
-    requires written { AreWrittenBy round histories.now.lists }
-    ensures { (t : Table) → StandsAmong histories.now.lists t → FitsHistories histories.now t }
-{
-    let _lists = histories.lists();
 }
 
 impl<H: Written + Send + Sync> RoundHistories<VersionTable<Short, H>> for Histories<Short, H> {
@@ -100,7 +81,7 @@ impl<H: Written + Send + Sync> RoundHistories<VersionTable<Short, H>> for Histor
     }
 
     fn count(&self, owner: u32) -> u32 {
-        count_of(self, owner)
+        self.lists()[owner as usize].len()
     }
 
     fn write(
@@ -117,8 +98,8 @@ impl<H: Written + Send + Sync> RoundHistories<VersionTable<Short, H>> for Histor
         self.end_round()
     }
 
-    fn stand_ready(&self, round: u32) {
-        stand_ready(self, round);
+    fn stand_ready(&self, _round: u32) {
+        let _lists = self.lists();
     }
 
     fn figures<R: Threads + Sync>(
@@ -165,7 +146,7 @@ impl<H: Written + Send + Sync> RoundHistories<VersionTable<u32, H>> for Historie
     }
 
     fn count(&self, owner: u32) -> u32 {
-        count_of(self, owner)
+        self.lists()[owner as usize].len()
     }
 
     fn write(
@@ -182,8 +163,8 @@ impl<H: Written + Send + Sync> RoundHistories<VersionTable<u32, H>> for Historie
         self.end_round()
     }
 
-    fn stand_ready(&self, round: u32) {
-        stand_ready(self, round);
+    fn stand_ready(&self, _round: u32) {
+        let _lists = self.lists();
     }
 
     fn figures<R: Threads + Sync>(

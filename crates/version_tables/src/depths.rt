@@ -1,13 +1,10 @@
 //! Runs: all that an owner offers, the longest run first, as long as they fit.
 
-ghost use Rattle.std.specs.Prelude.{◌≡◌, ℕ, ◌+◌, ◌-◌, ◌*◌, ◌<◌, ◌≤◌, IfOk, IsOkUnless, length, map, nat_eq, slice_index, if◌then◌else◌};
-ghost use Rattle.bench_types.specs.Budget.{amount_of};
+ghost use Rattle.std.specs.Prelude.{◌≡◌, ℕ, ◌<◌, ◌≤◌, IfOk, IsOkUnless, length, map, slice_index};
 ghost use Rattle.bench_types.specs.declared.faults.Fault.TheVariants.{OutOfMemory};
-ghost use Rattle.bench_types.specs.declared.limits.TheConstants.{MOST_NODES, MOST_KEYS};
-ghost use Rattle.planes.specs.Elementwise.{AreChanged};
+ghost use Rattle.bench_types.specs.declared.limits.TheConstants.{MOST_KEYS};
 ghost use Rattle.planes.specs.Planes.{HasEach};
-ghost use Rattle.bench_types.specs.Sums.{sum_below};
-ghost use Rattle.version_tables.specs.inner.OfferInMemory.{marks, owner_count_in, weight_in, IsOffer, IsTooLarge};
+ghost use Rattle.version_tables.specs.inner.OfferInMemory.{marks, owner_count_in, IsOffer, IsTooLarge};
 ghost use Rattle.version_tables.specs.inner.Plans.{AreNextRuns, IsLevelOfRuns};
 
 use crate::weights::{Level, Offer, Step, one_if, pick};
@@ -28,25 +25,6 @@ fn greatest_of<N: Number>(numbers: &[N]) -> u32
     greatest
 }
 
-// Raises the marks of the owners that have so many numbers, and counts these owners.
-fn raise_runs<N: Number>(marks: &mut [N], high: &[N], counts: &[N], size: u32) -> u32
-    requires high { length high.now ≡ length marks.old }
-    requires counts { length counts.now ≡ length marks.old }
-    requires room { length marks.old ≤ MOST_NODES }
-    ensures marks { AreChanged (λ r x y. y ≡ (if nat_eq (slice_index (map N.number counts.now) r) size
-        then slice_index (map N.number high.now) r else x)) (map N.number marks.old) (map N.number marks.new) }
-    ensures count { result ≡ sum_below (length marks.old)
-        (λ r. if nat_eq (slice_index (map N.number counts.now) r) size then 1 else 0) }
-{
-    let mut count = 0;
-    for r in 0..marks.len() {
-        let found = counts[r].widen() == size;
-        count += one_if(found);
-        marks[r] = pick(found, high[r], marks[r]);
-    }
-    count
-}
-
 // All numbers of the owners that have so many.
 fn next_runs<N: Number>(
     alloc: Global,
@@ -64,7 +42,14 @@ fn next_runs<N: Number>(
     ensures only { IsOkUnless result OutOfMemory }
 {
     let mut marks = Vec::from_slice(alloc, near)?;
-    let owners = raise_runs(&mut marks, offer.high, counts, size);
+    let all: &mut [N] = &mut marks;
+    let high = offer.high;
+    let mut owners = 0;
+    for r in 0..all.len() {
+        let found = counts[r].widen() == size;
+        owners += one_if(found);
+        all[r] = pick(found, high[r], all[r]);
+    }
     let more = owners * size;
     Ok(Step { marks, more })
 }

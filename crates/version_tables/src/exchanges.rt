@@ -1,15 +1,15 @@
 //! The exchange of an initiator and a responder whose tables keep versions alone.
 
-ghost use Rattle.std.specs.Prelude.{◌≡◌, ◌==◌, ℕ, ◌<◌, length, IfOk, IsTrue, OnOk, OnErr, IsOkUnless, false};
+ghost use Rattle.std.specs.Prelude.{◌≡◌, ◌==◌, IfOk, OnOk, OnErr, IsOkUnless, false};
 ghost use Rattle.bench_types.specs.declared.faults.Fault.TheVariants.{OutOfMemory};
 ghost use Rattle.bench_types.specs.Budget.{IsLawfulBudget};
 ghost use Rattle.bench_types.specs.Mode.{digest_kind};
 ghost use Rattle.model.specs.Exchanging.{MayBeExchanged, MakesOf};
+ghost use Rattle.version_tables.specs.Views.{table_in, IsKept};
 ghost use Rattle.model.specs.Digests.{digest_size};
-ghost use Rattle.version_tables.specs.Views.{table_in, IsKept, VersionTableView};
-ghost use Rattle.version_tables.specs.inner.Histories.{AreOwners, FitsHistories, IsReadyExchange};
+ghost use Rattle.version_tables.specs.inner.Histories.{FitsHistories, IsReadyExchange};
 ghost use Rattle.version_tables.specs.inner.Merged.{MayMerge};
-ghost use Rattle.version_tables.specs.inner.Taken.{HasArrived, HasMarksFor, MayArrive};
+ghost use Rattle.version_tables.specs.inner.Taken.{HaveTakenBoth, MayTakeBoth};
 
 use crate::deltas::delta;
 use crate::digests::digest_size;
@@ -46,18 +46,10 @@ pub(crate) fn exchange<N: Number, H: Written>(
     if plan.lost1 {
         return Ok(sent_before_an_answer(digest1));
     }
-    if all_comes(plan) && may_merge(initiator, responder, histories, rules) {
+    if !plan.lost2 && !plan.lost3 && may_merge(initiator, responder, histories, rules) {
         return Ok(exchange_all(initiator, responder, digest1, plan, rules, histories));
     }
     exchange_deltas(alloc, histories, initiator, responder, digest1, plan, rules)
-}
-
-// Whether no message after the first is lost.
-fn all_comes(plan: &Exchange) -> bool
-    ensures second { IsTrue result → plan.now.lost2 ≡ false }
-    ensures third { IsTrue result → plan.now.lost3 ≡ false }
-{
-    !plan.lost2 & !plan.lost3
 }
 
 // The exchange of which all comes and surely fits, from the second message on.
@@ -161,19 +153,9 @@ fn take_both<N: Number, H: Written>(
     forth: Arrival<N>,
     owners: Owners<N>,
 ) -> Result<(), Fault>
-    requires cells { length responder.old.cells ≡ length initiator.old.cells }
-    requires nodes { responder.old.nodes ≡ initiator.old.nodes }
-    requires back { HasMarksFor initiator.old.nodes back.marks.now }
-    requires forth { HasMarksFor initiator.old.nodes forth.marks.now }
-    requires owners { AreOwners N.number initiator.old.nodes owners }
-    requires initiator { MayArrive N.number H.lists owners initiator.old responder.old.cells back }
-    requires responder { (after : VersionTableView)
-        → HasArrived N.number owners initiator.old responder.old.cells back after
-        → MayArrive N.number H.lists owners responder.old after.cells forth }
-    ensures initiator { OnOk result
-        (HasArrived N.number owners.entry initiator.old responder.old.cells back.entry initiator.new) }
-    ensures responder { OnOk result
-        (HasArrived N.number owners.entry responder.old initiator.new.cells forth.entry responder.new) }
+    requires may { MayTakeBoth N.number H.lists owners initiator.old responder.old back forth }
+    ensures ok { OnOk result (HaveTakenBoth N.number owners.entry initiator.old responder.old
+        back.entry forth.entry initiator.new responder.new) }
     ensures initiator_stays { OnErr result (initiator.new ≡ initiator.old) }
     ensures responder_stays { OnErr result (responder.new ≡ responder.old) }
     ensures only { IsOkUnless result OutOfMemory }

@@ -1,13 +1,13 @@
 //! Exchanges of which all comes and surely fits: each table takes all that the other has above its own greatest
 //! numbers, both ways in one pass. Nothing is planned, and no memory is taken.
 
-ghost use Rattle.std.specs.Prelude.{◌≡◌, ℕ, ◌*◌, ◌<◌, ◌≤◌, ◌↔◌, IsTrue, slice_index};
+ghost use Rattle.std.specs.Prelude.{◌≡◌, ◌*◌, ◌≤◌, ◌↔◌, IsTrue};
 ghost use Rattle.bench_types.specs.Budget.{amount_of, largest_share};
 ghost use Rattle.bench_types.specs.declared.limits.TheConstants.{MOST_NODES, MOST_KEYS};
 ghost use Rattle.planes.specs.Planes.{most_ahead};
 ghost use Rattle.version_tables.specs.Views.{table_in};
 ghost use Rattle.version_tables.specs.inner.Histories.{bases_in, FitsHistories};
-ghost use Rattle.version_tables.specs.inner.Merged.{count_ahead, AreCurrent, HasMerged, HasNoNewer, MayMerge, StaysMerged, SurelyFits};
+ghost use Rattle.version_tables.specs.inner.Merged.{count_ahead, AreCurrent, AreOfOneSize, HasMerged, HasNoNewer, MayMerge, StaysMerged, SurelyFits};
 
 use crate::histories::Histories;
 use crate::tables::{VersionTable, Written};
@@ -26,8 +26,8 @@ fn surely_fit(budget: Budget, count: u32) -> bool
     }
 }
 
-// Whether all that one table has above another's greatest numbers surely fits. It is counted only where it doesn't fit by
-// how far these are apart.
+// Whether all that one table has above another's greatest numbers surely fits. It is counted only where it doesn't fit
+// by how far these are apart.
 fn all_ahead_fits<N: Number, H: Written>(
     from: &VersionTable<N, H>,
     to: &VersionTable<N, H>,
@@ -36,7 +36,7 @@ fn all_ahead_fits<N: Number, H: Written>(
 ) -> bool
     requires nodes { from.now.nodes ≡ to.now.nodes }
     requires most { most ≡ most_ahead from.now.nodes from.now.keys from.now.greatest to.now.greatest }
-    ensures { IsTrue result → SurelyFits budget from.now to.now }
+    ensures { IsTrue result ↔ SurelyFits budget from.now to.now }
 {
     let nodes = from.nodes() as usize;
     let keys = from.keys() as usize;
@@ -53,26 +53,13 @@ fn all_fits<N: Number, H: Written>(
     responder: &VersionTable<N, H>,
     budget: Budget,
 ) -> bool
-    requires nodes { initiator.now.nodes ≡ responder.now.nodes }
-    requires keys { initiator.now.keys ≡ responder.now.keys }
-    ensures back { IsTrue result → SurelyFits budget responder.now initiator.now }
-    ensures forth { IsTrue result → SurelyFits budget initiator.now responder.now }
+    requires { AreOfOneSize initiator.now responder.now }
+    ensures { IsTrue result ↔ (SurelyFits budget responder.now initiator.now
+        × SurelyFits budget initiator.now responder.now) }
 {
     let most = planes::most_ahead(initiator.greatest(), responder.greatest(), initiator.keys());
     all_ahead_fits(responder, initiator, budget, most.first)
         && all_ahead_fits(initiator, responder, budget, most.second)
-}
-
-// Whether no owner of a table has begun a second generation.
-fn none_began<N: Number, H: Written>(
-    table: &VersionTable<N, H>,
-    histories: &Histories<N, H>,
-) -> bool
-    requires { FitsHistories histories.now (table_in H.lists table.now) }
-    ensures { IsTrue result → (owner : ℕ) → owner < table.now.nodes → bases_in histories.now.lists owner ≡ 0 }
-{
-    let nodes = table.nodes() as usize;
-    planes::total_held(histories.bases(), nodes, 1) == 0
 }
 
 // Whether nothing that a table holds is of an earlier generation than its owner's.
@@ -81,7 +68,7 @@ fn is_current<N: Number, H: Written>(
     histories: &Histories<N, H>,
 ) -> bool
     requires { FitsHistories histories.now (table_in H.lists table.now) }
-    ensures { IsTrue result → AreCurrent (bases_in histories.now.lists) table.now }
+    ensures { IsTrue result ↔ AreCurrent (bases_in histories.now.lists) table.now }
 {
     let nodes = table.nodes() as usize;
     planes::total_upto(table.greatest(), nodes, 1, histories.bases()) == 0
@@ -95,12 +82,14 @@ fn are_current<N: Number, H: Written>(
 ) -> bool
     requires initiator { FitsHistories histories.now (table_in H.lists initiator.now) }
     requires responder { FitsHistories histories.now (table_in H.lists responder.now) }
-    requires nodes { initiator.now.nodes ≡ responder.now.nodes }
-    ensures initiator { IsTrue result → AreCurrent (bases_in histories.now.lists) initiator.now }
-    ensures responder { IsTrue result → AreCurrent (bases_in histories.now.lists) responder.now }
+    ensures { IsTrue result ↔ (AreCurrent (bases_in histories.now.lists) initiator.now
+        × AreCurrent (bases_in histories.now.lists) responder.now) }
 {
-    none_began(initiator, histories)
-        || is_current(initiator, histories) && is_current(responder, histories)
+    let nodes = initiator.nodes() as usize;
+    if planes::total_held(histories.bases(), nodes, 1) == 0 {
+        return true;
+    }
+    is_current(initiator, histories) && is_current(responder, histories)
 }
 
 // Whether one table has nothing of the other's node above what that has itself.
@@ -109,7 +98,7 @@ fn has_no_newer<N: Number, H: Written>(
     other: &VersionTable<N, H>,
 ) -> bool
     requires nodes { table.now.nodes ≡ other.now.nodes }
-    ensures { IsTrue result → HasNoNewer table.now other.now }
+    ensures { IsTrue result ↔ HasNoNewer table.now other.now }
 {
     let node = other.node() as usize;
     table.greatest()[node].is_upto(other.greatest()[node])
@@ -123,11 +112,10 @@ pub(crate) fn may_merge<N: Number, H: Written>(
     histories: &Histories<N, H>,
     rules: &Rules,
 ) -> bool
-    requires nodes { initiator.now.nodes ≡ responder.now.nodes }
-    requires keys { initiator.now.keys ≡ responder.now.keys }
+    requires size { AreOfOneSize initiator.now responder.now }
     requires initiator { FitsHistories histories.now (table_in H.lists initiator.now) }
     requires responder { FitsHistories histories.now (table_in H.lists responder.now) }
-    ensures { IsTrue result → MayMerge rules.now histories.now initiator.now responder.now }
+    ensures { IsTrue result ↔ MayMerge rules.now histories.now initiator.now responder.now }
 {
     match rules.mode.digest_kind() {
         DigestKind::Scuttle => {
@@ -145,8 +133,7 @@ pub(crate) fn merge<N: Number, H: Written>(
     initiator: &mut VersionTable<N, H>,
     responder: &mut VersionTable<N, H>,
 ) -> BothCounts
-    requires nodes { initiator.old.nodes ≡ responder.old.nodes }
-    requires keys { initiator.old.keys ≡ responder.old.keys }
+    requires size { AreOfOneSize initiator.old responder.old }
     requires initiator { StaysMerged H.lists initiator.old responder.old.cells responder.old.greatest }
     requires responder { StaysMerged H.lists responder.old initiator.old.cells initiator.old.greatest }
     ensures initiator { HasMerged responder.old initiator.old initiator.new }

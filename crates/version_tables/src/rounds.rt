@@ -10,7 +10,7 @@ ghost use Rattle.planes.specs.Elementwise.{AreChanged};
 ghost use Rattle.version_tables.specs.inner.LevelMarks.{AreRounds};
 ghost use Rattle.version_tables.specs.inner.OfferInMemory.{low_in, marks, IsCountOffered, IsOffer, IsTooLarge};
 ghost use Rattle.version_tables.specs.inner.Plans.{weight_on, count_on, IsLevel};
-ghost use Rattle.version_tables.specs.inner.RoundLevels.{round_at, end_mark, round_mark, AreEndsOf, AreFewAndEnough, AreRoundMarks};
+ghost use Rattle.version_tables.specs.inner.RoundLevels.{round_mark, AreEndsOf, AreFewAndEnough, AreRoundMarks};
 
 use crate::weights::{Level, Offer};
 use bench_types::{Fault, First};
@@ -145,23 +145,11 @@ impl<'a, N: Number> Ends<'a, N> {
             First::Oldest => count,
             First::Newest => self.rounds - count,
         };
+        let row = row_of(self.numbers, offer.nodes, self.rounds, round);
         let mut mark = Vec::from_slice(alloc, offer.low)?;
-        raise_to_end(&mut mark, self.numbers, self.rounds, round);
+        raise(&mut mark, row);
         Ok(mark)
     }
-}
-
-// Raises each mark to the end of a round.
-fn raise_to_end<N: Number>(marks: &mut [N], ends: &[N], rounds: u32, round: u32)
-    requires nodes { length marks.old ≤ MOST_NODES }
-    requires ends { length ends.now ≡ (rounds + 1) * length marks.old }
-    requires round { round ≤ rounds }
-    ensures { HasEach (length marks.old)
-        (λ r n. n ≡ end_mark (map N.number ends.now) (length marks.old) (slice_index (map N.number marks.old)) round r)
-        (map N.number marks.new) }
-{
-    let row = row_of(ends, marks.len(), rounds, round);
-    raise(marks, row);
 }
 
 /// The ends of a round.

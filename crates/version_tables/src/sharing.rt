@@ -1,11 +1,10 @@
 //! A level that doesn't fit, shared out: the owners take turns from the rotation on, up to the first number that
 //! doesn't fit.
 
-ghost use Rattle.std.specs.Prelude.{◌≡◌, ◌+◌, ◌-◌, ◌<◌, ◌≤◌, IfOk, IsOkUnless, length, map};
+ghost use Rattle.std.specs.Prelude.{◌≡◌, ◌+◌, ◌-◌, ◌<◌, IfOk, IsOkUnless, length};
 ghost use Rattle.bench_types.specs.Budget.{amount_of};
 ghost use Rattle.bench_types.specs.declared.faults.Fault.TheVariants.{OutOfMemory};
 ghost use Rattle.model.specs.Order.{rotated};
-ghost use Rattle.planes.specs.Planes.{HasEach};
 ghost use Rattle.version_tables.specs.inner.Firsts.{by_first};
 ghost use Rattle.version_tables.specs.inner.OfferInMemory.{cells_in, marks, weights_in, IsOffer};
 ghost use Rattle.version_tables.specs.inner.Plans.{weight_on, IsLevel};
@@ -94,20 +93,25 @@ impl<'a, N: Number> Offer<'a, N> {
         }
     }
 
-    // How many numbers the parts of some owners have, from a first one on. It stands outside the loop over turns, which
-    // seldom needs it.
+    // Counts the numbers of some owners' parts, from an owner on. It stands outside the loop over turns, which seldom
+    // needs it.
     #[inline(never)]
-    fn count_parts(&self, first: First, level: &Level<N>, start: usize, counts: &mut [N])
+    fn count_parts(&self, turns: &SharedLevel<N>, counts: &mut [N], owner: usize)
         requires offer { IsOffer N.number N.most self.now }
-        requires level { IsLevel first N.number self.now level.now }
-        requires part { start + length counts.old ≤ self.now.nodes }
-        ensures { HasEach (length counts.old) (λ r n. n ≡ weight_from first (λ _. 1) (cells_in N.number self.now)
-            self.now.keys (start + r) (marks N.number level.now.near.items (start + r))
-            (marks N.number level.now.far.items (start + r))) (map N.number counts.new) }
+        requires turns { AreTurnsOf N.number self.now turns.now }
+        requires owner { owner < self.now.nodes }
+        requires counts { AreKnownFor N.number N.most self.now turns.now counts.old }
+        ensures count { marks N.number counts.new owner
+            ≡ part_weight N.number (λ _. 1) self.now turns.now owner }
+        ensures counts { AreKnownFor N.number N.most self.now turns.now counts.new }
     {
-        let low = by_first(first, &level.near, &level.far);
-        let high = by_first(first, &level.far, &level.near);
-        count_some_between(counts, self.cells, self.nodes, self.keys, start, low, high);
+        let end = (owner + MANY).min(self.nodes);
+        let some = &mut counts[owner..end];
+        let near = &turns.level.near;
+        let far = &turns.level.far;
+        let low = by_first(turns.first, near, far);
+        let high = by_first(turns.first, far, near);
+        count_some_between(some, self.cells, self.nodes, self.keys, owner, low, high);
     }
 
     // How many numbers an owner's part has. Where that isn't known, parts are counted from this owner on.
@@ -123,9 +127,7 @@ impl<'a, N: Number> Offer<'a, N> {
         if N::greatest().is_above(known) {
             return known.widen();
         }
-        let end = (owner + MANY).min(self.nodes);
-        let some = &mut counts[owner..end];
-        self.count_parts(turns.first, turns.level, owner, some);
+        self.count_parts(turns, counts, owner);
         number_at(counts, owner).widen()
     }
 

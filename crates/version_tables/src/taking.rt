@@ -2,10 +2,10 @@
 
 ghost use Rattle.std.specs.Prelude.{◌≡◌, ◌<◌, length, map, slice_index};
 ghost use Rattle.model.specs.OwnerListView.{all_writes, entries_of};
-ghost use Rattle.planes.specs.Planes.{ArePlanesChanged, IsGrid, MayTake};
+ghost use Rattle.planes.specs.Planes.{ArePlanesChanged, IsGrid};
 ghost use Rattle.version_tables.specs.inner.Offers.{IsNumberedHistory};
 ghost use Rattle.version_tables.specs.inner.Histories.{AreOwners};
-ghost use Rattle.version_tables.specs.inner.Taken.{drop_start, number_kept, AreTakenOf, HasArrived, HasMarksFor, IsOwnerKept, MayArrive};
+ghost use Rattle.version_tables.specs.inner.Taken.{drop_start, number_kept, HasArrived, IsOwnerKept, MayArrive};
 
 use crate::deltas::DeltaMarks;
 use crate::generations::start_of;
@@ -87,24 +87,6 @@ fn drop_older<N: Number>(
     }
 }
 
-// Takes what marks let through of a sender's numbers, raises the greatest ones, and drops of each owner what is of
-// older generations than its newest. The greatest numbers before it are given.
-fn take_numbers<N: Number>(
-    cells: &mut [N],
-    greatest: &mut [N],
-    sent: Sent<N>,
-    before: &[N],
-    owners: Owners<N>,
-)
-    requires may { MayTake N.number cells.old greatest.old sent }
-    requires before { map N.number before.now ≡ map N.number greatest.old }
-    requires owners { AreOwners N.number sent.nodes owners }
-    ensures { AreTakenOf N.number owners.entry sent.entry cells.old greatest.old cells.new greatest.new }
-{
-    planes::take(cells, greatest, sent);
-    drop_older(cells, sent.nodes, sent.keys, before, greatest, owners);
-}
-
 /// What comes to a table: what a delta's marks let through, or nothing, as it has none or was lost.
 #[derive(Clone, Copy)]
 pub(crate) struct Arrival<'a, N: Number> {
@@ -121,11 +103,8 @@ pub(crate) fn take_unless<N: Number, H: Written>(
     before: &[N],
     owners: Owners<N>,
 )
-    requires cells { length cells.now ≡ length table.old.cells }
-    requires marks { HasMarksFor table.old.nodes arrival.marks.now }
+    requires may { MayArrive N.number H.lists owners table.old (map N.number cells.now) arrival }
     requires before { map N.number before.now ≡ table.old.greatest }
-    requires owners { AreOwners N.number table.old.nodes owners }
-    requires stays { MayArrive N.number H.lists owners table.old (map N.number cells.now) arrival }
     ensures { HasArrived N.number owners.entry table.old (map N.number cells.now) arrival.entry table.new }
 {
     if arrival.nothing {
@@ -138,5 +117,13 @@ pub(crate) fn take_unless<N: Number, H: Written>(
         low: &arrival.marks.low,
         high: &arrival.marks.high,
     };
-    take_numbers(&mut table.cells, &mut table.greatest, sent, before, owners);
+    planes::take(&mut table.cells, &mut table.greatest, sent);
+    drop_older(
+        &mut table.cells,
+        sent.nodes,
+        sent.keys,
+        before,
+        &table.greatest,
+        owners,
+    );
 }

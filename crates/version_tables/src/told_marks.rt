@@ -34,22 +34,12 @@ pub(crate) fn told<N: Number>(
     ensures only { IsOkUnless result OutOfMemory }
 {
     let mut told = Vec::from_slice(alloc, greatest)?;
-    put_told(&mut told, kind, node, owners);
+    put_marks(&mut told, kind, owners);
+    told[node] = N::greatest();
     Ok(told)
 }
 
-// Puts what is told in place of each greatest number.
-fn put_told<N: Number>(numbers: &mut [N], kind: DigestKind, node: usize, owners: Owners<N>)
-    requires node { node < length owners.lists.now }
-    requires known { AreKnownOf N.number N.most owners numbers.old }
-    ensures { AreChanged (λ r x y. y ≡ told_number kind N.most node (all_writes owners.entry.lists.now) (λ _. x) r)
-        (map N.number numbers.old) (map N.number numbers.new) }
-{
-    put_marks(numbers, kind, owners);
-    numbers[node] = N::greatest();
-}
-
-// The same, but for the receiver itself.
+// Puts what is told in place of each greatest number, but for the receiver itself.
 fn put_marks<N: Number>(numbers: &mut [N], kind: DigestKind, owners: Owners<N>)
     requires { AreKnownOf N.number N.most owners numbers.old }
     ensures { AreChanged (λ r x y. y ≡ told_by kind (all_writes owners.entry.lists.now r) x)

@@ -12,6 +12,11 @@ use Rattle.version_tables.specs.Views.{VersionTableView, HistoriesView}
 use Rattle.version_tables.specs.Laid.{IsVersionTable}
 use Rattle.version_tables.specs.inner.Histories.{bases_in}
 
+-- two tables with as many nodes and keys
+pub record AreOfOneSize (one other : VersionTableView) : Type 0 where
+  pub nodes : one.nodes ≡ other.nodes
+  pub keys : one.keys ≡ other.keys
+
 -- nothing that is held is of an earlier generation than its owner's, which has so many writes before it
 abbrev pub AreCurrent : (ℕ → ℕ) → VersionTableView → Type 0
 AreCurrent bases v =

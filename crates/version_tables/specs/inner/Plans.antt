@@ -23,6 +23,15 @@ IsNextMark cells keys owner mark next =
 abbrev pub raised : ℕ → (ℕ → ℕ) → (ℕ → ℕ) → ℕ
 raised nodes mark next = sum_below nodes (λ owner. if nat_lt (mark owner) (next owner) then 1 else 0)
 
+-- one number more of each owner that has one is added
+pub record IsNextLayer {N : Type 0} (number : N → ℕ) (offer : Offer N) (near : ℕ → ℕ)
+    (step : Step N) : Type 0 where
+  pub count : length step.marks.items ≡ offer.nodes
+  pub next : (owner : ℕ) → owner < offer.nodes
+      → IsNextMark (cells_in number offer) offer.keys owner (near owner)
+      (marks number step.marks.items owner)
+  pub more : step.more ≡ raised offer.nodes near (marks number step.marks.items)
+
 -- what marks let through takes so much of the budget, and is so many numbers
 abbrev pub weight_on : {N : Type 0} → First → (N → ℕ) → Offer N → (ℕ → ℕ) → ℕ
 weight_on first number offer mark =

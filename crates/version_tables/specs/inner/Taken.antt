@@ -7,11 +7,9 @@ use Rattle.planes.specs.Planes.{Cells, cell, numbers_taken, ArePlanesChanged, Is
 use Rattle.version_tables.specs.Views.{VersionTableView}
 use Rattle.version_tables.specs.Laid.{IsVersionTable}
 use Rattle.model.specs.OwnerListView.{all_writes}
-use Rattle.planes.specs.declared.grids.Sent.{Sent}
-use Rattle.version_tables.specs.declared.deltas.DeltaMarks.{DeltaMarks}
 use Rattle.version_tables.specs.declared.histories.Owners.{Owners}
 use Rattle.version_tables.specs.declared.taking.Arrival.{Arrival}
-use Rattle.version_tables.specs.inner.Histories.{bases_in}
+use Rattle.version_tables.specs.inner.Histories.{bases_in, AreOwners}
 use Rattle.version_tables.specs.inner.Offers.{start_of}
 
 -- a sent number is taken that is above the receiver's and one mark, and up to another
@@ -86,25 +84,34 @@ abbrev pub HasTakenUnless : Bool → (ℕ → List Entry) → (ℕ → ℕ) → 
 HasTakenUnless true lists bases to sent low high new = new ≡ to
 HasTakenUnless false lists bases to sent low high new = HasTaken lists bases to sent low high new
 
--- the same of numbers in memory, of what is sent and of what the owners wrote
-abbrev pub AreTakenOf : {N : Type 0} → (N → ℕ) → Owners N → Sent N → List N → List N → List N → List N → Type 0
-AreTakenOf number owners sent cells greatest new_cells new_greatest =
-    IsTaken (all_writes owners.lists.now) (bases_in owners.lists.now) sent.nodes sent.keys (map number cells) (map number greatest)
-    (map number sent.cells.now) (map number sent.low.now) (map number sent.high.now) (map number new_cells) (map number new_greatest)
-
--- a delta's marks are as many as the nodes
-pub record HasMarksFor {N : Type 0} (nodes : ℕ) (marks : DeltaMarks N) : Type 0 where
-  pub low : length marks.low.items ≡ nodes
-  pub high : length marks.high.items ≡ nodes
-
--- a table may take what comes of a sender's numbers, and stays one
-abbrev pub MayArrive : {N : Type 0} → (N → ℕ) → (ℕ → List Entry) → Owners N → VersionTableView → List ℕ → Arrival N → Type 0
-MayArrive number written owners to sent arrival =
-    StaysOne written (all_writes owners.lists.now) (bases_in owners.lists.now) to sent
-    (map number arrival.marks.now.low.items) (map number arrival.marks.now.high.items)
+-- a table may take what comes of a sender's numbers: these are as many as its own, there are marks and owners for each
+-- node, and it stays one
+pub record MayArrive {N : Type 0} (number : N → ℕ) (written : ℕ → List Entry) (owners : Owners N)
+    (to : VersionTableView) (sent : List ℕ) (arrival : Arrival N) : Type 0 where
+  pub cells : length sent ≡ length to.cells
+  pub low_count : length arrival.marks.now.low.items ≡ to.nodes
+  pub high_count : length arrival.marks.now.high.items ≡ to.nodes
+  pub known : AreOwners number to.nodes owners
+  pub stays : StaysOne written (all_writes owners.lists.now) (bases_in owners.lists.now) to sent
+      (map number arrival.marks.now.low.items) (map number arrival.marks.now.high.items)
 
 -- and it has taken that
 abbrev pub HasArrived : {N : Type 0} → (N → ℕ) → Owners N → VersionTableView → List ℕ → Arrival N → VersionTableView → Type 0
 HasArrived number owners to sent arrival new =
     HasTakenUnless arrival.nothing (all_writes owners.lists.now) (bases_in owners.lists.now) to sent
     (map number arrival.marks.now.low.items) (map number arrival.marks.now.high.items) new
+
+-- the first of two tables may take what comes of the second one's numbers, and then the second one of the first one's
+pub record MayTakeBoth {N : Type 0} (number : N → ℕ) (written : ℕ → List Entry) (owners : Owners N)
+    (initiator responder : VersionTableView) (back forth : Arrival N) : Type 0 where
+  pub first : MayArrive number written owners initiator responder.cells back
+  pub second : (after : VersionTableView)
+      → HasArrived number owners initiator responder.cells back after
+      → MayArrive number written owners responder after.cells forth
+
+-- and they have taken that
+pub record HaveTakenBoth {N : Type 0} (number : N → ℕ) (owners : Owners N)
+    (initiator responder : VersionTableView) (back forth : Arrival N)
+    (new_initiator new_responder : VersionTableView) : Type 0 where
+  pub first : HasArrived number owners initiator responder.cells back new_initiator
+  pub second : HasArrived number owners responder new_initiator.cells forth new_responder

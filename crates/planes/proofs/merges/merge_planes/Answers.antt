@@ -1,7 +1,9 @@
-use Rattle.std.proofs.Common.{nat_lt, max, ◌∙◌, arith, length, map, if◌then◌else◌}
+use Rattle.std.proofs.Common.{◌≤◌, nat_lt, max, ◌∙◌, arith, length, map, if◌then◌else◌}
 use Rattle.std.proofs.lemmas.List.{length-map}
+use Rattle.bench_types.specs.declared.limits.TheConstants.{MOST_NODES}
 use Rattle.planes.proofs.Elementwise.{number-at, number-waits, changed_none, changed_all, written_next}
 use Rattle.planes.proofs.Counts.{count_below, number_next, sum_whole}
+use Rattle.planes.proofs.merges.merge_planes.Given as given
 use Rattle.planes.proofs.merges.merge_planes.Goals as goal
 
 pub loop-r-init : goal.loop-r-init
@@ -12,15 +14,17 @@ loop-r-init g c = record {
   second_count = c.zero-to_second.ensures;
 }
 
+-- a number counts as many as there are nodes
+room : (g : given.Over) → MOST_NODES ≤ g.N.Number.most
+room g = (g.met.N.Number g.world.𝓛 g.world.𝓜 g.world.𝓡 ((λ s x. x), (λ x. x), (λ x. x), λ x. x)).counts_nodes
+
 pub plus-to_first-requires : goal.plus-to_first-requires
 plus-to_first-requires g c =
-    count_below _ c.loop-r.r (length c.args.first.now) (g.N.Number.number c.loop-r.to_first) g.N.Number.most c.loop-r.invariant.first_count c.loop-r-test.true c.requires.room
-    (g.met.N.Number g.world.𝓛 g.world.𝓜 g.world.𝓡 ((λ s x. x), (λ x. x), (λ x. x), λ x. x)).counts_nodes
+    count_below _ c.loop-r.r (length c.args.first.now) (g.N.Number.number c.loop-r.to_first) g.N.Number.most c.loop-r.invariant.first_count c.loop-r-test.true c.requires.room (room g)
 
 pub plus-to_second-requires : goal.plus-to_second-requires
 plus-to_second-requires g c =
-    count_below _ c.loop-r.r (length c.args.first.now) (g.N.Number.number c.loop-r.to_second) g.N.Number.most c.loop-r.invariant.second_count c.loop-r-test.true c.requires.room
-    (g.met.N.Number g.world.𝓛 g.world.𝓜 g.world.𝓡 ((λ s x. x), (λ x. x), (λ x. x), λ x. x)).counts_nodes
+    count_below _ c.loop-r.r (length c.args.first.now) (g.N.Number.number c.loop-r.to_second) g.N.Number.most c.loop-r.invariant.second_count c.loop-r-test.true c.requires.room (room g)
 
 pub loop-r-preserved : goal.loop-r-preserved
 loop-r-preserved g c =

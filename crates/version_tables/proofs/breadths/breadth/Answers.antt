@@ -1,5 +1,4 @@
 use Rattle.std.proofs.Common.{◌≡◌, ℕ, ◌+◌, ◌<◌, length, sym, ap, ◌∙◌, subst, arith}
-use Rattle.std.proofs.lemmas.List.{length-map}
 use Rattle.version_tables.specs.inner.OfferInMemory.{cells_in, low_in, marks, count_in}
 use Rattle.version_tables.specs.inner.Plans.{AreLayersSoFar, IsNextMark, raised}
 use Rattle.version_tables.proofs.LayerSteps.{layers-first, layers-count, layers-upto, layers-more, layers-next, layers-far, layers-farther, smaller_by}
@@ -10,16 +9,16 @@ pub loop-alloc-init : goal.loop-alloc-init
 loop-alloc-init g c =
     let number = g.N.Number.number in
     let offer = c.args.offer.now in
-    let next = c.in_ok-first.ensures.marks in
+    let next = c.in_ok-first.ensures.layer in
     let start : c.deref.result.now ≡ offer.low.now = c.deref.ensures.value ∙ c.in_ok-near.ensures.items in
     record {
       near = ap length c.in_ok-near.ensures.items ∙ c.requires.offer.is_offer.low;
-      far = sym (length-map c.in_ok-first.first.marks.items number) ∙ next.size;
+      far = next.count;
       so_far =
           subst (λ xs. AreLayersSoFar number offer (marks number xs) (marks number c.in_ok-first.first.marks.items) 0 c.in_ok-first.first.more) (sym c.in_ok-near.ensures.items)
           (layers-first number g.N.Number.most offer c.requires.offer.is_offer (marks number c.in_ok-first.first.marks.items) c.in_ok-first.first.more
-          (subst (λ xs. (r : ℕ) → r < offer.nodes → IsNextMark (cells_in number offer) offer.keys r (marks number xs r) (marks number c.in_ok-first.first.marks.items r)) start next.each)
-          (subst (λ xs. c.in_ok-first.first.more ≡ raised offer.nodes (marks number xs) (marks number c.in_ok-first.first.marks.items)) start c.in_ok-first.ensures.more));
+          (subst (λ xs. (r : ℕ) → r < offer.nodes → IsNextMark (cells_in number offer) offer.keys r (marks number xs r) (marks number c.in_ok-first.first.marks.items r)) start next.next)
+          (subst (λ xs. c.in_ok-first.first.more ≡ raised offer.nodes (marks number xs) (marks number c.in_ok-first.first.marks.items)) start next.more));
     }
 
 pub overflow_add-whole : goal.overflow_add-whole
@@ -58,16 +57,16 @@ pub loop-alloc-preserved : goal.loop-alloc-preserved
 loop-alloc-preserved g c =
     let number = g.N.Number.number in
     let offer = c.args.offer.now in
-    let next = c.in_ok-next.ensures.marks in
+    let next = c.in_ok-next.ensures.layer in
     let fits = offer-fits number offer (low_in number offer) _ _ c.deref-in-loop-alloc.ensures.value c.fits.result c.fits.ensures c.loop-alloc-test.true in
     record {
       near = c.loop-alloc.invariant.far;
-      far = sym (length-map c.in_ok-next.next.marks.items number) ∙ next.size;
+      far = next.count;
       so_far =
           layers-next number g.N.Number.most offer c.requires.offer.is_offer (marks number c.loop-alloc.near.items) (marks number c.loop-alloc.far.items) c.loop-alloc.whole c.loop-alloc.more c.loop-alloc.invariant.so_far
           (marks number c.in_ok-next.next.marks.items) c.in_ok-next.next.more fits
-          (subst (λ xs. (r : ℕ) → r < offer.nodes → IsNextMark (cells_in number offer) offer.keys r (marks number xs r) (marks number c.in_ok-next.next.marks.items r)) c.deref-in-loop-alloc-2.ensures.value next.each)
-          (subst (λ xs. c.in_ok-next.next.more ≡ raised offer.nodes (marks number xs) (marks number c.in_ok-next.next.marks.items)) c.deref-in-loop-alloc-2.ensures.value c.in_ok-next.ensures.more);
+          (subst (λ xs. (r : ℕ) → r < offer.nodes → IsNextMark (cells_in number offer) offer.keys r (marks number xs r) (marks number c.in_ok-next.next.marks.items r)) c.deref-in-loop-alloc-2.ensures.value next.next)
+          (subst (λ xs. c.in_ok-next.next.more ≡ raised offer.nodes (marks number xs) (marks number c.in_ok-next.next.marks.items)) c.deref-in-loop-alloc-2.ensures.value next.more);
     }
 
 pub fits-requires-clause-high : goal.fits-requires-clause-high

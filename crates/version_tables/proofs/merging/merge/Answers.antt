@@ -22,10 +22,10 @@ module _ (g : given.Over) (c : goal.After-responder-2-1 g) where
   q = seen c.responder.view_is
 
   nodes : p.nodes ≡ q.nodes
-  nodes = ap (λ (v : VersionTableView). v.nodes) c.initiator.view_is ∙ c.requires.nodes ∙ sym (ap (λ (v : VersionTableView). v.nodes) c.responder.view_is)
+  nodes = ap (λ (v : VersionTableView). v.nodes) c.initiator.view_is ∙ c.requires.size.nodes ∙ sym (ap (λ (v : VersionTableView). v.nodes) c.responder.view_is)
 
   keys : p.keys ≡ q.keys
-  keys = ap (λ (v : VersionTableView). v.keys) c.initiator.view_is ∙ c.requires.keys ∙ sym (ap (λ (v : VersionTableView). v.keys) c.responder.view_is)
+  keys = ap (λ (v : VersionTableView). v.keys) c.initiator.view_is ∙ c.requires.size.keys ∙ sym (ap (λ (v : VersionTableView). v.keys) c.responder.view_is)
 
   came : IsMerged p.nodes p.keys p.cells p.greatest q.cells q.greatest
       (map number (with_items c.initiator.inside.cells c.merge-came.new.first).items) (map number (with_items c.initiator.inside.greatest c.raise_both.new.first).items)

@@ -1,10 +1,14 @@
-use Rattle.std.proofs.Common.{◌≡◌, ℕ, ◌+◌, List, length, map, ap, ◌∙◌}
+use Rattle.std.proofs.Common.{◌≡◌, ℕ, ◌+◌, ◌-◌, ◌<◌, ◌≤◌, List, get_or, length, map, take, drop, inr, ap, subst, ◌∙◌, arith}
 use Rattle.std.proofs.Math.Path.{transport}
+use Rattle.std.proofs.lemmas.List.{length-map, length-take-le, length-drop}
+use borrow.Rule.Slice.PartMut.{put_mid}
 use Rattle.bench_types.specs.declared.exchanges.First.{First}
 use Rattle.bench_types.specs.declared.exchanges.First.TheVariants.{Oldest, Newest}
 use Rattle.planes.specs.Planes.{Cells, count_between, HasEach}
+use Rattle.planes.proofs.Places.{part-here, part-written}
 use Rattle.version_tables.specs.inner.Firsts.{by_first}
 use Rattle.version_tables.specs.inner.OfferInMemory.{cells_in, marks}
+use Rattle.version_tables.specs.inner.Turns.{part_weight}
 use Rattle.version_tables.specs.inner.Weights.{weight_from}
 use Rattle.version_tables.proofs.weights.Offer.count_parts.Goals as goal
 
@@ -21,21 +25,41 @@ size-of Newest near far n one other = other
 
 pub count_some_between-requires-clause-low : goal.count_some_between-requires-clause-low
 count_some_between-requires-clause-low g c κs within =
-    ap length (c.by_first-low.ensures ∙ (λ i. by_first c.args.first (c.deref.ensures.value i) (c.deref-2.ensures.value i)))
-    ∙ size-of c.args.first c.args.level.now.near.items c.args.level.now.far.items c.args.self.now.nodes c.requires.level.near c.requires.level.far
+    let turns = c.args.turns.now in
+    ap length (c.by_first-low.ensures ∙ (λ i. by_first turns.first (c.deref.ensures.value i) (c.deref-2.ensures.value i)))
+    ∙ size-of turns.first turns.level.now.near.items turns.level.now.far.items c.args.self.now.nodes c.requires.turns.level.near c.requires.turns.level.far
 
 pub count_some_between-requires-clause-high : goal.count_some_between-requires-clause-high
 count_some_between-requires-clause-high g c κs within =
-    ap length (c.by_first-high.ensures ∙ (λ i. by_first c.args.first (c.deref-3.ensures.value i) (c.deref-4.ensures.value i)))
-    ∙ size-of c.args.first c.args.level.now.far.items c.args.level.now.near.items c.args.self.now.nodes c.requires.level.far c.requires.level.near
+    let turns = c.args.turns.now in
+    ap length (c.by_first-high.ensures ∙ (λ i. by_first turns.first (c.deref-3.ensures.value i) (c.deref-4.ensures.value i)))
+    ∙ size-of turns.first turns.level.now.far.items turns.level.now.near.items c.args.self.now.nodes c.requires.turns.level.far c.requires.turns.level.near
 
 pub returns : goal.returns
 returns g c =
     let number = g.N.Number.number in
     let offer = c.args.self.now in
-    let start = c.args.start in
-    counted number (cells_in number offer) offer.keys (length c.args.counts.now) start c.args.first c.args.level.now.near.items c.args.level.now.far.items (map number c.count_some_between.new.counts)
-    (transport (λ i. HasEach (length c.args.counts.now) (λ r n. n ≡ count_between (cells_in number offer) offer.keys (start + r)
-    (marks number ((c.by_first-low.ensures ∙ (λ j. by_first c.args.first (c.deref.ensures.value j) (c.deref-2.ensures.value j))) i) (start + r))
-    (marks number ((c.by_first-high.ensures ∙ (λ j. by_first c.args.first (c.deref-3.ensures.value j) (c.deref-4.ensures.value j))) i) (start + r)))
-    (map number c.count_some_between.new.counts)) c.count_some_between.ensures)
+    let turns = c.args.turns.now in
+    let owner = c.args.owner in
+    let old = c.args.counts.now in
+    let new = c.count_some_between.new.counts in
+    let size = c.min-end.result - owner in
+    let some : 0 < size = omega (arith, c.min-end.ensures, c.requires.owner) in
+    let within : owner + size ≤ length old = omega (arith, c.min-end.ensures, c.requires.owner, c.requires.counts.size, length-map old number) in
+    let sized : length new ≡ size = c.count_some_between.auto.counts ∙ length-take-le size (drop owner old) (omega (arith, within, length-drop owner old)) in
+    let parts =
+    counted number (cells_in number offer) offer.keys (length (take size (drop owner old))) owner turns.first turns.level.now.near.items turns.level.now.far.items (map number new)
+    (transport (λ i. HasEach (length (take size (drop owner old))) (λ r n. n ≡ count_between (cells_in number offer) offer.keys (owner + r)
+    (marks number ((c.by_first-low.ensures ∙ (λ j. by_first turns.first (c.deref.ensures.value j) (c.deref-2.ensures.value j))) i) (owner + r))
+    (marks number ((c.by_first-high.ensures ∙ (λ j. by_first turns.first (c.deref-3.ensures.value j) (c.deref-4.ensures.value j))) i) (owner + r)))
+    (map number new)) c.count_some_between.ensures)
+    in
+    let here : (r : ℕ) → r < size → get_or (map number new) r 0 ≡ part_weight number (λ _. 1) offer turns (owner + r) =
+    λ r lt. parts.each r (omega (arith, lt, sized, c.count_some_between.auto.counts))
+    in
+    record {
+      count =
+          subst (λ j. get_or (map number (put_mid owner size old new)) j 0 ≡ part_weight number (λ _. 1) offer turns j) {x = owner + 0} {y = owner} (omega arith)
+          (part-here number owner size old new within sized 0 some ∙ here 0 some);
+      counts = part-written number owner size old new within sized offer.nodes _ c.requires.counts (λ r lt. inr (here r lt));
+    }

@@ -187,7 +187,7 @@ fn begin_node<T: MemoryTable, H: RoundHistories<T>>(
 ) -> Result<(), Fault>
     requires round { IsRoundOf H.may_write scenario.now round }
     requires words { AreWordsOf scenario.now.seed node round words.now }
-    requires before { IsBefore H.lists H.has_ended round node T.table scenario.now table.old histories.old }
+    requires before { IsBefore T.table H.lists H.has_ended scenario.now round node table.old histories.old }
     ensures owner { OnOk result (IsOwnerIn T.table H.lists scenario.now round node table.new histories.new) }
     ensures table { OnOk result (IsBegun T.table scenario.now round node table.old table.new) }
     ensures others { OnOk result (LeavesOthers H.lists H.has_ended round node histories.old histories.new) }
@@ -206,7 +206,7 @@ fn restart<T: MemoryTable, H: RoundHistories<T>>(
     histories: &mut H,
     round: u32,
 )
-    requires { IsBefore H.lists H.has_ended round node T.table scenario.now table.old histories.old }
+    requires { IsBefore T.table H.lists H.has_ended scenario.now round node table.old histories.old }
     ensures owner { IsRestartedIn T.table H.lists scenario.now round node table.new histories.new }
     ensures table { T.table table.new ≡ after_restart scenario.now round node (T.table table.old) }
     ensures others { LeavesOthers H.lists H.has_ended round node histories.old histories.new }

@@ -35,15 +35,16 @@ module _ {T H : Type 0} (table : T → Table) (lists : H → List OwnerListView)
   WritesIn round writes old new h h' =
       HasWritten round writes (table old) (table new) (own_list (table old) (lists h)) (own_list (table old) (lists h'))
 
-module _ {H : Type 0} (lists : H → List OwnerListView) (Ended : H → ℕ → Type 0) (round n : ℕ) where
-  -- a node's table beside the histories, of which the round before one that a run may have has ended
-  pub record IsBefore {T : Type 0} (table : T → Table) (s : Settings) (t : T) (h : H) : Type 0 where
-    pub first : 1 ≤ round
-    pub last : round ≤ MOST_ROUNDS
-    pub node : IsNodeBefore s round n (table t) (lists h)
-    pub ended : Ended h (round - 1)
+-- a node's table beside the histories, of which the round before one that a run may have has ended
+pub record IsBefore {T H : Type 0} (table : T → Table) (lists : H → List OwnerListView) (Ended : H → ℕ → Type 0)
+    (s : Settings) (round n : ℕ) (t : T) (h : H) : Type 0 where
+  pub first : 1 ≤ round
+  pub last : round ≤ MOST_ROUNDS
+  pub node : IsNodeBefore s round n (table t) (lists h)
+  pub ended : Ended h (round - 1)
 
-  -- the other owners' lists stay, and of the histories no later round has ended
-  pub record LeavesOthers (h h' : H) : Type 0 where
-    pub others : OthersStay n (lists h) (lists h')
-    pub ended : Ended h' (round - 1)
+-- the other owners' lists stay, and of the histories as many rounds have ended as before
+pub record LeavesOthers {H : Type 0} (lists : H → List OwnerListView) (Ended : H → ℕ → Type 0) (round n : ℕ)
+    (h h' : H) : Type 0 where
+  pub others : OthersStay n (lists h) (lists h')
+  pub ended : Ended h' (round - 1)

@@ -9,7 +9,7 @@ ghost use Rattle.model.specs.Table.{IsItemInPlace};
 ghost use Rattle.node_table.specs.Entries.{AreAbove};
 ghost use Rattle.node_table.specs.NodeTableView.{blocks_below, blocks_for};
 ghost use Rattle.node_table.specs.inner.Flags.{AreFlagged, AreUnflagged};
-ghost use Rattle.node_table.specs.inner.Layouts.{entries_in_row, row_at, block_len, table_laid, AreLaid, IsLayout, IsEmptyRow, IsInSlots, IsFilledRow, AreOthersKept, IsRenewed, IsPutInSlots, FitsRow, MayTake, HasTaken, IsHeld, HasRoomForBlock};
+ghost use Rattle.node_table.specs.inner.Layouts.{entries_in_row, row_at, block_len, table_laid, AreLaid, IsLayout, IsEmptyRow, IsInSlots, IsFilledRow, AreOthersKept, IsRenewed, IsPutInSlots, FitsRow, MayTakeItem, HasTakenItem, IsHeld, HasRoomForBlock};
 
 use crate::rows::{find, put_in, rank_above};
 use bench_types::limits::{MOST_KEYS, MOST_NODES};
@@ -96,7 +96,7 @@ impl Layout {
     // is all that is then held of its owner, and one of the same is kept where it is newer than what
     // is held at its place. An error is lack of memory for a block, and then nothing changes.
     pub(crate) fn take(&mut self, item: Item) -> Result<(), AllocError>
-        requires { MayTake self.old item }
+        requires { MayTakeItem self.old item }
         ensures layout { IsLayout self.new }
         ensures ok { OnOk result (table_laid self.new ≡ taken (table_laid self.old) item) }
         ensures err { OnErr result (table_laid self.new ≡ table_laid self.old) }
@@ -140,7 +140,7 @@ impl Layout {
 
     // Puts an item's entry as the first of its owner, whose row has none yet.
     fn put_first(&mut self, item: Item) -> Result<(), AllocError>
-        requires may { MayTake self.old item }
+        requires may { MayTakeItem self.old item }
         requires empty { IsEmptyRow self.old.rows.items item.owner }
         ensures layout { IsLayout self.new }
         ensures ok { OnOk result (table_laid self.new ≡ taken (table_laid self.old) item) }
@@ -173,11 +173,11 @@ impl Layout {
 
     // Puts an item's entry, which is newer than that of its place, at its rank in the owner's row.
     fn put(&mut self, item: Item)
-        requires may { MayTake self.old item }
+        requires may { MayTakeItem self.old item }
         requires some { IsFilledRow self.old.rows.items item.owner }
         requires same { item.entry.generation ≡ generation_held (table_laid self.old) item.owner }
         requires newer { (mark_at (table_laid self.old) item.owner item.entry.key).version < item.entry.version }
-        ensures { HasTaken self.old self.new item }
+        ensures { HasTakenItem self.old self.new item }
     {
         let at = item.owner as usize;
         let row = self.rows[at];
@@ -189,10 +189,10 @@ impl Layout {
 
     // Leaves an item's entry, which is of a newer generation, alone in the owner's row.
     fn renew(&mut self, item: Item)
-        requires may { MayTake self.old item }
+        requires may { MayTakeItem self.old item }
         requires some { IsFilledRow self.old.rows.items item.owner }
         requires newer { generation_held (table_laid self.old) item.owner < item.entry.generation }
-        ensures { HasTaken self.old self.new item }
+        ensures { HasTakenItem self.old self.new item }
     {
         let at = item.owner as usize;
         let row = self.rows[at];

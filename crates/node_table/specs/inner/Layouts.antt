@@ -109,13 +109,13 @@ pub record SameRoom (before after : Layout) : Type 0 where
   pub capacity : vec_capacity after.slots ≡ vec_capacity before.slots
 
 -- an item that may be taken: it is in its place, and of the node's own generation where it is the node's
-pub record MayTake (l : Layout) (item : Item) : Type 0 where
+pub record MayTakeItem (l : Layout) (item : Item) : Type 0 where
   pub layout : IsLayout l
   pub in_place : IsItemInPlace l.nodes l.keys item
   pub own : item.owner ≡ l.node → item.entry.generation ≡ l.generation
 
 -- an item was taken in the slots that there are
-pub record HasTaken (before after : Layout) (item : Item) : Type 0 where
+pub record HasTakenItem (before after : Layout) (item : Item) : Type 0 where
   pub layout : IsLayout after
   pub table : table_laid after ≡ taken (table_laid before) item
   pub room : SameRoom before after

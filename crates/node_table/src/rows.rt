@@ -1,7 +1,7 @@
 //! One owner's row: entries with a key each, ascending by version and then by key, at the front of
 //! a block of slots.
 
-ghost use Rattle.std.specs.Prelude.{◌≡◌, ◌≢◌, ◌+◌, ◌-◌, ◌<◌, ◌≤◌, All, filter, length, take, remove};
+ghost use Rattle.std.specs.Prelude.{◌≡◌, ◌≢◌, ◌+◌, ◌<◌, ◌≤◌, All, filter, length, take};
 ghost use Rattle.std.specs.Ordering.{is_lt};
 ghost use Rattle.node_table.specs.Entries.{entry_cmp};
 ghost use Rattle.model.specs.Held.{entry_in};

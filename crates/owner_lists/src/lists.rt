@@ -10,7 +10,7 @@ ghost use Rattle.owner_lists.specs.Latest.{keyed, write_of, KeysRise};
 ghost use Rattle.owner_lists.specs.inner.Keys.{IsIndexOfKey, IsGapForKey};
 ghost use Rattle.model.specs.Numbers.{write_numbered};
 ghost use Rattle.owner_lists.specs.inner.Linked.{entries_linked, writes_linked, version_or_zero, IsLinked, IsRelinked, IsWriteOfVersion};
-ghost use Rattle.bench_types.specs.Entry.{next_version, AreNextAfter};
+ghost use Rattle.bench_types.specs.Entry.{next_version};
 ghost use Rattle.bench_types.specs.declared.faults.Fault.TheVariants.{OutOfMemory};
 
 use bench_types::{Entry, Fault, Mark};

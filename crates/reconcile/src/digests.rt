@@ -1,6 +1,6 @@
 //! Digests of tables.
 
-ghost use Rattle.std.specs.Prelude.{◌≡◌, ◌^◌, ◌+◌, ◌<◌, nat_lt, count_by, slice_index, All, length, IfOk, IsOkUnless};
+ghost use Rattle.std.specs.Prelude.{◌≡◌, ◌+◌, ◌<◌, slice_index, All, length, IfOk, IsOkUnless};
 ghost use Rattle.bench_types.specs.declared.faults.Fault.TheVariants.{OutOfMemory};
 ghost use Rattle.bench_types.specs.Mode.{digest_kind};
 ghost use Rattle.reconcile.specs.Digests.{IsDigestOf, mark_with, version_index};

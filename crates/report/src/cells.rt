@@ -4,7 +4,7 @@ ghost use Rattle.std.specs.Prelude.{◌≡◌, ◌<◌, ◌++◌, length, map, d
 ghost use Rattle.std.specs.List.{list_all};
 ghost use Rattle.csv.specs.Writing.{default_writer, writer_setup};
 ghost use Rattle.report.specs.Line.{line_of};
-ghost use Rattle.report.specs.inner.Cells.{cell_text, is_plain, is_plain_cell, bytes_written, AddsField, IsBetweenLines};
+ghost use Rattle.report.specs.inner.Cells.{cell_text, is_plain_cell, bytes_written, AddsField, IsBetweenLines};
 
 use bench_types::Fault;
 use csv::{Writer, WriterBuilder};

@@ -1,12 +1,12 @@
 //! With whom a node exchanges.
 
 ghost use Rattle.std.specs.Prelude.{◌≡◌, ◌≢◌, ◌<◌, ◌≤◌};
-ghost use Rattle.round_plan.specs.Peer.{peer_of, random_peer, ring_peer};
+ghost use Rattle.round_plan.specs.Peer.{peer_of};
 ghost use Rattle.round_plan.specs.Words.{word_of};
 ghost use Rattle.round_plan.specs.inner.Rounds.{IsNodeInRound};
 
 use crate::words::{PEER_PLACE, draw};
-use bench_types::limits::{LEAST_NODES, MOST_NODES, MOST_ROUNDS};
+use bench_types::limits::MOST_ROUNDS;
 use scenario::{Peers, Scenario};
 
 /// The node with which a node begins its exchange of a round: one of the others, by the node's words

@@ -1,4 +1,4 @@
-use Rattle.std.proofs.Common.{◌≡◌, ◌-◌, ◌%◌, sym, ap, ◌∙◌, arith}
+use Rattle.std.proofs.Common.{◌≡◌, sym, ap, ◌∙◌, arith}
 use Rattle.scenario.specs.declared.choices.Peers.{Peers}
 use Rattle.scenario.specs.declared.choices.Peers.TheVariants.{Random}
 use Rattle.round_plan.specs.Peer.{peer_by, random_peer}

@@ -8,7 +8,7 @@ ghost use Rattle.model.specs.Tables.{AreProper};
 ghost use Rattle.model.specs.Runs.{AreWorkers, IsFaultOfWorkers};
 ghost use Rattle.round_plan.specs.Words.{run_words_of, AreWordsOf};
 ghost use Rattle.simulation.specs.Rounds.{opening_tables, after_restart, rules_of};
-ghost use Rattle.simulation.specs.inner.InMemory.{IsBefore, IsBegun, AreBegun, LeavesOthers, TablesStand, IsOwnerIn, IsRestartedIn, WritesIn};
+ghost use Rattle.simulation.specs.inner.InMemory.{IsBeforeRound, IsBegun, AreBegun, LeavesOthers, TablesStand, IsOwnerIn, IsRestartedIn, WritesIn};
 ghost use Rattle.simulation.specs.inner.Insides.{HasPlayed, IsAfterRound};
 ghost use Rattle.simulation.specs.inner.Steps.{IsRoundOf, MayWriteOwn};
 
@@ -187,7 +187,7 @@ fn begin_node<T: MemoryTable, H: RoundHistories<T>>(
 ) -> Result<(), Fault>
     requires round { IsRoundOf H.may_write scenario.now round }
     requires words { AreWordsOf scenario.now.seed node round words.now }
-    requires before { IsBefore T.table H.lists H.has_ended scenario.now round node table.old histories.old }
+    requires before { IsBeforeRound T.table H.lists H.has_ended scenario.now round node table.old histories.old }
     ensures owner { OnOk result (IsOwnerIn T.table H.lists scenario.now round node table.new histories.new) }
     ensures table { OnOk result (IsBegun T.table scenario.now round node table.old table.new) }
     ensures others { OnOk result (LeavesOthers H.lists H.has_ended round node histories.old histories.new) }
@@ -206,7 +206,7 @@ fn restart<T: MemoryTable, H: RoundHistories<T>>(
     histories: &mut H,
     round: u32,
 )
-    requires { IsBefore T.table H.lists H.has_ended scenario.now round node table.old histories.old }
+    requires { IsBeforeRound T.table H.lists H.has_ended scenario.now round node table.old histories.old }
     ensures owner { IsRestartedIn T.table H.lists scenario.now round node table.new histories.new }
     ensures table { T.table table.new ≡ after_restart scenario.now round node (T.table table.old) }
     ensures others { LeavesOthers H.lists H.has_ended round node histories.old histories.new }

@@ -3,7 +3,7 @@
 ghost use Rattle.std.specs.Prelude.{◌≡◌, ◌≤◌, length};
 ghost use Rattle.simulation.specs.Outcomes.{played_with};
 ghost use Rattle.model.specs.declared.lists.TheConstants.{MOST_EXCHANGES};
-ghost use Rattle.simulation.specs.Rows.{row_of, has_lost, lost_count, entry_count, cut_total};
+ghost use Rattle.simulation.specs.Rows.{row_of, has_lost};
 
 use bench_types::{Fate, Figures, Record, Row};
 use model::RoundList;

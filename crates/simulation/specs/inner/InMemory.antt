@@ -36,7 +36,7 @@ module _ {T H : Type 0} (table : T → Table) (lists : H → List OwnerListView)
       HasWritten round writes (table old) (table new) (own_list (table old) (lists h)) (own_list (table old) (lists h'))
 
 -- a node's table beside the histories, of which the round before one that a run may have has ended
-pub record IsBefore {T H : Type 0} (table : T → Table) (lists : H → List OwnerListView) (Ended : H → ℕ → Type 0)
+pub record IsBeforeRound {T H : Type 0} (table : T → Table) (lists : H → List OwnerListView) (Ended : H → ℕ → Type 0)
     (s : Settings) (round n : ℕ) (t : T) (h : H) : Type 0 where
   pub first : 1 ≤ round
   pub last : round ≤ MOST_ROUNDS

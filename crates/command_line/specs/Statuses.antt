@@ -19,6 +19,6 @@ abbrev pub IsTold : {E : Type 0} → Sink E → E → E → List ℕ → Type 0
 IsTold sink old new text = IsWritten sink old new text ⊎ IsBrokenOff sink old new text
 
 -- what is told of what was done, or came to a fault: nothing, or that fault
-abbrev pub Tells : {E T : Type 0} → Sink E → E → E → Result T Fault → Type 0
-Tells sink old new (Ok done) = new ≡ old
-Tells sink old new (Err fault) = IsTold sink old new (told_of fault)
+abbrev pub IsOutcomeTold : {E T : Type 0} → Sink E → E → E → Result T Fault → Type 0
+IsOutcomeTold sink old new (Ok done) = new ≡ old
+IsOutcomeTold sink old new (Err fault) = IsTold sink old new (told_of fault)

@@ -4,7 +4,7 @@ ghost use Rattle.std.specs.Prelude.{◌≡◌, ◌≤◌, map};
 ghost use Rattle.bench_types.specs.declared.faults.Fault.{Fault};
 ghost use Rattle.command_line.specs.Endings.{HaveAnswer, IsAnswerFault, IsDone, IsHelpWritten, IsRefusalTold};
 ghost use Rattle.command_line.specs.Endings.{IsStoppedByFault};
-ghost use Rattle.command_line.specs.Statuses.{IsTold, Tells, status_of, told_of};
+ghost use Rattle.command_line.specs.Statuses.{IsOutcomeTold, IsTold, status_of, told_of};
 
 use crate::jobs::perform;
 use bench_types::{Discard, Fault, Push, Sink, Source, write_text};
@@ -53,7 +53,7 @@ pub fn main_with<H: Threads + Wait + Sync + Files, S: AsStr, R: Source, W: Sink,
 // The status after a job, or after help. The line of a fault goes to `err`.
 pub(crate) fn status_of<E: Sink>(done: Result<(), Fault>, err: &mut E) -> u8
     ensures status { result ≡ status_of done }
-    ensures told { Tells E.Sink err.old err.new done }
+    ensures told { IsOutcomeTold E.Sink err.old err.new done }
 {
     match done {
         Ok(()) => DONE,

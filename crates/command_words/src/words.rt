@@ -5,7 +5,7 @@ ghost use Rattle.clap.specs.Words.{app_of, found_of, kind_of, rows_of, subcomman
 ghost use Rattle.command_words.specs.Jobs.{AreWorkersOf, AsksForNone, IsAskedFor};
 ghost use Rattle.command_words.specs.Program.{program};
 ghost use Rattle.command_words.specs.Words.{AskFor, HaveNoJob};
-ghost use Rattle.command_words.specs.inner.Errors.{IsKindAt, IsReason};
+ghost use Rattle.command_words.specs.inner.Errors.{IsParsed, IsReason};
 ghost use Rattle.command_words.specs.Workers.{AreLawfulWorkers, HasLawfulWorkers};
 
 use crate::commands::commands;
@@ -51,8 +51,7 @@ fn reason_of(alloc: Global, error: &Error) -> NoJob
 }
 
 fn parse<'a, S: AsStr>(alloc: Global, words: &'a [S]) -> Result<Job<'a>, Error>
-    ensures { MatchResult result (AskFor (map S.text words.entry.now))
-        (λ error. IsKindAt (map S.text words.entry.now) (kind_of error)) }
+    ensures { IsParsed (map S.text words.entry.now) result }
 {
     parse_by(&mut commands(alloc)?, words)
 }
@@ -60,8 +59,7 @@ fn parse<'a, S: AsStr>(alloc: Global, words: &'a [S]) -> Result<Job<'a>, Error>
 // Reads the words by the commands of the program.
 fn parse_by<'a, S: AsStr>(commands: &mut Command<'a>, words: &'a [S]) -> Result<Job<'a>, Error>
     requires { app_of commands.old ≡ program }
-    ensures { MatchResult result (AskFor (map S.text words.entry.now))
-        (λ error. IsKindAt (map S.text words.entry.now) (kind_of error)) }
+    ensures { IsParsed (map S.text words.entry.now) result }
 {
     let matches = commands.try_get_matches_from_mut(words)?;
     match asked_for(&matches) {

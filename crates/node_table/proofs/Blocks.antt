@@ -1,5 +1,5 @@
 -- Slots that are moved within a block, and rows outside of it.
--- Serves `Layout::renew`, `close_up`, `insert`, `put_among` and `Opened`.
+-- Serves `Layout::renew`, `insert`, `put_among`, `put_at_rank` and `Opened`.
 use Rattle.std.proofs.Common.{◌≡◌, ℕ, zero, suc, ◌+◌, ◌-◌, ◌<◌, ◌≤◌, List, [], ◌∷◌, ◌++◌, length, set, take, drop, replicate, ◌⊎◌, inl, inr, refl, sym, ap, ◌∙◌, arith, append_assoc}
 use lib.Seq.{paste}
 use borrow.Rule.Slice.PartMut.{put_mid}

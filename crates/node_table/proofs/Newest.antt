@@ -1,5 +1,5 @@
 -- An entry that is newer than all others of its row: they close up, and it comes behind them.
--- Serves `keep_others`, `put_in` and `put_last`.
+-- Serves `keep_others` and `put_in`.
 use Rattle.std.proofs.Common.{◌≡◌, ◌≢◌, ℕ, zero, suc, ◌+◌, ◌-◌, ◌<◌, ◌≤◌, Bool, false, cond, not, List, [], ◌∷◌, ◌++◌, length, get_or, set, All, ◌⊎◌, inl, inr, refl, sym, ap, ◌∙◌, subst, arith}
 use Rattle.std.specs.Ordering.{is_lt, nat_cmp, ordering_then}
 use Rattle.std.specs.List.{AllPairs, filter, remove}

@@ -9,7 +9,7 @@ ghost use Rattle.model.specs.Table.{IsItemInPlace};
 ghost use Rattle.node_table.specs.Entries.{AreAbove};
 ghost use Rattle.node_table.specs.NodeTableView.{blocks_below, blocks_for};
 ghost use Rattle.node_table.specs.inner.Flags.{AreFlagged, AreUnflagged};
-ghost use Rattle.node_table.specs.inner.Layouts.{entries_in_row, row_at, block_len, table_laid, AreLaid, IsLayout, IsEmptyRow, IsInSlots, IsFilledRow, AreOthersKept, IsRenewed, IsPut, KeepOutside, SameRoom, IsHeld, HasRoomForBlock};
+ghost use Rattle.node_table.specs.inner.Layouts.{entries_in_row, row_at, block_len, table_laid, AreLaid, IsLayout, IsEmptyRow, IsInSlots, IsFilledRow, AreOthersKept, IsRenewed, IsPutInSlots, FitsRow, MayTakeItem, HasTakenItem, IsHeld, HasRoomForBlock};
 
 use crate::rows::{find, put_in, rank_above};
 use bench_types::limits::{MOST_KEYS, MOST_NODES};
@@ -96,9 +96,7 @@ impl Layout {
     // is all that is then held of its owner, and one of the same is kept where it is newer than what
     // is held at its place. An error is lack of memory for a block, and then nothing changes.
     pub(crate) fn take(&mut self, item: Item) -> Result<(), AllocError>
-        requires layout { IsLayout self.old }
-        requires in_place { IsItemInPlace self.old.nodes self.old.keys item }
-        requires own { item.owner ≡ self.old.node → item.entry.generation ≡ self.old.generation }
+        requires { MayTakeItem self.old item }
         ensures layout { IsLayout self.new }
         ensures ok { OnOk result (table_laid self.new ≡ taken (table_laid self.old) item) }
         ensures err { OnErr result (table_laid self.new ≡ table_laid self.old) }
@@ -142,9 +140,7 @@ impl Layout {
 
     // Puts an item's entry as the first of its owner, whose row has none yet.
     fn put_first(&mut self, item: Item) -> Result<(), AllocError>
-        requires layout { IsLayout self.old }
-        requires in_place { IsItemInPlace self.old.nodes self.old.keys item }
-        requires own { item.owner ≡ self.old.node → item.entry.generation ≡ self.old.generation }
+        requires may { MayTakeItem self.old item }
         requires empty { IsEmptyRow self.old.rows.items item.owner }
         ensures layout { IsLayout self.new }
         ensures ok { OnOk result (table_laid self.new ≡ taken (table_laid self.old) item) }
@@ -177,15 +173,11 @@ impl Layout {
 
     // Puts an item's entry, which is newer than that of its place, at its rank in the owner's row.
     fn put(&mut self, item: Item)
-        requires layout { IsLayout self.old }
-        requires in_place { IsItemInPlace self.old.nodes self.old.keys item }
-        requires own { item.owner ≡ self.old.node → item.entry.generation ≡ self.old.generation }
+        requires may { MayTakeItem self.old item }
         requires some { IsFilledRow self.old.rows.items item.owner }
         requires same { item.entry.generation ≡ generation_held (table_laid self.old) item.owner }
         requires newer { (mark_at (table_laid self.old) item.owner item.entry.key).version < item.entry.version }
-        ensures layout { IsLayout self.new }
-        ensures table { table_laid self.new ≡ taken (table_laid self.old) item }
-        ensures room { SameRoom self.old self.new }
+        ensures { HasTakenItem self.old self.new item }
     {
         let at = item.owner as usize;
         let row = self.rows[at];
@@ -197,14 +189,10 @@ impl Layout {
 
     // Leaves an item's entry, which is of a newer generation, alone in the owner's row.
     fn renew(&mut self, item: Item)
-        requires layout { IsLayout self.old }
-        requires in_place { IsItemInPlace self.old.nodes self.old.keys item }
-        requires own { item.owner ≡ self.old.node → item.entry.generation ≡ self.old.generation }
+        requires may { MayTakeItem self.old item }
         requires some { IsFilledRow self.old.rows.items item.owner }
         requires newer { generation_held (table_laid self.old) item.owner < item.entry.generation }
-        ensures layout { IsLayout self.new }
-        ensures table { table_laid self.new ≡ taken (table_laid self.old) item }
-        ensures room { SameRoom self.old self.new }
+        ensures { HasTakenItem self.old self.new item }
     {
         let at = item.owner as usize;
         let row = self.rows[at];
@@ -353,14 +341,8 @@ fn set_generation(generations: &mut Vec<u32>, nodes: u32, owner: u32, generation
 fn put_among(slots: &mut [Entry], row: Row, keys: u32, entry: Entry) -> Row
     requires row { IsInSlots keys slots.old row }
     requires held { 0 < row.len }
-    requires keys { keys ≤ MOST_KEYS }
-    requires key { entry.key < keys }
-    requires written { 1 ≤ entry.version }
-    ensures start { result.start ≡ row.start }
-    ensures within { result.len ≤ keys }
-    ensures put { IsPut keys entry (entries_in_row slots.old row) (entries_in_row slots.new result) }
-    ensures len { length slots.new ≡ length slots.old }
-    ensures others { KeepOutside slots.old slots.new row.start keys }
+    requires entry { FitsRow keys entry }
+    ensures { IsPutInSlots keys entry slots.old row slots.new result }
 {
     let start = row.start as usize;
     let block = &mut slots[start..start + keys as usize];
@@ -384,8 +366,7 @@ fn open(
     requires empty { IsEmptyRow rows.old.items owner }
     requires nodes { vec_len rows.old ≤ MOST_NODES }
     requires keys { keys ≤ MOST_KEYS }
-    requires key { entry.key < keys }
-    requires written { 1 ≤ entry.version }
+    requires entry { FitsRow keys entry }
     ensures laid { AreLaid (vec_len rows.old) keys slots.new.items rows.new.items }
     ensures ok { OnOk result (IsRenewed owner entry slots.old.items slots.new.items rows.old.items rows.new.items) }
     ensures err { OnErr result (slots.new.items ≡ slots.old.items) }

@@ -43,4 +43,4 @@ mod layouts;
 mod rows;
 mod tables;
 
-pub use tables::NodeTable;
+pub use tables::{NodeTable, generation_in};

@@ -1,7 +1,7 @@
 //! One owner's row: entries with a key each, ascending by version and then by key, at the front of
 //! a block of slots.
 
-ghost use Rattle.std.specs.Prelude.{◌≡◌, ◌≢◌, ◌+◌, ◌-◌, ◌<◌, ◌≤◌, All, filter, length, take, remove};
+ghost use Rattle.std.specs.Prelude.{◌≡◌, ◌≢◌, ◌+◌, ◌<◌, ◌≤◌, All, filter, length, take};
 ghost use Rattle.std.specs.Ordering.{is_lt};
 ghost use Rattle.node_table.specs.Entries.{entry_cmp};
 ghost use Rattle.model.specs.Held.{entry_in};
@@ -64,29 +64,20 @@ fn stands_before(entry: Entry, other: Entry) -> bool
     (entry.version, entry.key) < (other.version, other.key)
 }
 
-// Puts an entry at its rank, over that of its key. The answer is how many entries the row has then.
+// Puts an entry at its rank, over that of its key: behind all others where it is newer than each of them. The
+// answer is how many entries the row has then.
 pub(crate) fn put_in(block: &mut [Entry], len: usize, entry: Entry) -> usize
     requires row { HasRow block.old len }
     requires entry { FitsRow (length block.old) entry }
     ensures { IsPutInBlock entry block.old len block.new result }
 {
     if len > 0 && block[len - 1].version < entry.version {
-        put_last(block, len, entry)
+        let kept = keep_others(block, len, entry.key);
+        block[kept] = entry;
+        kept + 1
     } else {
         put_at_rank(block, len, entry)
     }
-}
-
-// Puts an entry behind all others, where it is newer than each of them.
-fn put_last(block: &mut [Entry], len: usize, entry: Entry) -> usize
-    requires row { HasRow block.old len }
-    requires newest { All (λ e. e.version < entry.version) (take len block.old) }
-    requires entry { FitsRow (length block.old) entry }
-    ensures { IsPutInBlock entry block.old len block.new result }
-{
-    let kept = keep_others(block, len, entry.key);
-    block[kept] = entry;
-    kept + 1
 }
 
 // Moves the entries of other keys to the front, and answers how many they are. It writes each, so that
@@ -116,21 +107,11 @@ fn put_at_rank(block: &mut [Entry], len: usize, entry: Entry) -> usize
 {
     let index = index_of(&block[..len], entry.key);
     if index < len {
-        close_up(block, len, index);
+        block.copy_within(index + 1..len, index);
         insert(block, len - 1, entry)
     } else {
         insert(block, len, entry)
     }
-}
-
-// Takes an entry out of a row.
-fn close_up(block: &mut [Entry], len: usize, index: usize)
-    requires within { len ≤ length block.old }
-    requires index { index < len }
-    ensures len { length block.new ≡ length block.old }
-    ensures row { take (len - 1) block.new ≡ remove (take len block.old) index }
-{
-    block.copy_within(index + 1..len, index);
 }
 
 // Puts an entry into a row that has none of its key.

@@ -1,6 +1,6 @@
 //! A node's table, whose entries lie in rows, one for each owner.
 
-ghost use Rattle.std.specs.Prelude.{◌≡◌, ◌≢◌, ◌↔◌, ◌+◌, ◌-◌, ◌^◌, ◌<◌, ◌≤◌, All, IfOk, IsOk, IsTrue, OnOk, OnErr, IsOkUnless};
+ghost use Rattle.std.specs.Prelude.{◌≡◌, ◌≢◌, ◌↔◌, ◌+◌, ◌-◌, ◌^◌, ◌<◌, ◌≤◌, All, IfOk, IsOk, IsTrue, OnOk, OnErr, IsOkUnless, slice_index};
 ghost use Rattle.bench_types.specs.declared.faults.Fault.TheVariants.{OutOfMemory};
 ghost use Rattle.node_table.specs.NodeTableView.{comes_in};
 
@@ -310,6 +310,13 @@ impl NodeTable {
         };
         Ok(NodeTable { layout })
     }
+}
+
+/// The generation of an owner's copy in a list as `NodeTable::generations` gives it, 0 where the list has none.
+pub fn generation_in(generations: &[u32], owner: u32) -> u32
+    ensures { result ≡ slice_index generations.now owner }
+{
+    generations.get(owner as usize).copied().unwrap_or(0)
 }
 
 // Whether an item of an owner comes in a list.

@@ -1,5 +1,5 @@
 -- What stands under a mark.
--- Serves `OwnerList::entry`, `numbered_entry` and `searched_entry`.
+-- Serves `OwnerList::entry` and `searched_entry`.
 use Rattle.std.proofs.Common.{◌≡◌, ◌≢◌, ℕ, zero, suc, ◌+◌, ◌<◌, ◌≤◌, Bool, true, false, cond, eqb, ◌&&◌, List, [], ◌∷◌, length, get_or, Option, Some, None, All, inl, inr, refl, sym, ap, ◌∙◌, subst, arith, length-append}
 use Rattle.std.specs.List.{find}
 use Rattle.std.specs.List.Sorted.{IsPartitionedBy, IsPartitionPoint}
@@ -149,10 +149,11 @@ or_none : (o : Option Entry) → option_or o None ≡ o
 or_none None = refl
 or_none (Some x) = refl
 
-pub entry_current : (v : OwnerListView) (m : Mark) → AreWrites v → m.generation ≡ v.generation → find (has_mark m) v.current ≡ entry_of v m
+pub entry_current : (v : OwnerListView) (m : Mark) → AreWrites v → m.generation ≡ v.generation → write_numbered v.current m.version ≡ entry_of v m
 entry_current v m is same =
     let none : find (has_mark m) v.earlier ≡ None = other_generations m v.earlier (λ i d lt other. omega (arith, is.earlier i d lt, other, same)) in
-    sym (find-append (has_mark m) v.earlier v.current ∙ ap (λ o. option_or o (find (has_mark m) v.current)) none)
+    let numbered : AreNextAfter m.generation 0 v.current = subst (λ n. AreNextAfter n 0 v.current) (sym same) is.current in
+    sym (find-append (has_mark m) v.earlier v.current ∙ ap (λ o. option_or o (find (has_mark m) v.current)) none ∙ numbered_is m v.current numbered m.version refl)
 
 pub entry_earlier : (v : OwnerListView) (m : Mark) → AreWrites v → m.generation ≢ v.generation → find (has_mark m) v.earlier ≡ entry_of v m
 entry_earlier v m is apart =

@@ -9,8 +9,8 @@ ghost use Rattle.owner_lists.specs.Missed.{first_missed, last_born};
 ghost use Rattle.owner_lists.specs.Latest.{keyed, write_of, KeysRise};
 ghost use Rattle.owner_lists.specs.inner.Keys.{IsIndexOfKey, IsGapForKey};
 ghost use Rattle.model.specs.Numbers.{write_numbered};
-ghost use Rattle.owner_lists.specs.inner.Linked.{entries_linked, writes_linked, version_or_zero, IsLinked, IsRelinked};
-ghost use Rattle.bench_types.specs.Entry.{next_version, AreNextAfter};
+ghost use Rattle.owner_lists.specs.inner.Linked.{entries_linked, writes_linked, version_or_zero, IsLinked, IsRelinked, IsWriteOfVersion};
+ghost use Rattle.bench_types.specs.Entry.{next_version};
 ghost use Rattle.bench_types.specs.declared.faults.Fault.TheVariants.{OutOfMemory};
 
 use bench_types::{Entry, Fault, Mark};
@@ -166,7 +166,7 @@ impl OwnerList {
         ensures { result ≡ entry_of self.now mark }
     {
         if mark.generation == self.generation {
-            numbered_entry(&self.links[self.earlier..], mark)
+            linked_entry(&self.links[self.earlier..], mark.version)
         } else {
             searched_entry(&self.links[..self.earlier], mark)
         }
@@ -281,9 +281,7 @@ fn missed_after(links: &[Link], key: u32, at: usize) -> Option<Write>
 fn linked_to(links: &[Link], version: u32) -> Option<Write>
     requires few { length links.now < 2 ^ 32 }
     requires within { version ≤ length links.now }
-    ensures none { version ≡ 0 → result ≡ None }
-    ensures some { (d : Write) → 0 < version
-        → result ≡ Some (slice_index_or (writes_linked links.now) (version - 1) d) }
+    ensures { IsWriteOfVersion (writes_linked links.now) version result }
 {
     match version.checked_sub(1) {
         Some(at) => Some(write_at(links, at as usize)),
@@ -356,14 +354,6 @@ fn linked_entry(links: &[Link], number: u32) -> Option<Entry>
         },
         None => None,
     }
-}
-
-// The write with a mark among those of its generation.
-fn numbered_entry(links: &[Link], mark: Mark) -> Option<Entry>
-    requires { AreNextAfter mark.generation 0 (entries_linked links.now) }
-    ensures { result ≡ find (has_mark mark) (entries_linked links.now) }
-{
-    linked_entry(links, mark.version)
 }
 
 // The write with a mark among those of several generations.

@@ -15,12 +15,12 @@ ghost use Rattle.model.specs.Order.{rotated};
 ghost use Rattle.reconcile.specs.inner.Keys.{items_in, age_first, AllSet, AreFirstItems, IsSentOf, IsSet, SetsStay, number_order};
 
 use crate::deltas::Delta;
-use crate::digests::{Digest, generation_in};
+use crate::digests::Digest;
 use crate::parcels::{Parcel, most_sent};
 use crate::questions::Question;
 use crate::turns::Turns;
 use bench_types::{Budget, DigestKind, Entry, Fault, First, Item};
-use node_table::NodeTable;
+use node_table::{NodeTable, generation_in};
 use std::alloc::Global;
 
 // A candidate on its way into the order. It stands by its three numbers and then by its key, and

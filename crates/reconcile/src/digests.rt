@@ -1,13 +1,13 @@
 //! Digests of tables.
 
-ghost use Rattle.std.specs.Prelude.{◌≡◌, ◌^◌, ◌+◌, ◌<◌, nat_lt, count_by, slice_index, All, length, IfOk, IsOkUnless};
+ghost use Rattle.std.specs.Prelude.{◌≡◌, ◌+◌, ◌<◌, slice_index, All, length, IfOk, IsOkUnless};
 ghost use Rattle.bench_types.specs.declared.faults.Fault.TheVariants.{OutOfMemory};
 ghost use Rattle.bench_types.specs.Mode.{digest_kind};
 ghost use Rattle.reconcile.specs.Digests.{IsDigestOf, mark_with, version_index};
 ghost use Rattle.reconcile.specs.inner.Inside.{AreVersions, with_row};
 
 use bench_types::{DigestKind, Entry, Fault, Mark, Mode};
-use node_table::NodeTable;
+use node_table::{NodeTable, generation_in};
 use std::alloc::Global;
 use std::marker::Model;
 
@@ -148,13 +148,6 @@ impl Digest {
     }
 }
 
-// The generation of an owner among those of all, 0 where none is given.
-pub(crate) fn generation_in(generations: &[u32], owner: u32) -> u32
-    ensures { result ≡ slice_index generations.now owner }
-{
-    generations.get(owner as usize).copied().unwrap_or(0)
-}
-
 // The mark of an owner's version and generation.
 pub(crate) fn mark_in(generations: &[u32], versions: &[u32], owner: u32) -> Mark
     requires { owner < length versions.now }
@@ -191,7 +184,7 @@ fn greatest_of_table(alloc: Global, table: &NodeTable) -> Result<Digest, Fault>
     Ok(Digest {
         nodes: table.nodes(),
         keys: table.keys(),
-        size: count_positive(&greatest),
+        size: greatest.iter().filter(|version| **version > 0).count() as u32,
         generations,
         versions: Versions::Greatest(greatest),
     })
@@ -209,14 +202,6 @@ fn each_of_table(alloc: Global, table: &NodeTable) -> Result<Digest, Fault>
         generations: Vec::from_slice(alloc, table.generations())?,
         versions: Versions::Each(each_version(alloc, table)?),
     })
-}
-
-// How many of the numbers are above 0.
-fn count_positive(numbers: &[u32]) -> u32
-    requires { length numbers.now < 2 ^ 32 }
-    ensures { result ≡ count_by (λ n. nat_lt 0 n) numbers.now }
-{
-    numbers.iter().filter(|n| **n > 0).count() as u32
 }
 
 // The version of each key of each owner, owner by owner, 0 where none is held.

@@ -72,6 +72,20 @@ fn accepted<R: Eprint + AllocGlobal>(rt: &R, text: &str) -> Result<Scenario, Fai
     Ok(retried!(rt, "read", read(alloc, text.as_bytes())))
 }
 
+// The scenario of the text that these changes make.
+fn accepted_with<R: Eprint + AllocGlobal>(
+    rt: &R,
+    changes: &[(&str, &str)],
+) -> Result<Scenario, Failure> {
+    let alloc = rt.alloc();
+    let text = retried!(
+        rt,
+        "changed",
+        changed(alloc, changes, "").map_err(Fault::from)
+    );
+    accepted(rt, text.as_str())
+}
+
 fn check_fault<R: Eprint + AllocGlobal>(rt: &R, text: &str, wanted: &Fault) -> Result<(), Failure> {
     let mut answer = read(rt.alloc(), text.as_bytes());
     if let Err(Fault::OutOfMemory) = answer {
@@ -137,12 +151,7 @@ fn check_long_ring(list: &RoundList) -> Result<(), Failure> {
 
 fn try_long_ring<R: Eprint + AllocGlobal + Threads + Sync>(rt: &R) -> Result<(), Failure> {
     let alloc = rt.alloc();
-    let text = retried!(
-        rt,
-        "changed",
-        changed(alloc, &LONG_RING, "").map_err(Fault::from)
-    );
-    let scenario = accepted(rt, text.as_str())?;
+    let scenario = accepted_with(rt, &LONG_RING)?;
     let list = retried!(rt, "round_list", round_list(rt, alloc, &scenario, 1));
     check_long_ring(&list)
 }
@@ -170,13 +179,7 @@ fn try_round_list_by<R: Eprint + AllocGlobal>(rt: &R, scenario: &Scenario) -> Re
 pub(crate) fn try_scenarios<R: Print + Eprint + AllocGlobal + Threads + Sync>(
     rt: &R,
 ) -> Result<(), Failure> {
-    let alloc = rt.alloc();
-    let text = retried!(
-        rt,
-        "changed",
-        changed(alloc, &TEN_NODES, "").map_err(Fault::from)
-    );
-    let ten_nodes = accepted(rt, text.as_str())?;
+    let ten_nodes = accepted_with(rt, &TEN_NODES)?;
     check_ten_nodes(&ten_nodes)?;
     try_read(rt)?;
     pass(rt, "read")?;

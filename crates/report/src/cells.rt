@@ -4,7 +4,7 @@ ghost use Rattle.std.specs.Prelude.{◌≡◌, ◌<◌, ◌++◌, length, map, d
 ghost use Rattle.std.specs.List.{list_all};
 ghost use Rattle.csv.specs.Writing.{default_writer, writer_setup};
 ghost use Rattle.report.specs.Line.{line_of};
-ghost use Rattle.report.specs.inner.Cells.{cell_text, is_plain, is_plain_cell, bytes_written, AddsField, IsBetweenLines};
+ghost use Rattle.report.specs.inner.Cells.{cell_text, is_plain_cell, bytes_written, AddsField, IsBetweenLines};
 
 use bench_types::Fault;
 use csv::{Writer, WriterBuilder};
@@ -56,7 +56,9 @@ fn put_cell(alloc: Global, lines: &mut Writer<Vec<u8>>, cell: Cell) -> Result<()
     ensures only { IsOkUnless result Fault.OutOfMemory }
 {
     match cell {
-        Cell::Text(text) => put_field(lines, text.as_bytes()),
+        Cell::Text(text) => lines
+            .write_field(text.as_bytes())
+            .map_err(|_| Fault::OutOfMemory),
         Cell::Number(number) => put_number(alloc, lines, number),
     }
 }
@@ -66,14 +68,7 @@ fn put_number(alloc: Global, lines: &mut Writer<Vec<u8>>, number: u64) -> Result
     ensures added { OnOk result (AddsField lines.old lines.new (decimal number)) }
     ensures only { IsOkUnless result Fault.OutOfMemory }
 {
-    put_field(lines, number.to_string(alloc)?.as_bytes())
-}
-
-fn put_field(lines: &mut Writer<Vec<u8>>, field: &[u8]) -> Result<(), Fault>
-    requires setup { writer_setup lines.old ≡ default_writer }
-    requires plain { IsTrue (is_plain field.now) }
-    ensures added { OnOk result (AddsField lines.old lines.new field.now) }
-    ensures only { IsOkUnless result Fault.OutOfMemory }
-{
-    lines.write_field(field).map_err(|_| Fault::OutOfMemory)
+    lines
+        .write_field(number.to_string(alloc)?.as_bytes())
+        .map_err(|_| Fault::OutOfMemory)
 }

@@ -1,5 +1,5 @@
 -- The others of a node in ascending order: those below it stand at their own number, those above it one earlier.
--- Serves `random_peer` and `Planned`.
+-- Serves `peer_by` and `Planned`.
 use Rattle.std.proofs.Common.{◌≡◌, ◌==◌, ℕ, zero, suc, ◌+◌, ◌<◌, ◌≤◌, Bool, true, false, not, List, ◌∷◌, get_or, cond, refl, ap, ◌∙◌, inl, inr, arith}
 use Rattle.std.specs.List.{range_with_len, filter}
 use Rattle.std.proofs.lemmas.Bool.{cases_lt}

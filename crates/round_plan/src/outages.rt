@@ -2,7 +2,7 @@
 
 ghost use Rattle.std.specs.Prelude.{◌≡◌, ◌<◌, ◌≤◌};
 ghost use Rattle.std.specs.List.Sorted.{IsStrictlyIncreasing};
-ghost use Rattle.round_plan.specs.Outages.{is_between, is_up, lists, restarts_in, restarts_now, forgets_now, separated, separates, takes_down};
+ghost use Rattle.round_plan.specs.Outages.{is_between, is_up, restarts_in, restarts_now, forgets_now, separated, separates, takes_down};
 
 use bench_types::limits::MOST_ROUNDS;
 use scenario::{Partition, Restart, Scenario};
@@ -18,6 +18,23 @@ pub fn is_up(scenario: &Scenario, node: u32, round: u32) -> bool
         .restarts()
         .iter()
         .any(|restart| takes_down(restart, node, round))
+}
+
+/// Whether two nodes are kept apart in a round: some partition that covers it lists exactly one of
+/// them. Costs two binary searches for each partition.
+pub fn separated(scenario: &Scenario, p: u32, q: u32, round: u32) -> bool
+    requires p { p < scenario.now.nodes }
+    requires q { q < scenario.now.nodes }
+    requires first { 1 ≤ round }
+    requires last { round ≤ MOST_ROUNDS }
+    ensures { result ≡ separated scenario.now p q round }
+{
+    for partition in scenario.partitions() {
+        if separates(partition, p, q, round) {
+            return true;
+        }
+    }
+    false
 }
 
 /// Whether a node restarts at the beginning of a round, and so loses its copies of all others, and its
@@ -45,23 +62,6 @@ pub fn forgets_now(scenario: &Scenario, node: u32, round: u32) -> bool
     scenario.restarts().iter().any(|restart| restarts_in(restart, node, round) && restart.forget)
 }
 
-/// Whether two nodes are kept apart in a round: some partition that covers it lists exactly one of
-/// them. Costs two binary searches for each partition.
-pub fn separated(scenario: &Scenario, p: u32, q: u32, round: u32) -> bool
-    requires p { p < scenario.now.nodes }
-    requires q { q < scenario.now.nodes }
-    requires first { 1 ≤ round }
-    requires last { round ≤ MOST_ROUNDS }
-    ensures { result ≡ separated scenario.now p q round }
-{
-    for partition in scenario.partitions() {
-        if separates(partition, p, q, round) {
-            return true;
-        }
-    }
-    false
-}
-
 fn takes_down(restart: &Restart, node: u32, round: u32) -> bool
     ensures { result ≡ takes_down node round restart.now }
 {
@@ -78,14 +78,9 @@ fn separates(partition: &Partition, p: u32, q: u32, round: u32) -> bool
     requires { IsStrictlyIncreasing partition.now.apart }
     ensures { result ≡ separates p q round partition.now }
 {
-    is_between(partition.from, partition.to, round) && lists(partition, p) != lists(partition, q)
-}
-
-fn lists(partition: &Partition, node: u32) -> bool
-    requires { IsStrictlyIncreasing partition.now.apart }
-    ensures { result ≡ lists partition.now node }
-{
-    partition.apart.binary_search(&node).is_ok()
+    let apart = &partition.apart;
+    is_between(partition.from, partition.to, round)
+        && apart.binary_search(&p).is_ok() != apart.binary_search(&q).is_ok()
 }
 
 pub(crate) fn is_between(from: u32, to: u32, round: u32) -> bool

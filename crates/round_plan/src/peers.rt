@@ -1,12 +1,12 @@
 //! With whom a node exchanges.
 
 ghost use Rattle.std.specs.Prelude.{◌≡◌, ◌≢◌, ◌<◌, ◌≤◌};
-ghost use Rattle.round_plan.specs.Peer.{peer_of, random_peer, ring_peer};
+ghost use Rattle.round_plan.specs.Peer.{peer_of};
 ghost use Rattle.round_plan.specs.Words.{word_of};
 ghost use Rattle.round_plan.specs.inner.Rounds.{IsNodeInRound};
 
 use crate::words::{PEER_PLACE, draw};
-use bench_types::limits::{LEAST_NODES, MOST_NODES, MOST_ROUNDS};
+use bench_types::limits::MOST_ROUNDS;
 use scenario::{Peers, Scenario};
 
 /// The node with which a node begins its exchange of a round: one of the others, by the node's words
@@ -36,30 +36,12 @@ pub(crate) fn peer_by(scenario: &Scenario, node: u32, round: u32, word: u32) -> 
     ensures below { result < scenario.now.nodes }
     ensures another { result ≢ node }
 {
+    let nodes = scenario.nodes();
     match scenario.peers() {
-        Peers::Random => random_peer(scenario.nodes(), node, word),
-        Peers::Ring => ring_peer(scenario.nodes(), node, round),
+        Peers::Random => {
+            let place = word % (nodes - 1);
+            if place < node { place } else { place + 1 }
+        }
+        Peers::Ring => (node + 1 + (round - 1) % (nodes - 1)) % nodes,
     }
-}
-
-fn random_peer(nodes: u32, node: u32, word: u32) -> u32
-    requires nodes { (LEAST_NODES ≤ nodes) × (nodes ≤ MOST_NODES) }
-    requires node { node < nodes }
-    ensures value { result ≡ random_peer nodes node word }
-    ensures below { result < nodes }
-    ensures another { result ≢ node }
-{
-    let place = word % (nodes - 1);
-    if place < node { place } else { place + 1 }
-}
-
-fn ring_peer(nodes: u32, node: u32, round: u32) -> u32
-    requires nodes { (LEAST_NODES ≤ nodes) × (nodes ≤ MOST_NODES) }
-    requires node { node < nodes }
-    requires first { 1 ≤ round }
-    ensures value { result ≡ ring_peer nodes node round }
-    ensures below { result < nodes }
-    ensures another { result ≢ node }
-{
-    (node + 1 + (round - 1) % (nodes - 1)) % nodes
 }

@@ -98,21 +98,12 @@ fn choices(
                 requires { IsNodeInRound scenario.now node round }
                 ensures { (result ≡ exchange_of scenario.entry.now round node)
                     × IsPlanned scenario.entry.now.nodes result }
-            { exchange_of(scenario, node, round) },
+            { exchange_by(scenario, node, round, &words_of(scenario, node, round)) },
         )
         .collect(rt, alloc)
 }
 
-// The exchange of a node with its peer, by one block of words.
-fn exchange_of(scenario: &Scenario, node: u32, round: u32) -> Exchange
-    requires { IsNodeInRound scenario.now node round }
-    ensures value { result ≡ exchange_of scenario.now round node }
-    ensures planned { IsPlanned scenario.now.nodes result }
-{
-    exchange_by(scenario, node, round, &words_of(scenario, node, round))
-}
-
-// As `exchange_of`, by the node's words of the round.
+// The exchange of a node with its peer, by the node's words of the round.
 fn exchange_by(
     scenario: &Scenario,
     node: u32,

@@ -20,12 +20,18 @@ use Rattle.simulation.specs.RoundView.{RoundView}
 use Rattle.simulation.specs.Outcomes.{row_in}
 use Rattle.runs.specs.Reports.{rows_upto}
 use Rattle.simulation.specs.Simulation.{SimView, PlaysNext, IsStepFault}
-use Rattle.runs.specs.inner.Rows.{IsNextRowFault}
+use Rattle.runs.specs.inner.Starts.{IsReady}
+use Rattle.runs.specs.inner.Rows.{WritesNextRow, IsNextRowFault}
 use Rattle.runs.proofs.Reporting.{written_then, fault_behind, step_fault}
 
--- nothing was written to a sink that is sound and flushed
-pub nothing_written : {W : Type 0} (sink : Sink W) (now : W) → sink.failed now ≡ false → sink.flushed now ≡ true → IsWritten sink now now []
-nothing_written sink now sound flushed = record { taken = Appends-nil (sink.taken now); flushed = flushed; sound = sound; was_sound = sound }
+-- nothing was written to a sink that is ready
+pub nothing_written : {W : Type 0} (sink : Sink W) (now : W) → IsReady sink now → IsWritten sink now now []
+nothing_written sink now ready = record { taken = Appends-nil (sink.taken now); flushed = ready.flushed; sound = ready.sound; was_sound = ready.sound }
+
+-- a round was played, and the line of its row written
+pub row_is_next : {T W : Type 0} (table : T → Table) (sim sim' : SimView T) (sink : Sink W) (old new : W) (mode : Mode) (round : RoundView) → PlaysNext table sim sim' round
+    → (line : List ℕ) → line ≡ compare_line sim'.settings.format mode round.row → IsWritten sink old new line → WritesNextRow table sim sim' sink old new mode
+row_is_next table sim sim' sink old new mode round played line is written = record { round = round; played = played; row = subst (IsWritten sink old new) is written }
 
 -- the lines of so many rounds of a scenario are written
 pub record AreRoundsWritten {T W : Type 0} (sink : Sink W) (old now : W) (s : Settings) (sim : SimView T) (rounds : ℕ) : Type 0 where

@@ -20,7 +20,7 @@ use Rattle.simulation.specs.Outcomes.{row_in}
 use Rattle.simulation.specs.Simulation.{SimView, PlaysNext, IsStepFault}
 use Rattle.runs.specs.Reports.{rows_upto, trace_in, traces_upto, report_upto, trace_upto, report_text, trace_text}
 use Rattle.runs.specs.Runs.{IsFaultAfter, AreWritten, IsWritingFault, StopsAt, round_after, lines_after, row_after}
-use Rattle.runs.specs.inner.Rows.{lines_of, IsNextTextsFault}
+use Rattle.runs.specs.inner.Rows.{lines_of, WritesNextTexts, IsNextTextsFault}
 
 -- one text behind another
 pub written_then : {W : Type 0} (sink : Sink W) (old now new : W) (text next : List ℕ) → IsWritten sink old now text → IsWritten sink now new next → IsWritten sink old new (text ++ next)
@@ -34,6 +34,12 @@ written_then sink old now new text next first second = record {
 -- a fault behind a text
 pub fault_behind : {W : Type 0} (sink : Sink W) (old now new : W) (text whole next : List ℕ) (fault : Fault) → IsWritten sink old now text → IsFaultAfter sink now new whole next fault → IsFaultAfter sink old new (text ++ whole) next fault
 fault_behind sink old now new text whole next fault first stop = (stop.0, written_then sink old now stop.0 text whole first stop.1, stop.2)
+
+-- a round was played, and its lines and its row written
+pub texts_are_next : {T W X : Type 0} (table : T → Table) (sim sim' : SimView T) (sink : Sink W) (old new : W) (sink' : Sink X) (old' new' : X) (round : RoundView) → PlaysNext table sim sim' round
+    → (lines line : List ℕ) → lines ≡ lines_of round → line ≡ report_line sim'.settings.format round.row → IsWritten sink' old' new' lines → IsWritten sink old new line → WritesNextTexts table sim sim' sink old new sink' old' new'
+texts_are_next table sim sim' sink old new sink' old' new' round played lines line these this first second =
+    record { round = round; played = played; lines = subst (IsWritten sink' old' new') these first; row = subst (IsWritten sink old new) this second }
 
 -- both texts after so many rounds
 pub record AreWrittenUpto {T W X : Type 0} (sink : Sink W) (old now : W) (sink' : Sink X) (old' now' : X) (s : Settings) (sim : SimView T) (rounds : ℕ) : Type 0 where

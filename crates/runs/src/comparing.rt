@@ -1,10 +1,10 @@
 //! The modes beside each other, from bytes to bytes.
 
-ghost use Rattle.std.specs.Prelude.{◌≡◌, [], true, false, IfOk, OnOk, IfErr};
+ghost use Rattle.std.specs.Prelude.{◌≡◌, [], IfOk, OnOk, IfErr};
 ghost use Rattle.bench_types.specs.Output.{IsWritten};
 ghost use Rattle.bench_types.specs.Mode.{modes};
 ghost use Rattle.runs.specs.inner.Writes.{AreWrittenIn};
-ghost use Rattle.runs.specs.inner.Starts.{IsAtStart};
+ghost use Rattle.runs.specs.inner.Starts.{IsAtStart, IsReady};
 ghost use Rattle.runs.specs.inner.Rows.{all_lines, WritesNextRow, IsNextRowFault};
 ghost use Rattle.runs.specs.Runs.{TellsOfFailing, ComesOnceAccepted};
 ghost use Rattle.runs.specs.Comparisons.{lines_of_modes, IsFaultInRounds, IsFaultInModes, IsCompared, IsCompareFault};
@@ -57,8 +57,7 @@ fn write_modes<L: Written + Send + Sync, H: Threads + Wait + Sync, W: Sink>(
 ) -> Result<(), Fault>
     requires workers { AreWorkers workers }
     requires written { AreWrittenIn L.lists scenario }
-    requires sound { W.failed writer.old ≡ false }
-    requires flushed { W.flushed writer.old ≡ true }
+    requires ready { IsReady W.Sink writer.old }
     ensures written { OnOk result (IsWritten W.Sink writer.old writer.new (lines_of_modes scenario modes.now)) }
     ensures fault { IfErr result (IsFaultInModes W.Sink writer.old writer.new [] scenario modes.now workers) }
 {
@@ -84,8 +83,7 @@ fn write_all_rounds<L: Written + Send + Sync, H: Threads + Wait + Sync, W: Sink>
 ) -> Result<Scenario, Fault>
     requires workers { AreWorkers workers }
     requires written { AreWrittenIn L.lists scenario }
-    requires sound { W.failed writer.old ≡ false }
-    requires flushed { W.flushed writer.old ≡ true }
+    requires ready { IsReady W.Sink writer.old }
     ensures same { IfOk result (λ s. s ≡ scenario) }
     ensures written { OnOk result (IsWritten W.Sink writer.old writer.new (all_lines scenario)) }
     ensures fault { IfErr result (IsFaultInRounds W.Sink writer.old writer.new [] scenario workers) }
@@ -114,8 +112,7 @@ fn write_rows<
     requires workers { AreWorkers workers }
     requires start { IsAtStart sim }
     requires mode { mode ≡ sim.settings.mode }
-    requires sound { W.failed writer.old ≡ false }
-    requires flushed { W.flushed writer.old ≡ true }
+    requires ready { IsReady W.Sink writer.old }
     ensures same { IfOk result (λ s. s ≡ sim.settings) }
     ensures written { OnOk result (IsWritten W.Sink writer.old writer.new (all_lines sim.settings)) }
     ensures fault { IfErr result (IsFaultInRounds W.Sink writer.old writer.new [] sim.settings workers) }

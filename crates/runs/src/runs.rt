@@ -1,6 +1,6 @@
 //! A whole run, from bytes to bytes.
 
-ghost use Rattle.std.specs.Prelude.{◌≡◌, true, Ok, IfOk, OnOk, IfErr, IsOkUnless};
+ghost use Rattle.std.specs.Prelude.{◌≡◌, Ok, IfOk, OnOk, IfErr, IsOkUnless, if◌then◌else◌};
 ghost use Rattle.simulation.specs.Simulation.{MayWriteAll};
 ghost use Rattle.runs.specs.Inputs.{IsRead, IsInputFault};
 ghost use Rattle.scenario.specs.Settings.{IsLawfulScenario};
@@ -66,8 +66,7 @@ pub fn check_input<R: Source>(alloc: Global, reader: &mut R) -> Result<Scenario,
 
 // Whether all that an owner writes in a run has numbers of 16 bits.
 fn has_few_writes(scenario: &Scenario) -> bool
-    ensures few { result ≡ true → HasWritesBelow 32767 scenario.now }
-    ensures some { HasWritesBelow u32.MAX scenario.now }
+    ensures { HasWritesBelow (if result then 32767 else u32.MAX) scenario.now }
 {
     MOST_WRITES * scenario.rounds() < i16::MAX as u32
 }

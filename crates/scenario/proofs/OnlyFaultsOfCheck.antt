@@ -12,7 +12,7 @@ use Rattle.bench_types.specs.declared.fields.TableName.TheVariants as name
 use Rattle.bench_types.specs.declared.limits.TheConstants.{LEAST_NODES, MOST_NODES, LEAST_KEYS, MOST_KEYS, MOST_ENTRIES, MOST_ROUNDS, MOST_BUDGET, MOST_ENTRY_SIZE, MOST_BUDGET_BYTES, MOST_LOSS, MOST_WRITES, MOST_SEED, MOST_ELEMENTS}
 use Rattle.scenario.specs.Budgets.{is_in_entries, entries_at, is_too_small, bytes_of, bytes_at, budget_at}
 use Rattle.scenario.specs.Checked.{checked, unknown_checked}
-use Rattle.scenario.specs.Elements.{has_generations, array_of, table_of, few, elements_of, elements_at, each, ascending, apart_at, forget_at, array_at, partition_of, restart_of, load_of, partitions_at, restarts_at, loads_at, elements_have_only, only_elements, partition_fields, restart_fields, load_fields}
+use Rattle.scenario.specs.Elements.{has_generations, array_of, as_table, few, elements_of, elements_at, each, ascending, apart_at, forget_at, array_at, partition_of, restart_of, load_of, partitions_at, restarts_at, loads_at, elements_have_only, only_elements, partition_fields, restart_fields, load_fields}
 use Rattle.bench_types.specs.Field.{field_name}
 use Rattle.scenario.specs.Fields.{◌>>=◌, value_at, number_at, number_of, present, text_of, flag_of, flag_at, no_other_field, only_fields}
 use Rattle.scenario.specs.Parts.{size_checked, basics_at, conduct_at}
@@ -69,7 +69,7 @@ of_array : (f : Field) (value : Data) → OnlyFaultsOfCheck (array_of f value)
 of_array f (toml.array items) = tt
 of_array f _ = tt
 
-of_table : (f : Field) (value : Data) → OnlyFaultsOfCheck (table_of f value)
+of_table : (f : Field) (value : Data) → OnlyFaultsOfCheck (as_table f value)
 of_table f (toml.table _) = tt
 of_table f _ = tt
 
@@ -98,7 +98,7 @@ at_array f check table element = next (elements_at f table) _ (of_elements f (ge
 
 of_partition : (nodes : ℕ) (value : Data) → OnlyFaultsOfCheck (partition_of nodes value)
 of_partition nodes value =
-    next (table_of field.Partition value) _ (of_table field.Partition value) (λ members.
+    next (as_table field.Partition value) _ (of_table field.Partition value) (λ members.
     next (number_at field.PartitionFrom 1 MOST_ROUNDS members) _ (at_number field.PartitionFrom 1 MOST_ROUNDS members) (λ from.
     next (number_at field.PartitionTo from MOST_ROUNDS members) _ (at_number field.PartitionTo from MOST_ROUNDS members) (λ to.
     next (apart_at nodes members) _ (of_apart members) (λ apart. tt)))) where
@@ -121,7 +121,7 @@ of_forget format table = either (has_generations format) where
 
 of_restart : (format nodes : ℕ) (value : Data) → OnlyFaultsOfCheck (restart_of format nodes value)
 of_restart format nodes value =
-    next (table_of field.Restart value) _ (of_table field.Restart value) (λ members.
+    next (as_table field.Restart value) _ (of_table field.Restart value) (λ members.
     next (number_at field.RestartNode 0 (nodes - 1) members) _ (at_number field.RestartNode 0 (nodes - 1) members) (λ node.
     next (number_at field.RestartRound 1 MOST_ROUNDS members) _ (at_number field.RestartRound 1 MOST_ROUNDS members) (λ round.
     next (number_at field.RestartDown 0 MOST_ROUNDS members) _ (at_number field.RestartDown 0 MOST_ROUNDS members) (λ down.
@@ -129,7 +129,7 @@ of_restart format nodes value =
 
 of_load : (value : Data) → OnlyFaultsOfCheck (load_of value)
 of_load value =
-    next (table_of field.Load value) _ (of_table field.Load value) (λ members.
+    next (as_table field.Load value) _ (of_table field.Load value) (λ members.
     next (number_at field.LoadFrom 1 MOST_ROUNDS members) _ (at_number field.LoadFrom 1 MOST_ROUNDS members) (λ from.
     next (number_at field.LoadTo from MOST_ROUNDS members) _ (at_number field.LoadTo from MOST_ROUNDS members) (λ to.
     next (number_at field.LoadWrites 0 MOST_WRITES members) _ (at_number field.LoadWrites 0 MOST_WRITES members) (λ writes. tt))))

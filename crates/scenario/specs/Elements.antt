@@ -25,9 +25,9 @@ abbrev pub array_of : Field → Data → Result (List Data) Fault
 array_of f (toml.array items) = Ok (list_of items)
 array_of f _ = Err (WrongType f)
 
-abbrev pub table_of : Field → Data → Result Members Fault
-table_of f (toml.table table) = Ok table
-table_of f _ = Err (WrongType f)
+abbrev pub as_table : Field → Data → Result Members Fault
+as_table f (toml.table table) = Ok table
+as_table f _ = Err (WrongType f)
 
 -- an array of tables has only so many elements
 abbrev pub few : Field → List Data → Result (List Data) Fault
@@ -60,7 +60,7 @@ apart_at nodes table =
 
 abbrev pub partition_of : ℕ → Data → Result Partition Fault
 partition_of nodes value = do
-  table ← table_of field.Partition value
+  table ← as_table field.Partition value
   from ← number_at field.PartitionFrom 1 MOST_ROUNDS table
   to ← number_at field.PartitionTo from MOST_ROUNDS table
   apart ← apart_at nodes table
@@ -77,7 +77,7 @@ forget_at format table = if has_generations format then flag_at field.RestartFor
 -- a restart of a format, among so many nodes
 abbrev pub restart_of : ℕ → ℕ → Data → Result Restart Fault
 restart_of format nodes value = do
-  table ← table_of field.Restart value
+  table ← as_table field.Restart value
   node ← number_at field.RestartNode 0 (nodes - 1) table
   round ← number_at field.RestartRound 1 MOST_ROUNDS table
   down ← number_at field.RestartDown 0 MOST_ROUNDS table
@@ -86,7 +86,7 @@ restart_of format nodes value = do
 
 abbrev pub load_of : Data → Result Load Fault
 load_of value = do
-  table ← table_of field.Load value
+  table ← as_table field.Load value
   from ← number_at field.LoadFrom 1 MOST_ROUNDS table
   to ← number_at field.LoadTo from MOST_ROUNDS table
   writes ← number_at field.LoadWrites 0 MOST_WRITES table

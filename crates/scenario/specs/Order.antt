@@ -19,7 +19,7 @@ use Rattle.scenario.specs.declared.elements.Restart.{Restart}
 use Rattle.scenario.specs.declared.elements.Load.{Load}
 use Rattle.scenario.specs.Budgets.{budget_at}
 use Rattle.scenario.specs.Parts.{size_checked}
-use Rattle.scenario.specs.Elements.{has_generations, list_of, array_of, table_of, forget_at, values_at, elements_at, elements_have_only, only_elements, partition_fields, restart_fields, load_fields}
+use Rattle.scenario.specs.Elements.{has_generations, list_of, array_of, as_table, forget_at, values_at, elements_at, elements_have_only, only_elements, partition_fields, restart_fields, load_fields}
 use Rattle.bench_types.specs.Field.{field_name}
 use Rattle.scenario.specs.Fields.{◌>>=◌, value_at, number_of, number_at, has_only, only_fields}
 use Rattle.scenario.specs.Settings.{Settings}
@@ -57,7 +57,7 @@ ascending_faults f low high (value ∷ others) =
 abbrev pub partition_faults : ℕ → Data → List (Option Fault)
 partition_faults nodes value =
     let table = members_of value in
-    result_err (table_of field.Partition value)
+    result_err (as_table field.Partition value)
     ∷ result_err (number_at field.PartitionFrom 1 MOST_ROUNDS table)
     ∷ last_fault (number_at field.PartitionFrom 1 MOST_ROUNDS table) field.PartitionTo table
     ∷ result_err (value_at field.PartitionApart table >>= array_of field.PartitionApart)
@@ -67,7 +67,7 @@ partition_faults nodes value =
 abbrev pub restart_faults : ℕ → ℕ → Data → List (Option Fault)
 restart_faults format nodes value =
     let table = members_of value in
-    result_err (table_of field.Restart value)
+    result_err (as_table field.Restart value)
     ∷ result_err (number_at field.RestartNode 0 (nodes - 1) table)
     ∷ result_err (number_at field.RestartRound 1 MOST_ROUNDS table)
     ∷ result_err (number_at field.RestartDown 0 MOST_ROUNDS table)
@@ -78,7 +78,7 @@ restart_faults format nodes value =
 abbrev pub load_faults : Data → List (Option Fault)
 load_faults value =
     let table = members_of value in
-    result_err (table_of field.Load value)
+    result_err (as_table field.Load value)
     ∷ result_err (number_at field.LoadFrom 1 MOST_ROUNDS table)
     ∷ last_fault (number_at field.LoadFrom 1 MOST_ROUNDS table) field.LoadTo table
     ∷ result_err (number_at field.LoadWrites 0 MOST_WRITES table)

@@ -3,7 +3,7 @@
 ghost use Rattle.std.specs.Prelude.{◌≡◌, ◌≢◌, ◌≤◌, length, map, IfOk, IfErr};
 ghost use Rattle.std.specs.List.{list_all};
 ghost use Rattle.toml.specs.View.{view, table_view};
-ghost use Rattle.scenario.specs.Elements.{array_of, table_of, elements_at, array_at, values_of, table_has_only, elements_have_only, only_elements};
+ghost use Rattle.scenario.specs.Elements.{array_of, as_table, elements_at, array_at, values_of, table_has_only, elements_have_only, only_elements};
 ghost use Rattle.scenario.specs.Settings.{AreLawful};
 
 use crate::fields::{found, has_only};
@@ -46,10 +46,10 @@ pub(crate) fn array_of(value: &Value, field: Field) -> Result<&[Value], Fault>
     }
 }
 
-pub(crate) fn table_of(value: &Value, field: Field) -> Result<&Table, Fault>
+pub(crate) fn as_table(value: &Value, field: Field) -> Result<&Table, Fault>
     ensures ok { IfOk result (λ table.
-        table_of field (view value.now) ≡ Ok (table_view table.now)) }
-    ensures fault { IfErr result (λ fault. table_of field (view value.now) ≡ Err fault) }
+        as_table field (view value.now) ≡ Ok (table_view table.now)) }
+    ensures fault { IfErr result (λ fault. as_table field (view value.now) ≡ Err fault) }
 {
     match value {
         Value::Table(table) => Ok(table),

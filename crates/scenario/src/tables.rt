@@ -5,7 +5,7 @@ ghost use Rattle.toml.specs.View.{table_view};
 ghost use Rattle.scenario.specs.Elements.{has_generations, restart_fields, apart_at, forget_at};
 ghost use Rattle.scenario.specs.Fields.{number_at};
 
-use crate::arrays::{Elements, array_at, array_of, table_of};
+use crate::arrays::{Elements, array_at, array_of, as_table};
 use crate::elements::{Load, Partition, Restart};
 use crate::fields::{flag_at, number_at, number_of, value_at};
 use bench_types::limits::{MOST_ROUNDS, MOST_WRITES};
@@ -34,9 +34,9 @@ impl Elements for Partitions {
     ghost lawful = { λ _. IsLawfulPartition };
 
     fn of(alloc: Global, value: &Value, _format: u32, nodes: u32) -> Result<Partition, Fault> {
-        let table = table_of(value, Field::Partition)?;
+        let table = as_table(value, Field::Partition)?;
         let from = number_at(table, Field::PartitionFrom, 1, MOST_ROUNDS)?;
-        let to = last_round_at(table, Field::PartitionTo, from)?;
+        let to = number_at(table, Field::PartitionTo, from, MOST_ROUNDS)?;
         let apart = apart_at(alloc, table, nodes)?;
         Ok(Partition { from, to, apart })
     }
@@ -56,7 +56,7 @@ impl Elements for Restarts {
     ghost lawful = { IsLawfulRestart };
 
     fn of(_alloc: Global, value: &Value, format: u32, nodes: u32) -> Result<Restart, Fault> {
-        let table = table_of(value, Field::Restart)?;
+        let table = as_table(value, Field::Restart)?;
         let node = number_at(table, Field::RestartNode, 0, nodes - 1)?;
         let round = number_at(table, Field::RestartRound, 1, MOST_ROUNDS)?;
         let down = number_at(table, Field::RestartDown, 0, MOST_ROUNDS)?;
@@ -84,20 +84,12 @@ impl Elements for Loads {
     ghost lawful = { λ _ _. IsLawfulLoad };
 
     fn of(_alloc: Global, value: &Value, _format: u32, _nodes: u32) -> Result<Load, Fault> {
-        let table = table_of(value, Field::Load)?;
+        let table = as_table(value, Field::Load)?;
         let from = number_at(table, Field::LoadFrom, 1, MOST_ROUNDS)?;
-        let to = last_round_at(table, Field::LoadTo, from)?;
+        let to = number_at(table, Field::LoadTo, from, MOST_ROUNDS)?;
         let writes = number_at(table, Field::LoadWrites, 0, MOST_WRITES)?;
         Ok(Load { from, to, writes })
     }
-}
-
-// The last of some rounds, which is not before the first.
-fn last_round_at(table: &Table, field: Field, from: u32) -> Result<u32, Fault>
-    ensures answer { result ≡ number_at field from MOST_ROUNDS (table_view table.now) }
-    ensures within { IfOk result (λ to. (from ≤ to) × (to ≤ MOST_ROUNDS)) }
-{
-    number_at(table, field, from, MOST_ROUNDS)
 }
 
 // Whether nodes have generations in a format.

@@ -8,9 +8,9 @@ ghost use Rattle.model.specs.Tables.{AreProper};
 ghost use Rattle.model.specs.Runs.{AreWorkers, IsFaultOfWorkers};
 ghost use Rattle.round_plan.specs.Words.{run_words_of, AreWordsOf};
 ghost use Rattle.simulation.specs.Rounds.{opening_tables, after_restart, rules_of};
-ghost use Rattle.simulation.specs.inner.InMemory.{IsBegun, AreBegun, TablesStand, IsOwnerIn, IsRestartedIn, WritesIn};
+ghost use Rattle.simulation.specs.inner.InMemory.{IsBeforeRound, IsBegun, AreBegun, LeavesOthers, TablesStand, IsOwnerIn, IsRestartedIn, WritesIn};
 ghost use Rattle.simulation.specs.inner.Insides.{HasPlayed, IsAfterRound};
-ghost use Rattle.simulation.specs.inner.Steps.{IsRoundOf, IsNodeBefore, MayWriteOwn, OthersStay};
+ghost use Rattle.simulation.specs.inner.Steps.{IsRoundOf, MayWriteOwn};
 
 use crate::rounds::Round;
 use bench_types::limits::MOST_ROUNDS;
@@ -188,12 +188,10 @@ fn begin_node<T: MemoryTable, H: RoundHistories<T>>(
 ) -> Result<(), Fault>
     requires round { IsRoundOf H.may_write scenario.now round }
     requires words { AreWordsOf scenario.now.seed node round words.now }
-    requires ended { H.has_ended histories.old (round - 1) }
-    requires node { IsNodeBefore scenario.now round node (T.table table.old) (H.lists histories.old) }
+    requires before { IsBeforeRound T.table H.lists H.has_ended scenario.now round node table.old histories.old }
     ensures owner { OnOk result (IsOwnerIn T.table H.lists scenario.now round node table.new histories.new) }
     ensures table { OnOk result (IsBegun T.table scenario.now round node table.old table.new) }
-    ensures others { OnOk result (OthersStay node (H.lists histories.old) (H.lists histories.new)) }
-    ensures ended { OnOk result (H.has_ended histories.new (round - 1)) }
+    ensures others { OnOk result (LeavesOthers H.lists H.has_ended round node histories.old histories.new) }
     ensures only { IsOkUnless result OutOfMemory }
 {
     restart(scenario, node, table, histories, round);
@@ -209,14 +207,10 @@ fn restart<T: MemoryTable, H: RoundHistories<T>>(
     histories: &mut H,
     round: u32,
 )
-    requires first { 1 ≤ round }
-    requires last { round ≤ MOST_ROUNDS }
-    requires ended { H.has_ended histories.old (round - 1) }
-    requires node { IsNodeBefore scenario.now round node (T.table table.old) (H.lists histories.old) }
+    requires { IsBeforeRound T.table H.lists H.has_ended scenario.now round node table.old histories.old }
     ensures owner { IsRestartedIn T.table H.lists scenario.now round node table.new histories.new }
     ensures table { T.table table.new ≡ after_restart scenario.now round node (T.table table.old) }
-    ensures others { OthersStay node (H.lists histories.old) (H.lists histories.new) }
-    ensures ended { H.has_ended histories.new (round - 1) }
+    ensures others { LeavesOthers H.lists H.has_ended round node histories.old histories.new }
 {
     if forgets_now(scenario, node, round) {
         histories.forget(table);
@@ -238,8 +232,8 @@ fn write_own<T: MemoryTable, H: RoundHistories<T>>(
     requires may { MayWriteOwn H.may_write round writes.now (T.table table.old) (H.lists histories.old) }
     ensures written { OnOk result
         (WritesIn T.table H.lists round writes.now table.old table.new histories.old histories.new) }
-    ensures others { OnOk result (OthersStay (T.table table.old).node (H.lists histories.old) (H.lists histories.new)) }
-    ensures ended { OnOk result (H.has_ended histories.new (round - 1)) }
+    ensures others { OnOk result
+        (LeavesOthers H.lists H.has_ended round (T.table table.old).node histories.old histories.new) }
     ensures only { IsOkUnless result OutOfMemory }
 {
     for write in writes {

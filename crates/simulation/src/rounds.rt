@@ -3,7 +3,7 @@
 ghost use Rattle.std.specs.Prelude.{◌≡◌, ◌≤◌, length};
 ghost use Rattle.simulation.specs.Outcomes.{played_with};
 ghost use Rattle.model.specs.declared.lists.TheConstants.{MOST_EXCHANGES};
-ghost use Rattle.simulation.specs.Rows.{row_of, has_lost, lost_count, entry_count, cut_total};
+ghost use Rattle.simulation.specs.Rows.{row_of, has_lost};
 
 use bench_types::{Fate, Figures, Record, Row};
 use model::RoundList;
@@ -81,21 +81,19 @@ fn row_of(round: u32, list: &RoundList, records: &[Record], figures: Figures) ->
         round,
         exchanges: list.len(),
         unreached: list.unreached(),
-        lost: lost_count(records),
-        entries: entry_count(records),
-        cut: cut_total(records),
+        lost: records.iter().filter(|r| has_lost(r.fate)).count() as u32,
+        entries: records
+            .iter()
+            .map(|r| u64::from(r.back) + u64::from(r.forth))
+            .sum(),
+        cut: records
+            .iter()
+            .map(|r| u64::from(r.back_cut) + u64::from(r.forth_cut))
+            .sum(),
         stale: figures.stale,
         greatest: figures.greatest,
         leftover: figures.leftover,
     }
-}
-
-// How many exchanges lost a message.
-fn lost_count(records: &[Record]) -> u32
-    requires { length records.now ≤ MOST_EXCHANGES }
-    ensures { result ≡ lost_count records.now }
-{
-    records.iter().filter(|r| has_lost(r.fate)).count() as u32
 }
 
 fn has_lost(fate: Fate) -> bool
@@ -105,26 +103,4 @@ fn has_lost(fate: Fate) -> bool
         Fate::Ok => false,
         Fate::Lost1 | Fate::Lost2 | Fate::Lost3 => true,
     }
-}
-
-// How many entries were sent.
-fn entry_count(records: &[Record]) -> u64
-    requires { length records.now ≤ MOST_EXCHANGES }
-    ensures { result ≡ entry_count records.now }
-{
-    records
-        .iter()
-        .map(|r| u64::from(r.back) + u64::from(r.forth))
-        .sum()
-}
-
-// How many entries the budget cut.
-fn cut_total(records: &[Record]) -> u64
-    requires { length records.now ≤ MOST_EXCHANGES }
-    ensures { result ≡ cut_total records.now }
-{
-    records
-        .iter()
-        .map(|r| u64::from(r.back_cut) + u64::from(r.forth_cut))
-        .sum()
 }

@@ -1,6 +1,6 @@
 //! What a pass over the tables sees of the copies of all owners, key by key.
 
-ghost use Rattle.std.specs.Prelude.{◌≡◌, ◌+◌, ◌*◌, ◌<◌, ◌≤◌, None, IfOk, IfSome, OnOk, length, slice_index};
+ghost use Rattle.std.specs.Prelude.{◌≡◌, ◌+◌, ◌*◌, ◌<◌, ◌≤◌, None, IfOk, IfSome, OnOk, length};
 ghost use Rattle.bench_types.specs.declared.limits.TheConstants.{MOST_NODES, MOST_KEYS};
 ghost use Rattle.model.specs.Table.{generation_held, IsProper};
 ghost use Rattle.node_table.specs.NodeTableView.{tables_in};
@@ -12,7 +12,7 @@ ghost use Rattle.model.specs.declared.writes.Write.{Write};
 ghost use Rattle.staleness.specs.declared.copies.Copies.{Copies};
 ghost use Rattle.staleness.specs.inner.Copies.{generations_in, least_known, row_at_least, row_known, with_version, merged, MayCountOne, MayCountBoth, HaveRoom, HaveRoomForAll, IsRowSeen, IsTableSeen, AreUnseen, AreSeenFrom, AreAdded, MayBeMerged, AreMerged};
 
-use node_table::NodeTable;
+use node_table::{NodeTable, generation_in};
 use owner_lists::{OwnerList, Write};
 use std::alloc::{AllocError, Global};
 
@@ -50,16 +50,6 @@ pub(crate) fn generations_of(alloc: Global, tables: &[NodeTable]) -> Result<Vec<
         generations.push(table.generation())?;
     }
     Ok(generations)
-}
-
-/// The generation of a copy, in a list of all copies' that is empty where all are 0.
-pub(crate) fn generation_in(generations: &[u32], owner: u32) -> u32
-    ensures { result ≡ slice_index generations.now owner }
-{
-    match generations.get(owner as usize) {
-        Some(generation) => *generation,
-        None => 0,
-    }
 }
 
 /// The version that entries of a copy count for at least in their owner's generation: all versions where they are of

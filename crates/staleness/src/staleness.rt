@@ -15,11 +15,9 @@ ghost use Rattle.node_table.specs.NodeTableView.{tables_in};
 ghost use Rattle.model.specs.Tables.{table_of_node, IsCluster};
 ghost use Rattle.staleness.specs.inner.Parts.{AreCountable, AreFewTriples, IsCounted, AreCounted, AreAllSeen, MayPass, MayCountParts, IsSeenInPart, AreSeenInParts, found_at};
 
-use crate::copies::{
-    Copies, copies_from, generation_in, generations_of, least_known, merge, no_copies,
-};
+use crate::copies::{Copies, copies_from, generations_of, least_known, merge, no_copies};
 use bench_types::{Fault, Figures};
-use node_table::NodeTable;
+use node_table::{NodeTable, generation_in};
 use owner_lists::OwnerList;
 use rayon::current_num_threads;
 use rayon::prelude::*;

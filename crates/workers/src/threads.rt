@@ -1,6 +1,6 @@
 //! Several workers, each a thread of its own.
 
-ghost use Rattle.std.specs.Prelude.{◌≡◌, ◌+◌, ◌<◌, ◌≤◌, [], All, length, map, IfOk, IfErr, IsOk, IsOkUnless, OnOk, vec_len, vec_capacity};
+ghost use Rattle.std.specs.Prelude.{◌≡◌, ◌+◌, ◌<◌, ◌≤◌, [], All, length, map, IfOk, IfErr, IsOk, IsOkUnless, MatchResult, OnOk, vec_len, vec_capacity};
 ghost use Rattle.bench_types.specs.declared.faults.Fault.TheVariants.{OutOfMemory, NoThread};
 ghost use Rattle.model.specs.Tables.{IsCluster};
 ghost use Rattle.board.specs.Boards.{plan_of, seat_view, IsMadeOf, IsSeatOf};
@@ -183,8 +183,7 @@ fn outcome_of(
     started: Result<(), Fault>,
     joined: Result<Vec<Stamped>, Fault>,
 ) -> Result<Vec<Stamped>, Fault>
-    ensures unstarted { IfErr started (λ fault. result ≡ Err fault) }
-    ensures started { IfOk started (λ _. result ≡ joined) }
+    ensures value { MatchResult started (λ _. result ≡ joined) (λ fault. result ≡ Err fault) }
     ensures both { IfOk result (λ stamps. IsOk started × (joined ≡ Ok stamps)) }
 {
     started?;
@@ -276,8 +275,7 @@ fn with_more(
 ) -> Result<Vec<Stamped>, Fault>
     requires first { IfErr all (λ f. f ≡ OutOfMemory) }
     requires second { IfErr more (λ f. f ≡ OutOfMemory) }
-    ensures together { IfOk result (AreTogether all more) }
-    ensures fault { IfErr result (λ f. f ≡ OutOfMemory) }
+    ensures { MatchResult result (AreTogether all more) (λ f. f ≡ OutOfMemory) }
 {
     let mut all = all?;
     all.extend_from_slice(&more?)?;

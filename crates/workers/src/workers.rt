@@ -1,6 +1,6 @@
 //! What the workers of a list share, and the body of one of them.
 
-ghost use Rattle.std.specs.Prelude.{◌≡◌, ◌<◌, ◌↔◌, length, IfOk, OnOk, OnErr, IsOkUnless, IsTrue};
+ghost use Rattle.std.specs.Prelude.{◌≡◌, ◌<◌, length, IfOk, OnOk, OnErr, IsOkUnless};
 ghost use Rattle.bench_types.specs.declared.faults.Fault.TheVariants.{OutOfMemory};
 ghost use Rattle.board.specs.Weights.{Has};
 ghost use Rattle.board.specs.Boards.{plan_of, seat_view, IsSeatOf, IsHoldOf};
@@ -77,7 +77,9 @@ impl<'a, T: MemoryTable, X: Exchanging<T>, G: Gate> Workshop<'a, T, X, G> {
         let mut stamps = Vec::new(self.alloc);
         let backoff = Backoff::new();
         for _ in rt.forever() {
-            if self.sees_the_end(seat) {
+            // Whether all exchanges are put back, or a stop was called.
+            let progress = self.board.look(seat);
+            if progress.stopped || progress.finished == self.list.len() {
                 break;
             }
             if let Some(i) = tasks.next() {
@@ -88,19 +90,6 @@ impl<'a, T: MemoryTable, X: Exchanging<T>, G: Gate> Workshop<'a, T, X, G> {
             }
         }
         Ok(stamps)
-    }
-
-    // Whether all exchanges are put back, or a stop was called.
-    fn sees_the_end(&self, seat: &mut Seat<T>) -> bool
-        requires shop { IsWorkshop T.table X.fits self.now }
-        requires seat { IsSeatOf T.table seat.old self.now.board.now }
-        ensures seat { IsSeatOf T.table seat.new self.now.board.now }
-        ensures made { (seat_view seat.new).made ≡ (seat_view seat.old).made }
-        ensures stays { StaysAtWork (seat_view seat.old) (seat_view seat.new) }
-        ensures ends { IsTrue result ↔ SeesTheEnd (plan_of T.table self.now.board.now) (seat_view seat.new) }
-    {
-        let progress = self.board.look(seat);
-        progress.stopped || progress.finished == self.list.len()
     }
 
     // Claims an exchange, and where it is held carries it out and keeps its record. What that made ready

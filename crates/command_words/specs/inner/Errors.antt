@@ -1,9 +1,11 @@
 -- What an error of `clap` means. Source: this project.
-use Rattle.std.specs.Prelude.{◌≡◌, ◌≢◌, ◌⊎◌, List, ⊤}
-use Rattle.clap.specs.Words.{IsAmong, Text}
+use Rattle.std.specs.Prelude.{◌≡◌, ◌≢◌, ◌⊎◌, List, ⊤, Result, MatchResult}
+use Rattle.clap.specs.Words.{IsAmong, Text, kind_of}
+use Rattle.clap.specs.declared.error.Error.{Error}
 use Rattle.clap.specs.declared.error.ErrorKind.{ErrorKind}
 use Rattle.clap.specs.declared.error.ErrorKind.TheVariants as kind
-use Rattle.command_words.specs.Words.{AskForNoJob, IsHelp, faults_of}
+use Rattle.command_words.specs.Words.{AskFor, AskForNoJob, IsHelp, faults_of}
+use Rattle.command_words.specs.declared.jobs.Job.{Job}
 use Rattle.command_words.specs.declared.words.NoJob.{NoJob}
 use Rattle.command_words.specs.declared.words.NoJob.TheVariants.{Help, Refused, OutOfMemory}
 
@@ -17,3 +19,7 @@ IsReason k OutOfMemory = ⊤
 abbrev pub IsKindAt : List Text → ErrorKind → Type 0
 IsKindAt words k = (k ≡ kind.OutOfMemory)
     ⊎ (IsAmong k (faults_of words) ⊎ ((k ≡ kind.InvalidSubcommand) × AskForNoJob words))
+
+-- what a parse of these words answers: the job that they ask for, or an error of a kind that they have
+abbrev pub IsParsed : List Text → Result Job Error → Type 0
+IsParsed words result = MatchResult result (AskFor words) (λ error. IsKindAt words (kind_of error))

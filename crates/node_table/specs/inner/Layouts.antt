@@ -4,9 +4,10 @@ use Rattle.std.specs.Prelude.{◌≡◌, ◌≢◌, ℕ, ◌+◌, ◌-◌, ◌/�
 use Rattle.std.specs.FinMap.{insert}
 use Rattle.std.specs.Ordering.{is_lt}
 use Rattle.bench_types.specs.declared.entries.Entry.{Entry}
+use Rattle.bench_types.specs.declared.entries.Item.{Item}
 use Rattle.node_table.specs.declared.layouts.Row.{Row}
 use Rattle.node_table.specs.declared.layouts.Layout.{Layout}
-use Rattle.model.specs.Table.{Held, Table, greatest_version, IsProper}
+use Rattle.model.specs.Table.{Held, Table, greatest_version, taken, IsItemInPlace, IsProper}
 use Rattle.model.specs.Held.{held_by_lists, entry_in, HaveTwoKeys}
 use Rattle.node_table.specs.Entries.{entry_cmp, StandsBefore, AreGenerations, AreGreatest}
 
@@ -107,6 +108,18 @@ pub record SameRoom (before after : Layout) : Type 0 where
   pub slots : vec_len after.slots ≡ vec_len before.slots
   pub capacity : vec_capacity after.slots ≡ vec_capacity before.slots
 
+-- an item that may be taken: it is in its place, and of the node's own generation where it is the node's
+pub record MayTakeItem (l : Layout) (item : Item) : Type 0 where
+  pub layout : IsLayout l
+  pub in_place : IsItemInPlace l.nodes l.keys item
+  pub own : item.owner ≡ l.node → item.entry.generation ≡ l.generation
+
+-- an item was taken in the slots that there are
+pub record HasTakenItem (before after : Layout) (item : Item) : Type 0 where
+  pub layout : IsLayout after
+  pub table : table_laid after ≡ taken (table_laid before) item
+  pub room : SameRoom before after
+
 -- for how many more blocks there is room
 abbrev pub room_of : Layout → ℕ
 room_of l = (vec_capacity l.slots - vec_len l.slots) / l.keys
@@ -153,6 +166,14 @@ IsOutside r start keys = (r.start + r.len ≤ start) ⊎ (start + keys ≤ r.sta
 -- rows outside of a block stay
 abbrev pub KeepOutside : List Entry → List Entry → ℕ → ℕ → Type 0
 KeepOutside slots slots' start keys = (r : Row) → IsOutside r start keys → entries_in_row slots' r ≡ entries_in_row slots r
+
+-- a row before and after an entry came into it, in its own block, and the other rows stayed
+pub record IsPutInSlots (keys : ℕ) (entry : Entry) (before : List Entry) (r : Row) (after : List Entry) (r' : Row) : Type 0 where
+  pub start : r'.start ≡ r.start
+  pub within : r'.len ≤ keys
+  pub put : IsPut keys entry (entries_in_row before r) (entries_in_row after r')
+  pub as_long : length after ≡ length before
+  pub others : KeepOutside before after r.start keys
 
 -- an entry came into an owner's row, and the other rows stayed
 pub record IsPlaced (keys owner : ℕ) (entry : Entry) (slots slots' : List Entry) (rows rows' : List Row) : Type 0 where

@@ -1,6 +1,6 @@
 -- An owner's writes as they are kept: each at its place, with a link to the next write of its key. Those of earlier
 -- generations come first. Source: this project.
-use Rattle.std.specs.Prelude.{◌≡◌, ℕ, suc, ◌+◌, ◌^◌, ◌<◌, ◌≤◌, ◌==◌, if◌then◌else◌, Bool, List, [], ◌∷◌, length, map, take, drop, slice_index_or, Option, None, Some}
+use Rattle.std.specs.Prelude.{◌≡◌, ℕ, suc, ◌+◌, ◌-◌, ◌^◌, ◌<◌, ◌≤◌, ◌==◌, if◌then◌else◌, Bool, List, [], ◌∷◌, length, map, take, drop, slice_index_or, Option, None, Some}
 use Rattle.bench_types.specs.declared.entries.Entry.{Entry}
 use Rattle.bench_types.specs.Entry.{next_version}
 use Rattle.owner_lists.specs.declared.lists.Link.{Link}
@@ -29,6 +29,11 @@ writes_linked links = writes_linked_from 0 links
 abbrev pub version_or_zero : Option Write → ℕ
 version_or_zero None = 0
 version_or_zero (Some w) = w.version
+
+-- the write of a version among these, none for 0
+pub record IsWriteOfVersion (writes : List Write) (version : ℕ) (result : Option Write) : Type 0 where
+  pub none : version ≡ 0 → result ≡ None
+  pub some : (d : Write) → 0 < version → result ≡ Some (slice_index_or writes (version - 1) d)
 
 -- the write at each place has the version of the next write of its key
 abbrev pub IsLinked : List Link → Type 0

@@ -1,6 +1,7 @@
 -- The parts of a step, of tables and histories in memory: `table` gives the table of a value, and `lists` the owners'
 -- lists of histories. Source: this project.
-use Rattle.std.specs.Prelude.{◌≡◌, ℕ, List, map}
+use Rattle.std.specs.Prelude.{◌≡◌, ℕ, ◌-◌, ◌≤◌, List, map}
+use Rattle.bench_types.specs.declared.limits.TheConstants.{MOST_ROUNDS}
 use Rattle.model.specs.Table.{Table}
 use Rattle.model.specs.OwnerListView.{OwnerListView, list_of_owner}
 use Rattle.round_plan.specs.declared.owners.OwnWrite.{OwnWrite}
@@ -8,7 +9,7 @@ use Rattle.round_tables.specs.Histories.{own_list}
 use Rattle.scenario.specs.Settings.{Settings}
 use Rattle.simulation.specs.Rounds.{begun}
 use Rattle.simulation.specs.Standing.{IsOwner, StandAfterRound}
-use Rattle.simulation.specs.inner.Steps.{begun_table, HasWritten, HasRestarted}
+use Rattle.simulation.specs.inner.Steps.{begun_table, HasWritten, HasRestarted, IsNodeBefore, OthersStay}
 
 -- what a round begins with, of one table and of all
 abbrev pub IsBegun : {T : Type 0} → (T → Table) → Settings → ℕ → ℕ → T → T → Type 0
@@ -33,3 +34,17 @@ module _ {T H : Type 0} (table : T → Table) (lists : H → List OwnerListView)
   abbrev pub WritesIn : ℕ → List OwnWrite → T → T → H → H → Type 0
   WritesIn round writes old new h h' =
       HasWritten round writes (table old) (table new) (own_list (table old) (lists h)) (own_list (table old) (lists h'))
+
+-- a node's table beside the histories, of which the round before one that a run may have has ended
+pub record IsBeforeRound {T H : Type 0} (table : T → Table) (lists : H → List OwnerListView) (Ended : H → ℕ → Type 0)
+    (s : Settings) (round n : ℕ) (t : T) (h : H) : Type 0 where
+  pub first : 1 ≤ round
+  pub last : round ≤ MOST_ROUNDS
+  pub node : IsNodeBefore s round n (table t) (lists h)
+  pub ended : Ended h (round - 1)
+
+-- the other owners' lists stay, and of the histories as many rounds have ended as before
+pub record LeavesOthers {H : Type 0} (lists : H → List OwnerListView) (Ended : H → ℕ → Type 0) (round n : ℕ)
+    (h h' : H) : Type 0 where
+  pub others : OthersStay n (lists h) (lists h')
+  pub ended : Ended h' (round - 1)

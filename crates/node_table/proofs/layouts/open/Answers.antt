@@ -35,10 +35,10 @@ pub returns-clause-laid : goal.returns-clause-laid
 returns-clause-laid c =
     let grew = (goal.at.returns-clause-laid c).After-index_mut in
     let lt : c.args.owner < length c.args.rows.now.items = omega (arith, c.requires.owner, c.args.rows.now.ok.0) in
-    rw (now grew, start_is grew) (laid_open _ c.args.keys c.args.slots.now.items c.args.rows.now.items c.args.owner (get_or c.args.rows.now.items c.args.owner none) c.args.entry c.requires.laid lt (λ d. get_or_default c.args.rows.now.items c.args.owner d none lt) (c.requires.empty none) c.requires.key c.requires.written)
+    rw (now grew, start_is grew) (laid_open _ c.args.keys c.args.slots.now.items c.args.rows.now.items c.args.owner (get_or c.args.rows.now.items c.args.owner none) c.args.entry c.requires.laid lt (λ d. get_or_default c.args.rows.now.items c.args.owner d none lt) (c.requires.empty none) c.requires.entry.key c.requires.entry.written)
 
 pub returns-clause-ok : goal.returns-clause-ok
 returns-clause-ok c =
     let grew = (goal.at.returns-clause-ok c).After-index_mut in
     let lt : c.args.owner < length c.args.rows.now.items = omega (arith, c.requires.owner, c.args.rows.now.ok.0) in
-    rw (now grew, start_is grew) (renewed_open _ c.args.keys c.args.slots.now.items c.args.rows.now.items c.args.owner (get_or c.args.rows.now.items c.args.owner none) c.args.entry c.requires.laid lt (λ d. get_or_default c.args.rows.now.items c.args.owner d none lt) (c.requires.empty none) c.requires.key c.requires.written)
+    rw (now grew, start_is grew) (renewed_open _ c.args.keys c.args.slots.now.items c.args.rows.now.items c.args.owner (get_or c.args.rows.now.items c.args.owner none) c.args.entry c.requires.laid lt (λ d. get_or_default c.args.rows.now.items c.args.owner d none lt) (c.requires.empty none) c.requires.entry.key c.requires.entry.written)

@@ -1,4 +1,4 @@
-use Rattle.std.proofs.Common.{◌≡◌, ℕ, suc, ◌+◌, ◌<◌, Bool, cond, List, [], ◌∷◌, length, get_or, refl, sym, ap, ◌∙◌, arith, ltb, subst}
+use Rattle.std.proofs.Common.{◌≡◌, ℕ, suc, ◌+◌, ◌<◌, Bool, cond, List, [], ◌∷◌, length, get_or, refl, sym, ap, ◌∙◌, arith, ltb, rules, subst, tests}
 use Rattle.std.specs.Prelude.{count_by}
 use Rattle.std.specs.List.{range_with_len}
 use Rattle.std.proofs.lemmas.List.Sums.{sum_by-cons}
@@ -21,10 +21,11 @@ returns-clause-ok c =
     let vs = c.in_ok-greatest.greatest.items in
     let generations = subst (AreGenerations t) (sym c.in_ok-generations.ensures.items) c.generations.ensures.generations in
     let are = subst (AreGreatest t) (sym c.in_ok-greatest.ensures.items) c.greatest_versions.ensures.versions in
+    let positive : c.count.result ≡ count_by (ltb 0) c.deref.result.now = search (rules, tests) in
     record {
       nodes = c.nodes.ensures.value;
       keys = c.keys.ensures.value;
-      size = c.count_positive.ensures
+      size = positive
           ∙ ap (count_by (ltb 0)) c.deref.ensures.value
           ∙ count_by-indices (ltb 0) (greatest_version t) vs 0 (λ i lt. are.greatest i (subst (λ n. i < n) are.count lt) ∙ ap (greatest_version t) {x = i} {y = 0 + i} (omega arith))
           ∙ ap (λ n. count_by (λ r. ltb 0 (greatest_version t r)) (range_with_len 0 n)) are.count;

@@ -8,6 +8,5 @@ use Rattle.round_plan.proofs.outages.restarts_now.Goals as goal
 pub returns : goal.returns
 unfolding restarts_now
 returns c =
-    let restarts = restarts_in c.args.node c.args.round in
-    any_from_yields_List restarts _ _ _ c.any.ensures.ran (YieldsList-from_slice c.restarts.result.now cc) (λ x b q k. search (rules, tests))
-    ∙ ap (list_any restarts) c.restarts.ensures.value
+    any_from_yields_List (restarts_in c.args.node c.args.round) _ _ _ c.any.ensures.ran (YieldsList-from_slice c.restarts.result.now cc) (λ x b q k. search (rules, tests))
+    ∙ ap (list_any (restarts_in c.args.node c.args.round)) c.restarts.ensures.value

@@ -8,4 +8,4 @@ pub returns-in_err-sim-clause-fault : goal.returns-in_err-sim-clause-fault
 returns-in_err-sim-clause-fault g c =
     at_fault c.from_residual.result c.in_err-sim.field-0.0 _ c.from_residual.ensures.1
     (subst (IsFaultInRounds g.W.Sink _ _ _ _ _) (sym c.in_err-sim.ensures.only)
-    (stops_before g.W.Sink _ _ _ 0 _ _ (c.begin.ensures.lawful.rounds.0) (nothing_written g.W.Sink _ c.requires.sound c.requires.flushed) (inl refl)))
+    (stops_before g.W.Sink _ _ _ 0 _ _ (c.begin.ensures.lawful.rounds.0) (nothing_written g.W.Sink _ c.requires.ready) (inl refl)))

@@ -1,17 +1,14 @@
 use Rattle.std.proofs.Common.{inr, subst}
 use Rattle.std.proofs.lemmas.Result.{on_ok_weaker, IfErr-weaker}
-use Rattle.bench_types.specs.Output.{IsWritten, IsWriteFault}
+use Rattle.bench_types.specs.Output.{IsWriteFault}
 use Rattle.report.specs.Compare.{compare_line}
+use Rattle.runs.proofs.Comparison.{row_is_next}
 use Rattle.runs.proofs.comparing.write_row.Goals as goal
 
 pub returns-clause-written : goal.returns-clause-written
 returns-clause-written g c =
     on_ok_weaker c.write_compare_row.result
-    (λ row. record {
-      round = c.in_ok-round.round;
-      played = c.in_ok-round.ensures.played;
-      row = subst (IsWritten g.W.Sink _ _) (λ i. compare_line (c.format.ensures.value i) c.args.mode (c.row.ensures i)) row;
-    })
+    (row_is_next g.T.MemoryTable.table _ _ g.W.Sink _ _ c.args.mode c.in_ok-round.round c.in_ok-round.ensures.played _ (λ i. compare_line (c.format.ensures.value i) c.args.mode (c.row.ensures i)))
     c.write_compare_row.ensures.written
 
 pub returns-clause-fault : goal.returns-clause-fault

@@ -4,6 +4,7 @@ use Rattle.bench_types.specs.Output.{IsWritten, IsWriteFault}
 use Rattle.report.specs.Report.{report_line}
 use Rattle.report.specs.Trace.{trace_lines}
 use Rattle.runs.proofs.InputFacts.{at_fault}
+use Rattle.runs.proofs.Reporting.{texts_are_next}
 use Rattle.runs.proofs.runs.write_round.Goals as goal
 
 pub returns-in_err-write_trace_rows-clause-fault :
@@ -16,12 +17,8 @@ returns-in_err-write_trace_rows-clause-fault g c =
 pub returns-clause-written : goal.returns-clause-written
 returns-clause-written g c =
     on_ok_weaker c.write_report_row.result
-    (λ row. record {
-      round = c.in_ok-round.round;
-      played = c.in_ok-round.ensures.played;
-      lines = subst (IsWritten g.X.Sink _ _) (λ i. trace_lines (c.row-row.ensures i).round (c.list.ensures i).exchanges (c.records.ensures.value i)) c.in_ok-write_trace_rows.ensures.written;
-      row = subst (IsWritten g.W.Sink _ _) (λ i. report_line (c.format.ensures.value i) (c.row-row.ensures i)) row;
-    })
+    (texts_are_next g.T.MemoryTable.table _ _ g.W.Sink _ _ g.X.Sink _ _ c.in_ok-round.round c.in_ok-round.ensures.played _ _
+    (λ i. trace_lines (c.row-row.ensures i).round (c.list.ensures i).exchanges (c.records.ensures.value i)) (λ i. report_line (c.format.ensures.value i) (c.row-row.ensures i)) c.in_ok-write_trace_rows.ensures.written)
     c.write_report_row.ensures.written
 
 pub returns-clause-fault : goal.returns-clause-fault

@@ -24,13 +24,13 @@ write_own-requires-clause-may g c _ _ =
     let lists = g.H.RoundHistories.lists c.restart.new.histories in
     let writes = made c.args.scenario.now c.args.node c.args.round _ _ _ _ c.as_slice.ensures.value c.writes_by-writes.ensures.value c.count.ensures in
     record {
-      owner = omega (arith, owner.table.node, c.restart.ensures.others.count, c.requires.node.one_each, c.requires.node.node);
+      owner = omega (arith, owner.table.node, c.restart.ensures.others.others.count, c.requires.before.node.one_each, c.requires.before.node.node);
       proper = owner.proper;
       keys = subst (All (λ (w : OwnWrite). w.key < t.keys)) (sym c.as_slice.ensures.value)
           (subst (λ keys. All (λ (w : OwnWrite). w.key < keys) c.writes_by-writes.result) (sym owner.table.keys) c.writes_by-writes.ensures.keys);
       next = next_own c.args.scenario.now c.args.round c.args.node t lists c.as_slice.result.now owner writes;
       may = may_write_own c.args.scenario.now c.args.round c.args.node t lists c.as_slice.result.now owner writes
-          g.H.RoundHistories.may_write c.requires.round.may_write c.requires.node.node c.requires.round.first c.requires.round.within;
+          g.H.RoundHistories.may_write c.requires.round.may_write c.requires.before.node.node c.requires.round.first c.requires.round.within;
       fits = subst (λ m. length (list_of_owner lists m).current + length c.as_slice.result.now + 1 < 2 ^ 32) (sym owner.table.node)
           (omega (arith, owner.few, c.as_slice.ensures.limit, c.requires.round.last));
       beside = beside_own c.args.scenario.now c.args.node _ _ _ _ t lists owner;

@@ -8,8 +8,8 @@ use Rattle.simulation.proofs.clusters.begin_round.Goals as goal
 pub loop-node-preserved : goal.loop-node-preserved
 loop-node-preserved g c = (
   begun_next g.T.MemoryTable.table c.args.scenario.now c.args.round (map g.T.MemoryTable.table c.args.tables.now) c.loop-node.tables (g.H.RoundHistories.lists c.loop-node.histories) c.loop-node.node c.loop-node.invariant.0 (omega (arith, c.loop-node-test.true, c.nodes-node-end.ensures.value)) c.index-tables-at.result
-      c.begin_node.new.table (g.H.RoundHistories.lists c.begin_node.new.histories) c.in_ok-begin_node.ensures.table c.in_ok-begin_node.ensures.owner c.in_ok-begin_node.ensures.others,
-  c.in_ok-begin_node.ensures.ended,
+      c.begin_node.new.table (g.H.RoundHistories.lists c.begin_node.new.histories) c.in_ok-begin_node.ensures.table c.in_ok-begin_node.ensures.owner c.in_ok-begin_node.ensures.others.others,
+  c.in_ok-begin_node.ensures.others.ended,
 )
 
 pub end_writes-requires-clause-written : goal.end_writes-requires-clause-written

@@ -1,4 +1,5 @@
 use Rattle.std.proofs.Common.{◌-◌, sym, ap, subst, arith, IfOk}
+use Rattle.std.proofs.lemmas.Result.{MatchResult-weaker}
 use Rattle.std.specs.Vec.Iter.{into_iter_len, into_iter_items}
 use Rattle.board.specs.Boards.{plan_of, seat_view}
 use Rattle.workers.specs.inner.Joined.{IsJoined}
@@ -26,6 +27,6 @@ loop-handle-preserved g c =
       parts = omega (arith, so_far.parts, so_far.fewer, steps.1, ap (λ v. v.parts) c.join.ensures.joined, returned.same_parts);
       promised = handles.1;
       joined = subst (λ v. IfOk c.with_more-all.result (λ stamps. IsJoined plan (first - after) start v stamps.items)) (sym c.join.ensures.joined)
-          (joined_more plan (first - after) start old part (first - before) c.loop-handle.all c.join-part.result.outcome c.with_more-all.result so_far.joined returned.records c.with_more-all.ensures.together);
-      fault = c.with_more-all.ensures.fault;
+          (joined_more plan (first - after) start old part (first - before) c.loop-handle.all c.join-part.result.outcome c.with_more-all.result so_far.joined returned.records (MatchResult-weaker c.with_more-all.result c.with_more-all.ensures (λ _ both. both) (λ _ _. tt)));
+      fault = MatchResult-weaker c.with_more-all.result c.with_more-all.ensures (λ _ _. tt) (λ _ is. is);
     }

@@ -34,26 +34,26 @@ begun : (c : In_ok-open) → IsBegun c.args.self.now c.args.item c.open.new.slot
 begun c =
     let l = c.args.self.now in
     let item = c.args.item in
-    let placed = c.requires.in_place in
-    let proper = c.requires.layout.proper in
-    let lt : item.owner < length l.rows.items = omega (arith, placed.owner_below, c.requires.layout.laid.as_many) in
-    let len : l.rows.len ≡ l.nodes = omega (arith, l.rows.ok.0, c.requires.layout.laid.as_many) in
+    let placed = c.requires.may.in_place in
+    let proper = c.requires.may.layout.proper in
+    let lt : item.owner < length l.rows.items = omega (arith, placed.owner_below, c.requires.may.layout.laid.as_many) in
+    let len : l.rows.len ≡ l.nodes = omega (arith, l.rows.ok.0, c.requires.may.layout.laid.as_many) in
     let empty : row_at l.slots.items l.rows.items item.owner ≡ [] = row_at-get_or l.slots.items l.rows.items item.owner none lt ∙ entries_in_row-empty l.slots.items (get_or l.rows.items item.owner none) (c.requires.empty none) in
     let table = table_first l item empty proper placed c.open.new.slots.items c.open.new.rows.items c.in_ok-open.ensures.ok in
     record {
       table = table;
-      proper = subst IsProper (sym table) (proper-taking (table_laid l) item proper placed c.requires.own);
+      proper = subst IsProper (sym table) (proper-taking (table_laid l) item proper placed c.requires.may.own);
       laid = subst (λ n. AreLaid n l.keys c.open.new.slots.items c.open.new.rows.items) len c.in_ok-open.ensures.laid;
       greatest = subst (λ (t : Table). AreGreatest t (set l.greatest.items item.owner item.entry.version)) (sym table)
-          (greatest_set (table_laid l) item placed.key_below l.greatest.items item.entry.version c.requires.layout.greatest placed.owner_below (version_first l item empty proper placed));
-      counted = omega (arith, c.requires.layout.counted, c.in_ok-open.ensures.ok.counted, ap length empty);
+          (greatest_set (table_laid l) item placed.key_below l.greatest.items item.entry.version c.requires.may.layout.greatest placed.owner_below (version_first l item empty proper placed));
+      counted = omega (arith, c.requires.may.layout.counted, c.in_ok-open.ensures.ok.counted, ap length empty);
       nothing = generation_first l item empty proper placed;
     }
 
 pub overflow_add-self : goal.overflow_add-self
 overflow_add-self c =
     let l = c.args.self.now in
-    omega (arith, c.requires.layout.counted, total-most l.nodes l.keys l.slots.items l.rows.items c.requires.layout.laid c.requires.layout.proper.nodes_limit c.requires.layout.proper.keys_limit)
+    omega (arith, c.requires.may.layout.counted, total-most l.nodes l.keys l.slots.items l.rows.items c.requires.may.layout.laid c.requires.may.layout.proper.nodes_limit c.requires.may.layout.proper.keys_limit)
 
 pub returns-then-item-eq0-clause-ok : goal.returns-then-item-eq0-clause-ok
 returns-then-item-eq0-clause-ok c = (begun (goal.at.returns-then-item-eq0-clause-ok c).In_ok-open).table
@@ -62,13 +62,13 @@ pub returns-then-item-eq0-clause-layout : goal.returns-then-item-eq0-clause-layo
 returns-then-item-eq0-clause-layout c =
     let now = begun (goal.at.returns-then-item-eq0-clause-layout c).In_ok-open in
     let l = c.args.self.now in
-    let same = generations_same (table_laid l) c.args.item c.requires.in_place.key_below l.generations.items c.requires.layout.generations (omega (arith, now.nothing, c.if-item-eq0.true)) in
+    let same = generations_same (table_laid l) c.args.item c.requires.may.in_place.key_below l.generations.items c.requires.may.layout.generations (omega (arith, now.nothing, c.if-item-eq0.true)) in
     record {
       proper = now.proper;
       laid = now.laid;
       greatest = now.greatest;
       generations = subst (λ (t : Table). AreGenerations t l.generations.items) (sym now.table) same;
-      room = c.requires.layout.room;
+      room = c.requires.may.layout.room;
       counted = now.counted;
     }
 
@@ -80,12 +80,12 @@ returns-clause-layout c =
     let now = begun (goal.at.returns-clause-layout c).In_ok-open in
     let l = c.args.self.now in
     let after = c.set_generation.new.generations in
-    let newer = generations_newer (table_laid l) c.args.item c.requires.in_place.key_below l.generations.items after.items c.requires.layout.generations (omega (arith, now.nothing, c.if-item-eq0.false)) (omega (arith, c.set_generation.ensures.count, after.ok.0)) c.set_generation.ensures.own c.set_generation.ensures.others in
+    let newer = generations_newer (table_laid l) c.args.item c.requires.may.in_place.key_below l.generations.items after.items c.requires.may.layout.generations (omega (arith, now.nothing, c.if-item-eq0.false)) (omega (arith, c.set_generation.ensures.count, after.ok.0)) c.set_generation.ensures.own c.set_generation.ensures.others in
     record {
       proper = now.proper;
       laid = now.laid;
       greatest = now.greatest;
       generations = subst (λ (t : Table). AreGenerations t after.items) (sym now.table) newer;
-      room = omega (arith, c.requires.layout.room, c.set_generation.ensures.capacity);
+      room = omega (arith, c.requires.may.layout.room, c.set_generation.ensures.capacity);
       counted = now.counted;
     }

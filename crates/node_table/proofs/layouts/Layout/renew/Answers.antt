@@ -1,4 +1,4 @@
-use Rattle.std.proofs.Common.{◌≡◌, ℕ, set, ◌+◌, ◌-◌, ◌<◌, ◌≤◌, List, [], ◌∷◌, length, get_or, inl, inr, refl, sym, ap, ◌∙◌, subst, arith}
+use Rattle.std.proofs.Common.{rules, ◌≡◌, ℕ, set, ◌+◌, ◌-◌, ◌<◌, ◌≤◌, List, [], ◌∷◌, length, get_or, inl, inr, refl, sym, ap, ◌∙◌, subst, arith}
 use Rattle.std.proofs.lemmas.List.{length-set, get_or_read}
 use Rattle.bench_types.specs.declared.entries.Entry.{Entry}
 use Rattle.bench_types.specs.declared.entries.Mark.{Mark}
@@ -51,44 +51,43 @@ renewed c =
     let l = c.args.self.now in
     let rows : List Row = l.rows.items in
     let r : Row = c.index-row.result.now in
-    let lt : c.args.item.owner < length rows = omega (arith, c.requires.in_place.owner_below, c.requires.layout.laid.as_many) in
+    let lt : c.args.item.owner < length rows = omega (arith, c.requires.may.in_place.owner_below, c.requires.may.layout.laid.as_many) in
     let is : (d : Row) → get_or rows c.args.item.owner d ≡ r = λ d. sym (get_or_read rows c.args.item.owner r lt c.index-row.ensures d) in
     let held : 0 < r.len = subst (λ (x : Row). 0 < x.len) (is r) (c.requires.some r) in
-    alone l.nodes l.keys l.slots.items rows c.args.item.owner r c.args.item.entry c.requires.layout.laid lt is held c.requires.in_place.key_below c.requires.in_place.written
+    alone l.nodes l.keys l.slots.items rows c.args.item.owner r c.args.item.entry c.requires.may.layout.laid lt is held c.requires.may.in_place.key_below c.requires.may.in_place.written
 
 counted : (c : After-index_mut) → (c.args.self.now.count + 1 - c.index-row.result.now.len ≡ count_in_rows (rows_after c)) × (c.index-row.result.now.len ≤ c.args.self.now.count + 1)
 counted c =
     let l = c.args.self.now in
-    let counts = count_renewed l.keys c.args.item.owner l.nodes c.args.item.entry l.slots.items (slots_after c) l.rows.items (rows_after c) c.index-row.result.now (renewed c).1 c.requires.layout.laid c.requires.in_place.owner_below c.index-row.ensures in
-    (ap (λ n. n + 1 - c.index-row.result.now.len) c.requires.layout.counted ∙ counts.0, omega (arith, counts.1, c.requires.layout.counted))
+    let counts = count_renewed l.keys c.args.item.owner l.nodes c.args.item.entry l.slots.items (slots_after c) l.rows.items (rows_after c) c.index-row.result.now (renewed c).1 c.requires.may.layout.laid c.requires.may.in_place.owner_below c.index-row.ensures in
+    (ap (λ n. n + 1 - c.index-row.result.now.len) c.requires.may.layout.counted ∙ counts.0, omega (arith, counts.1, c.requires.may.layout.counted))
 
 pub overflow_add-self : goal.overflow_add-self
 overflow_add-self c =
     let l = c.args.self.now in
-    omega (arith, c.requires.layout.counted, total-most l.nodes l.keys l.slots.items l.rows.items c.requires.layout.laid c.requires.layout.proper.nodes_limit c.requires.layout.proper.keys_limit)
+    omega (arith, c.requires.may.layout.counted, total-most l.nodes l.keys l.slots.items l.rows.items c.requires.may.layout.laid c.requires.may.layout.proper.nodes_limit c.requires.may.layout.proper.keys_limit)
 
 pub overflow_sub-self : goal.overflow_sub-self
 overflow_sub-self c = omega (arith, (counted (goal.at.overflow_sub-self c).After-index_mut).1)
 
-pub returns-clause-table : goal.returns-clause-table
-returns-clause-table c =
-    let now = (goal.at.returns-clause-table c).After-index_mut in
-    table_renewed c.args.self.now (slots_after now) (rows_after now) c.args.item c.requires.newer (renewed now).1
-
-pub returns-clause-layout : goal.returns-clause-layout
-returns-clause-layout c =
-    let now = (goal.at.returns-clause-layout c).After-index_mut in
+pub returns : goal.returns
+returns c =
+    let now = (goal.at.returns c).After-index_mut in
     let l = c.args.self.now in
     let item = c.args.item in
     let table = table_renewed l (slots_after now) (rows_after now) item c.requires.newer (renewed now).1 in
     let after = c.set_generation.new.generations in
     record {
-      proper = subst IsProper (sym table) (proper-taking (table_laid l) item c.requires.layout.proper c.requires.in_place c.requires.own);
-      laid = (renewed now).0;
-      greatest = subst (λ (t : Table). AreGreatest t (set l.greatest.items item.owner item.entry.version)) (sym table)
-          (greatest_set (table_laid l) item c.requires.in_place.key_below l.greatest.items item.entry.version c.requires.layout.greatest c.requires.in_place.owner_below (sym (ap (λ (m : Mark). m.version) (mark-taken_newer (table_laid l) item c.requires.in_place.key_below c.requires.newer))));
-      generations = subst (λ (t : Table). AreGenerations t after.items) (sym table)
-          (generations_newer (table_laid l) item c.requires.in_place.key_below l.generations.items after.items c.requires.layout.generations c.requires.newer (omega (arith, c.set_generation.ensures.count, after.ok.0)) c.set_generation.ensures.own c.set_generation.ensures.others);
-      room = omega (arith, c.requires.layout.room, c.set_generation.ensures.capacity);
-      counted = (counted now).0;
+      layout = record {
+        proper = subst IsProper (sym table) (proper-taking (table_laid l) item c.requires.may.layout.proper c.requires.may.in_place c.requires.may.own);
+        laid = (renewed now).0;
+        greatest = subst (λ (t : Table). AreGreatest t (set l.greatest.items item.owner item.entry.version)) (sym table)
+            (greatest_set (table_laid l) item c.requires.may.in_place.key_below l.greatest.items item.entry.version c.requires.may.layout.greatest c.requires.may.in_place.owner_below (sym (ap (λ (m : Mark). m.version) (mark-taken_newer (table_laid l) item c.requires.may.in_place.key_below c.requires.newer))));
+        generations = subst (λ (t : Table). AreGenerations t after.items) (sym table)
+            (generations_newer (table_laid l) item c.requires.may.in_place.key_below l.generations.items after.items c.requires.may.layout.generations c.requires.newer (omega (arith, c.set_generation.ensures.count, after.ok.0)) c.set_generation.ensures.own c.set_generation.ensures.others);
+        room = omega (arith, c.requires.may.layout.room, c.set_generation.ensures.capacity);
+        counted = (counted now).0;
+      };
+      table = table;
+      room = search rules;
     }

@@ -1,4 +1,4 @@
-use Rattle.std.proofs.Common.{◌≡◌, ◌≢◌, ◌+◌, ◌*◌, ◌≤◌, List, ◌∷◌, drop, get_or, sym, ap, ◌∙◌, subst, inl, inr, arith}
+use Rattle.std.proofs.Common.{rules, ◌≡◌, ◌≢◌, ◌+◌, ◌*◌, ◌≤◌, List, ◌∷◌, drop, get_or, sym, ap, ◌∙◌, subst, inl, inr, arith}
 use Rattle.std.specs.Prelude.{vec_len, vec_capacity}
 use Rattle.std.specs.Result.{IsOk}
 use Rattle.std.proofs.lemmas.Bool.{cases_eq}
@@ -14,8 +14,12 @@ use Rattle.model.proofs.ProperLaws.{proper-taken}
 use Rattle.node_table.proofs.Room.{room-rest, room-first}
 use Rattle.node_table.proofs.tables.NodeTable.apply.Goals as goal
 
-pub take-requires-clause-own : goal.take-requires-clause-own
-take-requires-clause-own c = λ own. absurd (c.requires.others c.loop-item.item-index no_item c.loop-item-test.true (own ∙ c.loop-item.invariant.node))
+pub take-requires : goal.take-requires
+take-requires c = record {
+  layout = c.loop-item.invariant.layout;
+  in_place = search rules;
+  own = λ own. absurd (c.requires.others c.loop-item.item-index no_item c.loop-item-test.true (own ∙ c.loop-item.invariant.node));
+}
 
 pub unwrap-requires : goal.unwrap-requires
 unwrap-requires c =

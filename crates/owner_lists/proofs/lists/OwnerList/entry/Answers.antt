@@ -1,6 +1,7 @@
 use Rattle.std.proofs.Common.{List, take, drop, sym, ap, ◌∙◌, subst}
 use Rattle.std.specs.List.{find}
 use Rattle.owner_lists.specs.declared.lists.Link.{Link}
+use Rattle.model.specs.Numbers.{write_numbered}
 use Rattle.model.specs.OwnerListView.{OwnerListView, has_mark, MarksRise, entry_of}
 use Rattle.owner_lists.specs.inner.Linked.{entries_linked, view_of}
 use Rattle.owner_lists.proofs.Marked.{rising_earlier, entry_current, entry_earlier}
@@ -16,8 +17,8 @@ searched_entry-requires c =
 pub returns-then-mark-self : goal.returns-then-mark-self
 returns-then-mark-self c =
     let l = c.self.inside in
-    c.numbered_entry.ensures
-    ∙ ap (λ (ls : List Link). find (has_mark c.args.mark) (entries_linked ls)) (sliced l.earlier c.deref.result.now ∙ ap (drop l.earlier) c.deref.ensures.value)
+    c.linked_entry.ensures
+    ∙ ap (λ (ls : List Link). write_numbered (entries_linked ls) c.args.mark.version) (sliced l.earlier c.deref.result.now ∙ ap (drop l.earlier) c.deref.ensures.value)
     ∙ entry_current (view_of l.links.items l.earlier l.generation) c.args.mark c.self.invariant.writes c.if-mark-self.true
     ∙ ap (λ (v : OwnerListView). entry_of v c.args.mark) c.self.view_is
 

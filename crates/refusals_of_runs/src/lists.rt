@@ -113,12 +113,8 @@ fn try_exchanges<R: Print + Eprint + AllocGlobal + Threads + Wait + Sync>(
     trial: Trial,
     gate: &Counter,
 ) -> Result<(), Failure> {
-    let alloc = rt.alloc();
-    let list = retried!(
-        rt,
-        "RoundList::of",
-        list_of(alloc, first.writers.nodes, first.pairs)
-    );
+    let nodes = first.writers.nodes;
+    let list = retried!(rt, "RoundList::of", list_of(rt.alloc(), nodes, first.pairs));
     try_listed(rt, &list, first, trial, gate)?;
     pass(rt, trial)
 }

@@ -1,6 +1,6 @@
 //! A simulation in whose second round memory is refused: what that step answers, and each step behind it.
 
-use crate::tests::comparing::{expect, expect_at};
+use crate::tests::comparing::expect;
 use bench::{EntryHistories, FreeGate};
 use bench_types::{Exchange, Fault, Figures, Record, Rules};
 use fixtures::{FOUR_MODES, Team};
@@ -116,13 +116,13 @@ fn expect_answer(
     answer: Option<Fault>,
     is_broken: bool,
 ) {
-    let fault = sim.step(rt, team.workers(), &FreeGate).err();
+    let workers = team.workers();
+    let fault = sim.step(rt, workers, &FreeGate).err();
     let left = (sim.is_broken(), sim.tables().is_empty());
-    expect_at(
+    expect(
         rt,
-        (fault, left, sim.rounds_done()),
-        (answer, (is_broken, is_broken), 1),
-        team,
+        (workers, fault, left, sim.rounds_done()),
+        (workers, answer, (is_broken, is_broken), 1),
     );
 }
 

@@ -1,7 +1,7 @@
 //! Ends that go byte by byte and fail at each place of a run of two rounds, and flushes of what else the program
 //! prints. How the program meets reads and writes that fail is tried by `scripts/try_program`.
 
-use crate::tests::comparing::{expect, expect_at};
+use crate::tests::comparing::expect;
 use bench::{compare, run};
 use bench_types::{Fault, Field, Pull, Push, write_text};
 use fixtures::{
@@ -267,8 +267,9 @@ fn expect_compared(
     wanted: Result<(), Fault>,
 ) {
     let (answer, written) = compared_until(rt, flushes, team);
-    expect_at(rt, answer, wanted, team);
-    expect_at(rt, written.len(), length, team);
+    let workers = team.workers();
+    expect(rt, (workers, answer), (workers, wanted));
+    expect(rt, (workers, written.len()), (workers, length));
     assert!(rt;
         FOUR_MODES_COMPARED.as_bytes().starts_with(&written),
         "{flushes}"

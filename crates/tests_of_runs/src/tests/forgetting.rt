@@ -1,6 +1,6 @@
 //! Simulations of two nodes of which one forgets, round by round.
 
-use crate::tests::comparing::{expect, expect_at};
+use crate::tests::comparing::expect;
 use crate::tests::steps::{sim_of, step};
 use bench::Sim;
 use bench_types::{Fault, Figures};
@@ -107,7 +107,7 @@ fn expect_last_write(
 ) {
     let found = table.get(owner, key);
     let mark = found.map(|entry| (entry.generation, entry.version));
-    expect_at(rt, mark, Some(wanted), (owner, key));
+    expect(rt, (owner, key, mark), (owner, key, Some(wanted)));
 }
 
 #[test]

@@ -1,6 +1,6 @@
 //! Inputs whose reader fails.
 
-use crate::tests::comparing::expect_at;
+use crate::tests::comparing::expect;
 use bench::read_all;
 use bench_types::{Fault, Pull};
 use fixtures::Halting;
@@ -26,7 +26,7 @@ fn readers_that_fail(rt: HostRuntime) -> Result<(), Fault> {
         let mut reader = source(calls);
         for _ in 0..2 {
             let fault = read_all(rt.alloc(), &mut reader).err();
-            expect_at(&rt, fault, Some(Fault::ReadFailed), calls);
+            expect(&rt, (calls, fault), (calls, Some(Fault::ReadFailed)));
         }
     }
     for calls in 4..6 {

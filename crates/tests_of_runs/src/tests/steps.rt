@@ -1,6 +1,6 @@
 //! Simulations, step by step.
 
-use crate::tests::comparing::{expect, expect_at};
+use crate::tests::comparing::expect;
 use bench::{FreeGate, Round, Sim};
 use bench_types::{Fault, Figures, Mark};
 use fixtures::{RING_OF_FOUR, TWO_NODES, between, row, sent};
@@ -94,7 +94,7 @@ fn expect_missed(rt: &impl Abort, table: &NodeTable, missed: u32) {
     let node = table.node();
     for owner in 0..table.nodes() {
         let lacks = table.greatest(owner) == Mark::ABSENT;
-        expect_at(rt, lacks, owner == missed, (owner, node));
+        expect(rt, (node, owner, lacks), (node, owner, owner == missed));
     }
 }
 

@@ -1,5 +1,5 @@
 -- How far the report and the trace have been written.
--- Serves `write_texts` and `Comparison`.
+-- Serves `write_round`, `write_texts` and `Comparison`.
 use Rattle.std.proofs.Common.{◌≡◌, ℕ, ◌+◌, ◌<◌, ◌++◌, ◌∷◌, [], List, inl, inr, refl, sym, ap, ◌∙◌, subst, append_assoc, arith}
 use Rattle.std.specs.Prelude.{false}
 use Rattle.std.proofs.KnownBytes.{Appends-trans}

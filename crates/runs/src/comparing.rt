@@ -36,8 +36,10 @@ pub fn compare<H: Threads + Wait + Sync, R: Source, W: Sink>(
     workers: u32,
 ) -> Result<(), Fault>
     requires workers { AreWorkers workers }
-    ensures compared { OnOk result (IsCompared R.Source reader.old reader.new W.Sink writer.old writer.new) }
-    ensures fault { IfErr result (IsCompareFault R.Source reader.old reader.new W.Sink writer.old writer.new workers) }
+    ensures compared { OnOk result
+        (IsCompared R.Source reader.old reader.new W.Sink writer.old writer.new) }
+    ensures fault { IfErr result
+        (IsCompareFault R.Source reader.old reader.new W.Sink writer.old writer.new workers) }
     ensures checked_first { IfErr result (ComesOnceAccepted R.Source reader.old reader.new) }
     ensures failing_end { IfErr result (TellsOfFailing W.Sink writer.old writer.new) }
 {
@@ -58,8 +60,10 @@ fn write_modes<L: Written + Send + Sync, H: Threads + Wait + Sync, W: Sink>(
     requires workers { AreWorkers workers }
     requires written { AreWrittenIn L.lists scenario }
     requires ready { IsReady W.Sink writer.old }
-    ensures written { OnOk result (IsWritten W.Sink writer.old writer.new (lines_of_modes scenario modes.now)) }
-    ensures fault { IfErr result (IsFaultInModes W.Sink writer.old writer.new [] scenario modes.now workers) }
+    ensures written { OnOk result
+        (IsWritten W.Sink writer.old writer.new (lines_of_modes scenario modes.now)) }
+    ensures fault { IfErr result
+        (IsFaultInModes W.Sink writer.old writer.new [] scenario modes.now workers) }
 {
     for mode in modes {
         scenario = write_all_rounds::<L, H, W>(
@@ -86,7 +90,8 @@ fn write_all_rounds<L: Written + Send + Sync, H: Threads + Wait + Sync, W: Sink>
     requires ready { IsReady W.Sink writer.old }
     ensures same { IfOk result (λ s. s ≡ scenario) }
     ensures written { OnOk result (IsWritten W.Sink writer.old writer.new (all_lines scenario)) }
-    ensures fault { IfErr result (IsFaultInRounds W.Sink writer.old writer.new [] scenario workers) }
+    ensures fault { IfErr result
+        (IsFaultInRounds W.Sink writer.old writer.new [] scenario workers) }
 {
     let mode = scenario.mode();
     match begin::<L>(alloc, scenario)? {
@@ -114,8 +119,10 @@ fn write_rows<
     requires mode { mode ≡ sim.settings.mode }
     requires ready { IsReady W.Sink writer.old }
     ensures same { IfOk result (λ s. s ≡ sim.settings) }
-    ensures written { OnOk result (IsWritten W.Sink writer.old writer.new (all_lines sim.settings)) }
-    ensures fault { IfErr result (IsFaultInRounds W.Sink writer.old writer.new [] sim.settings workers) }
+    ensures written { OnOk result
+        (IsWritten W.Sink writer.old writer.new (all_lines sim.settings)) }
+    ensures fault { IfErr result
+        (IsFaultInRounds W.Sink writer.old writer.new [] sim.settings workers) }
 {
     for _ in 0..sim.rounds() {
         write_row(rt, alloc, &mut sim, mode, writer, workers)?;
@@ -133,8 +140,10 @@ fn write_row<T: MemoryTable + Send + Sync, K: RoundHistories<T>, H: Threads + Wa
     workers: u32,
 ) -> Result<(), Fault>
     requires workers { AreWorkers workers }
-    ensures written { OnOk result (WritesNextRow T.table sim.old sim.new W.Sink writer.old writer.new mode) }
-    ensures fault { IfErr result (IsNextRowFault T.table sim.old sim.new W.Sink writer.old writer.new mode workers) }
+    ensures written { OnOk result
+        (WritesNextRow T.table sim.old sim.new W.Sink writer.old writer.new mode) }
+    ensures fault { IfErr result
+        (IsNextRowFault T.table sim.old sim.new W.Sink writer.old writer.new mode workers) }
 {
     let round = sim.step(rt, workers, &FreeGate)?;
     write_compare_row(alloc, writer, sim.format(), mode, &round.row())

@@ -43,12 +43,15 @@ pub fn run<H: Threads + Wait + Sync, R: Source, W: Sink, X: Sink>(
 ) -> Result<(), Fault>
     requires workers { AreWorkers workers }
     ensures reported { OnOk result
-        (IsReported R.Source reader.old reader.new W.Sink writer.old writer.new X.Sink trace.old trace.new) }
+        (IsReported R.Source reader.old reader.new W.Sink writer.old writer.new X.Sink trace.old
+        trace.new) }
     ensures fault { IfErr result
-        (IsRunFault R.Source reader.old reader.new W.Sink writer.old writer.new X.Sink trace.old trace.new workers) }
+        (IsRunFault R.Source reader.old reader.new W.Sink writer.old writer.new X.Sink trace.old
+        trace.new workers) }
     ensures checked_first { IfErr result (ComesOnceAccepted R.Source reader.old reader.new) }
     ensures failing_end { IfErr result (λ fault.
-        TellsOfFailing W.Sink writer.old writer.new fault × TellsOfFailing X.Sink trace.old trace.new fault) }
+        TellsOfFailing W.Sink writer.old writer.new fault
+        × TellsOfFailing X.Sink trace.old trace.new fault) }
 {
     let scenario = check_input(alloc, reader)?;
     write_run::<Brand, H, W, X>(rt, alloc, scenario, writer, trace, workers)
@@ -57,7 +60,8 @@ pub fn run<H: Threads + Wait + Sync, R: Source, W: Sink, X: Sink>(
 /// Reads a scenario whole and checks it. An error is that of `read_all`, or else the fault of the first check
 /// that fails.
 pub fn check_input<R: Source>(alloc: Global, reader: &mut R) -> Result<Scenario, Fault>
-    ensures accepted { IfOk result (λ settings. IsRead R.Source reader.old reader.new (Ok settings)) }
+    ensures accepted { IfOk result
+        (λ settings. IsRead R.Source reader.old reader.new (Ok settings)) }
     ensures fault { IfErr result (IsInputFault R.Source reader.old reader.new) }
 {
     let bytes = read_all(alloc, reader)?;
@@ -121,7 +125,8 @@ fn write_run<L: Written + Send + Sync, H: Threads + Wait + Sync, W: Sink, X: Sin
 ) -> Result<(), Fault>
     requires workers { AreWorkers workers }
     requires written { AreWrittenIn L.lists scenario }
-    ensures written { OnOk result (AreWritten W.Sink writer.old writer.new X.Sink trace.old trace.new scenario) }
+    ensures written { OnOk result
+        (AreWritten W.Sink writer.old writer.new X.Sink trace.old trace.new scenario) }
     ensures fault { IfErr result
         (IsWritingFault W.Sink writer.old writer.new X.Sink trace.old trace.new scenario workers) }
 {
@@ -151,7 +156,8 @@ fn write_texts<
     ensures written { OnOk result
         (AreWritten W.Sink writer.old writer.new X.Sink trace.old trace.new sim.old.settings) }
     ensures fault { IfErr result
-        (IsWritingFault W.Sink writer.old writer.new X.Sink trace.old trace.new sim.old.settings workers) }
+        (IsWritingFault W.Sink writer.old writer.new X.Sink trace.old trace.new sim.old.settings
+        workers) }
 {
     report_header(alloc, writer, sim.format())?;
     trace_header(alloc, trace)?;
@@ -178,7 +184,8 @@ fn write_round<
 ) -> Result<(), Fault>
     requires workers { AreWorkers workers }
     ensures written { OnOk result
-        (WritesNextTexts T.table sim.old sim.new W.Sink writer.old writer.new X.Sink trace.old trace.new) }
+        (WritesNextTexts T.table sim.old sim.new W.Sink writer.old writer.new X.Sink trace.old
+        trace.new) }
     ensures fault { IfErr result (IsNextTextsFault T.table sim.old sim.new
         W.Sink writer.old writer.new X.Sink trace.old trace.new workers) }
 {

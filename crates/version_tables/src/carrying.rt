@@ -37,7 +37,8 @@ fn write<N: Number, H: Written>(
     ensures table { OnOk result
         (table_in H.lists table.new ≡ with_own_write (table_in H.lists table.old) key value born) }
     ensures lists { OnOk result
-        (AddsWrite (table_in H.lists table.old) key value born histories.old.lists histories.new.lists) }
+        (AddsWrite (table_in H.lists table.old) key value born histories.old.lists
+        histories.new.lists) }
     ensures rounds { histories.new.rounds ≡ histories.old.rounds }
     ensures only { IsOkUnless result OutOfMemory }
 {

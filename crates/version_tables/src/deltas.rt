@@ -72,11 +72,15 @@ fn marks_sent<N: Number, H: Written>(
 ) -> Result<Marked<N>, Fault>
     requires may { MaySend rules.now rotation H.lists histories.now sender.now receiver.now }
     requires kept { IsKept H.lists receiver.now }
-    requires low { AreTold N.number N.most (digest_kind rules.now.mode) receiver.now histories.now offered.low.now }
-    requires offered { IsOffered N.number (digest_kind rules.now.mode) sender.now receiver.now offered }
+    requires low { AreTold N.number N.most
+        (digest_kind rules.now.mode) receiver.now histories.now offered.low.now }
+    requires offered { IsOffered N.number
+        (digest_kind rules.now.mode) sender.now receiver.now offered }
     ensures marks { IfOk result (λ m. AreMarksOf rules.now rotation H.lists sender.now receiver.now
-        (by_first (first_sent rules.now.mode) (map N.number offered.entry.low.now) (map N.number m.mark.items))
-        (by_first (first_sent rules.now.mode) (map N.number m.mark.items) sender.now.greatest) m.counts.sent
+        (by_first (first_sent rules.now.mode) (map N.number offered.entry.low.now)
+        (map N.number m.mark.items))
+        (by_first (first_sent rules.now.mode) (map N.number m.mark.items) sender.now.greatest)
+        m.counts.sent
         m.counts.cut) }
     ensures only { IsOkUnless result OutOfMemory }
 {
@@ -112,7 +116,8 @@ fn told_to<N: Number, H: Written>(
     kind: DigestKind,
 ) -> Result<Vec<N>, Fault>
     requires receiver { FitsHistories histories.now (table_in H.lists receiver.now) }
-    ensures told { IfOk result (λ v. AreTold N.number N.most kind receiver.now histories.now v.items) }
+    ensures told { IfOk result
+        (λ v. AreTold N.number N.most kind receiver.now histories.now v.items) }
     ensures kept { IfOk result (λ _. IsKept H.lists receiver.now) }
     ensures only { IsOkUnless result OutOfMemory }
 {
@@ -140,7 +145,8 @@ fn ahead_of<N: Number, H: Written>(
     requires nodes { sender.now.nodes ≡ receiver.now.nodes }
     requires keys { sender.now.keys ≡ receiver.now.keys }
     requires low { length low.now ≡ sender.now.nodes }
-    ensures ahead { kind ≡ Precise → IfOk result (AreAhead N.number sender.now receiver.now low.now) }
+    ensures ahead { kind ≡ Precise
+        → IfOk result (AreAhead N.number sender.now receiver.now low.now) }
     ensures only { IsOkUnless result OutOfMemory }
 {
     match kind {

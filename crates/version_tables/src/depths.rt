@@ -14,8 +14,10 @@ use std::alloc::Global;
 
 // The greatest of these numbers.
 fn greatest_of<N: Number>(numbers: &[N]) -> u32
-    requires few { (r : ℕ) → r < length numbers.now → slice_index (map N.number numbers.now) r ≤ MOST_KEYS }
-    ensures greatest { (r : ℕ) → r < length numbers.now → slice_index (map N.number numbers.now) r ≤ result }
+    requires few { (r : ℕ) → r < length numbers.now
+        → slice_index (map N.number numbers.now) r ≤ MOST_KEYS }
+    ensures greatest { (r : ℕ) → r < length numbers.now
+        → slice_index (map N.number numbers.now) r ≤ result }
     ensures few { result ≤ MOST_KEYS }
 {
     let mut greatest = 0;
@@ -38,7 +40,8 @@ fn next_runs<N: Number>(
     requires counts { HasEach offer.now.nodes (λ r n. n ≡ owner_count_in N.number offer.now r)
         (map N.number counts.now) }
     requires few { size ≤ MOST_KEYS }
-    ensures runs { IfOk result (λ s. AreNextRuns N.number offer.now (marks N.number near.now) size s) }
+    ensures runs { IfOk result
+        (λ s. AreNextRuns N.number offer.now (marks N.number near.now) size s) }
     ensures only { IsOkUnless result OutOfMemory }
 {
     let mut marks = Vec::from_slice(alloc, near)?;

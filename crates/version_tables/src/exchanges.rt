@@ -33,11 +33,13 @@ pub(crate) fn exchange<N: Number, H: Written>(
     rules: &Rules,
 ) -> Result<Record, Fault>
     requires budget { IsLawfulBudget rules.now.budget }
-    requires tables { MayBeExchanged plan.now (table_in H.lists initiator.old) (table_in H.lists responder.old) }
+    requires tables { MayBeExchanged plan.now (table_in H.lists initiator.old)
+        (table_in H.lists responder.old) }
     requires initiator { FitsHistories histories.now (table_in H.lists initiator.old) }
     requires responder { FitsHistories histories.now (table_in H.lists responder.old) }
     ensures ok { IfOk result
-        (MakesOf (table_in H.lists) rules.now plan.now initiator.old responder.old initiator.new responder.new) }
+        (MakesOf (table_in H.lists) rules.now plan.now initiator.old responder.old initiator.new
+        responder.new) }
     ensures initiator_stays { OnErr result (initiator.new ≡ initiator.old) }
     ensures responder_stays { OnErr result (responder.new ≡ responder.old) }
     ensures only { IsOkUnless result OutOfMemory }
@@ -65,11 +67,13 @@ fn exchange_all<N: Number, H: Written>(
     requires second { plan.now.lost2 ≡ false }
     requires third { plan.now.lost3 ≡ false }
     requires kept { IsKept H.lists initiator.old }
-    requires digest1 { digest1 ≡ digest_size (digest_kind rules.now.mode) (table_in H.lists initiator.old) }
+    requires digest1 { digest1 ≡ digest_size (digest_kind rules.now.mode)
+        (table_in H.lists initiator.old) }
     requires may { IsReadyExchange rules.now plan.now histories.now (table_in H.lists initiator.old)
         (table_in H.lists responder.old) }
     requires merge { MayMerge rules.now histories.now initiator.old responder.old }
-    ensures { MakesOf (table_in H.lists) rules.now plan.now initiator.old responder.old initiator.new responder.new
+    ensures { MakesOf (table_in H.lists) rules.now plan.now initiator.old responder.old
+        initiator.new responder.new
         result }
 {
     let _lists = histories.lists();
@@ -107,11 +111,13 @@ fn exchange_deltas<N: Number, H: Written>(
 ) -> Result<Record, Fault>
     requires came { plan.now.lost1 ≡ false }
     requires kept { IsKept H.lists initiator.old }
-    requires digest1 { digest1 ≡ digest_size (digest_kind rules.now.mode) (table_in H.lists initiator.old) }
+    requires digest1 { digest1 ≡ digest_size (digest_kind rules.now.mode)
+        (table_in H.lists initiator.old) }
     requires may { IsReadyExchange rules.now plan.now histories.now (table_in H.lists initiator.old)
         (table_in H.lists responder.old) }
     ensures ok { IfOk result
-        (MakesOf (table_in H.lists) rules.now plan.now initiator.old responder.old initiator.new responder.new) }
+        (MakesOf (table_in H.lists) rules.now plan.now initiator.old responder.old initiator.new
+        responder.new) }
     ensures initiator_stays { OnErr result (initiator.new ≡ initiator.old) }
     ensures responder_stays { OnErr result (responder.new ≡ responder.old) }
     ensures only { IsOkUnless result OutOfMemory }

@@ -10,7 +10,8 @@ use owner_lists::OwnerList;
 
 /// How many writes an owner had made before the generation of a number's write, 0 where there is no such write.
 pub(crate) fn start_of(list: &OwnerList, number: u32) -> u32
-    requires { (e : Entry) → write_numbered (entries_of list.now) number ≡ Some e → e.version ≤ number }
+    requires { (e : Entry) → write_numbered (entries_of list.now) number ≡ Some e
+        → e.version ≤ number }
     ensures start { result ≡ start_of (entries_of list.now) number }
     ensures upto { result ≤ number }
 {

@@ -76,11 +76,14 @@ impl<N: Number, H: Written> Histories<N, H> {
         requires owner { owner < length self.old.lists }
         requires few { length (list_of_owner self.old.lists owner).current + 1 < 2 ^ 32 }
         requires born { born ≡ self.old.rounds + 1 }
-        requires under { IsWriteUnder H.lists N.most owner (length (all_writes self.old.lists owner) + 1)
+        requires under { IsWriteUnder H.lists N.most owner
+            (length (all_writes self.old.lists owner) + 1)
             (next_entry (list_of_owner self.old.lists owner) key value born) }
-        ensures number { IfOk result (λ n. N.number n ≡ length (all_writes self.old.lists owner) + 1) }
+        ensures number { IfOk result
+            (λ n. N.number n ≡ length (all_writes self.old.lists owner) + 1) }
         ensures lists { OnOk result (ListBecomes owner
-            (with_write (list_of_owner self.old.lists owner) key value born) self.old.lists self.new.lists) }
+            (with_write (list_of_owner self.old.lists owner) key value born) self.old.lists
+            self.new.lists) }
         ensures err { OnErr result (self.new ≡ self.old) }
         ensures rounds { self.new.rounds ≡ self.old.rounds }
         ensures only { IsOkUnless result OutOfMemory }
@@ -123,7 +126,8 @@ impl<N: Number, H: Written> Histories<N, H> {
     pub fn lists(&self) -> &[OwnerList]
         ensures value { result.now ≡ self.now.lists }
         ensures so_far { (owner : ℕ)
-            → IsWrittenSoFar (H.lists owner) N.most self.now.rounds (all_writes self.now.lists owner) }
+            → IsWrittenSoFar (H.lists owner) N.most self.now.rounds
+            (all_writes self.now.lists owner) }
         ensures writes { (owner : ℕ) → AreWrites (list_of_owner self.now.lists owner) }
     {
         &self.lists
@@ -146,7 +150,8 @@ impl<N: Number, H: Written> Histories<N, H> {
 
     // How many of them are of earlier generations.
     pub(crate) fn bases(&self) -> &[N]
-        ensures value { HasEach (length self.now.lists) (λ r n. n ≡ length (list_of_owner self.now.lists r).earlier)
+        ensures value { HasEach (length self.now.lists)
+            (λ r n. n ≡ length (list_of_owner self.now.lists r).earlier)
             (map N.number result.now) }
         ensures writes { (owner : ℕ) → AreWrites (list_of_owner self.now.lists owner) }
     {

@@ -75,7 +75,8 @@ fn put_last_numbers<N: Number, H: Written>(
 )
     requires grid { IsGrid (length tables.now) keys (length last.old) }
     requires alike { AreAlike keys tables.now }
-    ensures { ArePlanesChanged (λ r k x y. IsOwnNumber H.lists tables.now r k y) (length tables.now) keys
+    ensures { ArePlanesChanged (λ r k x y. IsOwnNumber H.lists tables.now r k y)
+        (length tables.now) keys
         (map N.number last.old) (map N.number last.new) }
 {
     let nodes = tables.len();
@@ -95,7 +96,8 @@ fn last_numbers<N: Number, H: Written>(
     requires few { length tables.now ≤ MOST_NODES }
     requires few_keys { keys ≤ MOST_KEYS }
     requires alike { AreAlike keys tables.now }
-    ensures own { IfOk result (λ v. HasEachPlace (length tables.now) keys (IsOwnNumber H.lists tables.now)
+    ensures own { IfOk result
+        (λ v. HasEachPlace (length tables.now) keys (IsOwnNumber H.lists tables.now)
         (map N.number v.items)) }
     ensures only { IsOkUnless result OutOfMemory }
 {
@@ -106,7 +108,8 @@ fn last_numbers<N: Number, H: Written>(
 
 // Whether a node has forgotten.
 fn has_forgotten<N: Number>(bases: &[N]) -> bool
-    ensures { IsFalse result → (r : ℕ) → r < length bases.now → slice_index (map N.number bases.now) r ≡ 0 }
+    ensures { IsFalse result → (r : ℕ) → r < length bases.now
+        → slice_index (map N.number bases.now) r ≡ 0 }
 {
     for base in bases {
         if base.is_above(N::zero()) {
@@ -120,9 +123,12 @@ fn has_forgotten<N: Number>(bases: &[N]) -> bool
 fn left_over<N: Number>(cells: &[N], bases: &[N], nodes: usize, keys: usize, forgot: bool) -> u32
     requires grid { IsGrid nodes keys (length cells.now) }
     requires bases { length bases.now ≡ nodes }
-    requires forgot { IsFalse forgot → (r : ℕ) → r < nodes → slice_index (map N.number bases.now) r ≡ 0 }
-    ensures { result ≡ total_of nodes keys (λ r k. nat_lt 0 (cell (map N.number cells.now) nodes r k)
-        && nat_le (cell (map N.number cells.now) nodes r k) (slice_index (map N.number bases.now) r)) }
+    requires forgot { IsFalse forgot → (r : ℕ) → r < nodes
+        → slice_index (map N.number bases.now) r ≡ 0 }
+    ensures { result ≡ total_of nodes keys
+        (λ r k. nat_lt 0 (cell (map N.number cells.now) nodes r k)
+        && nat_le (cell (map N.number cells.now) nodes r k)
+        (slice_index (map N.number bases.now) r)) }
 {
     if forgot {
         total_upto(cells, nodes, keys, bases)
@@ -213,7 +219,8 @@ fn parts_of<N: Number>(
 ) -> Result<Vec<Result<Piece<N>, Fault>>, AllocError>
     requires numbers { AreCountedGrids N.number numbers.now }
     requires some { 1 ≤ size }
-    ensures { IfOk result (λ v. AllZip (λ part found. IfOk found (CountsPartOf N.number numbers.now size part))
+    ensures { IfOk result
+        (λ v. AllZip (λ part found. IfOk found (CountsPartOf N.number numbers.now size part))
         (range_with_len 0 (numbers.now.nodes / size + 1)) v.items) }
 {
     (0..numbers.nodes / size + 1)
@@ -221,7 +228,8 @@ fn parts_of<N: Number>(
         .with_min_len(1)
         .map(
             |part: usize| -> Result<Piece<N>, Fault>
-                requires { AreCountedGrids N.number numbers.now × (1 ≤ size) × (part ≤ numbers.now.nodes / size) }
+                requires { AreCountedGrids N.number numbers.now × (1 ≤ size)
+                    × (part ≤ numbers.now.nodes / size) }
                 ensures { IfOk result (CountsPartOf N.number numbers.entry.now size part) }
             { numbers.part_of(alloc, size, part) },
         )
@@ -238,8 +246,11 @@ fn lag_of_owner<N: Number>(
     nodes: usize,
     round: u32,
 ) -> u32
-    requires { (keys : ℕ) × WalksFrom round N.most nodes keys owner (N.number first) list.now (map N.number least.now) }
-    ensures { (keys : ℕ) → WalksFrom round N.most nodes keys owner (N.number first) list.now (map N.number least.now)
+    requires { (keys : ℕ)
+        × WalksFrom round N.most nodes keys owner (N.number first) list.now
+        (map N.number least.now) }
+    ensures { (keys : ℕ)
+        → WalksFrom round N.most nodes keys owner (N.number first) list.now (map N.number least.now)
         → result ≡ most_lag round nodes keys owner list.now (map N.number least.now) }
 {
     if first.widen() == N::greatest().widen() {
@@ -284,12 +295,16 @@ fn greatest_lag<N: Number>(
 ) -> Result<u32, Fault>
     requires grid { IsGrid (length lists.now) keys (length least.now) }
     requires walk { (r : ℕ) → r < length lists.now
-        → MayWalk round N.most (length lists.now) keys r (list_of_owner lists.now r) (map N.number least.now) }
-    requires last { HasEachPlace (length lists.now) keys (λ r k y. IsLastNumber (list_of_owner lists.now r) k y)
+        → MayWalk round N.most (length lists.now) keys r (list_of_owner lists.now r)
+        (map N.number least.now) }
+    requires last { HasEachPlace (length lists.now) keys
+        (λ r k y. IsLastNumber (list_of_owner lists.now r) k y)
         (map N.number last.now) }
-    requires ends { AreEnds (all_writes lists.now) (length lists.now) ends.rounds (map N.number ends.numbers.now) }
+    requires ends { AreEnds (all_writes lists.now) (length lists.now) ends.rounds
+        (map N.number ends.numbers.now) }
     ensures lag { IfOk result (λ x. x ≡ most_below (length lists.now)
-        (λ r. most_lag round (length lists.now) keys r (list_of_owner lists.now r) (map N.number least.now))) }
+        (λ r. most_lag round (length lists.now) keys r (list_of_owner lists.now r)
+        (map N.number least.now))) }
     ensures only { IsOkUnless result OutOfMemory }
 {
     let nodes = lists.len();
@@ -333,9 +348,11 @@ fn counted<N: Number, H: Written>(
     last: &[N],
 ) -> Result<Piece<N>, Fault>
     requires laid { AreLaidAsNumbers H.lists tables.now histories.now.lists }
-    requires last { AreLastNumbers (tables_of_views H.lists tables.now) histories.now.lists (map N.number last.now) }
+    requires last { AreLastNumbers (tables_of_views H.lists tables.now) histories.now.lists
+        (map N.number last.now) }
     ensures piece { IfOk result
-        (λ p. IsPieceOf (tables_of_views H.lists tables.now) histories.now.lists 0 (length tables.now)
+        (λ p. IsPieceOf (tables_of_views H.lists tables.now) histories.now.lists 0
+        (length tables.now)
         p.stale p.leftover (map N.number p.least.items)) }
     ensures only { IsOkUnless result OutOfMemory }
 {
@@ -395,9 +412,11 @@ pub fn figures<N: Number, H: Written>(
     requires one_list_each { length histories.now.lists ≡ length tables.now }
     requires round { round ≤ MOST_ROUNDS }
     requires written { AreWrittenBy round histories.now.lists }
-    requires standing { HoldsOfEach (StandsAmong histories.now.lists) (tables_of_views H.lists tables.now) }
+    requires standing { HoldsOfEach (StandsAmong histories.now.lists)
+        (tables_of_views H.lists tables.now) }
     ensures figures { IfOk result
-        (λ f. f ≡ figures_of round (tables_of_views H.lists tables.now) (lists_in histories.now.lists)) }
+        (λ f. f ≡ figures_of round (tables_of_views H.lists tables.now)
+        (lists_in histories.now.lists)) }
     ensures only { IsOkUnless result OutOfMemory }
 {
     let keys = keys_of(tables);

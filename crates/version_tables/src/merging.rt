@@ -35,7 +35,8 @@ fn all_ahead_fits<N: Number, H: Written>(
     most: u32,
 ) -> bool
     requires nodes { from.now.nodes ≡ to.now.nodes }
-    requires most { most ≡ most_ahead from.now.nodes from.now.keys from.now.greatest to.now.greatest }
+    requires most { most
+        ≡ most_ahead from.now.nodes from.now.keys from.now.greatest to.now.greatest }
     ensures { IsTrue result ↔ SurelyFits budget from.now to.now }
 {
     let nodes = from.nodes() as usize;
@@ -134,8 +135,10 @@ pub(crate) fn merge<N: Number, H: Written>(
     responder: &mut VersionTable<N, H>,
 ) -> BothCounts
     requires size { AreOfOneSize initiator.old responder.old }
-    requires initiator { StaysMerged H.lists initiator.old responder.old.cells responder.old.greatest }
-    requires responder { StaysMerged H.lists responder.old initiator.old.cells initiator.old.greatest }
+    requires initiator { StaysMerged H.lists initiator.old responder.old.cells
+        responder.old.greatest }
+    requires responder { StaysMerged H.lists responder.old initiator.old.cells
+        initiator.old.greatest }
     ensures initiator { HasMerged responder.old initiator.old initiator.new }
     ensures responder { HasMerged initiator.old responder.old responder.new }
     ensures back { result.first ≡ count_ahead responder.old initiator.old }

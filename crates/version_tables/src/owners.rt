@@ -35,7 +35,8 @@ fn keep_one<N: Number>(numbers: &mut [N], owner: usize)
 fn keep_owner<N: Number>(cells: &mut [N], nodes: usize, keys: usize, owner: usize)
     requires grid { IsGrid nodes keys (length cells.old) }
     requires owner { owner < nodes }
-    ensures { ArePlanesChanged (λ r k x y. y ≡ (if r == owner then x else 0)) nodes keys (map N.number cells.old)
+    ensures { ArePlanesChanged (λ r k x y. y ≡ (if r == owner then x else 0)) nodes keys
+        (map N.number cells.old)
         (map N.number cells.new) }
 {
     for key in 0..keys {

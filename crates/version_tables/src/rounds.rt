@@ -50,7 +50,8 @@ pub(crate) fn rounds<N: Number>(
     requires ends { AreEndsOf N.number offer.now ends }
     requires found { IsCountOffered N.number offer.now found }
     ensures level { IfOk result (IsLevel first N.number offer.now) }
-    ensures rounds { IfOk result (λ l. AreRounds first (all_writes offer.now.lists.now) offer.now.nodes
+    ensures rounds { IfOk result
+        (λ l. AreRounds first (all_writes offer.now.lists.now) offer.now.nodes
         (low_in N.number offer.now) (marks N.number l.near.items) (marks N.number l.far.items)) }
     ensures only { IsOkUnless result OutOfMemory }
 {
@@ -104,7 +105,8 @@ fn few_rounds<N: Number>(
 fn look<N: Number>(offer: &Offer<N>, mark: &[N], found: u32, first: First) -> Found
     requires offer { IsOffer N.number N.most offer.now }
     requires mark { length mark.now ≡ offer.now.nodes }
-    requires above { (r : ℕ) → r < offer.now.nodes → marks N.number offer.now.low.now r ≤ marks N.number mark.now r }
+    requires above { (r : ℕ) → r < offer.now.nodes
+        → marks N.number offer.now.low.now r ≤ marks N.number mark.now r }
     requires found { IsCountOffered N.number offer.now found }
     ensures count { result.count
         ≡ count_on first N.number offer.now (marks N.number mark.now) }
@@ -138,7 +140,8 @@ impl<'a, N: Number> Ends<'a, N> {
         requires offer { IsOffer N.number N.most offer.now }
         requires ends { length self.now.numbers.now ≡ (self.now.rounds + 1) * offer.now.nodes }
         requires count { count ≤ self.now.rounds }
-        ensures marks { IfOk result (λ v. AreRoundMarks first count N.number self.now offer.now v.items) }
+        ensures marks { IfOk result
+            (λ v. AreRoundMarks first count N.number self.now offer.now v.items) }
         ensures only { IsOkUnless result OutOfMemory }
     {
         let round = match first {
@@ -157,7 +160,8 @@ pub(crate) fn row_of<N: Number>(ends: &[N], nodes: usize, rounds: u32, round: u3
     requires nodes { nodes ≤ MOST_NODES }
     requires ends { length ends.now ≡ (rounds + 1) * nodes }
     requires round { round ≤ rounds }
-    ensures { HasEach nodes (λ r n. n ≡ cell (map N.number ends.now) nodes r round) (map N.number result.now) }
+    ensures { HasEach nodes (λ r n. n ≡ cell (map N.number ends.now) nodes r round)
+        (map N.number result.now) }
 {
     let start = round as usize * nodes;
     &ends[start..start + nodes]

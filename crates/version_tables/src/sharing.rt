@@ -66,9 +66,11 @@ impl<'a, N: Number> Offer<'a, N> {
     fn weight_of_part(&self, first: First, owner: usize, near: N, far: N, count: u32) -> u32
         requires offer { IsOffer N.number N.most self.now }
         requires owner { owner < self.now.nodes }
-        requires count { count ≡ weight_from first (λ _. 1) (cells_in N.number self.now) self.now.keys owner
+        requires count { count ≡ weight_from first (λ _. 1)
+            (cells_in N.number self.now) self.now.keys owner
             (N.number near) (N.number far) }
-        ensures { result ≡ weight_from first (weights_in self.now owner) (cells_in N.number self.now) self.now.keys
+        ensures { result ≡ weight_from first (weights_in self.now owner)
+            (cells_in N.number self.now) self.now.keys
             owner (N.number near) (N.number far) }
     {
         match self.budget {
@@ -149,7 +151,8 @@ impl<'a, N: Number> Offer<'a, N> {
         ensures size { length mark.new ≡ self.now.nodes }
         ensures passed { ArePassedBy N.number self.now turns.now mark.new result }
         ensures beyond { result.left
-            < part_weight N.number (weights_in self.now result.owner) self.now turns.now result.owner }
+            < part_weight N.number
+            (weights_in self.now result.owner) self.now turns.now result.owner }
     {
         let mut left = room;
         let mut sent = turns.level.whole;
@@ -201,7 +204,8 @@ pub(crate) fn share<N: Number>(
     requires level { IsLevel first N.number offer.now level.now }
     requires rotation { rotation < offer.now.nodes }
     ensures size { IfOk result (λ s. length s.mark.items ≡ offer.now.nodes) }
-    ensures shared { IfOk result (λ s. AreShared first rotation N.number offer.now (marks N.number level.now.near.items)
+    ensures shared { IfOk result
+        (λ s. AreShared first rotation N.number offer.now (marks N.number level.now.near.items)
         (marks N.number level.now.far.items) (marks N.number s.mark.items) s.sent) }
     ensures only { IsOkUnless result OutOfMemory }
 {

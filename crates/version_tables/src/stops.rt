@@ -61,10 +61,12 @@ impl<'a, N: Number> Offer<'a, N> {
     ) -> Stop<N>
         requires offer { IsOffer N.number N.most self.now }
         requires owner { owner < self.now.nodes }
-        requires beyond { room < weight_from first (weights_in self.now owner) (cells_in N.number self.now)
+        requires beyond { room < weight_from first (weights_in self.now owner)
+            (cells_in N.number self.now)
             self.now.keys owner (N.number near) (N.number far) }
         ensures { IsStopFrom first (weights_in self.now owner) (cells_in N.number self.now)
-            self.now.keys owner (N.number near) (N.number far) room (N.number result.mark) result.sent }
+            self.now.keys owner (N.number near) (N.number far) room
+            (N.number result.mark) result.sent }
     {
         let mut mark = near;
         let mut sent = 0;

@@ -40,7 +40,8 @@ fn kept_above<N: Number>(number: N, start: u32) -> N
 // Up to where an owner's numbers are dropped, where its greatest one was raised.
 fn drop_from<N: Number>(list: &OwnerList, old: N, base: N, new: N) -> u32
     requires { IsNumberedHistory (entries_of list.now) }
-    ensures { result ≡ drop_start (entries_of list.now) (N.number old) (N.number base) (N.number new) }
+    ensures { result ≡ drop_start (entries_of list.now) (N.number old) (N.number base)
+        (N.number new) }
 {
     if old.is_above(N::zero()) && old.is_upto(base) && new.is_above(old) {
         start_of(list, new.widen())
@@ -73,9 +74,12 @@ fn drop_older<N: Number>(
     requires before { length before.now ≡ nodes }
     requires greatest { length greatest.now ≡ nodes }
     requires owners { AreOwners N.number nodes owners }
-    ensures { ArePlanesChanged (λ r k x y. y ≡ number_kept (drop_start (all_writes owners.entry.lists.now r)
-        (slice_index (map N.number before.now) r) (slice_index (map N.number owners.entry.bases.now) r)
-        (slice_index (map N.number greatest.now) r)) x) nodes keys (map N.number cells.old) (map N.number cells.new) }
+    ensures { ArePlanesChanged (λ r k x y. y ≡ number_kept
+        (drop_start (all_writes owners.entry.lists.now r)
+        (slice_index (map N.number before.now) r)
+        (slice_index (map N.number owners.entry.bases.now) r)
+        (slice_index (map N.number greatest.now) r)) x) nodes keys (map N.number cells.old)
+        (map N.number cells.new) }
 {
     let Owners { lists, bases } = owners;
     if planes::total_upto(before, nodes, 1, bases) == 0 {
@@ -105,7 +109,8 @@ pub(crate) fn take_unless<N: Number, H: Written>(
 )
     requires may { MayArrive N.number H.lists owners table.old (map N.number cells.now) arrival }
     requires before { map N.number before.now ≡ table.old.greatest }
-    ensures { HasArrived N.number owners.entry table.old (map N.number cells.now) arrival.entry table.new }
+    ensures { HasArrived N.number owners.entry table.old
+        (map N.number cells.now) arrival.entry table.new }
 {
     if arrival.nothing {
         return;

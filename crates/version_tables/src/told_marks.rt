@@ -29,7 +29,8 @@ pub(crate) fn told<N: Number>(
     requires known { AreKnownOf N.number N.most owners greatest.now }
     ensures told { IfOk result (λ v. HasEach (length owners.entry.lists.now)
         (λ r n. n
-        ≡ told_number kind N.most node (all_writes owners.entry.lists.now) (slice_index (map N.number greatest.now)) r)
+        ≡ told_number kind N.most node (all_writes owners.entry.lists.now)
+        (slice_index (map N.number greatest.now)) r)
         (map N.number v.items)) }
     ensures only { IsOkUnless result OutOfMemory }
 {
@@ -83,7 +84,8 @@ fn put_each_start<N: Number>(numbers: &mut [N], owners: Owners<N>)
 fn earlier_start<N: Number>(list: &OwnerList, number: N, base: N) -> N
     requires numbered { IsNumberedHistory (entries_of list.now) }
     requires fits { N.number number ≤ N.most }
-    ensures { IsEarlierStart (entries_of list.now) (N.number base) (N.number number) (N.number result) }
+    ensures { IsEarlierStart (entries_of list.now) (N.number base) (N.number number)
+        (N.number result) }
 {
     if number.is_above(N::zero()) && number.is_upto(base) {
         N::narrow(start_of(list, number.widen()))

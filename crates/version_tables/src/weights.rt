@@ -93,7 +93,8 @@ impl<'a, N: Number> Offer<'a, N> {
     pub(crate) fn weight_of(&self, owner: usize, low: N, high: N) -> u32
         requires offer { IsOffer N.number N.most self.now }
         requires owner { owner < self.now.nodes }
-        ensures weight { result ≡ weight_of (weights_in self.now owner) (cells_in N.number self.now) self.now.keys owner
+        ensures weight { result ≡ weight_of (weights_in self.now owner)
+            (cells_in N.number self.now) self.now.keys owner
             (N.number low) (N.number high) }
         ensures limit { result ≤ self.now.keys * largest_share self.now.budget }
     {
@@ -112,7 +113,8 @@ impl<'a, N: Number> Offer<'a, N> {
         requires offer { IsOffer N.number N.most self.now }
         requires low { length low.now ≡ self.now.nodes }
         requires high { length high.now ≡ self.now.nodes }
-        ensures { result ≡ weight_in N.number self.now (marks N.number low.now) (marks N.number high.now) }
+        ensures { result ≡ weight_in N.number self.now (marks N.number low.now)
+            (marks N.number high.now) }
     {
         let mut weight = 0;
         for owner in 0..self.nodes {
@@ -130,8 +132,10 @@ impl<'a, N: Number> Offer<'a, N> {
         requires offer { IsOffer N.number N.most self.now }
         requires low { length low.now ≡ self.now.nodes }
         requires high { length high.now ≡ self.now.nodes }
-        requires count { count ≡ count_in N.number self.now (marks N.number low.now) (marks N.number high.now) }
-        ensures { result ≡ weight_in N.number self.now (marks N.number low.now) (marks N.number high.now) }
+        requires count { count ≡ count_in N.number self.now (marks N.number low.now)
+            (marks N.number high.now) }
+        ensures { result ≡ weight_in N.number self.now (marks N.number low.now)
+            (marks N.number high.now) }
     {
         match self.budget {
             Budget::Entries(_) => count,
@@ -144,8 +148,10 @@ impl<'a, N: Number> Offer<'a, N> {
         requires offer { IsOffer N.number N.most self.now }
         requires low { length low.now ≡ self.now.nodes }
         requires high { length high.now ≡ self.now.nodes }
-        requires count { count ≡ count_in N.number self.now (marks N.number low.now) (marks N.number high.now) }
-        ensures { IsTrue result ↔ (weight_in N.number self.now (marks N.number low.now) (marks N.number high.now)
+        requires count { count ≡ count_in N.number self.now (marks N.number low.now)
+            (marks N.number high.now) }
+        ensures { IsTrue result
+            ↔ (weight_in N.number self.now (marks N.number low.now) (marks N.number high.now)
             ≤ amount_of self.now.budget) }
     {
         match self.budget {

@@ -116,8 +116,8 @@ fn exchange_deltas<N: Number, H: Written>(
     requires may { IsReadyExchange rules.now plan.now histories.now (table_in H.lists initiator.old)
         (table_in H.lists responder.old) }
     ensures ok { IfOk result
-        (MakesOf (table_in H.lists) rules.now plan.now initiator.old responder.old initiator.new
-        responder.new) }
+        (MakesOf (table_in H.lists) rules.now plan.now initiator.old responder.old
+        initiator.new responder.new) }
     ensures initiator_stays { OnErr result (initiator.new ≡ initiator.old) }
     ensures responder_stays { OnErr result (responder.new ≡ responder.old) }
     ensures only { IsOkUnless result OutOfMemory }

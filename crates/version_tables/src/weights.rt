@@ -132,10 +132,10 @@ impl<'a, N: Number> Offer<'a, N> {
         requires offer { IsOffer N.number N.most self.now }
         requires low { length low.now ≡ self.now.nodes }
         requires high { length high.now ≡ self.now.nodes }
-        requires count { count ≡ count_in N.number self.now (marks N.number low.now)
-            (marks N.number high.now) }
-        ensures { result ≡ weight_in N.number self.now (marks N.number low.now)
-            (marks N.number high.now) }
+        requires count { count
+            ≡ count_in N.number self.now (marks N.number low.now) (marks N.number high.now) }
+        ensures { result
+            ≡ weight_in N.number self.now (marks N.number low.now) (marks N.number high.now) }
     {
         match self.budget {
             Budget::Entries(_) => count,

@@ -100,6 +100,7 @@ impl RoundHistories<NodeTable> for EntryHistories {
         alloc: Global,
         tables: &[NodeTable],
         round: u32,
+        _workers: u32,
     ) -> Result<Figures, Fault> {
         figures(rt, alloc, tables, &self.lists, round)
     }

@@ -12,7 +12,7 @@ use Rattle.bench_types.specs.declared.sinks.Sink.{Ghosts as Sink}
 use Rattle.model.specs.Table.{Table}
 use Rattle.model.specs.Runs.{IsFaultOfWorkers}
 use Rattle.bench_types.specs.Output.{IsWritten, IsWriteFault}
-use Rattle.report.specs.Trace.{trace_header_line, trace_lines}
+use Rattle.report.specs.Trace.{trace_header_line}
 use Rattle.report.specs.Report.{report_header_line, report_line, report_lines}
 use Rattle.scenario.specs.Settings.{Settings}
 use Rattle.simulation.specs.RoundView.{RoundView}

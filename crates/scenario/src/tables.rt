@@ -5,7 +5,7 @@ ghost use Rattle.toml.specs.View.{table_view};
 ghost use Rattle.scenario.specs.Elements.{has_generations, restart_fields, apart_at, forget_at};
 ghost use Rattle.scenario.specs.Fields.{number_at};
 
-use crate::arrays::{Elements, array_at, array_of, as_table};
+use crate::arrays::{Elements, array_of, as_table};
 use crate::elements::{Load, Partition, Restart};
 use crate::fields::{flag_at, number_at, number_of, value_at};
 use bench_types::limits::{MOST_ROUNDS, MOST_WRITES};

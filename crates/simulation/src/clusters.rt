@@ -104,7 +104,7 @@ impl<T: MemoryTable + Send + Sync, H: RoundHistories<T>> Cluster<T, H> {
             gate,
         };
         let (tables, records) = run_list_with(rt, alloc, work, tables, workers)?;
-        let lag = histories.figures(rt, alloc, &tables, round)?;
+        let lag = histories.figures(rt, alloc, &tables, round, workers)?;
         let played = Round::of(round, list, records, lag);
         Ok((
             Cluster {

@@ -1,22 +1,25 @@
 -- What the calls of the histories make of all that is kept of the owners' writes.
--- Serves `Histories::begin_generation`, `Histories::end_round`, `Histories::new` and `Histories::write`.
-use Rattle.std.proofs.Common.{◌≡◌, ◌≢◌, ℕ, zero, suc, ◌+◌, ◌-◌, ◌*◌, ◌<◌, ◌≤◌, List, [], ◌∷◌, ◌++◌, length, get_or, set, map, Some, ◌⊎◌, inl, inr, refl, sym, ap, ◌∙◌, subst, arith, length-append}
+-- Serves `Histories::begin_generation`, `Histories::end_round`, `Histories::lasts`, `Histories::new` and
+-- `Histories::write`.
+use Rattle.std.proofs.Common.{◌≡◌, ◌≢◌, ℕ, zero, suc, ◌+◌, ◌-◌, ◌*◌, ◌<◌, ◌≤◌, ◌==◌, cond, List, [], ◌∷◌, ◌++◌, length, get_or, set, map, take, Some, ◌⊎◌, inl, inr, refl, sym, ap, ◌∙◌, subst, arith, length-append}
 use Rattle.std.proofs.Math.Nat.{mul-le-mul_right}
-use Rattle.std.proofs.lemmas.Bool.{cases_lt, cases_eq}
-use Rattle.std.proofs.lemmas.List.{get_or-set_same, get_or-set_other, get_or_append_left, get_or_push, length-set, get_or-map, get_or-append-add, get_or-append_right, get_or_default, length-map, map-append, map-set, append_assoc, append-nil}
+use Rattle.std.proofs.lemmas.Bool.{cases_lt, cases_eq, eq-eqb, ne_eqb}
+use Rattle.std.proofs.lemmas.List.{get_or-set_same, get_or-set_other, get_or_append_left, get_or_push, length-set, get_or-map, get_or-append-add, get_or-append_right, get_or_default, length-map, length-take-le, get_or-take, take-map, map-append, map-set, append_assoc, append-nil}
 use Rattle.std.proofs.lemmas.Option.{same_Some}
 use Rattle.bench_types.specs.declared.entries.Entry.{Entry}
-use Rattle.bench_types.specs.declared.limits.TheConstants.{MOST_NODES}
+use Rattle.bench_types.specs.declared.limits.TheConstants.{MOST_KEYS, MOST_NODES}
 use Rattle.model.specs.Numbers.{write_from, write_numbered}
 use Rattle.model.specs.OwnerListView.{OwnerListView, all_writes, entries_of, list_of_owner, no_writes, next_entry, with_write, begun_generation, MarksRise, AreWrites, ListBecomes}
 use Rattle.owner_lists.proofs.Keeping.{writes_more, writes_begun}
-use Rattle.planes.specs.Planes.{HasEach, cell}
+use Rattle.planes.specs.Planes.{HasEach, HasEachPlace, ArePlanesChanged, cell}
 use Rattle.version_tables.specs.inner.Histories.{AreHistories, AreMadeBy, IsBeginning, IsWrittenSoFar, IsWriteUnder}
+use Rattle.version_tables.specs.inner.Missed.{IsLastNumber}
 use Rattle.version_tables.specs.inner.Offers.{IsHistory, IsNumberedHistory}
 use Rattle.version_tables.specs.inner.RoundEnds.{AreEnds}
 use Rattle.version_tables.specs.inner.LevelMarks.{IsRoundMark}
 use Rattle.version_tables.proofs.Numbers.{write_from-some, numbered-within}
 use Rattle.version_tables.proofs.Offers.{write_from-at}
+use Rattle.version_tables.proofs.OwnCalls.{same-place, place-within}
 
 -- a write behind others has the number after theirs, and they keep their own
 from-before : (w : List Entry) (e : Entry) (place : ℕ) → place < length w → write_from (w ++ e ∷ []) place ≡ write_from w place
@@ -152,6 +155,50 @@ module _ (all : List Entry) (most rounds : ℕ) (v : OwnerListView) (key value :
     made = made-more;
   }
 
+  -- its number is the last one of its key, and those of other keys stay
+  abbrev after : OwnerListView
+  after = with_write v key value (rounds + 1)
+
+  whole : entries_of after ≡ more
+  whole = sym (append_assoc v.earlier v.current (e ∷ []))
+
+  length-after : length (entries_of after) ≡ length w + 1
+  length-after = ap (λ (es : List Entry). length es) whole ∙ length-append w (e ∷ [])
+
+  pub last-here : IsLastNumber after key (length w + 1)
+  last-here = record {
+    written = omega (arith, length-after);
+    last = λ m d missed. omega (arith, missed.over, (numbered-within (entries_of after) m d missed.written).1, length-after);
+    there = λ below lt. (
+      e,
+      record {
+        written = ap (λ es. write_numbered es (length w + 1)) whole ∙ numbered-last w e;
+        current = omega (arith, length-append v.earlier v.current);
+        keyed = refl;
+        over = lt;
+      },
+    );
+  }
+
+  pub last-stays : (k n : ℕ) → k ≢ key → IsLastNumber v k n → IsLastNumber after k n
+  last-stays k n other is = record {
+    written = omega (arith, is.written, length-after);
+    last = λ m d missed. elim (numbered-more w e m d (sym (ap (λ es. write_numbered es m) whole) ∙ missed.written)) [
+      | inl old ↦ is.last m d (record { written = old.1; current = missed.current; keyed = missed.keyed; over = missed.over })
+      | inr new ↦ other (sym missed.keyed ∙ ap (λ (x : Entry). x.key) new.1)
+    ];
+    there = λ below lt.
+        let old = is.there below lt in (
+          old.0,
+          record {
+            written = ap (λ es. write_numbered es n) whole ∙ numbered-before w e n is.written ∙ old.1.written;
+            current = old.1.current;
+            keyed = old.1.keyed;
+            over = old.1.over;
+          },
+        );
+  }
+
   -- where the rounds before end, it doesn't change
   pub mark-more : (round mark : ℕ) → round ≤ rounds → mark ≤ length w → IsRoundMark w 0 round mark → IsRoundMark more 0 round mark
   mark-more round mark upto within is = record {
@@ -197,7 +244,24 @@ set-each nodes owner P xs x size here others = record {
   ];
 }
 
-module _ (written : ℕ → List Entry) (most : ℕ) (lists new : List OwnerListView) (counts bases ends : List ℕ) (rounds : ℕ) (kept : AreHistories written most lists counts bases ends rounds) (owner : ℕ) where
+-- one number of each owner and key, where one is set
+place-set : (nodes keys owner key : ℕ) (P : ℕ → ℕ → ℕ → Type 0) (xs : List ℕ) (x : ℕ) → owner < nodes → key < keys → length xs ≡ keys * nodes → P owner key x
+    → ((r k : ℕ) → r < nodes → k < keys → (r ≢ owner) ⊎ (k ≢ key) → P r k (cell xs nodes r k)) → HasEachPlace nodes keys P (set xs (key * nodes + owner) x)
+place-set nodes keys owner key P xs x in_nodes in_keys size here others = record {
+  size = length-set xs (key * nodes + owner) x ∙ size;
+  each = λ r k lt in_k. elim (cases_eq r owner) [
+    | inr other ↦ subst (P r k) (sym (get_or-set_other xs (key * nodes + owner) (k * nodes + r) x 0 (λ is. other (same-place nodes r k owner key lt in_nodes is).1))) (others r k lt in_k (inl other))
+    | inl same ↦ elim (cases_eq k key) [
+      | inr other ↦ subst (P r k) (sym (get_or-set_other xs (key * nodes + owner) (k * nodes + r) x 0 (λ is. other (same-place nodes r k owner key lt in_nodes is).0))) (others r k lt in_k (inr other))
+      | inl too ↦
+          subst (λ o. P o k (get_or (set xs (key * nodes + owner) x) (k * nodes + o) 0)) (sym same)
+          (subst (λ j. P owner j (get_or (set xs (key * nodes + owner) x) (j * nodes + owner) 0)) (sym too)
+          (subst (P owner key) (sym (get_or-set_same xs (key * nodes + owner) x 0 (omega (arith, size, place-within nodes keys owner key in_nodes in_keys)))) here))
+    ]
+  ];
+}
+
+module _ (written : ℕ → List Entry) (most : ℕ) (lists new : List OwnerListView) (counts bases lasts ends : List ℕ) (rounds : ℕ) (kept : AreHistories written most lists counts bases lasts ends rounds) (owner : ℕ) where
   abbrev list : OwnerListView
   list = list_of_owner lists owner
 
@@ -222,8 +286,9 @@ module _ (written : ℕ → List Entry) (most : ℕ) (lists new : List OwnerList
         under.is
         (omega (arith, under.below)))
 
-    pub histories-written : (counts' : List ℕ) → counts' ≡ set counts owner (length (all_writes lists owner) + 1) → AreHistories written most new counts' bases ends rounds
-    histories-written counts' is = subst (λ cs. AreHistories written most new cs bases ends rounds) (sym is) (record {
+    pub histories-written : (counts' lasts' : List ℕ) → owner < length lists → key < MOST_KEYS → counts' ≡ set counts owner (length (all_writes lists owner) + 1)
+        → lasts' ≡ set lasts (key * length lists + owner) (length (all_writes lists owner) + 1) → AreHistories written most new counts' bases lasts' ends rounds
+    histories-written counts' lasts' in_owners in_keys is last_is = subst (λ cs. AreHistories written most new cs bases lasts' ends rounds) (sym is) (subst (λ ls. AreHistories written most new (set counts owner (length (all_writes lists owner) + 1)) bases ls ends rounds) (sym last_is) (record {
       few_nodes = omega (arith, kept.few_nodes, changes.count);
       counted = subst (λ n. HasEach n (λ r n. n ≡ length (all_writes new r)) (set counts owner (length (all_writes lists owner) + 1))) (sym changes.count)
           (set-each (length lists) owner (λ r n. n ≡ length (all_writes new r)) counts (length (all_writes lists owner) + 1) kept.counted.size
@@ -234,6 +299,16 @@ module _ (written : ℕ → List Entry) (most : ℕ) (lists new : List OwnerList
         each = λ r lt. each-list lists new owner _ changes (λ r (v : OwnerListView). r < length lists → get_or bases r 0 ≡ length v.earlier)
             (λ r _. kept.based.each r) (kept.based.each owner) r lt;
       });
+      last = subst (λ n. HasEachPlace n MOST_KEYS (λ r k n. IsLastNumber (list_of_owner new r) k n) (set lasts (key * length lists + owner) (length (all_writes lists owner) + 1))) (sym changes.count)
+          (place-set (length lists) MOST_KEYS owner key (λ r k n. IsLastNumber (list_of_owner new r) k n) lasts (length (all_writes lists owner) + 1) in_owners in_keys kept.last.size
+          (subst (λ v. IsLastNumber v key (length (all_writes lists owner) + 1)) (sym changes.changed) (last-here (written owner) most rounds list key value (kept.are owner) so_far-own))
+          (λ r k lt in_k other. each-list lists new owner _ changes (λ r v. (r ≢ owner) ⊎ (k ≢ key) → r < length lists → IsLastNumber v k (cell lasts (length lists) r k))
+          (λ r _ _ lt. kept.last.each r k lt in_k)
+          (λ other lt. elim other [
+            | inl not_owner ↦ absurd (not_owner refl)
+            | inr not_key ↦ last-stays (written owner) most rounds list key value (kept.are owner) so_far-own k (cell lasts (length lists) owner k) not_key (kept.last.each owner k lt in_k)
+          ])
+          r other lt));
       are = each-list lists new owner _ changes (λ r v. AreWrites v) (λ r _. kept.are r) (writes_more list (kept.are owner) key value (rounds + 1));
       so_far = each-writes lists new owner _ changes (λ r w. IsWrittenSoFar (written r) most rounds w) (λ r _. kept.so_far r) grown;
       ended = subst (λ n. AreEnds (all_writes new) n rounds ends) (sym changes.count) (record {
@@ -254,7 +329,7 @@ module _ (written : ℕ → List Entry) (most : ℕ) (lists new : List OwnerList
           (λ r _ lt. kept.reached r round lt upto)
           (λ lt. omega (arith, kept.reached owner round lt upto, longer))
           r (omega (arith, lt, changes.count)));
-    })
+    }))
 
   module _ (changes : ListBecomes owner (begun_generation list) lists new) where
     same_writes : all_writes new owner ≡ all_writes lists owner
@@ -266,8 +341,17 @@ module _ (written : ℕ → List Entry) (most : ℕ) (lists new : List OwnerList
       | inr other ↦ writes-others lists new owner _ changes r other
     ]
 
-    pub histories-begun : (bases' : List ℕ) → bases' ≡ set bases owner (length (all_writes lists owner)) → AreHistories written most new counts bases' ends rounds
-    histories-begun bases' is = subst (λ bs. AreHistories written most new counts bs ends rounds) (sym is) (record {
+    -- no key has a write of it yet
+    last-none : (k : ℕ) → IsLastNumber (begun_generation list) k 0
+    last-none k = record {
+      written = omega arith;
+      last = λ m d missed. omega (arith, missed.current, (numbered-within (entries_of (begun_generation list)) m d missed.written).1, ap (λ (es : List Entry). length es) (append-nil (entries_of list)));
+      there = λ below lt. absurd (omega (arith, lt));
+    }
+
+    pub histories-begun : (bases' lasts' : List ℕ) → bases' ≡ set bases owner (length (all_writes lists owner)) → ArePlanesChanged (λ r k x y. y ≡ cond (r == owner) 0 x) (length lists) MOST_KEYS lasts lasts'
+        → AreHistories written most new counts bases' lasts' ends rounds
+    histories-begun bases' lasts' is cleared = subst (λ bs. AreHistories written most new counts bs lasts' ends rounds) (sym is) (record {
       few_nodes = omega (arith, kept.few_nodes, changes.count);
       counted = subst (λ n. HasEach n (λ r n. n ≡ length (all_writes new r)) counts) (sym changes.count) (record {
         size = kept.counted.size;
@@ -277,6 +361,13 @@ module _ (written : ℕ → List Entry) (most : ℕ) (lists new : List OwnerList
           (set-each (length lists) owner (λ r n. n ≡ length (list_of_owner new r).earlier) bases (length (all_writes lists owner)) kept.based.size
           (sym (ap (λ (v : OwnerListView). length v.earlier) changes.changed))
           (λ r lt other. kept.based.each r lt ∙ sym (ap (λ (v : OwnerListView). length v.earlier) (changes.others r other))));
+      last = subst (λ n. HasEachPlace n MOST_KEYS (λ r k n. IsLastNumber (list_of_owner new r) k n) lasts') (sym changes.count) (record {
+        size = cleared.size ∙ kept.last.size;
+        each = λ r k lt in_k. each-list lists new owner _ changes (λ r v. r < length lists → IsLastNumber v k (cell lasts' (length lists) r k))
+            (λ r other lt. subst (IsLastNumber (list_of_owner lists r) k) (sym (cleared.each r k lt in_k ∙ ap (λ b. cond b 0 (cell lasts (length lists) r k)) (ne_eqb r owner other))) (kept.last.each r k lt in_k))
+            (λ lt. subst (IsLastNumber (begun_generation list) k) (sym (cleared.each owner k lt in_k ∙ ap (λ b. cond b 0 (cell lasts (length lists) owner k)) (eq-eqb owner owner refl))) (last-none k))
+            r lt;
+      });
       are = each-list lists new owner _ changes (λ r v. AreWrites v) (λ r _. kept.are r) (writes_begun list (kept.are owner));
       so_far = λ r. subst (IsWrittenSoFar (written r) most rounds) (sym (same_each r)) (kept.so_far r);
       ended = subst (λ n. AreEnds (all_writes new) n rounds ends) (sym changes.count) (record {
@@ -294,7 +385,7 @@ place-below : (nodes rounds round owner : ℕ) → round ≤ rounds → owner < 
 place-below nodes rounds round owner le lt = omega (arith, mul-le-mul_right {m = round + 1} {n = rounds + 1} nodes (omega (arith, le)))
 
 -- one more round's end
-module _ (written : ℕ → List Entry) (most : ℕ) (lists : List OwnerListView) (counts bases ends : List ℕ) (rounds : ℕ) (kept : AreHistories written most lists counts bases ends rounds) where
+module _ (written : ℕ → List Entry) (most : ℕ) (lists : List OwnerListView) (counts bases lasts ends : List ℕ) (rounds : ℕ) (kept : AreHistories written most lists counts bases lasts ends rounds) where
   abbrev nodes : ℕ
   nodes = length lists
 
@@ -345,11 +436,12 @@ module _ (written : ℕ → List Entry) (most : ℕ) (lists : List OwnerListView
     ];
   }
 
-  pub histories-ended : (ends' : List ℕ) → ends' ≡ ends ++ counts → AreHistories written most lists counts bases ends' (rounds + 1)
-  histories-ended ends' is = subst (λ es. AreHistories written most lists counts bases es (rounds + 1)) (sym is) (record {
+  pub histories-ended : (ends' : List ℕ) → ends' ≡ ends ++ counts → AreHistories written most lists counts bases lasts ends' (rounds + 1)
+  histories-ended ends' is = subst (λ es. AreHistories written most lists counts bases lasts es (rounds + 1)) (sym is) (record {
     few_nodes = kept.few_nodes;
     counted = kept.counted;
     based = kept.based;
+    last = kept.last;
     are = kept.are;
     so_far = made-longer;
     ended = ended-more;
@@ -385,6 +477,13 @@ so_far-none all most some = record {
     begins zero le = refl
     begins (suc place) le = absurd (omega (arith, le))
 
+-- what holds of all planes holds of the first ones
+pub first-planes : {N : Type 0} (number : N → ℕ) (nodes many keys : ℕ) (P : ℕ → ℕ → ℕ → Type 0) (xs : List N) → keys ≤ many → HasEachPlace nodes many P (map number xs) → HasEachPlace nodes keys P (map number (take (keys * nodes) xs))
+first-planes number nodes many keys P xs le all = subst (HasEachPlace nodes keys P) (take-map number (keys * nodes) xs) (record {
+  size = length-take-le (keys * nodes) (map number xs) (omega (arith, all.size, mul-le-mul_right {m = keys} {n = many} nodes le));
+  each = λ r k lt in_k. subst (P r k) (sym (get_or-take (keys * nodes) (map number xs) (k * nodes + r) 0 (place-within nodes keys r k lt in_k))) (all.each r k lt (omega (arith, in_k, le)));
+})
+
 -- before the first round
 module _ (written : ℕ → List Entry) (most nodes : ℕ) (lists : List OwnerListView) (some : 0 < most) (few : nodes ≤ MOST_NODES) (count : length lists ≡ nodes) (empty : (owner : ℕ) → list_of_owner lists owner ≡ no_writes) where
   writes-none : (owner : ℕ) → all_writes lists owner ≡ []
@@ -397,8 +496,9 @@ module _ (written : ℕ → List Entry) (most nodes : ℕ) (lists : List OwnerLi
     rising = λ i j d lt in_range. absurd (omega (arith, in_range));
   }
 
-  pub histories-empty : (counts bases ends : List ℕ) → HasEach nodes (λ r n. n ≡ 0) counts → HasEach nodes (λ r n. n ≡ 0) bases → HasEach nodes (λ r n. n ≡ 0) ends → AreHistories written most lists counts bases ends 0
-  histories-empty counts bases ends no_counts no_bases no_ends = record {
+  pub histories-empty : (counts bases lasts ends : List ℕ) → HasEach nodes (λ r n. n ≡ 0) counts → HasEach nodes (λ r n. n ≡ 0) bases → HasEach (MOST_KEYS * nodes) (λ r n. n ≡ 0) lasts → HasEach nodes (λ r n. n ≡ 0) ends
+      → AreHistories written most lists counts bases lasts ends 0
+  histories-empty counts bases lasts ends no_counts no_bases no_lasts no_ends = record {
     few_nodes = omega (arith, few, count);
     counted = record {
       size = no_counts.size ∙ sym count;
@@ -407,6 +507,16 @@ module _ (written : ℕ → List Entry) (most nodes : ℕ) (lists : List OwnerLi
     based = record {
       size = no_bases.size ∙ sym count;
       each = λ r lt. no_bases.each r (omega (arith, lt, count)) ∙ sym (ap (λ (v : OwnerListView). length v.earlier) (empty r));
+    };
+    last = record {
+      size = no_lasts.size ∙ ap (λ n. MOST_KEYS * n) (sym count);
+      each = λ r k lt in_k.
+          subst (IsLastNumber (list_of_owner lists r) k) (sym (no_lasts.each (k * length lists + r) (omega (arith, place-within (length lists) MOST_KEYS r k lt in_k, ap (λ n. MOST_KEYS * n) count))))
+          (subst (λ v. IsLastNumber v k 0) (sym (empty r)) (record {
+            written = omega arith;
+            last = λ m d missed. none-written m d missed.written;
+            there = λ below under. absurd (omega (arith, under));
+          }));
     };
     are = λ r. subst AreWrites (sym (empty r)) no_writes-are;
     so_far = λ r. subst (IsWrittenSoFar (written r) most 0) (sym (writes-none r)) (so_far-none (written r) most some);

@@ -1,6 +1,5 @@
 -- A node's own calls on its table: its numbers lie as those of the table that the model has then.
--- Serves `VersionTable::forget_all`, `VersionTable::forget_others`, `VersionTable::new`, `VersionTable::write_own`
--- and `keep_one`.
+-- Serves the functions of `owners` and `tables` and `HistoryCalls`.
 use Rattle.std.proofs.Common.{◌≡◌, ◌≢◌, ℕ, ◌+◌, ◌*◌, ◌<◌, ◌≤◌, ◌==◌, cond, List, length, get_or, set, Some, None, ◌⊎◌, inl, inr, sym, ap, ◌∙◌, subst, arith}
 use Rattle.std.specs.Prelude.{slice_index}
 use Rattle.std.proofs.Math.Nat.{mul-le-mul_right}
@@ -47,7 +46,7 @@ kept-one old mid owner in_nodes cleared = record {
 }
 
 -- two places in planes are one where their indices are
-same-place : (nodes r k s j : ℕ) → r < nodes → s < nodes → k * nodes + r ≡ j * nodes + s → (k ≡ j) × (r ≡ s)
+pub same-place : (nodes r k s j : ℕ) → r < nodes → s < nodes → k * nodes + r ≡ j * nodes + s → (k ≡ j) × (r ≡ s)
 same-place nodes r k s j in_nodes in_node is = elim (cases_lt k j) [
   | inl before ↦ absurd (omega (arith, is, in_nodes, mul-le-mul_right {m = k + 1} {n = j} nodes (omega (arith, before))))
   | inr not_before ↦ elim (cases_lt j k) [
@@ -58,7 +57,7 @@ same-place nodes r k s j in_nodes in_node is = elim (cases_lt k j) [
   ]
 ]
 
-place-within : (nodes keys r k : ℕ) → r < nodes → k < keys → k * nodes + r < keys * nodes
+pub place-within : (nodes keys r k : ℕ) → r < nodes → k < keys → k * nodes + r < keys * nodes
 place-within nodes keys r k in_nodes in_keys = omega (arith, in_nodes, mul-le-mul_right {m = k + 1} {n = keys} nodes (omega (arith, in_keys)))
 
 -- numbers that are all 0 are so at each index

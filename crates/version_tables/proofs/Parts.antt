@@ -1,15 +1,11 @@
 -- Pieces of tables as code counts them, table by table and part by part.
--- Serves `Numbers::piece_of`, `cells_of` and `counted`.
-use Rattle.std.proofs.Common.{◌≡◌, ℕ, ◌+◌, ◌-◌, ◌*◌, ◌<◌, ◌≤◌, min, Bool, cond, ◌&&◌, List, [], ◌∷◌, ◌++◌, length, get_or, map, inl, inr, refl, sym, ap, ◌∙◌, subst, arith}
-use Rattle.std.specs.Prelude.{slice_index, nat_lt, nat_le, Result, Ok, IfOk}
-use Rattle.std.specs.List.{AllZip, range_with_len}
-use Rattle.std.proofs.lemmas.List.FromFn.{length-range_with_len}
-use Rattle.std.proofs.lemmas.Slice.Zip.{AllZip-long}
+-- Serves `+rest`, `Numbers::piece_of`, `cells_of` and `counted`.
+use Rattle.std.proofs.Common.{◌≡◌, ℕ, ◌+◌, ◌*◌, ◌<◌, ◌≤◌, min, Bool, cond, ◌&&◌, List, [], ◌∷◌, ◌++◌, length, get_or, map, inl, inr, refl, sym, ap, ◌∙◌, subst, arith}
+use Rattle.std.specs.Prelude.{slice_index, nat_lt, nat_le}
 use Rattle.std.proofs.lemmas.Bool.{cases_lt}
 use Rattle.std.specs.Borrow.{Bor}
 use Rattle.std.proofs.lemmas.List.{get_or-map, get_or_default, get_or_append_left, get_or_at, length-append, map-append, length-map}
 use Rattle.bench_types.specs.declared.entries.Entry.{Entry}
-use Rattle.bench_types.specs.declared.faults.Fault.{Fault}
 use Rattle.bench_types.specs.declared.limits.TheConstants.{MOST_NODES, MOST_KEYS}
 use Rattle.model.specs.Table.{Table}
 use Rattle.model.specs.Tables.{table_of_node}
@@ -18,13 +14,10 @@ use Rattle.bench_types.specs.Sums.{sum_below}
 use Rattle.planes.specs.Planes.{cell, total_of, HasEach, HasEachPlace, ArePlanesChanged, IsGrid}
 use Rattle.bench_types.proofs.Sums.{sum_below-same}
 use Rattle.planes.proofs.Counts.{count_le}
-use Rattle.bench_types.proofs.EqualParts.{at_place}
-use Rattle.bench_types.proofs.Sums.{one_more}
 use Rattle.bench_types.proofs.Sums.{sum_below-most}
-use Rattle.version_tables.specs.declared.lags.Piece.{Piece}
 use Rattle.version_tables.specs.Views.{VersionTableView, IsKept}
 use Rattle.version_tables.specs.inner.Missed.{base_of, IsNumberAt}
-use Rattle.version_tables.specs.inner.Pieces.{tables_of_views, keys_in, AreLaidAsNumbers, AreLastNumbers, IsPieceOf, numbers_at, AreGrids, AreNumbersOf, CountsPiece, CountsPart, view_at, numbers_in, AreCellsUpto, AreCellsOf}
+use Rattle.version_tables.specs.inner.Pieces.{tables_of_views, keys_in, AreLaidAsNumbers, AreLastNumbers, IsPieceOf, numbers_at, AreGrids, AreNumbersOf, CountsPiece, view_at, numbers_in, AreCellsUpto, AreCellsOf}
 use Rattle.version_tables.proofs.Pieces.{piece-none, piece-more, piece-joined}
 use Rattle.version_tables.proofs.Standing.{count-tables_in, one-list-each, cells-count, numbers-at}
 
@@ -101,15 +94,6 @@ module _ (written : ℕ → List Entry) (views : List VersionTableView) (lists :
           (subst (λ ks. ArePlanesChanged (λ r k c d. d ≡ min c (cell other nodes r k)) nodes ks old new) keys_are changed));
     }
 
-    -- the first parts, and the next one
-    pub part-next : (size p stale leftover x y : ℕ) (old new other : List ℕ) → p * size ≤ nodes → IsPieceOf tables lists 0 (min (p * size) nodes) stale leftover old → IsPieceOf tables lists (p * size) (min size (nodes - p * size)) x y other
-        → ArePlanesChanged (λ r k c d. d ≡ min c (cell other nodes r k)) nodes keys old new → IsPieceOf tables lists 0 (min ((p + 1) * size) nodes) (stale + x) (leftover + y) new
-    part-next size p stale leftover x y old new other inside one two changed =
-        let behind : p * size ≡ 0 + min (p * size) nodes = omega (arith, inside) in
-        let up : min (p * size) nodes + min size (nodes - p * size) ≡ min ((p + 1) * size) nodes = omega (arith, inside, same, one_more p size) in
-        subst (λ m. IsPieceOf tables lists 0 m (stale + x) (leftover + y) new) up
-        (part-joined 0 (min (p * size) nodes) (min size (nodes - p * size)) stale leftover x y old new other one (subst (λ f. IsPieceOf tables lists f (min size (nodes - p * size)) x y other) behind two) changed)
-
 -- the numbers of tables make grids
 pub grids-of : (written : ℕ → List Entry) (views : List VersionTableView) (lists : List OwnerListView) (nodes keys : ℕ) (cells : List (List ℕ)) (bases last : List ℕ) → AreNumbersOf written views lists nodes keys cells bases last → length bases ≡ nodes → AreGrids nodes keys cells bases last
 grids-of written views lists nodes keys cells bases last are based = record {
@@ -159,6 +143,18 @@ module _ (nodes keys : ℕ) (cells : List (List ℕ)) (bases last : List ℕ) wh
         (before.pieces written views lists are);
   }
 
+  -- two pieces, one behind the other
+  pub counts-joined : (from a b stale leftover x y : ℕ) (old new other : List ℕ) → CountsPiece nodes keys cells bases last from a stale leftover old → CountsPiece nodes keys cells bases last (from + a) b x y other
+      → ArePlanesChanged (λ r k c d. d ≡ min c (cell other nodes r k)) nodes keys old new → CountsPiece nodes keys cells bases last from (a + b) (stale + x) (leftover + y) new
+  counts-joined from a b stale leftover x y old new other one two changed = record {
+    few_stale = omega (arith, one.few_stale, two.few_stale);
+    few_leftover = omega (arith, one.few_leftover, two.few_leftover);
+    size = changed.size ∙ one.size;
+    pieces = λ written views lists are.
+        part-joined written views lists are.laid keys are.keys_are from a b stale leftover x y old new other (one.pieces written views lists are) (two.pieces written views lists are)
+        (subst (λ m. ArePlanesChanged (λ r k c d. d ≡ min c (cell other m r k)) m keys old new) are.nodes_are changed);
+  }
+
 -- the numbers of tables, one more after another
 pub cells-none : (written : ℕ → List Entry) (views : List VersionTableView) → AreCellsUpto written views [] 0
 cells-none written views = record { count = refl; each = λ p lt. absurd (omega (arith, lt)) }
@@ -179,25 +175,6 @@ cells-more written views number cells at x v before lt is kept same = subst (λ 
         (get_or_at (numbers_in number cells) (map number x.now) [] [] at before.count ∙ same ∙ ap (λ (y : VersionTableView). y.cells) view, subst (IsKept written) view kept)
   ];
 })
-
--- what was found of a part
-pub part-found : {X : Type 0} (P : ℕ → X → Type 0) (count : ℕ) (items parts : List (Result X Fault)) (k : ℕ) (r : Result X Fault) (x : X) → items ≡ parts → AllZip (λ part found. IfOk found (P part)) (range_with_len 0 count) parts
-    → k < length items → r ≡ get_or items k r → r ≡ Ok x → P k x × (k < count)
-part-found {X} P count items parts k r x same each lt is ok =
-    let many : length parts ≡ count = AllZip-long (λ part found. IfOk found (P part)) (range_with_len 0 count) parts each ∙ length-range_with_len 0 count in
-    let below : k < count = omega (arith, lt, ap length same, many) in
-    let here : 0 + k ≡ k = omega arith in
-    let at : IfOk (get_or parts k r) (P (0 + k)) = at_place (λ part found. IfOk found (P part)) 0 count parts each k r below in
-    (subst (λ n. P n x) here (subst (λ o. IfOk o (P (0 + k))) (sym (is ∙ ap (λ xs. get_or xs k r) same) ∙ ok) at), below)
-
-pub part-counted : {N : Type 0} {nodes keys : ℕ} {cells : List (List ℕ)} {bases last : List ℕ} (number : N → ℕ) (size : ℕ) {count : ℕ} {items parts : List (Result (Piece N) Fault)} {k : ℕ} {r : Result (Piece N) Fault} {p : Piece N} → items ≡ parts
-    → AllZip (λ part found. IfOk found (λ q. CountsPart nodes keys cells bases last size part q.stale q.leftover (map number q.least.items))) (range_with_len 0 count) parts
-    → k < length items → r ≡ get_or items k r → r ≡ Ok p → CountsPart nodes keys cells bases last size k p.stale p.leftover (map number p.least.items) × (k < count)
-part-counted {N} {nodes} {keys} {cells} {bases} {last} number size {count} {items} {parts} {k} {r} {p} items_are each lt is ok =
-    part-found (λ part q. CountsPart nodes keys cells bases last size part q.stale q.leftover (map number q.least.items)) count items parts k r p items_are each lt is ok
-
-pub many-parts : {X : Type 0} (P : ℕ → X → Type 0) (count : ℕ) (parts : List (Result X Fault)) → AllZip (λ part found. IfOk found (P part)) (range_with_len 0 count) parts → length parts ≡ count
-many-parts P count parts each = AllZip-long (λ part found. IfOk found (P part)) (range_with_len 0 count) parts each ∙ length-range_with_len 0 count
 
 -- a table's numbers as code reads them
 pub cells-read : {N : Type 0} (number : N → ℕ) (cells : List (Bor (List N))) (p : ℕ) (x : Bor (List N)) → p < length (numbers_in number cells) → x ≡ get_or cells p x → map number x.now ≡ numbers_at (numbers_in number cells) p

@@ -1,7 +1,6 @@
 -- What is counted of all tables comes to the figures of a round.
 -- Serves `figures`.
-use Rattle.std.proofs.Common.{◌≡◌, ℕ, ◌+◌, ◌<◌, ◌≤◌, List, [], ◌∷◌, length, get_or, refl, sym, ap, ◌∙◌, subst, arith}
-use Rattle.std.proofs.lemmas.List.{get_or_default}
+use Rattle.std.proofs.Common.{◌≡◌, ℕ, ◌+◌, ◌<◌, ◌≤◌, List, [], ◌∷◌, length, sym, ap, ◌∙◌, subst, arith}
 use Rattle.bench_types.specs.declared.entries.Entry.{Entry}
 use Rattle.bench_types.specs.declared.rows.Figures.{Figures}
 use Rattle.bench_types.specs.declared.limits.TheConstants.{MOST_NODES, MOST_KEYS, MOST_ROUNDS}
@@ -9,7 +8,7 @@ use Rattle.model.specs.Table.{Table}
 use Rattle.model.specs.Tables.{IsCluster, HoldsOfEach}
 use Rattle.model.specs.OwnerListView.{OwnerListView, all_writes, list_of_owner, lists_in, AreWrites}
 use Rattle.bench_types.specs.Sums.{sum_below}
-use Rattle.planes.specs.Planes.{cell, HasEachPlace}
+use Rattle.planes.specs.Planes.{HasEachPlace}
 use Rattle.bench_types.proofs.Sums.{sum_below-same}
 use Rattle.round_tables.specs.Histories.{AreWrittenBy, StandsAmong}
 use Rattle.bench_types.specs.Sums.{most_below}
@@ -19,9 +18,9 @@ use Rattle.bench_types.proofs.Sums.{most_below-same}
 use Rattle.version_tables.specs.Views.{VersionTableView}
 use Rattle.version_tables.specs.inner.Histories.{IsWrittenSoFar}
 use Rattle.version_tables.specs.inner.Missed.{IsLastNumber}
-use Rattle.version_tables.specs.inner.Pieces.{tables_of_views, keys_in, view_at, AreAlike, StandTogether, AreLaidAsNumbers, AreLastNumbers, IsOwnNumber, IsPiece, IsPieceOf, IsLeastHeld, MayWalk, most_lag}
-use Rattle.version_tables.proofs.Pieces.{own_last, key_within}
-use Rattle.version_tables.proofs.Standing.{count-tables_in, table-read, numbers-at}
+use Rattle.version_tables.specs.inner.Pieces.{tables_of_views, keys_in, StandTogether, AreLaidAsNumbers, AreLastNumbers, IsPiece, IsPieceOf, IsLeastHeld, MayWalk, most_lag}
+use Rattle.version_tables.proofs.Pieces.{key_within}
+use Rattle.version_tables.proofs.Standing.{count-tables_in}
 
 few-standing : (ts : List Table) (lists : List OwnerListView) → length lists ≡ length ts → HoldsOfEach (StandsAmong lists) ts → (length ts ≤ MOST_NODES) × (keys_in ts ≤ MOST_KEYS)
 few-standing [] lists one_each standing = (omega arith, omega arith)
@@ -35,12 +34,6 @@ module _ (written : ℕ → List Entry) (views : List VersionTableView) (lists :
 
   same : length tables ≡ length views
   same = count-tables_in written views
-
-  pub alike-is : IsCluster (length views) tables → AreAlike (keys_in tables) views
-  alike-is cluster p d lt =
-      let read = table-read written views p (get_or views p d) lt (get_or_default views p d (get_or views p d) lt) in
-      let here = cluster.tables p lt in
-      (ap (λ (t : Table). t.nodes) (sym read) ∙ here.nodes, ap (λ (t : Table). t.keys) (sym read) ∙ here.keys)
 
   pub laid-is : (most rounds : ℕ) → IsCluster (length views) tables → length lists ≡ length views → HoldsOfEach (StandsAmong lists) tables → ((r : ℕ) → AreWrites (list_of_owner lists r))
       → ((r : ℕ) → IsWrittenSoFar (written r) most rounds (all_writes lists r)) → AreLaidAsNumbers written views lists
@@ -63,25 +56,10 @@ module _ (written : ℕ → List Entry) (views : List VersionTableView) (lists :
     abbrev together : StandTogether tables lists
     together = laid.together
 
-    last-at : (r k y : ℕ) → r < length views → k < keys_in tables → IsOwnNumber written views r k y → IsLastNumber (list_of_owner lists r) k y
-    last-at r k y lt in_k own =
-        let v = view_at views r in
-        let is : v ≡ get_or views r v = get_or_default views r (record { node = 0; nodes = 0; keys = 0; generation = 0; cells = []; greatest = [] }) v lt in
-        let at = (numbers-at written views lists laid r v lt is own.kept v.cells refl).each r k lt in_k in
-        subst (IsLastNumber (list_of_owner lists r) k) (sym own.is) (own_last tables lists together r k (cell v.cells (length views) r k) (omega (arith, lt, same)) at)
-
-    pub lasts-are : (keys : ℕ) → keys ≡ keys_in tables → (last : List ℕ) → HasEachPlace (length views) keys (IsOwnNumber written views) last → AreLastNumbers tables lists last
-    lasts-are keys keys_are last own =
-        let owns = subst (λ k. HasEachPlace (length views) k (IsOwnNumber written views) last) keys_are own in
-        subst (λ m. HasEachPlace m (keys_in tables) (λ r k y. IsLastNumber (list_of_owner lists r) k y) last) (sym same) (record {
-          size = owns.size;
-          each = λ r k lt in_k. last-at r k (cell last (length views) r k) lt in_k (owns.each r k lt in_k);
-        })
-
-    pub lasts-by_list : (keys : ℕ) → keys ≡ keys_in tables → (last : List ℕ) → AreLastNumbers tables lists last → HasEachPlace (length lists) keys (λ r k y. IsLastNumber (list_of_owner lists r) k y) last
-    lasts-by_list keys keys_are last lasts =
-        subst (λ m. HasEachPlace m keys (λ r k y. IsLastNumber (list_of_owner lists r) k y) last) (sym together.one_list_each)
-        (subst (λ ks. HasEachPlace (length tables) ks (λ r k y. IsLastNumber (list_of_owner lists r) k y) last) (sym keys_are) lasts)
+    pub lasts-are : (keys : ℕ) → keys ≡ keys_in tables → (last : List ℕ) → HasEachPlace (length lists) keys (λ r k y. IsLastNumber (list_of_owner lists r) k y) last → AreLastNumbers tables lists last
+    lasts-are keys keys_are last lasts =
+        subst (λ ks. HasEachPlace (length tables) ks (λ r k y. IsLastNumber (list_of_owner lists r) k y) last) keys_are
+        (subst (λ m. HasEachPlace m keys (λ r k y. IsLastNumber (list_of_owner lists r) k y) last) together.one_list_each lasts)
 
     module _ (round stale leftover : ℕ) (least : List ℕ) (round_limit : round ≤ MOST_ROUNDS) (by : AreWrittenBy round lists) (piece : IsPieceOf tables lists 0 (length views) stale leftover least) (keys : ℕ) (keys_are : keys ≡ keys_in tables) where
       whole : IsPiece round tables lists 0 (length views) stale leftover least

@@ -109,8 +109,9 @@ impl<H: Written + Send + Sync> RoundHistories<VersionTable<Short, H>> for Histor
         alloc: Global,
         tables: &[VersionTable<Short, H>],
         round: u32,
+        workers: u32,
     ) -> Result<Figures, Fault> {
-        figures(rt, alloc, tables, self, round)
+        figures(rt, alloc, tables, self, round, workers)
     }
 }
 
@@ -174,7 +175,8 @@ impl<H: Written + Send + Sync> RoundHistories<VersionTable<u32, H>> for Historie
         alloc: Global,
         tables: &[VersionTable<u32, H>],
         round: u32,
+        workers: u32,
     ) -> Result<Figures, Fault> {
-        figures(rt, alloc, tables, self, round)
+        figures(rt, alloc, tables, self, round, workers)
     }
 }

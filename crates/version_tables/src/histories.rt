@@ -5,8 +5,10 @@ ghost use Rattle.bench_types.specs.declared.faults.Fault.TheVariants.{OutOfMemor
 ghost use Rattle.model.specs.OwnerListView.{list_of_owner, no_writes};
 ghost use Rattle.planes.specs.Planes.{HasEach};
 
+use crate::owners::clear_owner;
 use crate::tables::Written;
 use bench_types::Fault;
+use bench_types::limits::MOST_KEYS;
 use owner_lists::OwnerList;
 use planes::{Number, zeros};
 use std::alloc::Global;
@@ -19,6 +21,9 @@ pub struct Histories<N: Number, H: Written> {
     // How many writes each owner has made, and how many of them are of earlier generations.
     counts: Vec<N>,
     bases: Vec<N>,
+    // `lasts[key * nodes + owner]`: the number of its last write of a key in its generation, 0 for none. There is room
+    // for the most keys, as no call tells how many there are.
+    lasts: Vec<N>,
     // `ends[round * nodes + owner]`: how many it made up to a round.
     ends: Vec<N>,
     rounds: u32,
@@ -38,16 +43,17 @@ impl<N: Number, H: Written> Model for Histories<N, H> {
     ghost view = { λ h. record { lists = h.lists.items; rounds = h.rounds } };
 
     ghost invariant = { λ h. AreHistories H.lists N.most h.lists.items (map N.number h.counts.items)
-        (map N.number h.bases.items) (map N.number h.ends.items) h.rounds };
+        (map N.number h.bases.items) (map N.number h.lasts.items) (map N.number h.ends.items) h.rounds };
 }
 
 impl<N: Number, H: Written> Histories<N, H> {
     ghost use Rattle.std.specs.Prelude.{ℕ, ◌+◌, ◌^◌, ◌<◌, ◌≤◌, map, length, IfOk, OnOk, OnErr, IsOkUnless};
     ghost use Rattle.bench_types.specs.declared.faults.Fault.TheVariants.{OutOfMemory};
-    ghost use Rattle.bench_types.specs.declared.limits.TheConstants.{MOST_NODES};
+    ghost use Rattle.bench_types.specs.declared.limits.TheConstants.{MOST_KEYS, MOST_NODES};
     ghost use Rattle.model.specs.OwnerListView.{all_writes, list_of_owner, no_writes, next_entry, with_write, begun_generation, AreWrites, ListBecomes};
-    ghost use Rattle.planes.specs.Planes.{HasEach};
+    ghost use Rattle.planes.specs.Planes.{HasEach, HasEachPlace};
     ghost use Rattle.version_tables.specs.inner.Histories.{IsWrittenSoFar, IsWriteUnder};
+    ghost use Rattle.version_tables.specs.inner.Missed.{IsLastNumber};
     ghost use Rattle.version_tables.specs.inner.RoundEnds.{AreEnds};
 
     /// Where so many owners have written nothing, before the first round. An error is lack of memory
@@ -64,6 +70,7 @@ impl<N: Number, H: Written> Histories<N, H> {
             lists: no_lists(alloc, nodes)?,
             counts: zeros(alloc, nodes)?,
             bases: zeros(alloc, nodes)?,
+            lasts: zeros(alloc, MOST_KEYS as usize * nodes)?,
             ends: zeros(alloc, nodes)?,
             rounds: 0,
             written: PhantomData,
@@ -74,6 +81,7 @@ impl<N: Number, H: Written> Histories<N, H> {
     /// error is lack of memory (`OutOfMemory`), and then nothing was added.
     pub fn write(&mut self, owner: u32, key: u32, value: u32, born: u32) -> Result<N, Fault>
         requires owner { owner < length self.old.lists }
+        requires key { key < MOST_KEYS }
         requires few { length (list_of_owner self.old.lists owner).current + 1 < 2 ^ 32 }
         requires born { born ≡ self.old.rounds + 1 }
         requires under { IsWriteUnder H.lists N.most owner
@@ -92,10 +100,12 @@ impl<N: Number, H: Written> Histories<N, H> {
         self.lists[owner].write(key, value, born)?;
         let number = self.counts[owner].plus(true);
         self.counts[owner] = number;
+        let nodes = self.lists.len();
+        self.lasts[key as usize * nodes + owner] = number;
         Ok(number)
     }
 
-    /// An owner forgets, and begins its next generation with nothing.
+    /// An owner forgets, and begins its next generation with nothing. Costs a step for each key that there may be.
     pub fn begin_generation(&mut self, owner: u32)
         requires owner { owner < length self.old.lists }
         requires few { (list_of_owner self.old.lists owner).generation + 1 < 2 ^ 32 }
@@ -106,6 +116,8 @@ impl<N: Number, H: Written> Histories<N, H> {
         let owner = owner as usize;
         self.lists[owner].begin_generation();
         self.bases[owner] = self.counts[owner];
+        let nodes = self.lists.len();
+        clear_owner(&mut self.lasts, nodes, MOST_KEYS as usize, owner);
     }
 
     /// The writes of the next round are made. An error is lack of memory (`OutOfMemory`), and then the round has
@@ -156,6 +168,15 @@ impl<N: Number, H: Written> Histories<N, H> {
         ensures writes { (owner : ℕ) → AreWrites (list_of_owner self.now.lists owner) }
     {
         &self.bases
+    }
+
+    // Plane by plane, the number of each owner's last write of each of so many keys.
+    pub(crate) fn lasts(&self, keys: usize) -> &[N]
+        requires keys { keys ≤ MOST_KEYS }
+        ensures { HasEachPlace (length self.now.lists) keys (λ r k n. IsLastNumber (list_of_owner self.now.lists r) k n)
+            (map N.number result.now) }
+    {
+        &self.lasts[..keys * self.lists.len()]
     }
 
     // Row by row, how many writes each owner has made up to a round.

@@ -1,31 +1,28 @@
 //! How far the copies lag behind their owners, where tables keep versions alone: the figures of a round.
 
 ghost use Rattle.std.specs.Prelude.{◌≡◌, ℕ, ◌+◌, ◌-◌, ◌*◌, ◌/◌, ◌^◌, ◌<◌, ◌≤◌, ◌&&◌, ◌↔◌, map, length, nat_lt, nat_le, slice_index, IfOk, IsFalse, IsTrue, IsOkUnless};
-ghost use Rattle.std.specs.List.{AllZip, range_with_len};
 ghost use Rattle.bench_types.specs.declared.faults.Fault.TheVariants.{OutOfMemory};
 ghost use Rattle.bench_types.specs.declared.limits.TheConstants.{MOST_NODES, MOST_KEYS, MOST_ROUNDS};
 ghost use Rattle.model.specs.Tables.{IsCluster, HoldsOfEach};
 ghost use Rattle.model.specs.OwnerListView.{all_writes, list_of_owner, lists_in, entries_of, AreWrites};
 ghost use Rattle.model.specs.Numbers.{write_numbered};
-ghost use Rattle.planes.specs.Elementwise.{AreChanged};
 ghost use Rattle.planes.specs.Lags.{IsLeastBehind};
-ghost use Rattle.planes.specs.Planes.{cell, total_of, ArePlanesChanged, HasEach, HasEachPlace, IsGrid};
+ghost use Rattle.planes.specs.Planes.{cell, total_of, HasEach, HasEachPlace, IsGrid};
 ghost use Rattle.round_tables.specs.Histories.{BirthsRise, AreWrittenBy, StandsAmong};
 ghost use Rattle.bench_types.specs.Sums.{most_below};
 ghost use Rattle.model.specs.Figures.{rounds_behind, figures_of};
 ghost use Rattle.version_tables.specs.inner.Missed.{IsLastNumber};
 ghost use Rattle.version_tables.specs.inner.RoundEnds.{AreEnds};
-ghost use Rattle.version_tables.specs.inner.Pieces.{keys_in, tables_of_views, AreAlike, MayBeCounted, AreLaidAsNumbers, AreLastNumbers, AreCellsOf, AreCountedGrids, CountsPieceOf, CountsPartOf, numbers_in, IsOwnNumber, IsPieceOf, MayWalk, WalksFrom, most_lag};
+ghost use Rattle.version_tables.specs.inner.Pieces.{keys_in, tables_of_views, MayBeCounted, AreLaidAsNumbers, AreLastNumbers, AreCellsOf, AreCountedGrids, CountsPieceOf, numbers_in, IsPieceOf, MayWalk, WalksFrom, most_lag};
 
 use crate::histories::Histories;
 use crate::rounds::{Ends, row_of};
 use crate::tables::{VersionTable, Written};
 use bench_types::{Fault, Figures};
 use owner_lists::OwnerList;
-use planes::{Number, count_behind, least_behind, lower_all, total_upto, zeros};
-use rayon::current_num_threads;
-use rayon::prelude::*;
-use std::alloc::{AllocError, Global};
+use planes::{Number, count_behind, least_behind, lower_all, total_upto};
+use rayon::{current_num_threads, join};
+use std::alloc::Global;
 use std::thread::Threads;
 
 // What some of the tables say.
@@ -44,66 +41,6 @@ fn keys_of<N: Number, H: Written>(tables: &[VersionTable<N, H>]) -> usize
         Some(table) => table.keys() as usize,
         None => 0,
     }
-}
-
-// Puts the numbers of a key that the owners' own tables hold.
-fn put_own_numbers<N: Number, H: Written>(
-    plane: &mut [N],
-    tables: &[VersionTable<N, H>],
-    keys: usize,
-    key: usize,
-)
-    requires nodes { length plane.old ≡ length tables.now }
-    requires few { length tables.now ≤ MOST_NODES }
-    requires few_keys { keys ≤ MOST_KEYS }
-    requires alike { AreAlike keys tables.now }
-    requires key { key < keys }
-    ensures { AreChanged (λ r x y. IsOwnNumber H.lists tables.now r key y)
-        (map N.number plane.old) (map N.number plane.new) }
-{
-    let nodes = tables.len();
-    for owner in 0..plane.len() {
-        let cells = tables[owner].cells();
-        plane[owner] = cells[key * nodes + owner];
-    }
-}
-
-fn put_last_numbers<N: Number, H: Written>(
-    last: &mut [N],
-    tables: &[VersionTable<N, H>],
-    keys: usize,
-)
-    requires grid { IsGrid (length tables.now) keys (length last.old) }
-    requires alike { AreAlike keys tables.now }
-    ensures { ArePlanesChanged (λ r k x y. IsOwnNumber H.lists tables.now r k y)
-        (length tables.now) keys
-        (map N.number last.old) (map N.number last.new) }
-{
-    let nodes = tables.len();
-    for key in 0..keys {
-        let start = key * nodes;
-        let plane = &mut last[start..start + nodes];
-        put_own_numbers(plane, tables, keys, key);
-    }
-}
-
-// For each key and owner the number of the last write, as the owner's own table has it.
-fn last_numbers<N: Number, H: Written>(
-    alloc: Global,
-    tables: &[VersionTable<N, H>],
-    keys: usize,
-) -> Result<Vec<N>, Fault>
-    requires few { length tables.now ≤ MOST_NODES }
-    requires few_keys { keys ≤ MOST_KEYS }
-    requires alike { AreAlike keys tables.now }
-    ensures own { IfOk result
-        (λ v. HasEachPlace (length tables.now) keys (IsOwnNumber H.lists tables.now)
-        (map N.number v.items)) }
-    ensures only { IsOkUnless result OutOfMemory }
-{
-    let mut last = zeros(alloc, keys * tables.len())?;
-    put_last_numbers(&mut last, tables, keys);
-    Ok(last)
 }
 
 // Whether a node has forgotten.
@@ -196,44 +133,45 @@ impl<'a, N: Number> Numbers<'a, N> {
         })
     }
 
-    // What the tables of a part of so many say.
-    fn part_of(&self, alloc: Global, size: usize, part: usize) -> Result<Piece<N>, Fault>
+    // What all tables from one on say, so many in each thread. This thread starts all others: where a new thread starts
+    // another one, the system may put both on one processor.
+    #[cycle(rest)]
+    fn rest_from(
+        &self,
+        rt: &(impl Threads + Sync),
+        alloc: Global,
+        size: usize,
+        from: usize,
+    ) -> Result<Piece<N>, Fault>
         requires numbers { AreCountedGrids N.number self.now }
         requires some { 1 ≤ size }
-        requires part { part ≤ self.now.nodes / size }
-        ensures piece { IfOk result (CountsPartOf N.number self.now size part) }
+        requires within { from ≤ self.now.nodes }
+        ensures piece { IfOk result (CountsPieceOf N.number self.now from (self.now.nodes - from)) }
         ensures only { IsOkUnless result OutOfMemory }
     {
-        let from = part * size;
-        let count = size.min(self.nodes - from);
-        self.piece_of(alloc, from, count)
+        let rest = self.nodes - from;
+        if rest <= size {
+            return self.piece_of(alloc, from, rest);
+        }
+        let first = || -> Result<Piece<N>, Fault>
+            requires { AreCountedGrids N.number self.now × (from + size ≤ self.now.nodes) }
+            ensures piece { IfOk result (CountsPieceOf N.number self.entry.now from size) }
+            ensures only { IsOkUnless result OutOfMemory }
+        { self.piece_of(alloc, from, size) };
+        let others = || -> Result<Piece<N>, Fault>
+            requires { AreCountedGrids N.number self.now × (1 ≤ size) × (from + size ≤ self.now.nodes) }
+            ensures piece { IfOk result
+                (CountsPieceOf N.number self.entry.now (from + size) (self.entry.now.nodes - (from + size))) }
+            ensures only { IsOkUnless result OutOfMemory }
+        { self.rest_from(rt, alloc, size, from + size) };
+        let (first, others) = join(rt, first, others);
+        let mut piece = first?;
+        let others = others?;
+        piece.stale += others.stale;
+        piece.leftover += others.leftover;
+        lower_all(&mut piece.least, &others.least, self.nodes, self.keys);
+        Ok(piece)
     }
-}
-
-// What the tables of each part of so many say, in order.
-fn parts_of<N: Number>(
-    rt: &(impl Threads + Sync),
-    alloc: Global,
-    numbers: &Numbers<N>,
-    size: usize,
-) -> Result<Vec<Result<Piece<N>, Fault>>, AllocError>
-    requires numbers { AreCountedGrids N.number numbers.now }
-    requires some { 1 ≤ size }
-    ensures { IfOk result
-        (λ v. AllZip (λ part found. IfOk found (CountsPartOf N.number numbers.now size part))
-        (range_with_len 0 (numbers.now.nodes / size + 1)) v.items) }
-{
-    (0..numbers.nodes / size + 1)
-        .into_par_iter()
-        .with_min_len(1)
-        .map(
-            |part: usize| -> Result<Piece<N>, Fault>
-                requires { AreCountedGrids N.number numbers.now × (1 ≤ size)
-                    × (part ≤ numbers.now.nodes / size) }
-                ensures { IfOk result (CountsPartOf N.number numbers.entry.now size part) }
-            { numbers.part_of(alloc, size, part) },
-        )
-        .collect(rt, alloc)
 }
 
 // For how many rounds a copy of an owner has missed a write at most: since the first one that some copy misses,
@@ -321,22 +259,26 @@ fn greatest_lag<N: Number>(
     Ok(greatest)
 }
 
-// How many numbers are worth a thread of their own: to start it takes as long as to go over half of them.
-const NUMBERS_OF_A_THREAD: usize = 2_097_152;
+// So many numbers of all tables are gone over by one thread: starting others would take longer. Where one worker has
+// made the exchanges, the tables are near its thread alone, and others are slower at them.
+const FEW_NUMBERS: usize = 262_144;
 
-// How many tables a thread gets: all where they are too few for a second thread, else as many as give each processor a
-// thread. It bears on time and memory alone.
-fn tables_of_a_thread(rt: &impl Threads, tables: usize, keys: usize) -> usize
+const FEW_NUMBERS_OF_ONE_WORKER: usize = 2_097_152;
+
+// How many tables a thread gets: all where their numbers are few, else as many as give each processor a thread. It bears
+// on time and memory alone.
+fn tables_of_a_thread(rt: &impl Threads, tables: usize, keys: usize, workers: u32) -> usize
     ensures { 1 ≤ result }
 {
-    let numbers = tables.saturating_mul(keys);
-    let least = NUMBERS_OF_A_THREAD / numbers.max(1);
-    if tables <= least {
+    let few = if workers == 1 {
+        FEW_NUMBERS_OF_ONE_WORKER
+    } else {
+        FEW_NUMBERS
+    };
+    if tables.saturating_mul(tables).saturating_mul(keys) <= few {
         return tables.saturating_add(1);
     }
-    (tables / current_num_threads(rt))
-        .max(least)
-        .saturating_add(1)
+    (tables / current_num_threads(rt)).saturating_add(1)
 }
 
 // What all tables say.
@@ -346,6 +288,7 @@ fn counted<N: Number, H: Written>(
     tables: &[VersionTable<N, H>],
     histories: &Histories<N, H>,
     last: &[N],
+    workers: u32,
 ) -> Result<Piece<N>, Fault>
     requires laid { AreLaidAsNumbers H.lists tables.now histories.now.lists }
     requires last { AreLastNumbers (tables_of_views H.lists tables.now) histories.now.lists
@@ -360,7 +303,7 @@ fn counted<N: Number, H: Written>(
     let keys = keys_of(tables);
     let bases = histories.bases();
     let cells = cells_of(alloc, tables)?;
-    let size = tables_of_a_thread(rt, nodes, keys);
+    let size = tables_of_a_thread(rt, nodes, keys, workers);
     let forgot = has_forgotten(bases);
     let numbers = Numbers {
         cells: &cells,
@@ -370,25 +313,7 @@ fn counted<N: Number, H: Written>(
         keys,
         forgot,
     };
-    let parts = parts_of(rt, alloc, &numbers, size)?;
-    let mut stale = 0;
-    let mut leftover = 0;
-    let mut least = Vec::from_slice(alloc, last)?;
-    for part in &parts {
-        match part {
-            Ok(part) => {
-                stale += part.stale;
-                leftover += part.leftover;
-                lower_all(&mut least, &part.least, nodes, keys);
-            }
-            Err(_) => return Err(Fault::OutOfMemory),
-        }
-    }
-    Ok(Piece {
-        stale,
-        leftover,
-        least,
-    })
+    numbers.rest_from(rt, alloc, size, 0)
 }
 
 /// The figures at the end of a round, down nodes included: how many keys of copies are below the
@@ -396,10 +321,10 @@ fn counted<N: Number, H: Written>(
 /// number of rounds since the first write that one of them missed, that round included; and how many
 /// entries of copies are of an older generation than their owner's.
 ///
-/// It works in threads, where there are enough nodes, and what it answers does not depend on how. Each
-/// goes once over the numbers of some of the tables. Then an owner's list is walked over from the first
+/// It works in threads, where there are enough nodes, and what it answers does not depend on how; so many workers have
+/// carried out the round's exchanges. Each thread goes once over the numbers of some of the tables. Then an owner's list is walked over from the first
 /// write that some copy misses, if any, to the next one, where that may be older than what was found so far.
-/// It takes memory for the numbers of a table for each part of the tables and twice more. An error is lack of
+/// It takes memory for the numbers of a table for each part of the tables. An error is lack of
 /// that memory (`OutOfMemory`).
 pub fn figures<N: Number, H: Written>(
     rt: &(impl Threads + Sync),
@@ -407,6 +332,7 @@ pub fn figures<N: Number, H: Written>(
     tables: &[VersionTable<N, H>],
     histories: &Histories<N, H>,
     round: u32,
+    workers: u32,
 ) -> Result<Figures, Fault>
     requires cluster { IsCluster (length tables.now) (tables_of_views H.lists tables.now) }
     requires one_list_each { length histories.now.lists ≡ length tables.now }
@@ -421,13 +347,13 @@ pub fn figures<N: Number, H: Written>(
 {
     let keys = keys_of(tables);
     let lists = histories.lists();
-    let last = last_numbers(alloc, tables, keys)?;
-    let whole = counted(rt, alloc, tables, histories, &last)?;
+    let last = histories.lasts(keys);
+    let whole = counted(rt, alloc, tables, histories, last, workers)?;
     let ends = Ends {
         numbers: histories.ends(),
         rounds: histories.rounds(),
     };
-    let greatest = greatest_lag(alloc, lists, &whole.least, &last, ends, keys, round)?;
+    let greatest = greatest_lag(alloc, lists, &whole.least, last, ends, keys, round)?;
     Ok(Figures {
         stale: whole.stale,
         greatest,

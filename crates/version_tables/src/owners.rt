@@ -46,6 +46,19 @@ fn keep_owner<N: Number>(cells: &mut [N], nodes: usize, keys: usize, owner: usiz
     }
 }
 
+// Puts 0 in place of an owner's number in each plane.
+pub(crate) fn clear_owner<N: Number>(cells: &mut [N], nodes: usize, keys: usize, owner: usize)
+    requires grid { IsGrid nodes keys (length cells.old) }
+    requires owner { owner < nodes }
+    ensures { ArePlanesChanged (λ r k x y. y ≡ (if r == owner then 0 else x)) nodes keys
+        (map N.number cells.old)
+        (map N.number cells.new) }
+{
+    for key in 0..keys {
+        cells[key * nodes + owner] = N::zero();
+    }
+}
+
 impl<N: Number, H: Written> VersionTable<N, H> {
     ghost use Rattle.bench_types.specs.declared.limits.TheConstants.{LEAST_KEYS, MOST_NODES, MOST_KEYS};
     ghost use Rattle.model.specs.Table.{empty_table, without_others, without_all};

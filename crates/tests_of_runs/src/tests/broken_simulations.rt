@@ -89,8 +89,9 @@ impl<T: MemoryTable, H: RoundHistories<T>> RoundHistories<T> for Refusing<H> {
         alloc: Global,
         tables: &[T],
         round: u32,
+        workers: u32,
     ) -> Result<Figures, Fault> {
-        self.inner.figures(rt, alloc, tables, round)
+        self.inner.figures(rt, alloc, tables, round, workers)
     }
 }
 

@@ -3,16 +3,17 @@ use Rattle.std.specs.Prelude.{◌≡◌, ℕ, ◌+◌, ◌<◌, ◌≤◌, List,
 use Rattle.bench_types.specs.declared.entries.Entry.{Entry}
 use Rattle.bench_types.specs.declared.exchanges.Exchange.{Exchange}
 use Rattle.bench_types.specs.declared.exchanges.Rules.{Rules}
-use Rattle.bench_types.specs.declared.limits.TheConstants.{MOST_NODES}
+use Rattle.bench_types.specs.declared.limits.TheConstants.{MOST_KEYS, MOST_NODES}
 use Rattle.bench_types.specs.Budget.{IsLawfulBudget}
 use Rattle.bench_types.specs.Mark.{mark_of}
 use Rattle.model.specs.Exchanging.{MayBeExchanged}
 use Rattle.model.specs.Table.{Table, entry_at, IsProper}
 use Rattle.model.specs.OwnerListView.{OwnerListView, all_writes, AreWrites, list_of_owner}
 use Rattle.model.specs.Numbers.{write_numbered}
-use Rattle.planes.specs.Planes.{HasEach, cell}
+use Rattle.planes.specs.Planes.{HasEach, HasEachPlace, cell}
 use Rattle.version_tables.specs.Views.{HistoriesView}
 use Rattle.version_tables.specs.declared.histories.Owners.{Owners}
+use Rattle.version_tables.specs.inner.Missed.{IsLastNumber}
 use Rattle.version_tables.specs.inner.Offers.{IsHistory, IsNumberedHistory}
 use Rattle.version_tables.specs.inner.RoundEnds.{AreEnds}
 
@@ -37,11 +38,13 @@ pub record IsWrittenSoFar (all : List Entry) (most rounds : ℕ) (so_far : List 
   pub numbered : IsNumberedHistory so_far
   pub made : AreMadeBy (rounds + 1) so_far
 
--- what is kept of all owners' writes: counts of all and of those of earlier generations, and where the rounds end
-pub record AreHistories (written : ℕ → List Entry) (most : ℕ) (lists : List OwnerListView) (counts bases ends : List ℕ) (rounds : ℕ) : Type 0 where
+-- what is kept of all owners' writes: counts of all and of those of earlier generations, the last number of each key,
+-- and where the rounds end
+pub record AreHistories (written : ℕ → List Entry) (most : ℕ) (lists : List OwnerListView) (counts bases lasts ends : List ℕ) (rounds : ℕ) : Type 0 where
   pub few_nodes : length lists ≤ MOST_NODES
   pub counted : HasEach (length lists) (λ r n. n ≡ length (all_writes lists r)) counts
   pub based : HasEach (length lists) (λ r n. n ≡ length (list_of_owner lists r).earlier) bases
+  pub last : HasEachPlace (length lists) MOST_KEYS (λ r k n. IsLastNumber (list_of_owner lists r) k n) lasts
   pub are : (owner : ℕ) → AreWrites (list_of_owner lists owner)
   pub so_far : (owner : ℕ) → IsWrittenSoFar (written owner) most rounds (all_writes lists owner)
   pub ended : AreEnds (all_writes lists) (length lists) rounds ends

@@ -1,5 +1,5 @@
 -- What is counted of some of the tables at the end of a round. Source: this project.
-use Rattle.std.specs.Prelude.{◌≡◌, ℕ, ◌+◌, ◌-◌, ◌*◌, ◌<◌, ◌≤◌, min, max, All, List, [], length, map, slice_index, slice_index_or, IsFalse, Some}
+use Rattle.std.specs.Prelude.{◌≡◌, ℕ, ◌+◌, ◌*◌, ◌<◌, ◌≤◌, max, All, List, [], length, map, slice_index, slice_index_or, IsFalse, Some}
 use Rattle.std.specs.Borrow.{Bor}
 use Rattle.bench_types.specs.declared.entries.Entry.{Entry}
 use Rattle.bench_types.specs.declared.limits.TheConstants.{MOST_NODES, MOST_KEYS, MOST_ROUNDS}
@@ -114,10 +114,6 @@ pub record CountsPiece (nodes keys : ℕ) (cells : List (List ℕ)) (bases last 
   pub pieces : (written : ℕ → List Entry) (views : List VersionTableView) (lists : List OwnerListView)
       → AreNumbersOf written views lists nodes keys cells bases last → IsPieceOf (tables_of_views written views) lists from count stale leftover least
 
--- and so of the part of so many tables, the last one of fewer
-abbrev pub CountsPart : ℕ → ℕ → List (List ℕ) → List ℕ → List ℕ → ℕ → ℕ → ℕ → ℕ → List ℕ → Type 0
-CountsPart nodes keys cells bases last size part = CountsPiece nodes keys cells bases last (part * size) (min size (nodes - part * size))
-
 -- no write is of an earlier generation
 abbrev pub AreZero : List ℕ → ℕ → Type 0
 AreZero bases nodes = (r : ℕ) → r < nodes → slice_index bases r ≡ 0
@@ -127,31 +123,11 @@ pub record AreCountedGrids {N : Type 0} (number : N → ℕ) (numbers : Numbers 
   pub grids : AreGrids numbers.nodes numbers.keys (numbers_in number numbers.cells.now) (map number numbers.bases.now) (map number numbers.last.now)
   pub forgot : IsFalse numbers.forgot → AreZero (map number numbers.bases.now) numbers.nodes
 
--- what is counted of so many tables from one on, and of the part of so many tables
+-- what is counted of so many tables from one on
 abbrev pub CountsPieceOf : {N : Type 0} → (N → ℕ) → Numbers N → ℕ → ℕ → Piece N → Type 0
 CountsPieceOf number numbers from count piece =
     CountsPiece numbers.nodes numbers.keys (numbers_in number numbers.cells.now) (map number numbers.bases.now) (map number numbers.last.now)
     from count piece.stale piece.leftover (map number piece.least.items)
-
-abbrev pub CountsPartOf : {N : Type 0} → (N → ℕ) → Numbers N → ℕ → ℕ → Piece N → Type 0
-CountsPartOf number numbers size part piece =
-    CountsPart numbers.nodes numbers.keys (numbers_in number numbers.cells.now) (map number numbers.bases.now) (map number numbers.last.now)
-    size part piece.stale piece.leftover (map number piece.least.items)
-
--- each table has as many nodes as there are tables, and so many keys
-abbrev pub AreAlike : ℕ → List VersionTableView → Type 0
-AreAlike keys views =
-    (p : ℕ) (d : VersionTableView) → p < length views
-    → ((slice_index_or views p d).nodes ≡ length views) × ((slice_index_or views p d).keys ≡ keys)
-
--- the number of a key in its owner's table
-abbrev pub own_number : List VersionTableView → ℕ → ℕ → ℕ
-own_number views owner key = cell (view_at views owner).cells (length views) owner key
-
--- and so it was read
-pub record IsOwnNumber (written : ℕ → List Entry) (views : List VersionTableView) (owner key number : ℕ) : Type 0 where
-  pub is : number ≡ own_number views owner key
-  pub kept : IsKept written (view_at views owner)
 
 -- an owner's list may be walked over beside the least numbers held of its keys
 pub record MayWalk (round most nodes keys owner : ℕ) (list : OwnerListView) (least : List ℕ) : Type 0 where

@@ -1,4 +1,4 @@
-use Rattle.std.proofs.Common.{◌≡◌, ◌+◌, ◌<◌, length, set, map, ap, subst, sym, ◌∙◌}
+use Rattle.std.proofs.Common.{rules, ◌≡◌, ◌+◌, ◌*◌, ◌<◌, length, set, map, ap, subst, sym, ◌∙◌}
 use Rattle.std.proofs.lemmas.List.{set-get_or}
 use Rattle.model.specs.OwnerListView.{all_writes, list_of_owner, next_entry, with_write, ListBecomes}
 use Rattle.version_tables.specs.Views.{HistoriesView}
@@ -12,19 +12,25 @@ invariant_of-self-2 g c =
     let counts = c.self.inside.counts.items in
     let owner = c.args.owner in
     let in_range : owner < length lists = subst (λ (h : HistoriesView). owner < length h.lists) (sym c.self.view_is) c.requires.owner in
+    let number = g.N.Number.number in
+    let lasts = c.self.inside.lasts.items in
+    let count : c.len-nodes.result ≡ length lists = search rules in
+    let added : number c.plus-number.result ≡ length (all_writes lists owner) + 1 =
+    subst (λ n. number c.plus-number.result ≡ n + 1)
+    (number-here number counts (length lists) owner c.index.result.now (λ r n. n ≡ length (all_writes lists r)) c.self.invariant.counted in_range c.index.ensures)
+    c.plus-number.ensures in
     let born : c.args.born ≡ c.self.inside.rounds + 1 = subst (λ (h : HistoriesView). c.args.born ≡ h.rounds + 1) (sym c.self.view_is) c.requires.born in
-    histories-written g.H.Written.lists g.N.Number.most lists (set lists owner c.write.new.self) (map g.N.Number.number counts) (map g.N.Number.number c.self.inside.bases.items)
+    histories-written g.H.Written.lists g.N.Number.most lists (set lists owner c.write.new.self) (map g.N.Number.number counts) (map g.N.Number.number c.self.inside.bases.items) (map g.N.Number.number c.self.inside.lasts.items)
     (map g.N.Number.number c.self.inside.ends.items) c.self.inside.rounds c.self.invariant owner c.args.key c.args.value
     (list-becomes lists owner c.index_mut.result.now c.write.new.self (λ v. with_write v c.args.key c.args.value (c.self.inside.rounds + 1)) in_range c.index_mut.ensures.value
     (subst (λ b. c.write.new.self ≡ with_write c.index_mut.result.now c.args.key c.args.value b) born c.in_ok-write.ensures.ok))
     (subst (λ b. IsWriteUnder g.H.Written.lists g.N.Number.most owner (length (all_writes lists owner) + 1) (next_entry (list_of_owner lists owner) c.args.key c.args.value b)) born
     (subst (λ (h : HistoriesView). IsWriteUnder g.H.Written.lists g.N.Number.most owner (length (all_writes h.lists owner) + 1) (next_entry (list_of_owner h.lists owner) c.args.key c.args.value c.args.born))
     (sym c.self.view_is) c.requires.under))
-    (map g.N.Number.number (set counts owner c.plus-number.result))
-    (numbers-set g.N.Number.number counts owner c.plus-number.result (length (all_writes lists owner) + 1)
-    (subst (λ n. g.N.Number.number c.plus-number.result ≡ n + 1)
-    (number-here g.N.Number.number counts (length lists) owner c.index.result.now (λ r n. n ≡ length (all_writes lists r)) c.self.invariant.counted in_range c.index.ensures)
-    c.plus-number.ensures))
+    (map g.N.Number.number (set counts owner c.plus-number.result)) (map g.N.Number.number (set c.self.inside.lasts.items (c.args.key * c.len-nodes.result + owner) c.plus-number.result)) in_range c.requires.key
+    (numbers-set number counts owner c.plus-number.result (length (all_writes lists owner) + 1) added)
+    (numbers-set number lasts (c.args.key * c.len-nodes.result + owner) c.plus-number.result (length (all_writes lists owner) + 1) added
+    ∙ ap (λ n. set (map number lasts) (c.args.key * n + owner) (length (all_writes lists owner) + 1)) count)
 
 pub returns-clause-number : goal.returns-clause-number
 returns-clause-number g c =
@@ -63,4 +69,4 @@ invariant_of-self g c =
     let lists = c.self.inside.lists.items in
     let number = g.N.Number.number in
     let stays = ap (set lists c.args.owner) (c.in_err-write.ensures.err ∙ c.index_mut.ensures.value) ∙ set-get_or lists c.args.owner c.index_mut.result.now in
-    subst (λ ls. AreHistories g.H.Written.lists g.N.Number.most ls (map number c.self.inside.counts.items) (map number c.self.inside.bases.items) (map number c.self.inside.ends.items) c.self.inside.rounds) (sym stays) c.self.invariant
+    subst (λ ls. AreHistories g.H.Written.lists g.N.Number.most ls (map number c.self.inside.counts.items) (map number c.self.inside.bases.items) (map number c.self.inside.lasts.items) (map number c.self.inside.ends.items) c.self.inside.rounds) (sym stays) c.self.invariant

@@ -11,6 +11,9 @@ import time
 
 from gossip_tools.commands import Refused, Stopped
 
+# In large pages the C library gives memory faster. What the caller says to it goes before that.
+LARGE_PAGES = {"GLIBC_TUNABLES": "glibc.malloc.hugetlb=1"}
+
 
 class Failed(Exception):
     """Why a run has no report."""
@@ -81,7 +84,8 @@ def here(folder, names, program, jobs, done):
                     # (a group of its own, so that Ctrl-C comes to the sweep alone, which ends its runs)
                     begun[name] = time.monotonic()
                     running[name] = subprocess.Popen([program, "run"], stdin=scenario, stdout=report,
-                                                     stderr=subprocess.PIPE, process_group=0)
+                                                     stderr=subprocess.PIPE, process_group=0,
+                                                     env={**LARGE_PAGES, **os.environ})
             for name, processor in ended(running):
                 with Signals.hold():
                     why = close(folder, name, running.pop(name), program)

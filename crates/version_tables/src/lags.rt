@@ -265,8 +265,8 @@ const FEW_NUMBERS: usize = 262_144;
 
 const FEW_NUMBERS_OF_ONE_WORKER: usize = 2_097_152;
 
-// How many tables a thread gets: all where their numbers are few, else as many as give each processor a thread. It bears
-// on time and memory alone.
+// How many tables a thread gets: all where their numbers are few, else as many as give each processor a thread. It
+// bears on time and memory alone.
 fn tables_of_a_thread(rt: &impl Threads, tables: usize, keys: usize, workers: u32) -> usize
     ensures { 1 ≤ result }
 {
@@ -321,11 +321,11 @@ fn counted<N: Number, H: Written>(
 /// number of rounds since the first write that one of them missed, that round included; and how many
 /// entries of copies are of an older generation than their owner's.
 ///
-/// It works in threads, where there are enough nodes, and what it answers does not depend on how; so many workers have
-/// carried out the round's exchanges. Each thread goes once over the numbers of some of the tables. Then an owner's list is walked over from the first
-/// write that some copy misses, if any, to the next one, where that may be older than what was found so far.
-/// It takes memory for the numbers of a table for each part of the tables. An error is lack of
-/// that memory (`OutOfMemory`).
+/// It works in threads where there are enough nodes, of which it takes fewer if several workers have carried out
+/// the round's exchanges; what it answers does not depend on how. Each thread goes once over the numbers of some of
+/// the tables. Then an owner's list is walked over from the first write that some copy misses, if any, to the next
+/// one, where that may be older than what was found so far. It takes memory for the numbers of a table for each
+/// part of the tables. An error is lack of that memory (`OutOfMemory`).
 pub fn figures<N: Number, H: Written>(
     rt: &(impl Threads + Sync),
     alloc: Global,

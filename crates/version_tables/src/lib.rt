@@ -27,9 +27,11 @@
 //!   the plan doesn't go over all planes once more.
 //! - Where entries are counted nothing is weighed, and where bytes are, sizes are looked up only if the count times the
 //!   largest size doesn't fit.
-//! - The figures are worked out in threads over numbers alone, slices of each table's cells, in as many pieces as there
-//!   are threads: each piece has a thread of its own, whose start takes time. Then an owner's list is read only where
-//!   the ends of the rounds show that a copy of it may be behind for longer than those of the owners before it.
+//! - The figures are worked out over numbers alone, slices of each table's cells, in as many pieces as there are
+//!   processors. The caller's thread starts one for each piece but the last, which it counts itself. The last number of
+//!   each owner's key, which they are compared with, is kept in the histories as it is written. Then an owner's list is
+//!   read only where the ends of the rounds show that a copy of it may be behind for longer than those of the owners
+//!   before it.
 #![tactic(auto)]
 
 mod breadths;

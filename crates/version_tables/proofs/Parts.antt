@@ -11,7 +11,7 @@ use Rattle.model.specs.Table.{Table}
 use Rattle.model.specs.Tables.{table_of_node}
 use Rattle.model.specs.OwnerListView.{OwnerListView, list_of_owner}
 use Rattle.bench_types.specs.Sums.{sum_below}
-use Rattle.planes.specs.Planes.{cell, total_of, HasEach, HasEachPlace, ArePlanesChanged, IsGrid}
+use Rattle.planes.specs.Planes.{cell, total_of, HasEach, HasEachPlace, ArePlanesChanged}
 use Rattle.bench_types.proofs.Sums.{sum_below-same}
 use Rattle.planes.proofs.Counts.{count_le}
 use Rattle.bench_types.proofs.Sums.{sum_below-most}
@@ -37,16 +37,6 @@ module _ (written : ℕ → List Entry) (views : List VersionTableView) (lists :
 
   pub of_nodes-last : (last : List ℕ) → AreLastNumbers tables lists last → length last ≡ keys_in tables * nodes
   of_nodes-last last lasts = lasts.size ∙ ap (λ m. keys_in tables * m) same
-
-  pub grid-piece : (keys size : ℕ) → keys ≡ keys_in tables → size ≡ keys_in tables * nodes → IsGrid nodes keys size
-  grid-piece keys size keys_are is = record {
-    whole = is ∙ ap (λ k. k * nodes) (sym keys_are);
-    few_nodes = omega (arith, laid.together.few_nodes, same);
-    few_keys = omega (arith, laid.together.few_keys, keys_are);
-  }
-
-  pub piece-size : {N : Type 0} (number : N → ℕ) (from count stale leftover : ℕ) (least : List N) → IsPieceOf tables lists from count stale leftover (map number least) → length least ≡ keys_in tables * nodes
-  piece-size number from count stale leftover least is = sym (length-map least number) ∙ is.size ∙ ap (λ m. keys_in tables * m) same
 
   pub part-none : (from : ℕ) (last : List ℕ) → AreLastNumbers tables lists last → IsPieceOf tables lists from 0 0 0 last
   part-none from last lasts = record {

@@ -1,0 +1,111 @@
+"""Calls of the tools in a room of their own, and what has to come of them."""
+import os
+import pathlib
+import subprocess
+import tempfile
+import time
+
+from trials import PROGRAM, TOP, holds
+
+GUIDE = TOP / "examples" / "guide"
+TOOLS = TOP / "tools"
+SMALL = TOP / "crates" / "acceptance" / "data" / "small"
+HEADER = "round,exchanges,unreached,lost,entries,cut,stale,greatest\n"
+# The case "comparison of the modes" of docs/formats.md, whose rows stand there.
+COMPARED = """format = 1
+nodes = 2
+keys = 3
+rounds = 2
+seed = 0
+mode = 'precise-oldest'
+budget=2
+peers = "ring"
+rotation = "none"
+choice = "cycle"
+loss_ppm = 0
+writes = 3
+
+[[load]]
+from = 2
+to = 2
+writes = 1
+"""
+# What a program says that was built for newer processors.
+LACKING = '#!/bin/sh\necho "this machine lacks a feature" >&2\nexit 127\n'
+
+
+def started(room, script, *words, text="", out=subprocess.PIPE, before=None, **variables):
+    """A script that runs in a room of its own, with its input."""
+    environment = {**os.environ, "GOSSIP_BENCH": PROGRAM, "JOBS": "2", **variables}
+    with tempfile.TemporaryFile("w+") as given:
+        given.write(text)
+        given.seek(0)
+        return subprocess.Popen([str(script), *words], stdin=given, stdout=out, stderr=subprocess.PIPE, text=True,
+                                cwd=room, env=environment, preexec_fn=before)
+
+
+def run(room, script, *words, **how):
+    """The status, standard output and standard error of a script, run in a room of its own."""
+    with started(room, script, *words, **how) as process:
+        out, err = process.communicate(timeout=60)
+    return process.returncode, out, err
+
+
+def place(script):
+    return (TOOLS if script.startswith("gossip_") else GUIDE) / script
+
+
+def gives(room, wanted, script, *words, **how):
+    holds(f"{script} {' '.join(words)}", (0, wanted, ""), run(room, place(script), *words, **how))
+
+
+def refuses(room, why, script, *words, **how):
+    """The script ends with status 2, prints nothing, and says why in one line."""
+    status, out, err = run(room, place(script), *words, **how)
+    says_why = why in err and err.startswith(script) and err.count("\n") == 1
+    holds(f"{script} {' '.join(words)}: {why}", (2, "", True), (status, out, says_why or err))
+
+
+def written(file, text):
+    """Makes a program of this text."""
+    file.parent.mkdir(exist_ok=True)
+    file.write_text(text)
+    file.chmod(0o755)
+
+
+def fails(room, why, status, script, *words, **how):
+    """The script ends with this status, prints nothing, and says why in its last line."""
+    ended, out, err = run(room, place(script), *words, **how)
+    last = err.splitlines()[-1:]
+    says_why = bool(last) and why in last[0] and last[0].startswith(script) and "Traceback" not in err
+    holds(f"{script} {' '.join(words)}: {why}", (status, "", True), (ended, out or "", says_why or err))
+
+
+def program_that(room, name, body):
+    """A program in a shell's words, which starts and checks a scenario as the program does."""
+    written(room / name, f'#!/bin/sh\n[ "$1" = run ] || exec "{PROGRAM}" "$@"\n{body}\n')
+    return f"./{name}"
+
+
+def is_running(pid):
+    """Whether a process is there, and not only its status, which nobody has asked for yet."""
+    try:
+        return pathlib.Path(f"/proc/{pid}/stat").read_text().rpartition(")")[2].split()[0] != "Z"
+    except FileNotFoundError:
+        return False
+
+
+def takes_signal(pid, number):
+    """Whether a process has a handler of its own for a signal."""
+    caught = pathlib.Path(f"/proc/{pid}/status").read_text().partition("SigCgt:")[2].split()[0]
+    return bool(int(caught, 16) >> (number - 1) & 1)
+
+
+def waits_for(condition, seconds=20):
+    """Whether something comes to hold in this time."""
+    until = time.monotonic() + seconds
+    while not condition():
+        if time.monotonic() > until:
+            return False
+        time.sleep(0.02)
+    return True

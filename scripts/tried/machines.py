@@ -1,0 +1,75 @@
+"""Trials of sweeps over several machines, where GNU parallel is there."""
+import os
+import shutil
+
+from tried.calls import (
+    COMPARED, LACKING, TOOLS, fails, gives, is_running, program_that, refuses, started, waits_for, written,
+)
+from trials import PROGRAM, holds
+
+
+def try_several_machines(room):
+    """Runs on another machine, for which a script stands in that gets the words of ssh. It shares this disk."""
+    room, there = room / "machines", room / "machines" / "there"
+    there.mkdir(parents=True)
+    # (the host `leaving` is there for the first call alone)
+    written(there / "ssh", '#!/bin/sh\nfor word; do shift; case $word in -*) ;; '
+            'leaving) mkdir ~/left 2>/dev/null && break; echo "no route to leaving" >&2; exit 255 ;; '
+            'slow) echo $$ >~/it && mv ~/it ~/slow; exec sleep 60 ;; '
+            'down) echo "no route to down" >&2; exit 255 ;; *) break ;; esac; done\n[ "$1" != -- ] || shift\n'
+            'cd && exec env -i HOME="$HOME" PATH="$PATH" sh -c "$*"\n')
+    (room / "home").mkdir()
+    far = {"PATH": f"{there}:{os.environ['PATH']}", "HOME": str(room / "home")}
+    written(room / "none" / "parallel", "#!/bin/sh\nexit 1\n")
+    refuses(room, "GNU parallel", "gossip_sweep", "-o", "far", "budget=1", text=COMPARED, HOSTS="alpha",
+            PATH=f"{room / 'none'}:{os.environ['PATH']}")
+    if not shutil.which("parallel"):
+        return
+    sweep = ("budget=1,2", "seed=1,2")
+    gives(room, "16 runs in here\n", "gossip_sweep", "-o", "here", *sweep, text=COMPARED)
+    for hosts, folder in ((":,alpha", "runs 2"), ("alpha", "home/shared 2")):
+        gives(room, f"16 runs in {folder}\n", "gossip_sweep", "-o", folder, *sweep, text=COMPARED, HOSTS=hosts, **far)
+        holds(f"the runs on {hosts}", [], [it.name for it in (room / "here").iterdir() if it.name != "lock" and
+                                           it.read_bytes() != (room / folder / it.name).read_bytes()])
+    holds("nothing else at home", {".parallel", "shared 2"}, {it.name for it in (room / "home").iterdir()})
+    fails(room, "no route to leaving. 0 of 16 runs stand", 1, "gossip_sweep", "-o", "leaving", *sweep, text=COMPARED,
+          HOSTS="leaving", **far)
+    try_first_starts(room, sweep, far)
+    faulty = program_that(room, "faulty", "echo fault 1: out of memory >&2; exit 1")
+    fails(room, "status 1: fault 1: out of memory. 0 of 16", 1, "gossip_sweep", "-o", "far", *sweep, text=COMPARED,
+          HOSTS="alpha", **far, GOSSIP_BENCH=faulty)
+    hanging = program_that(room, "hanging", "echo $$ >>pids\nexec sleep 60")
+    with started(room, TOOLS / "gossip_sweep", "-o", "stopped", *sweep, text=COMPARED, HOSTS=":,alpha", **far,
+                 GOSSIP_BENCH=hanging) as process:
+        holds("runs begin on machines", True, waits_for(lambda: list(room.glob("**/pids"))))
+        process.terminate()
+        out, err = process.communicate(timeout=60)
+    holds("machines are stopped", (143, "", True),
+          (process.returncode, out, "0 of 16 runs stand in stopped" in err or err))
+
+
+def try_first_starts(room, sweep, far):
+    """Nothing is run where the program doesn't start on each machine, and its line is told."""
+    # (JOBS is set here alone)
+    written(room / "newer", LACKING.replace("echo", f'[ "$JOBS" ] && exec "{PROGRAM}" "$@"\necho'))
+    written(room / "silent", f'#!/bin/sh\n[ "$JOBS" ] && exec "{PROGRAM}" "$@"\nexit 127\n')
+    for hosts, program, why in ((":,down", PROGRAM, "down: no route to down"),
+                                (":,alpha,:", "./newer", "alpha: this machine lacks a feature"),
+                                ("8/alpha", "./silent", "8/alpha: status ")):
+        how = {"HOSTS": hosts, "GOSSIP_BENCH": program, **far}
+        refuses(room, f"not each of HOSTS runs the program. {why}", "gossip_sweep", "-o", "never", *sweep,
+                text=COMPARED, **how)
+        # (another program may come next, as none is kept of which nothing was run)
+        refuses(room, why, "gossip_advise", "-o", "never advised", "nodes=8", "keys=2", "writes=1", "entry=40",
+                "packet=4000", **how)
+    with started(room, TOOLS / "gossip_sweep", "-o", "never", *sweep, text=COMPARED, HOSTS=":,slow", **far) as process:
+        holds("a first start begins", True, waits_for(lambda: (room / "home" / "slow").exists()))
+        process.terminate()
+        out, err = process.communicate(timeout=60)
+    pid = (room / "home" / "slow").read_text()
+    holds("a first start is stopped", (143, "", True), (process.returncode, out, "0 of 16 runs stand" in err or err))
+    holds("and leaves no ssh", True, waits_for(lambda: not is_running(int(pid)), 2))
+    holds("nothing is run where a machine can't", [], [*room.glob("never*/**/*.csv"), *room.glob("never*/**/.*.part")])
+
+
+TRIALS = (try_several_machines,)

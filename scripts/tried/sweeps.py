@@ -1,0 +1,214 @@
+"""Trials of gossip_sweep: what it refuses, what it makes, and that it loses nothing, whatever happens to it."""
+import os
+import signal
+import subprocess
+import time
+
+from tried.calls import (
+    COMPARED, HEADER, SMALL, TOOLS, fails, gives, is_running, program_that, refuses, run, started, takes_signal,
+    waits_for,
+)
+from trials import PROGRAM, TOP, holds
+
+
+def try_words_of_sweeps(room):
+    for words in ((), ("budget",), ("budget=",), ("budget=1,",), ("budget=1,,2",), ("budget=a b",), ("=1",), ("-o",)):
+        refuses(room, "", "gossip_sweep", *words, text=COMPARED)
+    refuses(room, "comes twice", "gossip_sweep", "budget=1", "budget=2", text=COMPARED)
+    refuses(room, "comes twice", "gossip_sweep", "budget=1,1", text=COMPARED)
+    refuses(room, "the field bugdet", "gossip_sweep", "bugdet=1", text=COMPARED)
+    refuses(room, "the field from", "gossip_sweep", "from=1", text=COMPARED)
+    refuses(room, "2 lines of the scenario above all sections set the field seed", "gossip_sweep", "seed=1",
+            text="seed = 2\n" + COMPARED)
+    refuses(room, "the scenario is empty", "gossip_sweep", "seed=1")
+    refuses(room, "JOBS", "gossip_sweep", "seed=1", text=COMPARED, JOBS="0")
+    refuses(room, "GOSSIP_BENCH names 'no_program'", "gossip_sweep", "seed=1", text=COMPARED,
+            GOSSIP_BENCH="no_program")
+    refuses(room, "as < mine.toml", "gossip_sweep", "seed=1", "mine.toml")
+    refuses(room, "comes once", "gossip_sweep", "-o", "one", "seed=1", "-o", "two", text=COMPARED)
+    refuses(room, "as JOBS=2", "gossip_sweep", "--jobs=2", "seed=1", text=COMPARED)
+    holds("no runs are left", False, (room / "runs").exists())
+
+    def answered(name, fault, *words, text=COMPARED):
+        status, out, err = run(room, TOOLS / "gossip_sweep", *words, text=text)
+        holds(name, (1, "", True), (status, out, err.startswith(fault)))
+
+    answered("a value out of range", "fault 6: field budget", "budget=1,0")
+    answered("an unknown mode", "fault 6: field mode", "mode=breadth")
+    answered("another format", "fault 4: missing field budget_bytes", "format=2")
+    answered("a text that isn't whole", "fault 4: missing field format", "mode=scuttle-depth", text="mode = ''\n")
+    holds("nor are any of those", False, (room / "runs").exists())
+
+
+def try_runs(room):
+    """The runs of the case of formats.md."""
+    gives(room, "4 runs in runs\n", "gossip_sweep", "budget=1", text=COMPARED)
+    rows = {
+        "scuttle-breadth": "1,2,0,0,4,6,2,1\n2,2,0,0,4,2,0,0\n", "scuttle-depth": "1,2,0,0,4,6,2,1\n2,2,0,0,4,2,0,0\n",
+        "precise-oldest": "1,2,0,0,4,6,2,1\n2,2,0,0,4,2,0,0\n", "precise-newest": "1,2,0,0,4,6,2,1\n2,2,0,0,2,0,0,0\n",
+    }
+    for mode, wanted in rows.items():
+        holds(f"{mode} in runs", HEADER + wanted, (room / "runs" / f"budget-1.mode-{mode}.csv").read_text())
+    # (the ring of four in bytes, worked out in docs/model.md)
+    ring = (TOP / "examples" / "ring_of_four.toml").read_text()
+    ring = ring.replace("format = 1", "format = 2").replace("budget = 1", "budget_bytes = 5000")
+    gives(room, "1 runs in ring\n", "gossip_sweep", "-o", "ring", "budget_bytes=1023", "mode=scuttle-breadth",
+          text=ring)
+    holds("the ring of four in bytes", HEADER.replace("\n", ",leftover\n") + "1,4,0,0,11,0,1,1,0\n",
+          (room / "ring" / "budget_bytes-1023.mode-scuttle-breadth.csv").read_text())
+    # (a text with other ends of lines stays as it is)
+    ends = COMPARED.replace("\n", "\r\n")
+    gives(room, "1 runs in of two\n", "gossip_sweep", "budget=1", "mode=scuttle-depth", "-o", "of two", text=ends)
+    report = room / "of two" / "budget-1.mode-scuttle-depth.csv"
+    made = report.stat().st_ino
+    gives(room, "1 runs in of two\n", "gossip_sweep", "budget=1", "mode=scuttle-depth", "-o", "of two", text=ends)
+    holds("it isn't run again", made, report.stat().st_ino)
+    refuses(room, "another scenario", "gossip_sweep", "budget=1", text=COMPARED.replace("keys = 3", "keys = 2"))
+    refuses(room, "has no runs", "gossip_sweep", "-o", ".", "budget=1", text=COMPARED)
+    refuses(room, "isn't a folder", "gossip_sweep", "-o", "runs/scenario", "budget=1", text=COMPARED)
+    refuses(room, "isn't a folder", "gossip_read", "window", "1", "2", "runs/scenario")
+    of_budgets = sorted(it.name for it in (room / "runs").iterdir())
+    for words in (("seed=1",), ("budget=1", "seed=1"), ("mode=scuttle-depth", "budget=1"), ("mode=scuttle-depth",)):
+        refuses(room, "has runs of the fields budget, mode:", "gossip_sweep", *words, text=COMPARED)
+    holds("runs of other fields aren't added", of_budgets, sorted(it.name for it in (room / "runs").iterdir()))
+
+    kept = room / "runs" / "budget-1.mode-precise-newest.csv"
+    kept.write_text(HEADER + "1,2,0,0,4,6,2,1\n2,2,0,0,9,9,9,9\n")
+    gives(room, "2 runs in runs\n", "gossip_sweep", "budget=1,65535", "mode=precise-newest", text=COMPARED)
+    # (with room for all, exchange 1 of round 1 brings 3 each way, exchange 1 of round 2 one each way)
+    gives(room, "budget,mode,percent_cut,greatest_least,greatest_most,stale_least,stale_most\n"
+          "1,scuttle-breadth,33.33,0,0,0,0\n1,scuttle-depth,33.33,0,0,0,0\n1,precise-oldest,33.33,0,0,0,0\n"
+          "1,precise-newest,50.00,9,9,9,9\n65535,precise-newest,0.00,0,0,0,0\n", "gossip_read", "window", "2", "2")
+    gives(room, "budget,mode,round,took\n1,scuttle-breadth,2,2\n1,scuttle-depth,2,2\n1,precise-oldest,2,2\n"
+          "1,precise-newest,never,never\n65535,precise-newest,1,1\n", "gossip_read", "level", "1", "0")
+    kept.unlink()
+    gives(room, "2 runs in runs\n", "gossip_sweep", "budget=1,65535", "mode=precise-newest", text=COMPARED)
+    gives(room, "budget,mode,percent_cut,greatest_least,greatest_most,stale_least,stale_most\n"
+          "1,scuttle-breadth,50.00,0,1,0,2\n1,scuttle-depth,50.00,0,1,0,2\n1,precise-oldest,50.00,0,1,0,2\n"
+          "1,precise-newest,50.00,0,1,0,2\n65535,precise-newest,0.00,0,0,0,0\n", "gossip_read", "window", "1", "2")
+
+    # (a node that forgets in round 2 and is down in it, whose next write comes to the other one in round 3)
+    forgets = (SMALL / "a_node_forgets.toml").read_text()
+    gives(room, "1 runs in forgets\n", "gossip_sweep", "-o", "forgets", "mode=scuttle-breadth", text=forgets)
+    gives(room, "mode,percent_cut,greatest_least,greatest_most,stale_least,stale_most,leftover_least,leftover_most\n"
+          "scuttle-breadth,0.00,0,2,0,1,0,1\n", "gossip_read", "window", "2", "3", "forgets")
+    for first, level, wanted in (("1", "0", "1,1"), ("2", "0", "3,2"), ("2", "1", "2,1")):
+        gives(room, f"mode,round,took\nscuttle-breadth,{wanted}\n", "gossip_read", "leftover", first, level, "forgets")
+
+
+def try_missing(room):
+    """A report that isn't whole never counts: neither where runs are read, nor where a sweep goes on."""
+    sweep = ("-o", "missing", "budget=1,2", "mode=scuttle-depth,precise-newest")
+    gives(room, "4 runs in missing\n", "gossip_sweep", *sweep, text=COMPARED)
+    name = "budget-1.mode-precise-newest"
+    report = room / "missing" / f"{name}.csv"
+    whole, (_, first, second) = report.read_text(), report.read_text().splitlines(keepends=True)
+    damaged = {
+        "it is empty": b"",
+        "its header is another": ("mode," + HEADER + first + second).encode(),
+        "its header is another ": (HEADER.replace("\n", ",leftover\n") + first + second).encode(),
+        "it is cut short after 1 of 2": (HEADER + first + second[:-1]).encode(),
+        "it is cut short after 0 of 2": (HEADER + first[:-1]).encode(),
+        "it goes on after its 2 rounds": (whole + "3,2,0,0,4,2,0,0\n").encode(),
+        "its line of round 1": (HEADER + second + first).encode(),
+        "its line of round 2": (HEADER + first + second.replace("0", "none", 1)).encode(),
+        "its line of round 1 ": (HEADER + first + second).encode().replace(b",2,", b"\0\0\0", 1),
+        "it has other bytes": (HEADER + first + second).encode() + b"\xff",
+    }
+    for why, text in damaged.items():
+        report.write_bytes(text)
+        refuses(room, f"1 of 4 runs are missing: {name} ({why.strip()}", "gossip_read", "level", "1", "0", "missing")
+        status, out, err = run(room, TOOLS / "gossip_sweep", *sweep, text=COMPARED)
+        holds(f"made again: {why}", (0, "4 runs in missing\n", True, whole),
+              (status, out, why.strip() in err and name in err, report.read_text()))
+    report.unlink()
+    refuses(room, f"{name} (it isn't there)", "gossip_read", "level", "1", "0", "missing")
+    status, out, err = run(room, TOOLS / "gossip_read", "level", "1", "0", "missing", "--partial")
+    # (with room for two each way, two exchanges of a round bring the three writes)
+    holds("what is there is read", (0, "budget,mode,round,took\n1,scuttle-depth,2,2\n2,scuttle-depth,1,1\n"
+          "2,precise-newest,1,1\n", True), (status, out, name in err))
+    for it in (room / "missing").glob("*.csv"):
+        it.unlink()
+    refuses(room, "4 of 4 runs are missing", "gossip_read", "level", "1", "0", "missing", "--partial")
+
+
+def try_sweeps_at_once(room):
+    """While a sweep works in a folder no other one does, be it the same or one of another scenario."""
+    waiting = program_that(room, "waiting", f'until [ -e go ]; do sleep 0.05; done\nexec "{PROGRAM}" run')
+    sweep, another = ("-o", "at_once", "budget=1"), COMPARED.replace("keys = 3", "keys = 2")
+    with started(room, TOOLS / "gossip_sweep", *sweep, text=COMPARED, GOSSIP_BENCH=waiting) as first:
+        holds("a sweep begins", True, waits_for(lambda: list(room.glob("at_once/.*.part"))))
+        refuses(room, f"at_once is in use by process {first.pid} on", "gossip_sweep", *sweep, text=COMPARED)
+        refuses(room, "has runs of another scenario", "gossip_sweep", *sweep, text=another)
+        (room / "go").touch()
+        holds("the first of two sweeps", ("4 runs in at_once\n", ""), first.communicate(timeout=60))
+    both = [started(room, TOOLS / "gossip_sweep", "-o", "new", "seed=1,2,3", text=it) for it in (COMPARED, another)]
+    ended = [(it.communicate(timeout=60), it.returncode) for it in both]
+    texts = [it.read_text() for it in room.glob("new/*.toml")]
+    holds("of two sweeps of different scenarios at once one is carried out", ([0, 2], True),
+          (sorted(status for _, status in ended), {"keys = 3" in it for it in texts} in ({True}, {False}) or ended))
+
+
+def try_stopping(room):
+    """A sweep that is stopped leaves no process and no half of a report, says what stands, and can be gone on with."""
+    sweep = ("-o", "stopped", "budget=1")
+    name = "budget-1.mode-scuttle-breadth"
+    pids = room / "hanging.pids"
+    hanging = program_that(room, "hanging", 'echo half\nsleep 60 &\necho $! >>hanging.pids\nwait')
+    for ends in (signal.SIGTERM, signal.SIGINT, signal.SIGHUP):
+        pids.unlink(missing_ok=True)
+        with started(room, TOOLS / "gossip_sweep", *sweep, text=COMPARED, GOSSIP_BENCH=hanging) as process:
+            waits_for(lambda: pids.exists() and len(pids.read_text().split()) == 2)
+            began = time.monotonic()
+            process.send_signal(ends)
+            out, err = process.communicate(timeout=60)
+        is_prompt = time.monotonic() - began < 3
+        runs = [int(it) for it in pids.read_text().split()]
+        # (what was killed may have to wait for a processor to end)
+        waits_for(lambda: not any(map(is_running, runs)))
+        holds(f"{ends.name}", (128 + ends, "", True, []),
+              (process.returncode, out, is_prompt, [it for it in runs if is_running(it)]))
+        holds(f"what it says after {ends.name}", f"gossip_sweep: stopped by {ends.name}, which loses the runs under "
+              "way. 0 of 4 runs stand in stopped; the same command goes on from there.\n", err)
+        holds(f"what {ends.name} leaves", ([], []),
+              (list(room.glob("stopped/.*.part")), list(room.glob("stopped/*.csv"))))
+    streams = dict.fromkeys(("stdin", "stdout", "stderr"), subprocess.PIPE)
+    with subprocess.Popen([TOOLS / "gossip_sweep", *sweep], text=True, cwd=room, **streams,
+                          env={**os.environ, "GOSSIP_BENCH": PROGRAM}) as process:
+        # (it waits for its scenario)
+        waits_for(lambda: takes_signal(process.pid, signal.SIGTERM))
+        process.send_signal(signal.SIGINT)
+        ended = process.wait(timeout=60), process.stdout.read(), process.stderr.read()
+    holds("a sweep without a scenario", (130, "", "gossip_sweep: stopped by SIGINT.\n"), ended)
+    with started(room, TOOLS / "gossip_sweep", *sweep, text=COMPARED, GOSSIP_BENCH=hanging) as process:
+        holds("a run begins", True, waits_for(lambda: list(room.glob("stopped/.*.part"))))
+        process.kill()
+        process.communicate(timeout=60)
+    runs = [int(it) for it in pids.read_text().split()]
+    gives(room, "4 runs in stopped\n", "gossip_sweep", *sweep, text=COMPARED)
+    for it in runs:
+        if is_running(it):
+            os.kill(it, signal.SIGKILL)
+    holds("what is left of a sweep that was killed", ([], 4),
+          (list(room.glob("stopped/.*.part")), len(list(room.glob("stopped/*.csv")))))
+
+
+def try_wrong_programs(room):
+    sweep = ("-o", "wrong", "budget=1", "mode=scuttle-depth")
+    name = "budget-1.mode-scuttle-depth"
+    refuses(room, "doesn't answer as gossip_bench does", "gossip_sweep", *sweep, text=COMPARED,
+            GOSSIP_BENCH="/bin/true")
+    holds("no folder of a wrong program", False, (room / "wrong").exists())
+    cases = {
+        "silent": ("exit 0", "it is empty"), "half": ("echo half; exit 0", "its header is another"),
+        "faulty": ("echo half; echo fault 13: writing failed >&2; exit 1",
+                   f"{name}: status 1: fault 13: writing failed"),
+        "dying": ("kill -9 $$", "it was ended by SIGKILL"),
+    }
+    for it, (body, why) in cases.items():
+        fails(room, why, 1, "gossip_sweep", *sweep, text=COMPARED, GOSSIP_BENCH=program_that(room, it, body))
+        holds(f"no report of a program that is {it}", [],
+              list(room.glob("wrong/*.csv")) + list(room.glob("wrong/.*.part")))
+
+
+TRIALS = (try_words_of_sweeps, try_runs, try_missing, try_sweeps_at_once, try_stopping, try_wrong_programs)

@@ -1,19 +1,12 @@
 """Trials of scripts/build, by a toolchain that proves nothing: what is proved, what is kept, and what is made anew."""
-import resource
 import signal
 
 from toolchain import NEWER, OLDER, has_newer
 from tried.calls import run, started, waits_for
-from tried.toys import CRATES, Toy
+from tried.toys import CRATES, Toy, small_files
 from trials import TOP, holds
 
 BUILT = f"gossip_bench: built for {NEWER if has_newer() else OLDER} processors"
-
-
-def small_files(most):
-    def limit():
-        resource.setrlimit(resource.RLIMIT_FSIZE, (most, most))
-    return limit
 
 
 def builds(name, toy, wanted, *words, **how):

@@ -1,7 +1,8 @@
 """A small repository for trials of scripts/build and ./gossip_bench, with a toolchain that proves nothing."""
 import os
+import resource
 import shutil
-import subprocess
+import signal
 from pathlib import Path
 
 from tried.calls import run, written
@@ -12,6 +13,15 @@ CRATES = {"low": "", "left": "low", "right": "low", "gossip_bench": "left right"
 SCRIPTS = ("build", "toolchain.py", "arguments.py")
 COMMANDS = ("sh", "env", "python3", "find", "cksum", "sort", "cat", "dirname", "readlink", "mv", "rm", "sleep")
 LONG_AGO = 1_000_000_000
+
+
+def small_files(most):
+    """What limits the bytes of a file in a process, as a disk does that is full."""
+    def limit():
+        # (a write fails then, and the signal that comes with it doesn't end the process)
+        signal.signal(signal.SIGXFSZ, signal.SIG_IGN)
+        resource.setrlimit(resource.RLIMIT_FSIZE, (most, most))
+    return limit
 
 
 class Toy:

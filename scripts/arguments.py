@@ -1,4 +1,4 @@
-"""How scripts take their words: by argparse, with the text of the script as its help, and a line for what is refused."""
+"""How scripts take their words: by argparse, with the script's text as its help, and a line for what is refused."""
 import argparse
 import sys
 from pathlib import Path

@@ -8,7 +8,9 @@ from gossip_tools import cluster, scenario
 # The fields that a sweep takes, with the words that a scenario has for some of them.
 FIELDS = {"format": ("1", "2"), **dict.fromkeys(scenario.LIMITS, ()), "mode": scenario.MODES,
           "peers": ("random", "ring"), "rotation": ("random", "none"), "choice": ("random", "cycle")}
-NO_NAME_YET = 'not string match -q "*=*" -- (commandline -ct)'
+# What fish asks of the word that it completes.
+NAMED = 'string match -q "{}=*" -- (commandline -ct)'
+NO_NAME_YET = f"not {NAMED.format('*')}"
 MADE = "Completion for gossip_bench and its tools, made by scripts/package from what they say of themselves."
 
 
@@ -75,8 +77,8 @@ def pattern_of(key):
 
 
 def values_of(table, body):
-    return [(f'"{key} {name}"', body(" ".join(values))) for key, it in table.items()
-            for name, values in it.named.items() if values]
+    return [(f'"{key} {name}"', body(" ".join(values))) for key, words in table.items()
+            for name, values in words.named.items() if values]
 
 
 def with_lists(table):
@@ -85,8 +87,8 @@ def with_lists(table):
 
 def for_bash(table):
     files, folders = patterns(table, lambda it: it.before_file), patterns(table, lambda it: it.before_folder)
-    plain = [(pattern_of(key), f'words="{" ".join([*it.names, *it.plain])}"' + " folders=yes" * it.is_folder)
-             for key, it in table.items()]
+    plain = [(pattern_of(key), f'words="{" ".join([*words.names, *words.plain])}"' + " folders=yes" * words.is_folder)
+             for key, words in table.items()]
     return f"""# {MADE}
 _gossip_bench() {{
     local tool=${{1##*/}} word=${{COMP_WORDS[COMP_CWORD]}} before=${{COMP_WORDS[COMP_CWORD - 1]}}
@@ -123,8 +125,8 @@ complete -F _gossip_bench {" ".join(commands(table))}
 
 def for_zsh(table):
     files, folders = patterns(table, lambda it: it.before_file), patterns(table, lambda it: it.before_folder)
-    plain = [(pattern_of(key), f"names=({' '.join(it.names)}) plain=({' '.join(it.plain)})" +
-              " folders=yes" * it.is_folder) for key, it in table.items()]
+    plain = [(pattern_of(key), f"names=({' '.join(words.names)}) plain=({' '.join(words.plain)})" +
+              " folders=yes" * words.is_folder) for key, words in table.items()]
     return f"""#compdef {" ".join(commands(table))}
 # {MADE}
 local tool=${{words[1]:t}} before=${{words[CURRENT - 1]}} name=${{PREFIX%%=*}} first= folders=
@@ -151,26 +153,40 @@ compadd -a plain
 """
 
 
+def lines_for_fish(key, words, has_commands):
+    """What fish completes behind a tool, or a command of it."""
+    tool, _, first = key.partition(" ")
+    behind = f"complete -c {tool}"
+    if first:
+        behind += f" -n '__fish_seen_subcommand_from {first}'"
+    elif has_commands:
+        behind += " -n __fish_use_subcommand"
+    plain = [it for it in words.plain if not it.startswith("-")]
+    for option in (it for it in words.plain if it.startswith("--")):
+        yield f"{behind} -l {option[2:]}" + " -r -F" * (option in words.before_file)
+    if plain:
+        yield f"{behind} -a '{' '.join(plain)}'"
+    if words.names:
+        yield f"{behind} -n '{NO_NAME_YET}' -a '{' '.join(words.names)}'"
+    if words.before_folder:
+        yield f"{behind} -s o -x -a '(__fish_complete_directories)'"
+    if words.is_folder:
+        yield f"{behind} -a '(__fish_complete_directories)'"
+    for name, values in words.named.items():
+        if values:
+            yield f"{behind} -n '{NAMED.format(name)}' -a '(__gossip_values {' '.join(values)})'"
+
+
 def for_fish(table):
-    lines = [f"# {MADE}", "function __gossip_values", "    set -l before (string replace -r '[^,=]*$' '' -- (commandline -ct))",
-             "    printf '%s\\n' $before$argv", "end", *(f"complete -c {it} -f" for it in commands(table))]
-    for key, it in table.items():
-        tool, _, first = key.partition(" ")
-        behind = f"-c {tool}"
-        if first:
-            behind += f" -n '__fish_seen_subcommand_from {first}'"
-        elif any(other.startswith(f"{key} ") for other in table):
-            behind += " -n __fish_use_subcommand"
-        long = [word.removeprefix("--") for word in it.plain if word.startswith("--")]
-        words = [word for word in it.plain if not word.startswith("-")]
-        lines += [f"complete {behind} -a '{' '.join(words)}'"] if words else []
-        lines += [f"complete {behind} -n '{NO_NAME_YET}' -a '{' '.join(it.names)}'"] if it.names else []
-        lines += [f"complete {behind} -l {word}" + " -r -F" * (f"--{word}" in it.before_file) for word in long]
-        lines += [f"complete {behind} -s o -x -a '(__fish_complete_directories)'"] if it.before_folder else []
-        lines += [f"complete {behind} -a '(__fish_complete_directories)'"] if it.is_folder else []
-        lines += [f"complete -c {tool} -n 'string match -q \"{name}=*\" -- (commandline -ct)' "
-                  f"-a '(__gossip_values {' '.join(values)})'" for name, values in it.named.items() if values]
-    return "".join(f"{line}\n" for line in lines)
+    lines = [f"complete -c {it} -f" for it in commands(table)]
+    for key, words in table.items():
+        lines += lines_for_fish(key, words, any(other.startswith(f"{key} ") for other in table))
+    return f"""# {MADE}
+function __gossip_values
+    set -l before (string replace -r '[^,=]*$' '' -- (commandline -ct))
+    printf '%s\\n' $before$argv
+end
+""" + "".join(f"{line}\n" for line in lines)
 
 
 def commands(table):

@@ -54,8 +54,8 @@ def page_of_program(told, package, documents, which):
     text += f".SH DESCRIPTION\n{escaped(told.about)}\n.SH COMMANDS\n"
     for name, (what, options) in told.commands.items():
         text += f".SS {name}\n{escaped(what)}.\n"
-        for short, it, after, what in options:
-            names = ", ".join(rf"\fB{escaped(one)}\fR" for one in (short, it) if one)
+        for short, long, after, what in options:
+            names = ", ".join(rf"\fB{escaped(it)}\fR" for it in (short, long) if it)
             text += f".TP\n{names} {after}\n{escaped(what)}.\n"
     text += f".SH EXAMPLE\n.nf\n{escaped(told.example)}\n.fi\n.SH FILES\n"
     text += f"The pages and the examples are in the folder {documents} of the package. docs/guide.md is for those "

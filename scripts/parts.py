@@ -23,6 +23,10 @@ class Part(NamedTuple):
     environment: dict | None = None
 
 
+def minutes(seconds):
+    return f"{seconds / 60:>6.1f} min"
+
+
 class Outcome(NamedTuple):
     """What came of a part, with its seconds on the clock and of processors."""
 
@@ -33,8 +37,8 @@ class Outcome(NamedTuple):
     used: float
 
     def __str__(self):
-        clock, processors = (f"{it / 60:>6.1f} min" if it >= 100 else f"{it:>6.1f} s  " for it in (self.took, self.used))
-        return f"{self.name:<24}{self.passed:>5} passed {self.failed:>3} failed {clock} {processors} of processor time"
+        counts = f"{self.passed:>5} passed {self.failed:>3} failed"
+        return f"{self.name:<26}{counts} {minutes(self.took)} {minutes(self.used)} of processor time"
 
 
 def outcome_of(name, last, status, took, used):

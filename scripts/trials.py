@@ -5,6 +5,8 @@ from pathlib import Path
 
 sys.dont_write_bytecode = True
 TOP = Path(__file__).resolve().parent.parent
+# (where the tools have their Python package)
+sys.path.insert(0, str(TOP / "tools"))
 PROGRAM = os.path.abspath(os.environ.get("GOSSIP_BENCH", TOP / "crates/gossip_bench/out/gossip_bench"))
 NO_PROGRAM = 3
 MOST_LETTERS = 2000  # of an outcome that are shown

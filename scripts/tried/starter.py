@@ -13,9 +13,9 @@ TUNABLES = "glibc.malloc.hugetlb=1"
 def starts(name, toy, *words, builds=False, **how):
     """The program starts with these words and this input, and was built first or not."""
     text = "".join(f"{it}\n" for it in ("nodes = 2", "keys = 1"))
+    printed = f"{' '.join(words)} {TUNABLES}\n{text}"
     status, out, err = toy.call("gossip_bench", *words, text=text, **how)
-    holds(name, (0, f"{' '.join(words)} {TUNABLES}\n{text}", builds), (status, out[out.find(f"{' '.join(words)} "):],
-                                                                      err.startswith(BUILDING) if builds else bool(err)))
+    holds(name, (0, printed, BUILDING if builds else ""), (status, out[-len(printed):], err[:len(BUILDING)]))
 
 
 def try_building(room):
@@ -97,12 +97,12 @@ def try_failing(room):
     toy.program.unlink()
     (toy.top / "scripts/build").write_text("#!/bin/sh\n")
     status, out, err = toy.call("gossip_bench", "run")
-    holds("a build that leaves no program", (3, "", f"{BUILDING}gossip_bench: the build left no program, so nothing was "
-                                             "run\n"), (status, out, err))
+    why = f"{BUILDING}gossip_bench: the build left no program, so nothing was run\n"
+    holds("a build that leaves no program", (3, "", why), (status, out, err))
 
 
 def try_full_disks(room):
-    """A disk that is full is told in a sentence where something has to be written, and the program is run all the same."""
+    """A full disk is told in a sentence where something is to be written, and the program is run all the same."""
     toy = Toy(room / "full")
     status, out, err = toy.call("gossip_bench", "run", before=small_files(20))
     said = err.removeprefix(BUILDING).splitlines()

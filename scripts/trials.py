@@ -34,7 +34,7 @@ def need_program(*others):
     """Ends the process where one of the programs isn't there to be tried."""
     for program in (PROGRAM, *others):
         if not os.access(program, os.X_OK):
-            print(f"{Path(sys.argv[0]).name}: no program at {program}", file=sys.stderr)
+            print(f"{Path(sys.argv[0]).name}: no program at {program}. ./gossip_bench --help builds it.", file=sys.stderr)
             sys.exit(NO_PROGRAM)
 
 

@@ -23,8 +23,9 @@ class Part(NamedTuple):
     environment: dict | None = None
 
 
-def minutes(seconds):
-    return f"{seconds / 60:>6.1f} min"
+def clock(seconds):
+    """Seconds as minutes and seconds."""
+    return f"{round(seconds) // 60:>3}:{round(seconds) % 60:02}"
 
 
 class Outcome(NamedTuple):
@@ -38,7 +39,7 @@ class Outcome(NamedTuple):
 
     def __str__(self):
         counts = f"{self.passed:>5} passed {self.failed:>3} failed"
-        return f"{self.name:<26}{counts} {minutes(self.took)} {minutes(self.used)} of processor time"
+        return f"{self.name:<30}{counts} {clock(self.took)} on the clock {clock(self.used)} of processor time"
 
 
 def outcome_of(name, last, status, took, used):

@@ -39,7 +39,7 @@ class Outcome(NamedTuple):
 
     def __str__(self):
         counts = f"{self.passed:>5} passed {self.failed:>3} failed"
-        return f"{self.name:<30}{counts} {clock(self.took)} on the clock {clock(self.used)} of processor time"
+        return f"{self.name:<33}{counts} {clock(self.took)} on the clock {clock(self.used)} of processor time"
 
 
 def outcome_of(name, last, status, took, used):

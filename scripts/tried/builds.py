@@ -29,11 +29,13 @@ def try_kept(room):
     holds("the program", (0, f"{''.join(lines)}run \nthe scenario", ""),
           run(room, toy.program, "run", text="the scenario", GLIBC_TUNABLES=""))
     builds("a second build", toy, [])
-    status, said, proved = toy.build(READING="1.5")
-    holds("what is kept isn't said to be proved, however long the look at it takes", (0, 1, []),
-          (status, len(said.splitlines()), proved))
+    status, out, err = toy.call_and_hear("scripts/build", READING="1.5")
+    holds("what is kept isn't said to be proved, however long the look at it takes", (0, "", 1, []),
+          (status, out, err.count("\n"), toy.proved()))
     toy.add("low", "// a remark")
-    builds("a remark", toy, ["low"])
+    status, _, err = toy.call_and_hear("scripts/build", PROVING="sleep 2.5")
+    holds("a remark", (0, "gossip_bench: proving low, 1 of 4 crates", ["low"]),
+          (status, err.partition("\n")[0], toy.proved()))
     toy.add("left", "pub fn another()")
     builds("another statement", toy, ["left", "gossip_bench"])
     toy.add("low", "pub fn another()")

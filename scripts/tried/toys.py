@@ -1,5 +1,6 @@
 """A small repository for trials of scripts/build and ./gossip_bench, with a toolchain that proves nothing."""
 import os
+import re
 import resource
 import shutil
 import signal
@@ -13,6 +14,8 @@ CRATES = {"low": "", "left": "low", "right": "low", "gossip_bench": "left right"
 SCRIPTS = ("build", "toolchain.py", "arguments.py")
 COMMANDS = ("sh", "env", "python3", "find", "cksum", "sort", "cat", "dirname", "readlink", "mv", "rm", "sleep")
 LONG_AGO = 1_000_000_000
+# What is said of a proof that takes long, as each may on a busy machine.
+PROGRESS = re.compile(r"^gossip_bench: (still )?proving .*\n", re.MULTILINE)
 
 
 def small_files(most):
@@ -62,9 +65,14 @@ class Toy:
         note.unlink(missing_ok=True)
         return names
 
-    def call(self, name, *words, with_rt=True, **how):
+    def call_and_hear(self, name, *words, with_rt=True, **how):
         path = f"{self.kit / 'bin'}:{self.bare}" if with_rt else str(self.bare)
         return run(how.pop("room", self.top), self.top / name, *words, PATH=path, **how)
+
+    def call(self, name, *words, **how):
+        """The same without lines of progress."""
+        status, out, err = self.call_and_hear(name, *words, **how)
+        return status, out, PROGRESS.sub("", err)
 
     def build(self, *words, **how):
         """The status, the lines on standard error, and what was proved."""

@@ -34,7 +34,8 @@ def need_program(*others):
     """Ends the process where one of the programs isn't there to be tried."""
     for program in (PROGRAM, *others):
         if not os.access(program, os.X_OK):
-            print(f"{Path(sys.argv[0]).name}: no program at {program}. ./gossip_bench --help builds it.", file=sys.stderr)
+            name = Path(sys.argv[0]).name
+            print(f"{name}: no program at {program}. ./gossip_bench --help builds it.", file=sys.stderr)
             sys.exit(NO_PROGRAM)
 
 

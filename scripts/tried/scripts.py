@@ -1,4 +1,4 @@
-"""Trials of what all scripts share: their words, that they can be imported, the tally, and the parts of scripts/gate."""
+"""Trials of what all scripts share: their words, that they can be imported, the parts of scripts/gate, and of pages."""
 import importlib.machinery
 import importlib.util
 import sys

@@ -3,6 +3,7 @@
 Python 3.11 is the oldest that they run on, and the one that they were tried with. They need its standard library alone.
 Pictures need gnuplot, and a sweep over several machines GNU parallel.
 
+  starting   how a tool starts and ends, whatever streams are closed and signals come
   commands   how a tool answers its caller: help, refusals, faults, the program
   scenario   scenarios and their sections; `cluster` has the numbers that they are made of, `sections` two tools
   sweep      runs of one scenario with other values of its fields, over `files`, `folders`, `running` and `progress`

@@ -11,8 +11,8 @@ Prints a scenario from the numbers of a cluster, with what it leaves out in fron
   digest   the bytes that the digest has for each node (in a precise mode for each key), where it shares the packet
            with the delta: what names the node, its generation and its version, as sent; 0 where it doesn't
   loss     how many messages of a hundred are lost, 0 where it isn't given
-  count    `bytes`, as where it isn't given, a scenario of format 2, or `entries`, one of format 1 for entries of about
-           one size
+  count    `entries`, a scenario of format 1 for entries of about one size, or `bytes`, one of format 2. Where it isn't
+           given entries, and bytes where a delta has room for fewer than fifty
   fanout   how many peers a node calls in an interval, 1 where it isn't given. Each call is a round of its own then, so
            divide `greatest` by it; only the first round of an interval has writes
   mode, rounds, seed    `scuttle-depth`, 60 for each call of an interval, and 1 where they aren't given
@@ -20,7 +20,7 @@ Prints a scenario from the numbers of a cluster, with what it leaves out in fron
 import re
 from fractions import Fraction
 
-from gossip_tools import scenario
+from gossip_tools import rules, scenario
 from gossip_tools.commands import Refused
 from gossip_tools.scenario import limited
 
@@ -29,7 +29,7 @@ TEXTS = {"mode": ("scuttle-depth", "scuttle-breadth", "precise-oldest", "precise
 DECIMALS = ("loss", "interval")
 BYTES = ("entry", "packet", "digest")
 USUAL = {"digest": "0", "loss": "0", "fanout": "1", "rounds": None, "seed": "1", "mode": TEXTS["mode"][0],
-         "count": "bytes"}
+         "count": None}
 USUAL_ROUNDS = 60
 # What is asked of the wrong tool, or in another way.
 ELSEWHERE = {
@@ -42,6 +42,9 @@ ELSEWHERE = {
 NEEDED = ("nodes", "keys", "writes", "entry", "packet")
 # Names that are taken for others.
 ALIASES = {"delta": "packet"}
+# How a number looks, how one that is taken, and what to say of the others.
+WHOLE = "[0-9]+", "[0-9]{1,19}", "19 are the most"
+DECIMAL = r"[0-9]+(\.[0-9]+)?", r"[0-9]{1,18}(\.[0-9]{1,9})?", "18 are the most, and 9 behind the point"
 
 
 def parts_of_writes(writes):
@@ -77,12 +80,14 @@ def instead(name, text):
 
 def number_of(name, text):
     """The number that is given for a name."""
-    allowed = r"[0-9]{1,18}(\.[0-9]{1,9})?" if name in DECIMALS else "[0-9]{1,19}"
-    if not re.fullmatch(allowed, text):
-        kind = "number" if name in DECIMALS else "whole number of bytes" if name in BYTES else "whole number"
-        advice = instead(name, text)
-        raise Refused(f"{name} is a {kind}, which '{text}' isn't{': ' if advice else ''}{advice}.")
-    return Fraction(text)
+    shape, taken, most = DECIMAL if name in DECIMALS else WHOLE
+    if re.fullmatch(taken, text):
+        return Fraction(text)
+    if re.fullmatch(shape, text):
+        raise Refused(f"{name} has too many digits in '{text}': {most}.")
+    kind = "number" if name in DECIMALS else "whole number of bytes" if name in BYTES else "whole number"
+    advice = instead(name, text)
+    raise Refused(f"{name} is a {kind} from 0 on, which '{text}' isn't{': ' if advice else ''}{advice}.")
 
 
 def told(words, usual, call):
@@ -175,7 +180,8 @@ def main(words):
     taken = it["packet"] - room
     if room < it["entry"]:
         raise Refused(f"the digest takes {taken} of the {it['packet']} bytes, which leaves no entry.")
-    in_bytes = it["count"] == "bytes"
+    count = it["count"] or ("bytes" if rules.counts_bytes(room / it["entry"]) else "entries")
+    in_bytes = count == "bytes"
     fields = scenario.top(it["nodes"], it["keys"], rounds, it["writes"], it["loss"] * 10000, room / it["entry"],
                           in_bytes, it["mode"], seed)
     print(f"# {room} bytes for a delta are {float(room / it['entry']):.6g} entries of {it['entry']} bytes.")

@@ -11,6 +11,7 @@ LIMITS = {
 }
 MOST_TRIPLES = 268435456  # of nodes * nodes * keys
 MOST_SECTIONS = 1000
+MOST_BYTES = 1048576
 MEAN = Fraction("523.5")  # bytes of an entry of format 2, which has 24 + value mod 1000
 
 
@@ -52,6 +53,17 @@ def top(nodes, keys, rounds, writes, loss_ppm, entries, in_bytes, mode="scuttle-
     }
 
 
+def read(file, what="the scenario"):
+    """The text of a scenario, from a file that is open for its bytes. No more is read than a scenario has."""
+    given = file.read(MOST_BYTES + 1)
+    if len(given) > MOST_BYTES:
+        raise Refused(f"{what} is longer than {MOST_BYTES} bytes, the most that a scenario has.")
+    try:
+        return given.decode()
+    except UnicodeDecodeError:
+        raise Refused(f"{what} isn't UTF-8, as scenarios are.") from None
+
+
 def set_field(text, field, value):
     """The scenario with another value in the one line that the field has above all sections."""
     lines, found = text.splitlines(keepends=True), []
@@ -75,6 +87,8 @@ def restarts(nodes, each, first_round, last_round, down, forget=False, first=0, 
     """Restarts: in every `every`-th of these rounds the next `each` nodes, by ascending number from `first` on."""
     if not 1 <= first_round <= last_round:
         raise Refused(f"{first_round} to {last_round} aren't rounds.")
+    if each < 1:
+        raise Refused(f"{each} nodes in a round are no restarts: 1 is the least.")
     if each > nodes:
         raise Refused(f"{each} nodes can't restart in a round, of {nodes}.")
     if first >= nodes:

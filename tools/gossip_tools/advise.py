@@ -235,9 +235,7 @@ def study_of(it, folder, program, check_sum):
 
 def main(words):
     folder, words = folder_of(words, "advice")
-    hosts = os.environ.get("HOSTS")
-    if hosts and not running.is_gnu_parallel():
-        raise Refused("other machines need GNU parallel, which isn't there.")
+    hosts = running.hosts()
     look(folder)
     it = study.Study(numbers_of(words, folder / "cluster.toml")[0])
     program = the_program()

@@ -4,6 +4,7 @@ use Rattle.std.proofs.lemmas.Option.{same_Some}
 use Rattle.bench_types.specs.declared.entries.Entry.{Entry}
 use Rattle.model.specs.OwnerListView.{entries_of}
 use Rattle.model.specs.Numbers.{write_numbered}
+use Rattle.owner_writes.specs.Kept.{entry_kept}
 use Rattle.planes.specs.Planes.{cell}
 use Rattle.planes.proofs.Elementwise.{number-at}
 use Rattle.version_tables.specs.inner.Missed.{base_of}
@@ -23,8 +24,8 @@ bounds-least-write g c =
     let w = c.requires in
     omega (
       arith,
-      walk-index c.args.round g.N.Number.most c.args.nodes w.0 c.args.owner (g.N.Number.number c.args.first) c.args.list.now (map g.N.Number.number c.args.least.now) w.1 c.loop-place.place c.in-Some.write
-          (omega (arith, c.loop-place.auto.place, c.max-from.ensures, c.earlier_count.ensures)) (sym c.in-Some.ensures),
+      walk-index c.args.round g.N.Number.most c.args.nodes w.0 c.args.owner (g.N.Number.number c.args.first) c.args.list.now (map g.N.Number.number c.args.least.now) w.1 c.loop-place.place (entry_kept c.in-Some.write.now)
+          (omega (arith, c.loop-place.auto.place, c.max-from.ensures, c.earlier_count.ensures)) c.in-Some.ensures,
       length-map c.args.least.now g.N.Number.number,
     )
 
@@ -34,16 +35,16 @@ offset_bounds-least-write g c = omega (arith, bounds-least-write g c)
 pub overflow_sub-result : goal.overflow_sub-result
 overflow_sub-result g c =
     let w = c.requires in
-    walk-born c.args.round g.N.Number.most c.args.nodes w.0 c.args.owner (g.N.Number.number c.args.first) c.args.list.now (map g.N.Number.number c.args.least.now) w.1 c.loop-place.place c.in-Some.write
-    (omega (arith, c.loop-place.auto.place, c.max-from.ensures, c.earlier_count.ensures)) (sym c.in-Some.ensures)
+    walk-born c.args.round g.N.Number.most c.args.nodes w.0 c.args.owner (g.N.Number.number c.args.first) c.args.list.now (map g.N.Number.number c.args.least.now) w.1 c.loop-place.place (entry_kept c.in-Some.write.now)
+    (omega (arith, c.loop-place.auto.place, c.max-from.ensures, c.earlier_count.ensures)) c.in-Some.ensures
 
 pub returns-then-widen-place : goal.returns-then-widen-place
 returns-then-widen-place g c keys walks =
     let v = c.args.list.now in
     let numbers = map g.N.Number.number c.args.least.now in
-    let e = c.in-Some.write in
+    let e = entry_kept c.in-Some.write.now in
     let place = c.loop-place.place in
-    let is : write_numbered (entries_of v) (place + 1) ≡ Some e = sym c.in-Some.ensures in
+    let is : write_numbered (entries_of v) (place + 1) ≡ Some e = c.in-Some.ensures in
     let current : base_of v ≤ place = omega (arith, c.loop-place.auto.place, c.max-from.ensures, c.earlier_count.ensures) in
     let index = walk-index c.args.round g.N.Number.most c.args.nodes keys c.args.owner (g.N.Number.number c.args.first) v numbers walks place e current is in
     let here = number-at g.N.Number.number c.args.least.now (e.key * c.args.nodes + c.args.owner) c.index-least-write.result (omega (arith, index, length-map c.args.least.now g.N.Number.number)) c.index-least-write.is in

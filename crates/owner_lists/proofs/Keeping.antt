@@ -1,16 +1,13 @@
 -- What an owner's list keeps through its calls.
 -- Serves the functions of `lists` and `version_tables`.
-use Rattle.std.proofs.Common.{◌≡◌, ℕ, ◌+◌, ◌-◌, ◌<◌, ◌≤◌, Bool, true, List, [], ◌∷◌, ◌++◌, length, get_or, map, take, drop, if◌then◌else◌, inl, inr, refl, sym, ap, ◌∙◌, subst, arith, length-append}
-use Rattle.std.proofs.lemmas.Bool.{cases_lt}
-use Rattle.std.proofs.lemmas.List.{length-take, length-take-le, drop_at, length-drop, length-map, get_or-map, map-append, append_assoc, append-nil, get_or_append_left, get_or-append_right, get_or_push, take-append-drop, take_all, drop_all}
-use Rattle.std.proofs.lemmas.List.Elements.{All-append}
+use Rattle.std.proofs.Common.{◌≡◌, ℕ, ◌+◌, ◌-◌, ◌<◌, ◌≤◌, Bool, true, List, [], ◌∷◌, ◌++◌, length, map, take, drop, if◌then◌else◌, refl, sym, ap, ◌∙◌, subst, arith, length-append}
+use Rattle.std.proofs.lemmas.List.{length-take, length-take-le, drop_at, length-drop, length-map, get_or-map, map-append, append_assoc, append-nil, take_all, drop_all}
 use borrow.Rule.Slice.PartMut.{put_mid}
 use Rattle.bench_types.specs.declared.entries.Entry.{Entry}
-use Rattle.bench_types.specs.Entry.{IsNextAfter, AreNextAfter}
-use Rattle.bench_types.specs.Mark.{mark_of, IsBefore}
+use Rattle.bench_types.specs.Entry.{AreNextAfter}
 use Rattle.owner_lists.specs.declared.lists.Link.{Link}
 use Rattle.model.specs.declared.writes.Write.{Write}
-use Rattle.model.specs.OwnerListView.{OwnerListView, entries_of, written, MarksRise, AreWrites, next_entry, with_write, begun_generation}
+use Rattle.model.specs.OwnerListView.{OwnerListView, written, AreWrites, next_entry, with_write}
 use Rattle.model.specs.Writes.{IsNumbered, write_of_entry}
 use Rattle.owner_lists.specs.inner.Linked.{entries_linked, writes_linked, view_of, IsOwnerList, IsKeptList}
 use Rattle.owner_writes.proofs.Keeping.{writes_more, writes_begun, view_begun, view_written}

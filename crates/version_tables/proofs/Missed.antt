@@ -72,14 +72,14 @@ find_cases test (w ∷ ws) = elim (cases_Bool (test w)) [
 pub last_write-after : (ws : List Write) (key i : ℕ) (d : Write) → IsNumbered ws → i < length ws → (get_or ws i d).key ≡ key → (w : Write) × ((last_write ws key ≡ Some w) × (i < w.version))
 unfolding NoneFound
 last_write-after ws key i d numbered lt here = elim (find_cases (is_write_of key) (reverse ws)) [
-  | inl none ↦ let no = none.1 back d (omega (arith, length-reverse ws)) in cc
+  | inl none ↦ absurd (fails (none.1 back d (omega (arith, length-reverse ws))))
   | inr found ↦
       let at = found.1.1.1 in
       let before : found.0 < length ws = omega (arith, at.within, length-reverse ws) in
       let there : get_or ws (length ws - 1 - found.0) d ≡ found.1.0 = sym (get_or-reverse ws found.0 d before) ∙ at.there d in
       let version = numbered (length ws - 1 - found.0) d (omega arith) in
       (found.1.0, (found.1.1.0, elim (cases_lt back found.0) [
-        | inl sooner ↦ let no = at.first back d sooner in cc
+        | inl sooner ↦ absurd (fails (at.first back d sooner))
         | inr later ↦ omega (arith, ap (λ (w : Write). w.version) there, version)
       ]))
 ]
@@ -93,11 +93,17 @@ last_write-after ws key i d numbered lt here = elim (find_cases (is_write_of key
         eq-eqb (get_or (reverse ws) back d).key key
         (ap (λ (w : Write). w.key) (get_or-reverse ws back d (omega arith)) ∙ ap (λ j. (get_or ws j d).key) same ∙ here)
 
+    fails : is_write_of key (get_or (reverse ws) back d) ≡ false → ⊥
+    fails no = let bad : true ≡ false = sym passes ∙ no in cc
+
 pub last_write-keyed : (ws : List Write) (key : ℕ) (w : Write) → last_write ws key ≡ Some w → w.key ≡ key
 last_write-keyed ws key w is = elim (find_cases (is_write_of key) (reverse ws)) [
-  | inl none ↦ let no = none.0 in cc
+  | inl none ↦ let no : None ≡ Some w = sym none.0 ∙ is in absurd (nothing no)
   | inr found ↦ let same = same_Some found.1.0 w (sym found.1.1.0 ∙ is) in eqb-true w.key key (subst (λ x. is_write_of key x ≡ true) same found.1.1.1.passes)
 ]
+  where
+    nothing : None ≡ Some w → ⊥
+    nothing no = cc
 
 module _ (v : OwnerListView) (are : AreWrites v) where
   abbrev base : ℕ

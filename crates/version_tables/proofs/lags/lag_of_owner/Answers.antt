@@ -1,9 +1,12 @@
-use Rattle.std.proofs.Common.{◌≡◌, ◌+◌, ◌*◌, ◌≤◌, Some, max, map, sym, ap, ◌∙◌, arith}
+use Rattle.std.proofs.Common.{◌≡◌, ◌+◌, ◌*◌, ◌≤◌, Option, None, Some, max, map, refl, sym, ap, subst, ◌∙◌, arith}
+use Rattle.std.specs.Prelude.{MatchOption}
+use Rattle.std.specs.Borrow.{Bor}
 use Rattle.std.proofs.lemmas.List.{length-map}
 use Rattle.std.proofs.lemmas.Option.{same_Some}
 use Rattle.bench_types.specs.declared.entries.Entry.{Entry}
 use Rattle.model.specs.OwnerListView.{entries_of}
 use Rattle.model.specs.Numbers.{write_numbered}
+use Rattle.owner_writes.specs.declared.writes.Kept.{Kept}
 use Rattle.owner_writes.specs.Kept.{entry_kept}
 use Rattle.planes.specs.Planes.{cell}
 use Rattle.planes.proofs.Elementwise.{number-at}
@@ -58,15 +61,19 @@ loop-place-preserved g c =
     let numbers = map g.N.Number.number c.args.least.now in
     let place = c.loop-place.place in
     let current : base_of v ≤ place = omega (arith, c.loop-place.auto.place, c.max-from.ensures, c.earlier_count.ensures) in
+    let Answers : Option (Bor Kept) → Type 0 = λ r. MatchOption r (write_numbered (entries_of v) (place + 1) ≡ None) (λ kept. write_numbered (entries_of v) (place + 1) ≡ Some (entry_kept kept.now)) in
     walk-next v (cell numbers c.args.nodes c.args.owner) place c.loop-place.invariant (λ e is. elim c.match-numbered.branch [
       | in-Some+else-widen-place w ↦
-          let x = w.in-Some.write in
-          let same : x ≡ e = same_Some x e (sym w.in-Some.is ∙ c.numbered.ensures ∙ is) in
-          let there : write_numbered (entries_of v) (place + 1) ≡ Some x = sym c.numbered.ensures ∙ w.in-Some.is in
+          let x = entry_kept w.in-Some.write.now in
+          let there : write_numbered (entries_of v) (place + 1) ≡ Some x = subst Answers w.in-Some.is c.numbered.ensures in
+          let same : x ≡ e = same_Some x e (sym there ∙ is) in
           let index = walk-index c.args.round g.N.Number.most c.args.nodes c.requires.0 c.args.owner (g.N.Number.number c.args.first) v numbers c.requires.1 place x current there in
           let here = number-at g.N.Number.number c.args.least.now (x.key * c.args.nodes + c.args.owner) w.index-least-write.result (omega (arith, index, length-map c.args.least.now g.N.Number.number)) w.index-least-write.is in
           omega (arith, w.if-widen-place.false, w.widen-in-Some.ensures, here, ap (λ (y : Entry). cell numbers c.args.nodes c.args.owner y.key) same)
-      | in_default w ↦ absurd (w.in_default.not-Some e (c.numbered.ensures ∙ is))
+      | in_default w ↦ absurd (elim c.numbered.result as (λ r. ((x : Bor Kept) → r ≡ Some x → ⊥) → Answers r → ⊥) [
+        | None ↦ λ _ none. let no : None ≡ Some e = sym none ∙ is in cc
+        | Some x ↦ λ other _. other x refl
+      ] w.in_default.not-Some c.numbered.ensures)
     ])
 
 pub returns : goal.returns

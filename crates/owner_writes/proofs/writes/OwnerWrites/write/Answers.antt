@@ -1,5 +1,4 @@
 use Rattle.std.proofs.Common.{◌≡◌, ◌+◌, length, ap, subst, sym, ◌∙◌, arith}
-use Rattle.bench_types.specs.declared.entries.Entry.{Entry}
 use Rattle.model.specs.OwnerListView.{OwnerListView, next_entry}
 use Rattle.owner_writes.specs.Kept.{entry_kept}
 use Rattle.owner_writes.specs.inner.Views.{view_by, IsKept}

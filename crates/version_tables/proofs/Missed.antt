@@ -77,11 +77,16 @@ last_write-after ws key i d numbered lt here = elim (find_cases (is_write_of key
       let at = found.1.1.1 in
       let before : found.0 < length ws = omega (arith, at.within, length-reverse ws) in
       let there : get_or ws (length ws - 1 - found.0) d ≡ found.1.0 = sym (get_or-reverse ws found.0 d before) ∙ at.there d in
-      let version = numbered (length ws - 1 - found.0) d (omega arith) in
-      (found.1.0, (found.1.1.0, elim (cases_lt back found.0) [
-        | inl sooner ↦ absurd (fails (at.first back d sooner))
-        | inr later ↦ omega (arith, ap (λ (w : Write). w.version) there, version)
-      ]))
+      let version = numbered (length ws - 1 - found.0) d (omega arith) in (
+        found.1.0,
+        (
+          found.1.1.0,
+          elim (cases_lt back found.0) [
+            | inl sooner ↦ absurd (fails (at.first back d sooner))
+            | inr later ↦ omega (arith, ap (λ (w : Write). w.version) there, version)
+          ],
+        ),
+      )
 ]
   where
     back : ℕ
@@ -94,7 +99,7 @@ last_write-after ws key i d numbered lt here = elim (find_cases (is_write_of key
         (ap (λ (w : Write). w.key) (get_or-reverse ws back d (omega arith)) ∙ ap (λ j. (get_or ws j d).key) same ∙ here)
 
     fails : is_write_of key (get_or (reverse ws) back d) ≡ false → ⊥
-    fails no = let bad : true ≡ false = sym passes ∙ no in cc
+    fails failed = let bad : true ≡ false = sym passes ∙ failed in cc
 
 pub last_write-keyed : (ws : List Write) (key : ℕ) (w : Write) → last_write ws key ≡ Some w → w.key ≡ key
 last_write-keyed ws key w is = elim (find_cases (is_write_of key) (reverse ws)) [
@@ -103,7 +108,7 @@ last_write-keyed ws key w is = elim (find_cases (is_write_of key) (reverse ws)) 
 ]
   where
     nothing : None ≡ Some w → ⊥
-    nothing no = cc
+    nothing same = cc
 
 module _ (v : OwnerListView) (are : AreWrites v) where
   abbrev base : ℕ

@@ -7,8 +7,8 @@ ghost use Rattle.owner_writes.specs.Kept.{entry_kept};
 ghost use Rattle.version_tables.specs.inner.OfferInMemory.{cells_in, count_in, marks, weight_in, weights_in, IsOffer};
 ghost use Rattle.version_tables.specs.inner.Weights.{weight_of};
 
-use bench_types::{Budget, Entry};
 use bench_types::limits::MOST_ENTRY_SIZE;
+use bench_types::{Budget, Entry};
 use owner_writes::{Kept, OwnerWrites};
 use planes::Number;
 

@@ -7,6 +7,8 @@ from pathlib import Path
 sys.dont_write_bytecode = True
 TOP = Path(__file__).resolve().parent.parent
 TOOLS = TOP / "tools"
+# (where the tools have their Python package)
+sys.path.insert(0, str(TOOLS))
 PROGRAM = "gossip_bench"
 # The loader hides AVX2 by this, and a program that needs it doesn't start.
 OLDER = {"GLIBC_TUNABLES": "glibc.cpu.hwcaps=-AVX2"}

@@ -8,62 +8,41 @@ from installed import Missing
 PAGES = ("README.md", "docs/guide.md", "docs/study.md", "docs/testing.md", "docs/model.md", "docs/formats.md")
 # Where the Python package of the tools stands, from the folder of README.md.
 MODULES = "../../../lib/gossip_bench/gossip_tools"
-# Sections, paragraphs, points and rows that begin so are for a clone.
-OF_A_CLONE = {
-    "README.md": ("## Where things are", "- **From a clone:**", "- **A build**", "- **`scripts/gate`**",
-                  "- **To judge what a run promises:**"),
-    "docs/guide.md": ("**To call the program often**", "**On older processors**"),
-    "docs/formats.md": ("| 3 | of the script",),
-}
-# Sentences that say where one is.
+# What stands between these marks is for a clone. Where the first one has a name, a package says something else there.
+MARKED = re.compile(r"<!--clone(?::(\w+))?-->(.*?)<!--/clone-->", re.DOTALL)
 INSTEAD = {
-    "README.md": (
-        (" (With a package call `gossip_bench`, without `./`.)", ""),
-        ("[docs/proofs.md](docs/proofs.md#the-promises) has the ten promises in full, with the contracts that carry "
-         "each, what has to be believed, and what is trusted. In short:",
-         "This is in short what that comes to. (The repository, from which this package is made, has a page more, "
-         "docs/proofs.md: the ten promises in full, with the contracts that carry each, what has to be believed, and "
-         "what is trusted.)"),
-        (" (`run` and `compare` of `runs`)", ""), (" (the same two; for files and pipes see below).",
-         ". Of files and pipes see below."),
-        (" (`read` of `scenario`)", ""), (" (`main_with` of `command_line`)", ""),
-        (" (`every_run_is_sound` of `simulation`)", ""), (" (`exchanges_make_fresh`)", ""),
-        (" (`quiet_rings_heal`)", ""), ("the tools and scripts;", "the tools;"),
-        ("It is built for `x86-64-v3` processors if yours is one; after `scripts/build portable`, for nearly all.",
-         "The package's name has the processors that it is built for; on an older one it prints a line and ends with "
-         "status 127."),
-    ),
-    "docs/guide.md": (
-        ("`scripts/check_guide` runs each command of both pages that has its output below it, and says where the "
-         "output differs. ", "Each command of both pages that has its output below it was run, and printed that. "),
-        ("The commands are for the top of the repository. With a package or after `scripts/install`, `gossip_bench`, "
-         "`gossip_advise` and the others are on the path: leave out `./` and `tools/`. The examples and pages of a "
-         "package are in `share/doc/gossip-bench`.",
-         "The commands are for a folder of your own, into which you copied `examples` from `share/doc/gossip-bench` of "
-         "the package, where these pages are too."),
-        (": a [package](../README.md#have-it) puts it there, and so does `scripts/install FOLDER`. If one of them has "
-         "an older processor, call `scripts/build portable` first; `gossip_sweep`", ". `gossip_sweep`"),
-        ("The program was the portable one. [The one for `x86-64-v3`](#working-with-the-numbers)",
-         "The program was the one for `x86-64-v2`. The one for `x86-64-v3`"),
-        ("`scripts/benchmark` measures these kinds of run, and one in bytes, which takes as much memory as the medium "
-         "one:", "These kinds of run were measured too:"),
-        (", `gossip_replay` in a package", ""),
-    ),
-    "docs/study.md": (
-        (", commands for the top of the repository", ", commands for a folder with a copy of `examples`"),
-        ("`scripts/check_guide` runs each command that has its output below it, from top to bottom, and says where the "
-         "output differs.", "Each command that has its output below it was run, from top to bottom, and printed that."),
-    ),
-    "docs/testing.md": (("; the gate holds the two against each other", ""),),
+    "README.md": {
+        "promises": "This is in short what that comes to. (The repository, from which this package is made, has a "
+                    "page more, docs/proofs.md: the ten promises in full, with the contracts that carry each, what "
+                    "has to be believed, and what is trusted.)",
+        "processors": "The package's name has the processors that it is built for; on an older one it prints a line "
+                      "and ends with status 127.",
+    },
+    "docs/guide.md": {
+        "checked": "was run, and printed that",
+        "top": "The commands are for a folder of your own, into which you copied `examples` from "
+               "`share/doc/gossip-bench` of the package, where these pages are too.",
+        "machines": ". ",
+        "portable": "the one for `x86-64-v2`",
+        "benchmark": "were measured too",
+    },
+    "docs/study.md": {"folder": "a folder with a copy of `examples`", "checked": "was run, and printed that"},
 }
+# The section that names contracts, which a package leaves out: a parenthesis with a name of code.
+PROVED, CONTRACTS = re.compile(r"(?<=\n## What is proved\n).*?(?=\n## )", re.DOTALL), re.compile(r" \([^()]*`[^()]*\)")
 
 
-def without(text, beginning):
-    """The text without the section, paragraph, point or row that begins so."""
-    if text.count(f"\n{beginning}") != 1:
-        raise Missing(f"a page doesn't have '{beginning}' once, which a package leaves out.")
-    until = r"(?=\n## |\Z)" if beginning.startswith("#") else r"\n" if beginning.startswith(("- ", "| ")) else r"\n\n"
-    return re.sub(rf"(?<=\n){re.escape(beginning)}.*?{until}", "", text, count=1, flags=re.DOTALL)
+def without_marks(text, page):
+    """A page as a package says it, where that differs from a clone."""
+    instead = INSTEAD.get(page, {})
+    named = [name for name, _ in MARKED.findall(text) if name]
+    if sorted(named) != sorted(instead):
+        raise Missing(f"{page} has the marks {', '.join(named)} for what a package says otherwise, and not "
+                      f"{', '.join(instead)}, which scripts/pages.py has.")
+    text = MARKED.sub(lambda found: instead[found[1]] if found[1] else "", text)
+    if "clone-->" in text:
+        raise Missing(f"{page} has a mark <!--clone--> or <!--/clone--> without the other.")
+    return PROVED.sub(lambda found: CONTRACTS.sub("", found[0]), text)
 
 
 def target_in_package(target, page):
@@ -104,10 +83,4 @@ def renamed(text):
 
 def in_package(text, page):
     """A page of this repository as a package has it."""
-    for beginning in OF_A_CLONE.get(page, ()):
-        text = without(text, beginning)
-    for sentence, other in INSTEAD.get(page, ()):
-        if text.count(sentence) != 1:
-            raise Missing(f"{page} doesn't have '{sentence}' once, which a package says otherwise.")
-        text = text.replace(sentence, other)
-    return renamed(linked(text, page))
+    return renamed(linked(without_marks(text, page), page))

@@ -5,16 +5,21 @@ from pathlib import Path
 
 sys.dont_write_bytecode = True
 TOP = Path(__file__).resolve().parent.parent
+# (where the tools have their Python package)
+sys.path.insert(0, str(TOP / "tools"))
 PROGRAM = os.path.abspath(os.environ.get("GOSSIP_BENCH", TOP / "crates/gossip_bench/out/gossip_bench"))
 NO_PROGRAM = 3
+MOST_LETTERS = 2000  # of an outcome that are shown
 passed, failed = [], []
 
 
 def holds(name, wanted, found):
-    """Notes whether the outcome of a trial is the wanted one."""
-    (passed if wanted == found else failed).append(name)
-    if wanted != found:
-        print(f"{name}: wanted {wanted!r}, found {found!r}", flush=True)
+    """Notes whether the outcome of a trial is the wanted one, and says so."""
+    is_so = wanted == found
+    (passed if is_so else failed).append(name)
+    if not is_so:
+        print(f"{name}: wanted {wanted!r:.{MOST_LETTERS}}, found {found!r:.{MOST_LETTERS}}", flush=True)
+    return is_so
 
 
 def all_hold(name, trials):
@@ -25,11 +30,13 @@ def all_hold(name, trials):
     holds(f"{name}, at {place}", wanted, found)
 
 
-def need_program():
-    """Ends the process where there is no program to be tried."""
-    if not os.access(PROGRAM, os.X_OK):
-        print(f"{Path(sys.argv[0]).name}: no program at {PROGRAM}", file=sys.stderr)
-        sys.exit(NO_PROGRAM)
+def need_program(*others):
+    """Ends the process where one of the programs isn't there to be tried."""
+    for program in (PROGRAM, *others):
+        if not os.access(program, os.X_OK):
+            name = Path(sys.argv[0]).name
+            print(f"{name}: no program at {program}. ./gossip_bench --help builds it.", file=sys.stderr)
+            sys.exit(NO_PROGRAM)
 
 
 def end():

@@ -13,6 +13,9 @@ Pictures need gnuplot, and a sweep over several machines GNU parallel.
 """
 import sys
 
+# The latest format of scenarios, and how many packages with it were handed out.
+VERSION = "2.1"
+
 if sys.version_info < (3, 11):
     print("gossip_tools: Python 3.11 or later is needed, and this one is", sys.version.split()[0], file=sys.stderr)
     sys.exit(2)

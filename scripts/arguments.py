@@ -1,0 +1,35 @@
+"""How scripts take their words: by argparse, with the script's text as its help, and a line for what is refused."""
+import argparse
+import sys
+from pathlib import Path
+
+sys.dont_write_bytecode = True
+
+
+class Parser(argparse.ArgumentParser):
+    """What takes the words of the script that has this text. What it refuses ends the script with status 2."""
+
+    def __init__(self, text):
+        super().__init__(prog=Path(sys.argv[0]).name, allow_abbrev=False)
+        self.text = text
+
+    def format_help(self):
+        return self.text.lstrip()
+
+    def error(self, message):
+        self.exit(2, f"{self.prog}: {message}. {self.prog} --help says which words there are.\n")
+
+
+def take_none(text):
+    """Takes no words but those for help."""
+    Parser(text).parse_args()
+
+
+def take_names(text, known):
+    """The names that were told, of those that are known; all of them where none was."""
+    parser = Parser(text)
+    parser.add_argument("names", nargs="*")
+    names = parser.parse_args().names
+    if unknown := [it for it in names if it not in known]:
+        parser.error(f"{', '.join(unknown)}: the names are {', '.join(known)}")
+    return names or known

@@ -1,0 +1,97 @@
+"""Parts of trials, each a command whose last line is 'N passed, M failed', with a table of what they came to."""
+import os
+import re
+import subprocess
+import threading
+import time
+from concurrent.futures import ThreadPoolExecutor
+from typing import NamedTuple
+
+LAST_LINE = re.compile(r"(\d+) passed, (\d+) failed")
+OF_A_CALLER = ("HOSTS", "JOBS", "REPLAY")
+
+
+def with_program(program):
+    """The environment of a part that tries this program, whatever the caller's names of programs and hosts are."""
+    rest = {name: value for name, value in os.environ.items() if name not in OF_A_CALLER}
+    return {**rest, "GOSSIP_BENCH": str(program)}
+
+
+class Part(NamedTuple):
+    name: str
+    command: tuple
+    environment: dict | None = None
+
+
+def clock(seconds):
+    """Seconds as minutes and seconds."""
+    return f"{round(seconds) // 60:>3}:{round(seconds) % 60:02}"
+
+
+class Outcome(NamedTuple):
+    """What came of a part, with its seconds on the clock and of processors."""
+
+    name: str
+    passed: int
+    failed: int
+    took: float
+    used: float
+
+    def __str__(self):
+        counts = f"{self.passed:>5} passed {self.failed:>3} failed"
+        return f"{self.name:<33}{counts} {clock(self.took)} on the clock {clock(self.used)} of processor time"
+
+
+def outcome_of(name, last, status, took, used):
+    """What came of a part by its last line and status. One that says nothing is one trial, and one that ends in another
+    way than by its last line has failed."""
+    counts = LAST_LINE.fullmatch(last)
+    passed, failed = (int(counts[1]), int(counts[2])) if counts else (0, 0)
+    failed += bool(status and not failed)
+    passed += not counts and not status
+    return Outcome(name, passed, failed, took, used)
+
+
+def say_at_once(line):
+    print(line, flush=True)
+
+
+class Parts:
+    """Makes parts in a folder."""
+
+    def __init__(self, folder):
+        self.folder, self.outcomes, self.printing = folder, [], threading.Lock()
+
+    def run(self, part, say=say_at_once):
+        """Makes a part, passes on what it says line by line, and says whether nothing failed."""
+        say(f"== {part.name}")
+        began, last = time.monotonic(), ""
+        with subprocess.Popen(part.command, cwd=self.folder, env=part.environment, text=True, errors="replace",
+                              stdin=subprocess.DEVNULL, stdout=subprocess.PIPE) as process:
+            for line in process.stdout:
+                last = line.rstrip("\n")
+                say(last)
+            _, status, used = os.wait4(process.pid, 0)
+            process.returncode = os.waitstatus_to_exitcode(status)
+        outcome = outcome_of(part.name, last, process.returncode, time.monotonic() - began,
+                             used.ru_utime + used.ru_stime)
+        self.outcomes.append(outcome)
+        return not outcome.failed
+
+    def run_quietly(self, part):
+        """Makes a part among others, and then prints what it said."""
+        said = []
+        self.run(part, said.append)
+        with self.printing:
+            print(*said, sep="\n", flush=True)
+
+    def run_side_by_side(self, parts, lanes):
+        with ThreadPoolExecutor(lanes) as pool:
+            # (what a part raises is raised here)
+            list(pool.map(self.run_quietly, parts))
+
+    def close(self):
+        """Prints the table and the last line, and answers the status."""
+        passed, failed = (sum(getattr(it, name) for it in self.outcomes) for name in ("passed", "failed"))
+        print("==", *self.outcomes, f"{passed} passed, {failed} failed", sep="\n", flush=True)
+        return 1 if failed else 0

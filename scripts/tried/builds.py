@@ -1,0 +1,159 @@
+"""Trials of scripts/build, by a toolchain that proves nothing: what is proved, what is kept, and what is made anew."""
+import signal
+
+from toolchain import NEWER, OLDER, has_newer
+from tried.calls import run, started, waits_for
+from tried.toys import CRATES, Toy, small_files
+from trials import TOP, holds
+
+BUILT = f"gossip_bench: built for {NEWER if has_newer() else OLDER} processors"
+
+
+def builds(name, toy, wanted, *words, **how):
+    """It is built, the last line says for what, and these crates were proved; in their order where it counts."""
+    status, said, proved = toy.build(*words, **how)
+    last = said.splitlines()[-1:]
+    holds(name, (0, True, sorted(wanted)), (status, bool(last) and last[0].startswith("gossip_bench: built for "),
+                                            sorted(proved)))
+    return proved
+
+
+def try_kept(room):
+    """A crate is proved again where what its proof reads has changed, and else it is kept."""
+    toy = Toy(room / "kept")
+    order = builds("a first build", toy, CRATES)
+    places = {name: order.index(name) for name in CRATES}
+    holds("each crate comes after those below", True,
+          all(places[below] < places[name] for name in CRATES for below in CRATES[name].split()))
+    lines = [f"{name}: pub fn {name}()\n" for name in ("low", "left", "low", "right", "gossip_bench")]
+    holds("the program", (0, f"{''.join(lines)}run \nthe scenario", ""),
+          run(room, toy.program, "run", text="the scenario", GLIBC_TUNABLES=""))
+    builds("a second build", toy, [])
+    status, out, err = toy.call_and_hear("scripts/build", READING="1.5")
+    holds("what is kept isn't said to be proved, however long the look at it takes", (0, "", 1, []),
+          (status, out, err.count("\n"), toy.proved()))
+    toy.add("low", "// a remark")
+    status, _, err = toy.call_and_hear("scripts/build", PROVING="sleep 2.5")
+    holds("a remark", (0, "gossip_bench: proving low, 1 of 4 crates", ["low"]),
+          (status, err.partition("\n")[0], toy.proved()))
+    toy.add("left", "pub fn another()")
+    builds("another statement", toy, ["left", "gossip_bench"])
+    toy.add("low", "pub fn another()")
+    builds("another statement below all", toy, CRATES)
+    (toy.top / "HANDLES").touch()
+    (toy.top / "crates/right/specs").mkdir()
+    (toy.top / "crates/right/specs/A.antt").write_text("pub data A\n")
+    builds("a file more", toy, ["right", "gossip_bench"])
+    (toy.kit / "WHAT").write_text("another compiler\n")
+    builds("another toolchain", toy, CRATES)
+    toy.program.write_text("another program")
+    builds("a program that was written over", toy, ["gossip_bench"])
+    (toy.top / "crates/left/out/proved/left.rlib/statements").write_text("pub fn others()\n")
+    builds("a library that was written over", toy, ["left"])
+    toy.copy(room / "copy")
+    builds("a copy with older times", toy, [])
+    toy.add("right", "// a remark")
+    builds("a remark in the copy", toy, ["right"])
+    toy.source("low").write_text("// low\npub fn low()\n")
+    builds("an older text in the copy", toy, CRATES)
+
+
+def try_changes_under_way(room):
+    """What changes while a crate is proved isn't what was proved, and is proved next time."""
+    toy = Toy(room / "changes")
+    change = f'[ "$0" != left ] || echo "pub fn later()" >>"{toy.source("left")}"'
+    builds("a source that changes while it is proved", toy, CRATES, PROVING=change)
+    holds("what was read is built", False, "later" in toy.program.read_text())
+    builds("what came later", toy, ["left", "gossip_bench"])
+    library = toy.top / "crates/low/out/proved/low.rlib/statements"
+    toy.add("right", "// a remark")
+    status, said, _ = toy.build(PROVING=f'[ "$0" != right ] || echo "pub fn other()" >>"{library}"')
+    holds("a library that changes while one above is proved", (1, True),
+          (status, "a library below was changed while this crate was proved: build again" in said))
+    builds("a build again", toy, ["low", "right"])
+
+
+def try_failing(room):
+    """What isn't proved is told, and what was built before stays, until all is proved."""
+    toy = Toy(room / "failing")
+    builds("a first build", toy, CRATES)
+    before = toy.program.read_bytes()
+    toy.add("low", "pub fn wrong() // WRONG")
+    status, said, proved = toy.build()
+    why = "src/lib.rt: a goal is not proved\ngossip_bench: low is not proved: the log is crates/low/out/build.log\n"
+    holds("a crate that isn't proved", (1, why, ["low"]), (status, said, proved))
+    holds("it is tried again", (1, ["low"]), toy.build()[::2])
+    holds("the program is as it was", before, toy.program.read_bytes())
+    toy.source("low").write_text("// low\npub fn low()\n")
+    builds("the former text", toy, [])
+    status, said, _ = toy.build(with_rt=False)
+    holds("no toolchain", (1, "gossip_bench: the command rt of the Rattle toolchain is not found\n"), (status, said))
+    holds("nothing else is left", [], [*toy.top.glob("crates/*/out/rooms-*"), *toy.top.glob("crates/*/out/**/*.part")])
+
+
+def try_full_disks(room):
+    """A disk that is full is told in a sentence, and what was kept counts no less and no more."""
+    toy = Toy(room / "full")
+    for most in (0, 20, 40, 100, 150):
+        status, said, _ = toy.build(before=small_files(most))
+        lines = said.splitlines()
+        says_why = lines[0].startswith("gossip_bench: not built: ") and lines[0].endswith("File too large.")
+        holds(f"no file above {most} bytes", (1, 1, True), (status, len(lines), says_why))
+    holds("with room", (0, True), (toy.build()[0], toy.program.exists()))
+    before = toy.program.read_bytes()
+    toy.add("gossip_bench", "pub fn later()")
+    holds("a program that can't be written", (1, ["gossip_bench"]), toy.build(before=small_files(100))[::2])
+    holds("the program is as it was", before, toy.program.read_bytes())
+
+
+def try_words(room):
+    """The word portable stays until the word is native, and makes the program alone anew."""
+    toy = Toy(room / "words")
+    builds("a first build", toy, CRATES)
+    kinds = {"portable": "all", "native": NEWER if has_newer() else "all"}
+    for word, kind in kinds.items():
+        changes = ["gossip_bench"] if has_newer() else []
+        builds(word, toy, changes, word)
+        builds(f"{word} once more", toy, [], word)
+        builds(f"{word} without the word", toy, [])
+        holds(f"the program after {word}", f"# for {kind}", toy.program.read_text().splitlines()[1])
+    status, out, err = toy.call("scripts/build", "--help", with_rt=False)
+    holds("--help", (0, "build [portable | native]: proves and builds", ""), (status, out[:44], err))
+    for words in (("walk",), ("portable", "native"), ("--portable",)):
+        status, out, err = toy.call("scripts/build", *words)
+        holds(f"build {' '.join(words)}", (2, "", True, 1), (status, out, err.startswith("build: "), err.count("\n")))
+    holds("words that are refused prove nothing", [], toy.proved())
+
+
+def try_stopping(room):
+    """A build that is stopped leaves nothing, and one that is killed nothing that the next one keeps. Two at once build
+    once."""
+    toy = Toy(room / "stopping")
+    path = f"{toy.kit / 'bin'}:{toy.bare}"
+
+    def begun():
+        return started(toy.top, toy.top / "scripts/build", PATH=path, PROVING="until [ -e go ]; do sleep 0.05; done")
+
+    def rooms():
+        return [*toy.top.glob("crates/gossip_bench/out/rooms-*")]
+
+    for number in (signal.SIGTERM, signal.SIGINT, signal.SIGHUP):
+        with begun() as process:
+            holds("a proof begins", True, waits_for(lambda: toy.proved() == ["low"]))
+            process.send_signal(number)
+            process.communicate(timeout=60)
+        holds(f"{number.name} ends it, and leaves nothing", (-number, []), (process.returncode, rooms()))
+    with begun() as process:
+        holds("a proof begins", True, waits_for(lambda: toy.proved() == ["low"]))
+        process.kill()
+        process.communicate(timeout=60)
+    (toy.top / "go").touch()
+    both = [begun(), begun()]
+    holds("two builds at once", [0, 0], [it.wait(timeout=60) for it in both])
+    for process in both:
+        process.communicate()
+    holds("each crate is proved once", sorted(CRATES), sorted(toy.proved()))
+    holds("what was killed is gone", [], rooms())
+
+
+TRIALS = (try_kept, try_changes_under_way, try_failing, try_full_disks, try_words, try_stopping)

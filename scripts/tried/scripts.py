@@ -1,0 +1,80 @@
+"""Trials of what all scripts share: their words, that they can be imported, the parts of scripts/gate, and of pages."""
+import importlib.machinery
+import importlib.util
+import sys
+
+from installed import Missing
+from pages import PAGES, in_package, without_marks
+from parts import Part, Parts, outcome_of
+from tried.calls import run, written
+from trials import TOP, holds
+
+SCRIPTS = TOP / "scripts"
+# The last line and the status of a part, and how many of its trials have passed and failed.
+ENDINGS = {
+    ("3 passed, 0 failed", 0): (3, 0), ("3 passed, 2 failed", 1): (3, 2), ("3 passed, 0 failed", 3): (3, 1),
+    ("3 passed, 0 failed", -9): (3, 1), ("", 0): (1, 0), ("", 1): (0, 1), ("no program", 3): (0, 1),
+    ("a: 3 passed, 0 failed", 0): (1, 0), ("0 passed, 0 failed", 0): (0, 0),
+}
+MARKED = {
+    "A<!--clone--> b<!--/clone--> C.": "A C.", "A.<!--clone-->\n- b\n<!--/clone-->": "A.", "A (`b`).": "A (`b`).",
+    "\n## What is proved\nA (`b` of `c`) d (e).\n## F\nG (`h`).": "\n## What is proved\nA d (e).\n## F\nG (`h`).",
+}
+WRONG_MARKS = ("A<!--clone--> b.", "A b<!--/clone-->.", "A<!--clone:other--> b<!--/clone-->.")
+
+
+def python_scripts():
+    files = [it for it in sorted(SCRIPTS.iterdir()) if it.is_file() and not it.suffix]
+    return [it for it in files if it.read_text().startswith("#!/usr/bin/env python3\n")]
+
+
+def try_words(room):
+    """Each says what it does, and refuses other words in a line."""
+    holds("there are scripts", True, len(python_scripts()) > 15)
+    for script in python_scripts():
+        status, out, err = run(room, script, "--help")
+        holds(f"{script.name} --help", (0, script.name, ""), (status, out[:len(script.name)], err))
+        status, out, err = run(room, script, "--walk", "about", "there")
+        holds(f"{script.name} --walk", (2, "", True, 1),
+              (status, out, err.startswith(f"{script.name}: "), err.count("\n")))
+
+
+def try_imports(_):
+    """To import a script does nothing: it has a function for all that it does."""
+    for script in python_scripts():
+        name = f"imported_{script.name}"
+        loader = importlib.machinery.SourceFileLoader(name, str(script))
+        made = importlib.util.module_from_spec(importlib.util.spec_from_loader(name, loader))
+        # (one that has dataclasses looks itself up)
+        sys.modules[name] = made
+        loader.exec_module(made)
+        holds(f"{script.name} is imported", True, callable(made.main))
+
+
+def try_parts(room):
+    """A part counts by its last line, and one that ends in another way has failed."""
+    holds("endings", ENDINGS, {it: outcome_of("a part", *it, 0, 0)[1:3] for it in ENDINGS})
+    written(room / "three", "#!/bin/sh\necho 1 passed, 1 failed\necho 3 passed, 0 failed\n")
+    written(room / "none", "#!/bin/sh\necho 3 passed\nkill -9 $$\n")
+    parts, said = Parts(room), []
+    holds("what they say", [True, False],
+          [parts.run(Part(it, (f"./{it}",)), said.append) for it in ("three", "none")])
+    holds("all of it", ["== three", "1 passed, 1 failed", "3 passed, 0 failed", "== none", "3 passed"], said)
+    holds("what they came to", [(3, 0), (0, 1)], [(it.passed, it.failed) for it in parts.outcomes])
+
+
+def try_marks(_):
+    """What a page has between marks is no part of it in a package, or is said otherwise there, whatever it is."""
+    holds("marks", MARKED, {it: without_marks(it, "docs/model.md") for it in MARKED})
+    for text in WRONG_MARKS:
+        try:
+            holds(text, "a refusal", without_marks(text, "docs/model.md"))
+        except Missing as why:
+            holds(text, True, "docs/model.md has " in str(why))
+    for page in PAGES:
+        text = (TOP / page).read_text()
+        other = text.replace("`scripts/", "`scripts/another/")
+        holds(f"{page} with other sentences", in_package(text, page), in_package(other, page))
+
+
+TRIALS = (try_words, try_imports, try_parts, try_marks)

@@ -1,0 +1,87 @@
+"""A small repository for trials of scripts/build and ./gossip_bench, with a toolchain that proves nothing."""
+import os
+import re
+import resource
+import shutil
+import signal
+from pathlib import Path
+
+from tried.calls import run, written
+from trials import TOP
+
+# The crates, with those that each stands on, and what is needed of scripts.
+CRATES = {"low": "", "left": "low", "right": "low", "gossip_bench": "left right"}
+SCRIPTS = ("build", "toolchain.py", "arguments.py")
+COMMANDS = ("sh", "env", "python3", "find", "cksum", "sort", "cat", "dirname", "readlink", "mv", "rm", "sleep")
+LONG_AGO = 1_000_000_000
+# What is said of a proof that takes long, as each may on a busy machine.
+PROGRESS = re.compile(r"^gossip_bench: (still )?proving .*\n", re.MULTILINE)
+
+
+def small_files(most):
+    """What limits the bytes of a file in a process, as a disk does that is full."""
+    def limit():
+        # (a write fails then, and the signal that comes with it doesn't end the process)
+        signal.signal(signal.SIGXFSZ, signal.SIG_IGN)
+        resource.setrlimit(resource.RLIMIT_FSIZE, (most, most))
+    return limit
+
+
+class Toy:
+    """A repository in a folder of its own, and a toolchain beside it."""
+
+    def __init__(self, room):
+        self.kit, self.top, self.bare = room / "kit", room / "a tree", room / "bare"
+        self.kit.mkdir(parents=True)
+        written(self.kit / "bin" / "rt", (TOP / "scripts/tried/toy_rt").read_text())
+        for name in ("KIT-ID", "WHAT"):
+            (self.kit / name).write_text(f"{name}\n")
+        self.bare.mkdir()
+        for name in COMMANDS:
+            (self.bare / name).symlink_to(shutil.which(name))
+        for name in ("gossip_bench", *(f"scripts/{name}" for name in SCRIPTS)):
+            (self.top / name).parent.mkdir(parents=True, exist_ok=True)
+            shutil.copy(TOP / name, self.top / name)
+        (self.top / "HANDLES").write_text("Handles allowed: none.\n")
+        (self.top / "crates.txt").write_text("".join(f"{name}: {below}\n" for name, below in CRATES.items()))
+        for name in CRATES:
+            self.source(name).parent.mkdir(parents=True)
+            self.source(name).write_text(f"// {name}\npub fn {name}()\n")
+
+    @property
+    def program(self):
+        return self.top / "crates/gossip_bench/out/gossip_bench"
+
+    def source(self, name):
+        return self.top / "crates" / name / "src" / ("main.rt" if name == "gossip_bench" else "lib.rt")
+
+    def add(self, name, line):
+        self.source(name).write_text(f"{self.source(name).read_text()}{line}\n")
+
+    def proved(self):
+        """The crates that were proved since this was asked last, in their order."""
+        note = self.kit / "proved"
+        names = note.read_text().split() if note.exists() else []
+        note.unlink(missing_ok=True)
+        return names
+
+    def call_and_hear(self, name, *words, with_rt=True, **how):
+        path = f"{self.kit / 'bin'}:{self.bare}" if with_rt else str(self.bare)
+        return run(how.pop("room", self.top), self.top / name, *words, PATH=path, **how)
+
+    def call(self, name, *words, **how):
+        """The same without lines of progress."""
+        status, out, err = self.call_and_hear(name, *words, **how)
+        return status, out, PROGRESS.sub("", err)
+
+    def build(self, *words, **how):
+        """The status, the lines on standard error, and what was proved."""
+        status, out, err = self.call("scripts/build", *words, **how)
+        return status, out + err, self.proved()
+
+    def copy(self, to):
+        """Moves on to a copy, all of whose files have older times than any before."""
+        shutil.copytree(self.top, to, copy_function=shutil.copy)
+        for path in to.rglob("*"):
+            os.utime(path, (LONG_AGO, LONG_AGO))
+        self.top = to

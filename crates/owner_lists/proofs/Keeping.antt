@@ -1,5 +1,5 @@
 -- What an owner's list keeps through its calls.
--- Serves the functions of `lists` and `version_tables`.
+-- Serves the functions of `lists`.
 use Rattle.std.proofs.Common.{◌≡◌, ℕ, ◌+◌, ◌-◌, ◌<◌, ◌≤◌, Bool, true, List, [], ◌∷◌, ◌++◌, length, map, take, drop, if◌then◌else◌, refl, sym, ap, ◌∙◌, subst, arith, length-append}
 use Rattle.std.proofs.lemmas.List.{length-take, length-take-le, drop_at, length-drop, length-map, get_or-map, map-append, append_assoc, append-nil, take_all, drop_all}
 use borrow.Rule.Slice.PartMut.{put_mid}

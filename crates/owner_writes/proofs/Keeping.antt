@@ -1,5 +1,6 @@
 -- What an owner's writes keep through the calls that change them.
--- Serves the functions of `writes`.
+-- Serves `OwnerWrites::begin_generation`, `OwnerWrites::numbered`, `OwnerWrites::write`, `owner_lists` and
+-- `version_tables`.
 use Rattle.std.proofs.Common.{◌≡◌, ℕ, ◌+◌, ◌-◌, ◌^◌, ◌<◌, List, [], ◌∷◌, ◌++◌, length, get_or, map, take, drop, inl, inr, refl, sym, ap, ◌∙◌, subst, arith, length-append}
 use Rattle.std.proofs.lemmas.Bool.{cases_lt}
 use Rattle.std.proofs.lemmas.List.{length-drop, length-map, map-append, append_assoc, append-nil, get_or_append_left, get_or-append_right, get_or_push, take-append-drop, take-append-le, drop-append-le, take_all, drop_all}

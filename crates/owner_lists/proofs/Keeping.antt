@@ -1,18 +1,16 @@
 -- What an owner's list keeps through its calls.
--- Serves the functions of `lists` and `version_tables`.
-use Rattle.std.proofs.Common.{◌≡◌, ℕ, ◌+◌, ◌-◌, ◌<◌, ◌≤◌, Bool, true, List, [], ◌∷◌, ◌++◌, length, get_or, map, take, drop, if◌then◌else◌, inl, inr, refl, sym, ap, ◌∙◌, subst, arith, length-append}
-use Rattle.std.proofs.lemmas.Bool.{cases_lt}
-use Rattle.std.proofs.lemmas.List.{length-take, length-take-le, drop_at, length-drop, length-map, get_or-map, map-append, append_assoc, append-nil, get_or_append_left, get_or-append_right, get_or_push, take-append-drop, take_all, drop_all}
-use Rattle.std.proofs.lemmas.List.Elements.{All-append}
+-- Serves the functions of `lists`.
+use Rattle.std.proofs.Common.{◌≡◌, ℕ, ◌+◌, ◌-◌, ◌<◌, ◌≤◌, Bool, true, List, [], ◌∷◌, ◌++◌, length, map, take, drop, if◌then◌else◌, refl, sym, ap, ◌∙◌, subst, arith, length-append}
+use Rattle.std.proofs.lemmas.List.{length-take, length-take-le, drop_at, length-drop, length-map, get_or-map, map-append, append_assoc, append-nil, take_all, drop_all}
 use borrow.Rule.Slice.PartMut.{put_mid}
 use Rattle.bench_types.specs.declared.entries.Entry.{Entry}
-use Rattle.bench_types.specs.Entry.{IsNextAfter, AreNextAfter}
-use Rattle.bench_types.specs.Mark.{mark_of, IsBefore}
+use Rattle.bench_types.specs.Entry.{AreNextAfter}
 use Rattle.owner_lists.specs.declared.lists.Link.{Link}
 use Rattle.model.specs.declared.writes.Write.{Write}
-use Rattle.model.specs.OwnerListView.{OwnerListView, entries_of, written, MarksRise, AreWrites, next_entry, with_write, begun_generation}
+use Rattle.model.specs.OwnerListView.{OwnerListView, written, AreWrites, next_entry, with_write}
 use Rattle.model.specs.Writes.{IsNumbered, write_of_entry}
 use Rattle.owner_lists.specs.inner.Linked.{entries_linked, writes_linked, view_of, IsOwnerList, IsKeptList}
+use Rattle.owner_writes.proofs.Keeping.{writes_more, writes_begun, view_begun, view_written}
 use Rattle.owner_lists.proofs.Linking.{written_linked}
 
 -- what stands from a place on, as it is lent
@@ -46,11 +44,6 @@ module _ (n len : ℕ) (lent items new : List Link) (is : lent ≡ items) (long 
       ∙ ap (λ zs. zs ++ l ∷ []) whole ∙ append_assoc (take n lent) new (l ∷ []))
       ∙ drop_at (take n lent) (new ++ l ∷ []) n (length-take-le n lent (omega (arith, within, same_length)))
 
--- all that the list shows is all that the links keep
-pub entries_whole : (n generation : ℕ) (ls : List Link) → entries_of (view_of ls n generation) ≡ entries_linked ls
-entries_whole n generation ls =
-    sym (map-append (λ (l : Link). l.write) (take n ls) (drop n ls)) ∙ ap entries_linked (take-append-drop n ls)
-
 -- what the links of the generation show is what was written in it
 pub shown : (v : OwnerListView) (ls : List Link) → v.current ≡ entries_linked ls → AreNextAfter v.generation 0 v.current → writes_linked ls ≡ written v
 shown v ls same numbered =
@@ -61,67 +54,6 @@ numbered_kept v is i d lt =
     let in_range : i < length v.current = omega (arith, length-map v.current write_of_entry) in
     let e : Entry = record { key = 0; generation = 0; version = 0; value = 0; born = 0 } in
     ap (λ (w : Write). w.version) (get_or-map write_of_entry v.current i e d in_range) ∙ omega (arith, (is.current i e in_range).1)
-
--- marks stay in order where one is added above all
-rising_push : (es : List Entry) (e : Entry) → MarksRise es → ((i : ℕ) (d : Entry) → i < length es → IsBefore (mark_of (get_or es i d)) (mark_of e)) → MarksRise (es ++ e ∷ [])
-rising_push es e rising above i j d lt in_range =
-    let front : get_or (es ++ e ∷ []) i d ≡ get_or es i d = get_or_append_left es (e ∷ []) d i (omega (arith, length-append es (e ∷ []))) in
-    subst (λ x. IsBefore (mark_of x) (mark_of (get_or (es ++ e ∷ []) j d))) (sym front) (elim (cases_lt j (length es)) [
-      | inl before ↦ subst (λ x. IsBefore (mark_of (get_or es i d)) (mark_of x)) (sym (get_or_append_left es (e ∷ []) d j before)) (rising i j d lt before)
-      | inr last ↦ subst (λ x. IsBefore (mark_of (get_or es i d)) (mark_of x)) (sym (get_or_push es e d j (omega (arith, length-append es (e ∷ []))))) (above i d (omega (arith, length-append es (e ∷ []))))
-    ])
-
--- one more write
-module _ (v : OwnerListView) (is : AreWrites v) (key value born : ℕ) where
-  abbrev e : Entry
-  e = next_entry v key value born
-
-  below : (i : ℕ) (d : Entry) → i < length (entries_of v) → IsBefore (mark_of (get_or (entries_of v) i d)) (mark_of e)
-  below i d lt = elim (cases_lt i (length v.earlier)) [
-    | inl before ↦
-        let older = is.earlier i d before in
-        subst (λ (x : Entry). IsBefore (mark_of x) (mark_of e)) (sym (get_or_append_left v.earlier v.current d i before))
-        (record { generation = grind (arith, older); version = λ same. absurd (grind (arith, older, same)) })
-    | inr behind ↦
-        let at = i - length v.earlier in
-        let within : at < length v.current = omega (arith, lt, behind, length-append v.earlier v.current) in
-        let here = is.current at d within in
-        subst (λ (x : Entry). IsBefore (mark_of x) (mark_of e)) (sym (get_or-append_right v.earlier v.current (length v.earlier) i d refl behind))
-        (record { generation = grind (arith, here.0); version = λ _. grind (arith, here.1, within) })
-  ]
-
-  pub writes_more : AreWrites (with_write v key value born)
-  writes_more = record {
-    current = numbered;
-    earlier = is.earlier;
-    rising = subst MarksRise (append_assoc v.earlier v.current (e ∷ [])) (rising_push (entries_of v) e is.rising below);
-  }
-    where
-      numbered : AreNextAfter v.generation 0 (v.current ++ e ∷ [])
-      numbered i d lt = elim (cases_lt i (length v.current)) [
-        | inl before ↦ subst (IsNextAfter v.generation (0 + i)) (sym (get_or_append_left v.current (e ∷ []) d i before)) (is.current i d before)
-        | inr behind ↦
-            let last : length v.current ≡ i = omega (arith, length-append v.current (e ∷ [])) in
-            subst (IsNextAfter v.generation (0 + i)) (sym (get_or_push v.current e d i last)) (refl, omega (arith, last))
-      ]
-
--- the next generation
-pub writes_begun : (v : OwnerListView) → AreWrites v → AreWrites (begun_generation v)
-writes_begun v is = record {
-  current = λ i d lt. absurd (omega arith);
-  earlier = All-append (λ (x : Entry). x.generation < v.generation + 1) v.earlier v.current
-      (λ i d lt. omega (arith, is.earlier i d lt)) (λ i d lt. omega (arith, (is.current i d lt).0));
-  rising = subst MarksRise (sym (append-nil (entries_of v))) is.rising;
-}
-
-pub begun_view : (ls : List Link) (n m g : ℕ) → m ≡ length ls → view_of ls m (g + 1) ≡ begun_generation (view_of ls n g)
-begun_view ls n m g all = λ i. record { earlier = taken i; current = dropped i; generation = g + 1 }
-  where
-    taken : entries_linked (take m ls) ≡ entries_linked (take n ls) ++ entries_linked (drop n ls)
-    taken = ap entries_linked (take_all m ls (omega (arith, all)) ∙ sym (take-append-drop n ls)) ∙ map-append (λ (l : Link). l.write) (take n ls) (drop n ls)
-
-    dropped : entries_linked (drop m ls) ≡ []
-    dropped = ap entries_linked (drop_all m ls (omega (arith, all)))
 
 nothing_kept : IsOwnerList [] [] [] true
 nothing_kept = record {
@@ -138,7 +70,7 @@ module _ (ls : List Link) (n g : ℕ) (firsts latest : List Write) (in_order : B
     within = omega (arith, all);
     list = subst (λ ks. IsOwnerList ks firsts' latest' true) (sym (drop_all m ls (omega (arith, all))))
         (subst (λ ws. IsOwnerList [] ws latest' true) (sym first) (subst (λ ws. IsOwnerList [] [] ws true) (sym last) nothing_kept));
-    writes = subst AreWrites (sym (begun_view ls n m g all)) (writes_begun (view_of ls n g) kept.writes);
+    writes = subst AreWrites (sym (view_begun (λ (l : Link). l.write) ls n g m all)) (writes_begun (view_of ls n g) kept.writes);
   }
 
   -- what its links show is what was written
@@ -149,16 +81,16 @@ module _ (ls : List Link) (n g : ℕ) (firsts latest : List Write) (in_order : B
     abbrev v : OwnerListView
     v = view_of ls n g
 
-    pub view_written : view_of ls' n g ≡ with_write (view_of ls n g) key value born
-    view_written = λ i. record { earlier = entries_linked (same i); current = added i; generation = g }
+    written_is : view_of ls' n g ≡ with_write (view_of ls n g) key value born
+    written_is = view_written (λ (l : Link). l.write) ls n g ls' key value born same added
 
     more : AreWrites (view_of ls' n g)
-    more = subst AreWrites (sym view_written) (writes_more (view_of ls n g) kept.writes key value born)
+    more = subst AreWrites (sym written_is) (writes_more (view_of ls n g) kept.writes key value born)
 
     pub shown_written : writes_linked (drop n ls') ≡ writes_linked (drop n ls) ++ write_of_entry (next_entry (view_of ls n g) key value born) ∷ []
     shown_written =
         shown (view_of ls' n g) (drop n ls') refl more.current
-        ∙ ap written view_written
+        ∙ ap written written_is
         ∙ map-append write_of_entry v.current (next_entry v key value born ∷ [])
         ∙ ap (λ ws. ws ++ write_of_entry (next_entry v key value born) ∷ []) (sym shown_kept)
 

@@ -1,5 +1,5 @@
 -- The last write of a key, and the first one that was missed.
--- Serves `Linking`, `staleness` and `version_tables`.
+-- Serves `Linking` and `staleness`.
 use Rattle.std.proofs.Common.{◌≡◌, ℕ, zero, suc, ◌+◌, ◌<◌, ◌≤◌, Bool, true, false, cond, eqb, ltb, ◌&&◌, List, [], ◌∷◌, length, get_or, drop, reverse, Some, None, IfSome, All, if◌then◌else◌, refl, sym, ap, ◌∙◌, subst, arith}
 use Rattle.std.specs.List.{find}
 use Rattle.std.specs.Option.{option_or}

@@ -4,4 +4,3 @@ pub mod Linking
 pub mod InOrder
 pub mod Marked
 pub mod Keeping
-mod Numbered

@@ -1,5 +1,5 @@
 -- An owner's writes as they are kept: what they show, and where their links lead.
--- Serves the functions of `lists`, `Keeping`, `staleness` and `version_tables`.
+-- Serves the functions of `lists`, `Keeping` and `staleness`.
 use Rattle.std.proofs.Common.{◌≡◌, ◌≢◌, ℕ, zero, suc, ◌+◌, ◌-◌, ◌^◌, ◌<◌, ◌≤◌, Bool, true, false, cond, eqb, ltb, ◌==◌, ◌&&◌, List, [], ◌∷◌, ◌++◌, length, get_or, set, drop, drop-cons, add-one, map, reverse, Option, Some, None, IfSome, All, inl, inr, if◌then◌else◌, refl, sym, ap, ◌∙◌, subst, arith, length-append}
 use Rattle.std.specs.List.{find}
 use Rattle.std.specs.Option.{option_or}

@@ -16,7 +16,7 @@ use Rattle.owner_lists.specs.declared.lists.Link.{Link}
 use Rattle.model.specs.OwnerListView.{OwnerListView, entries_of, has_mark, entry_of, MarksRise, AreWrites}
 use Rattle.model.specs.Numbers.{write_numbered}
 use Rattle.owner_lists.specs.inner.Linked.{entries_linked}
-use Rattle.owner_lists.proofs.Numbered.{write_from-here, write_from-past}
+use Rattle.owner_writes.proofs.Numbered.{write_from-here, write_from-past}
 
 pub find-here : (test : Entry → Bool) (es : List Entry) (i : ℕ) (d : Entry) → i < length es → test (get_or es i d) ≡ true → ((j : ℕ) → j < i → test (get_or es j d) ≡ false) → find test es ≡ Some (get_or es i d)
 find-here test [] i d lt here before = absurd (omega arith)

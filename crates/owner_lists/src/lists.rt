@@ -43,7 +43,7 @@ pub struct OwnerList {
 
 impl Model for OwnerList {
     ghost use Rattle.model.specs.OwnerListView.{OwnerListView};
-    ghost use Rattle.owner_lists.specs.inner.Codes.{list_code};
+    ghost use Rattle.owner_writes.specs.inner.Codes.{list_code};
     ghost use Rattle.owner_lists.specs.inner.Linked.{view_of, IsKeptList};
 
     ghost Value = { OwnerListView };

@@ -10,7 +10,7 @@ use Rattle.bench_types.specs.declared.entries.Entry.{Entry}
 use Rattle.bench_types.specs.declared.limits.TheConstants.{MOST_KEYS, MOST_NODES}
 use Rattle.model.specs.Numbers.{write_from, write_numbered}
 use Rattle.model.specs.OwnerListView.{OwnerListView, all_writes, entries_of, list_of_owner, no_writes, next_entry, with_write, begun_generation, MarksRise, AreWrites, ListBecomes}
-use Rattle.owner_lists.proofs.Keeping.{writes_more, writes_begun}
+use Rattle.owner_writes.proofs.Keeping.{writes_more, writes_begun}
 use Rattle.planes.specs.Planes.{HasEach, HasEachPlace, ArePlanesChanged, cell}
 use Rattle.version_tables.specs.inner.Histories.{AreHistories, AreMadeBy, IsBeginning, IsWrittenSoFar, IsWriteUnder}
 use Rattle.version_tables.specs.inner.Missed.{IsLastNumber}

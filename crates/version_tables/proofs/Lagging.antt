@@ -10,13 +10,12 @@ use Rattle.model.specs.declared.writes.Write.{Write}
 use Rattle.model.specs.Writes.{write_of_entry, last_write, IsNumbered}
 use Rattle.model.specs.OwnerListView.{OwnerListView, entries_of, written, AreWrites}
 use Rattle.model.specs.Numbers.{write_numbered}
-use Rattle.owner_lists.proofs.Last.{fresh}
-use Rattle.owner_lists.proofs.Linking.{last_placed, missed_some}
 use Rattle.round_tables.specs.Histories.{BirthsRise, StandsBeside}
 use Rattle.model.specs.Figures.{is_left_over, stale_count, rounds_behind}
 use Rattle.version_tables.specs.inner.Missed.{base_of, number_staleness, IsMissed, HasNoneMissed, IsLastNumber}
 use Rattle.version_tables.proofs.Offers.{write_from-at, numbers-born}
-use Rattle.version_tables.proofs.Missed.{write_from-here, current-numbered, missed_cases}
+use Rattle.owner_writes.proofs.Numbered.{write_from-here}
+use Rattle.version_tables.proofs.Missed.{current-numbered, last_write-after, last_write-keyed, missed_cases}
 
 module _ (round : ℕ) (v : OwnerListView) (are : AreWrites v) where
   abbrev all : List Entry
@@ -121,9 +120,9 @@ module _ (round : ℕ) (v : OwnerListView) (are : AreWrites v) where
           let at = current-numbered v are m d is current in
           let w = write_of_entry d in
           let here : get_or (written v) at.place w ≡ w = get_or-map write_of_entry v.current at.place d w at.within ∙ ap write_of_entry (at.there d) in
-          absurd (missed_some (written v) d.key 0 at.place w (omega (arith, at.within, length-map v.current write_of_entry))
-          (ap (λ (x : Write). x.key) here) (omega (arith, ap (λ (x : Write). x.version) here, ap (λ (x : Entry). x.version) (at.there d), (are.current at.place d at.within).1))
-          (fresh (written v) d.key 0 numbered-written (subst (λ o. IfSome o (λ w. w.version ≤ 0)) (ap (option_map write_of_entry) (sym none) ∙ beside.own_part d.key) tt)))
+          let last = last_write-after (written v) d.key at.place w numbered-written (omega (arith, at.within, length-map v.current write_of_entry)) (ap (λ (x : Write). x.key) here) in
+          let no : None ≡ Some last.0 = ap (option_map write_of_entry) (sym none) ∙ beside.own_part d.key ∙ last.1.0 in
+          cc
     ] refl
 
   -- the owner's own number is that of its last write of the key
@@ -137,9 +136,8 @@ module _ (round : ℕ) (v : OwnerListView) (are : AreWrites v) where
         let at = current-numbered v are m d is current in
         let w = write_of_entry d in
         let here : get_or (written v) at.place w ≡ w = get_or-map write_of_entry v.current at.place d w at.within ∙ ap write_of_entry (at.there d) in
-        missed_some (written v) key version at.place w (omega (arith, at.within, length-map v.current write_of_entry))
-        (ap (λ (x : Write). x.key) here ∙ keyed) (omega (arith, over, ap (λ (x : Write). x.version) here))
-        (fresh (written v) key version numbered-written upto)
+        let last = last_write-after (written v) key at.place w numbered-written (omega (arith, at.within, length-map v.current write_of_entry)) (ap (λ (x : Write). x.key) here ∙ keyed) in
+        omega (arith, subst (λ o. IfSome o (λ x. x.version ≤ version)) last.1.0 upto, last.1.1, over, ap (λ (x : Entry). x.version) (at.there d), (are.current at.place d at.within).1)
 
     version_at : (m : ℕ) (d : Entry) → write_numbered all m ≡ Some d → base_of v < m → base_of v + d.version ≡ m
     version_at m d is current =
@@ -166,13 +164,12 @@ module _ (round : ℕ) (v : OwnerListView) (are : AreWrites v) where
           let generation : e.generation ≡ v.generation = proper.own key e here ∙ beside.generation in
           let current : base_of v < c = newer c e is generation in
           let found : last_write (written v) key ≡ Some (write_of_entry e) = last_is ∙ ap (option_map write_of_entry) is in
-          let placed = last_placed (written v) key (write_of_entry e) numbered-written found in
           record {
             written = within;
             last = λ m d missed.
                 none_later e.version (subst (λ o. IfSome o (λ w. w.version ≤ e.version)) (sym found) (omega arith)) m d missed.written missed.current missed.keyed
                 (omega (arith, version_at m d missed.written missed.current, version_at c e is current, missed.over));
-            there = λ below lt. (e, record { written = is; current = current; keyed = placed.1; over = lt });
+            there = λ below lt. (e, record { written = is; current = current; keyed = last_write-keyed (written v) key (write_of_entry e) found; over = lt });
           }
     ] refl
       where

@@ -1,25 +1,21 @@
 -- The first write that a copy misses, by numbers.
 -- Serves `Lagging` and `Walks`.
-use Rattle.std.proofs.Common.{◌≡◌, ℕ, zero, suc, ◌+◌, ◌-◌, ◌<◌, ◌≤◌, Bool, true, false, cond, eqb, ltb, ◌&&◌, List, [], ◌∷◌, length, get_or, Some, None, ◌⊎◌, option_map, inl, inr, refl, sym, ap, ◌∙◌, subst, arith, length-append}
+use Rattle.std.proofs.Common.{◌≡◌, ℕ, zero, suc, ◌+◌, ◌-◌, ◌<◌, ◌≤◌, Bool, true, false, cond, eqb, ltb, ◌&&◌, List, [], ◌∷◌, length, get_or, reverse, Some, None, ◌⊎◌, option_map, inl, inr, refl, sym, ap, ◌∙◌, subst, arith, length-append}
 use Rattle.std.specs.List.{find}
 use Rattle.std.proofs.lemmas.Bool.{cases_lt, cases_Bool, lt-ltb, le-ltb, ltb-true, eq-eqb, eqb-true, and_parts, both_ways}
-use Rattle.std.proofs.lemmas.List.{get_or-append_right, get_or-map, length-map, get_or_default}
+use Rattle.std.proofs.lemmas.List.{get_or-append_right, get_or-map, length-map, get_or_default, get_or-reverse, length-reverse}
+use Rattle.std.proofs.lemmas.Option.{same_Some}
 use Rattle.bench_types.specs.declared.entries.Entry.{Entry}
 use Rattle.bench_types.specs.declared.entries.Mark.{Mark}
 use Rattle.bench_types.specs.Mark.{absent, mark_of, mark_held, is_before, IsBefore, IsUpTo}
 use Rattle.bench_types.proofs.Marks.{before-yes, before-no, before-up_to, up_to-itself}
 use Rattle.model.specs.declared.writes.Write.{Write}
-use Rattle.model.specs.Writes.{write_of_entry}
+use Rattle.model.specs.Writes.{write_of_entry, IsNumbered, is_write_of, last_write}
 use Rattle.model.specs.OwnerListView.{OwnerListView, entries_of, written, AreWrites}
-use Rattle.model.specs.Numbers.{write_from, write_numbered}
+use Rattle.model.specs.Numbers.{write_numbered}
 use Rattle.version_tables.specs.inner.Missed.{base_of, number_staleness, IsMissed, IsFirstMissed, HasNoneMissed}
+use Rattle.owner_writes.proofs.Numbered.{write_from-here}
 use Rattle.version_tables.proofs.Offers.{write_from-at}
-
--- the write at a place
-pub write_from-here : (es : List Entry) (place : ℕ) (d : Entry) → place < length es → write_from es place ≡ Some (get_or es place d)
-write_from-here [] place d lt = absurd (omega arith)
-write_from-here (e ∷ es) zero d lt = refl
-write_from-here (e ∷ es) (suc place) d lt = write_from-here es place d (omega arith)
 
 -- a search that finds nothing, or the first that passes
 pub record IsCountOffered (test : Write → Bool) (ws : List Write) (i : ℕ) (w : Write) : Type 0 where
@@ -71,6 +67,48 @@ find_cases test (w ∷ ws) = elim (cases_Bool (test w)) [
         )
       ]
 ]
+
+-- a key that was written has a last write, which stands no earlier
+pub last_write-after : (ws : List Write) (key i : ℕ) (d : Write) → IsNumbered ws → i < length ws → (get_or ws i d).key ≡ key → (w : Write) × ((last_write ws key ≡ Some w) × (i < w.version))
+unfolding NoneFound
+last_write-after ws key i d numbered lt here = elim (find_cases (is_write_of key) (reverse ws)) [
+  | inl none ↦ absurd (fails (none.1 back d (omega (arith, length-reverse ws))))
+  | inr found ↦
+      let at = found.1.1.1 in
+      let before : found.0 < length ws = omega (arith, at.within, length-reverse ws) in
+      let there : get_or ws (length ws - 1 - found.0) d ≡ found.1.0 = sym (get_or-reverse ws found.0 d before) ∙ at.there d in
+      let version = numbered (length ws - 1 - found.0) d (omega arith) in (
+        found.1.0,
+        (
+          found.1.1.0,
+          elim (cases_lt back found.0) [
+            | inl sooner ↦ absurd (fails (at.first back d sooner))
+            | inr later ↦ omega (arith, ap (λ (w : Write). w.version) there, version)
+          ],
+        ),
+      )
+]
+  where
+    back : ℕ
+    back = length ws - 1 - i
+
+    passes : is_write_of key (get_or (reverse ws) back d) ≡ true
+    passes =
+        let same : length ws - 1 - back ≡ i = omega arith in
+        eq-eqb (get_or (reverse ws) back d).key key
+        (ap (λ (w : Write). w.key) (get_or-reverse ws back d (omega arith)) ∙ ap (λ j. (get_or ws j d).key) same ∙ here)
+
+    fails : is_write_of key (get_or (reverse ws) back d) ≡ false → ⊥
+    fails failed = let bad : true ≡ false = sym passes ∙ failed in cc
+
+pub last_write-keyed : (ws : List Write) (key : ℕ) (w : Write) → last_write ws key ≡ Some w → w.key ≡ key
+last_write-keyed ws key w is = elim (find_cases (is_write_of key) (reverse ws)) [
+  | inl none ↦ let no : None ≡ Some w = sym none.0 ∙ is in absurd (nothing no)
+  | inr found ↦ let same = same_Some found.1.0 w (sym found.1.1.0 ∙ is) in eqb-true w.key key (subst (λ x. is_write_of key x ≡ true) same found.1.1.1.passes)
+]
+  where
+    nothing : None ≡ Some w → ⊥
+    nothing same = cc
 
 module _ (v : OwnerListView) (are : AreWrites v) where
   abbrev base : ℕ

@@ -6,10 +6,10 @@ ghost use Rattle.model.specs.OwnerListView.{entries_of};
 ghost use Rattle.model.specs.Numbers.{write_numbered};
 ghost use Rattle.version_tables.specs.inner.Offers.{start_of};
 
-use owner_lists::OwnerList;
+use owner_writes::OwnerWrites;
 
 /// How many writes an owner had made before the generation of a number's write, 0 where there is no such write.
-pub(crate) fn start_of(list: &OwnerList, number: u32) -> u32
+pub(crate) fn start_of(list: &OwnerWrites, number: u32) -> u32
     requires { (e : Entry) → write_numbered (entries_of list.now) number ≡ Some e
         → e.version ≤ number }
     ensures start { result ≡ start_of (entries_of list.now) number }

@@ -9,7 +9,7 @@ use crate::owners::clear_owner;
 use crate::tables::Written;
 use bench_types::Fault;
 use bench_types::limits::MOST_KEYS;
-use owner_lists::OwnerList;
+use owner_writes::OwnerWrites;
 use planes::{Number, zeros};
 use std::alloc::Global;
 use std::marker::{Model, PhantomData};
@@ -17,7 +17,7 @@ use std::marker::{Model, PhantomData};
 /// All writes of all owners so far, and what exchanges read of them.
 #[derive(Drop)]
 pub struct Histories<N: Number, H: Written> {
-    lists: Vec<OwnerList>,
+    lists: Vec<OwnerWrites>,
     // How many writes each owner has made, and how many of them are of earlier generations.
     counts: Vec<N>,
     bases: Vec<N>,
@@ -135,7 +135,7 @@ impl<N: Number, H: Written> Histories<N, H> {
     }
 
     /// The owners' lists.
-    pub fn lists(&self) -> &[OwnerList]
+    pub fn lists(&self) -> &[OwnerWrites]
         ensures value { result.now ≡ self.now.lists }
         ensures so_far { (owner : ℕ)
             → IsWrittenSoFar (H.lists owner) N.most self.now.rounds
@@ -191,19 +191,19 @@ impl<N: Number, H: Written> Histories<N, H> {
 /// The owners' writes, and how many of each are of earlier generations.
 #[derive(Clone, Copy)]
 pub(crate) struct Owners<'a, N: Number> {
-    pub(crate) lists: &'a [OwnerList],
+    pub(crate) lists: &'a [OwnerWrites],
     pub(crate) bases: &'a [N],
 }
 
 // The lists of so many owners that have written nothing.
-fn no_lists(alloc: Global, nodes: usize) -> Result<Vec<OwnerList>, Fault>
+fn no_lists(alloc: Global, nodes: usize) -> Result<Vec<OwnerWrites>, Fault>
     ensures count { IfOk result (λ v. length v.items ≡ nodes) }
     ensures empty { IfOk result (λ v. (owner : ℕ) → list_of_owner v.items owner ≡ no_writes) }
     ensures only { IsOkUnless result OutOfMemory }
 {
     let mut lists = Vec::with_capacity(alloc, nodes)?;
     for _ in 0..nodes {
-        lists.push(OwnerList::new(alloc))?;
+        lists.push(OwnerWrites::new(alloc))?;
     }
     Ok(lists)
 }

@@ -19,7 +19,7 @@ use crate::histories::Histories;
 use crate::rounds::{Ends, row_of};
 use crate::tables::{VersionTable, Written};
 use bench_types::{Fault, Figures};
-use owner_lists::OwnerList;
+use owner_writes::OwnerWrites;
 use planes::{Number, count_behind, least_behind, lower_all, total_upto};
 use rayon::{current_num_threads, join};
 use std::alloc::Global;
@@ -177,7 +177,7 @@ impl<'a, N: Number> Numbers<'a, N> {
 // For how many rounds a copy of an owner has missed a write at most: since the first one that some copy misses,
 // which stands behind a number, the greatest where there is none.
 fn lag_of_owner<N: Number>(
-    list: &OwnerList,
+    list: &OwnerWrites,
     owner: usize,
     first: N,
     least: &[N],
@@ -224,7 +224,7 @@ fn is_after<N: Number>(ends: Ends<N>, nodes: usize, owner: usize, number: N, rou
 // of the owners before it.
 fn greatest_lag<N: Number>(
     alloc: Global,
-    lists: &[OwnerList],
+    lists: &[OwnerWrites],
     least: &[N],
     last: &[N],
     ends: Ends<N>,

@@ -11,7 +11,7 @@ use crate::deltas::DeltaMarks;
 use crate::generations::start_of;
 use crate::histories::Owners;
 use crate::tables::{VersionTable, Written};
-use owner_lists::OwnerList;
+use owner_writes::OwnerWrites;
 use planes::{Number, Sent};
 
 // Drops what an owner's keys have up to a mark.
@@ -38,7 +38,7 @@ fn kept_above<N: Number>(number: N, start: u32) -> N
 }
 
 // Up to where an owner's numbers are dropped, where its greatest one was raised.
-fn drop_from<N: Number>(list: &OwnerList, old: N, base: N, new: N) -> u32
+fn drop_from<N: Number>(list: &OwnerWrites, old: N, base: N, new: N) -> u32
     requires { IsNumberedHistory (entries_of list.now) }
     ensures { result ≡ drop_start (entries_of list.now) (N.number old) (N.number base)
         (N.number new) }

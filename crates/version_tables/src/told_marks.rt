@@ -12,7 +12,7 @@ ghost use Rattle.version_tables.specs.inner.Told.{AreEarlierStarts, AreKnownOf, 
 use crate::generations::start_of;
 use crate::histories::Owners;
 use bench_types::{DigestKind, Fault};
-use owner_lists::OwnerList;
+use owner_writes::OwnerWrites;
 use planes::Number;
 use std::alloc::Global;
 
@@ -81,7 +81,7 @@ fn put_each_start<N: Number>(numbers: &mut [N], owners: Owners<N>)
     }
 }
 
-fn earlier_start<N: Number>(list: &OwnerList, number: N, base: N) -> N
+fn earlier_start<N: Number>(list: &OwnerWrites, number: N, base: N) -> N
     requires numbered { IsNumberedHistory (entries_of list.now) }
     requires fits { N.number number ≤ N.most }
     ensures { IsEarlierStart (entries_of list.now) (N.number base) (N.number number)

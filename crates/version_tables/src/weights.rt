@@ -1,14 +1,15 @@
 //! What is offered, as numbers of writes, what these weigh, and levels of them.
 
 ghost use Rattle.std.specs.Prelude.{◌≡◌, ℕ, ◌*◌, ◌<◌, ◌≤◌, ◌↔◌, IsTrue, length, if◌then◌else◌};
-ghost use Rattle.bench_types.specs.Budget.{amount_of, largest_share};
+ghost use Rattle.bench_types.specs.Budget.{amount_of, largest_share, share_of};
 ghost use Rattle.bench_types.specs.declared.limits.TheConstants.{MOST_NODES, MOST_KEYS};
+ghost use Rattle.owner_writes.specs.Kept.{entry_kept};
 ghost use Rattle.version_tables.specs.inner.OfferInMemory.{cells_in, count_in, marks, weight_in, weights_in, IsOffer};
 ghost use Rattle.version_tables.specs.inner.Weights.{weight_of};
 
-use bench_types::Budget;
 use bench_types::limits::MOST_ENTRY_SIZE;
-use owner_lists::OwnerList;
+use bench_types::{Budget, Entry};
+use owner_writes::{Kept, OwnerWrites};
 use planes::Number;
 
 /// The candidates are the cells of each owner above `low`, of which none is above `high`.
@@ -19,7 +20,7 @@ pub(crate) struct Offer<'a, N: Number> {
     pub(crate) keys: usize,
     pub(crate) low: &'a [N],
     pub(crate) high: &'a [N],
-    pub(crate) lists: &'a [OwnerList],
+    pub(crate) lists: &'a [OwnerWrites],
     pub(crate) budget: Budget,
 }
 
@@ -65,6 +66,19 @@ pub(crate) fn number_at<N: Number>(numbers: &[N], place: usize) -> N
     numbers[place]
 }
 
+// What a write takes of a budget, which goes by its value alone.
+fn share_of(budget: Budget, kept: &Kept) -> u32
+    ensures { result ≡ share_of budget (entry_kept kept.now) }
+{
+    budget.share_of(&Entry {
+        key: kept.key,
+        generation: 0,
+        version: kept.version,
+        value: kept.value,
+        born: kept.born,
+    })
+}
+
 impl<'a, N: Number> Offer<'a, N> {
     /// What the write of an owner's number takes of the budget, 0 where there is none.
     pub(crate) fn weight_of_number(&self, owner: usize, number: N) -> u32
@@ -73,7 +87,7 @@ impl<'a, N: Number> Offer<'a, N> {
         ensures limit { result ≤ largest_share self.now.budget }
     {
         match self.lists[owner].numbered(number.widen()) {
-            Some(entry) => self.budget.share_of(&entry),
+            Some(kept) => share_of(self.budget, kept),
             None => 0,
         }
     }

@@ -1,11 +1,12 @@
 -- An owner's writes as they are kept: each at its place, with a link to the next write of its key. Those of earlier
 -- generations come first. Source: this project.
-use Rattle.std.specs.Prelude.{◌≡◌, ℕ, suc, ◌+◌, ◌-◌, ◌^◌, ◌<◌, ◌≤◌, ◌==◌, if◌then◌else◌, Bool, List, [], ◌∷◌, length, map, take, drop, slice_index_or, Option, None, Some}
+use Rattle.std.specs.Prelude.{◌≡◌, ℕ, suc, ◌+◌, ◌-◌, ◌^◌, ◌<◌, ◌≤◌, ◌==◌, if◌then◌else◌, Bool, List, [], ◌∷◌, length, map, drop, slice_index_or, Option, None, Some}
 use Rattle.bench_types.specs.declared.entries.Entry.{Entry}
 use Rattle.bench_types.specs.Entry.{next_version}
 use Rattle.owner_lists.specs.declared.lists.Link.{Link}
 use Rattle.model.specs.declared.writes.Write.{Write}
 use Rattle.model.specs.OwnerListView.{OwnerListView, AreWrites}
+use Rattle.owner_writes.specs.inner.Views.{view_by}
 use Rattle.owner_lists.specs.Missed.{first_missed, born_in_order}
 use Rattle.owner_lists.specs.Latest.{IsLatest}
 use Rattle.owner_lists.specs.inner.Keys.{AreFirst}
@@ -55,11 +56,7 @@ pub record IsOwnerList (links : List Link) (firsts latest : List Write) (in_orde
 
 -- the list with so many writes of earlier generations
 abbrev pub view_of : List Link → ℕ → ℕ → OwnerListView
-view_of links earlier generation = record {
-  earlier = entries_linked (take earlier links);
-  current = entries_linked (drop earlier links);
-  generation = generation;
-}
+view_of links earlier generation = view_by (λ (l : Link). l.write) links earlier generation
 
 -- what it keeps of all
 pub record IsKeptList (links : List Link) (earlier generation : ℕ) (firsts latest : List Write) (in_order : Bool) : Type 0 where

@@ -3,7 +3,7 @@ use Rattle.std.specs.Prelude.{◌≡◌, ℕ, ◌≤◌, Bool, false, List, [], 
 use Rattle.std.specs.Coded.{Coded, code_by, coded×, coded_ℕ, coded_bool, coded_list}
 use Rattle.bench_types.specs.declared.entries.Entry.{Entry}
 use Rattle.scenario.specs.contracts.scenarios.Scenario as scenario
-use Rattle.owner_lists.specs.contracts.lists.OwnerList as owner_list
+use Rattle.owner_writes.specs.inner.Codes.{list_code}
 use Rattle.simulation.specs.declared.clusters.Cluster.{Cluster}
 use Rattle.model.specs.Table.{Table}
 use Rattle.scenario.specs.Settings.{Settings}
@@ -17,7 +17,7 @@ use Rattle.simulation.specs.Simulation.{AreTablesAfter, MayWriteAll, SimView}
 
 abbrev pub simulation_code : {T : Type 0} → Coded T → Coded (SimView T)
 simulation_code {T} table_code =
-    code_by (Settings × (ℕ × (Bool × (List T × List OwnerListView)))) (coded× (scenario.the_row).coded (coded× coded_ℕ (coded× coded_bool (coded× (coded_list table_code) (coded_list (owner_list.the_row).coded))))) (λ s. (s.settings, (s.rounds_done, (s.broken, (s.tables, s.lists))))) (λ p. record { settings = p.0; rounds_done = p.1.0; broken = p.1.1.0; tables = p.1.1.1.0; lists = p.1.1.1.1 }) (λ _. refl)
+    code_by (Settings × (ℕ × (Bool × (List T × List OwnerListView)))) (coded× (scenario.the_row).coded (coded× coded_ℕ (coded× coded_bool (coded× (coded_list table_code) (coded_list list_code))))) (λ s. (s.settings, (s.rounds_done, (s.broken, (s.tables, s.lists))))) (λ p. record { settings = p.0; rounds_done = p.1.0; broken = p.1.1.0; tables = p.1.1.1.0; lists = p.1.1.1.1 }) (λ _. refl)
 
 -- what the nodes hold, and the lists of their writes
 abbrev pub tables_of : {T H : Type 0} → (T → Table) → Cluster T H → List Table

@@ -2,7 +2,7 @@
 use Rattle.std.specs.Prelude.{ℕ, List, refl}
 use Rattle.std.specs.Coded.{Coded, code_by, coded×, coded_ℕ, coded_list}
 use Rattle.model.specs.OwnerListView.{OwnerListView}
-use Rattle.owner_lists.specs.inner.Codes.{list_code}
+use Rattle.owner_writes.specs.inner.Codes.{list_code}
 use Rattle.version_tables.specs.Views.{VersionTableView, HistoriesView}
 
 abbrev pub table_view_code : Coded VersionTableView

@@ -1,9 +1,13 @@
-use Rattle.std.proofs.Common.{◌≡◌, ◌+◌, ◌*◌, ◌≤◌, Some, max, map, sym, ap, ◌∙◌, arith}
+use Rattle.std.proofs.Common.{◌≡◌, ◌+◌, ◌*◌, ◌≤◌, Option, None, Some, max, map, refl, sym, ap, subst, ◌∙◌, arith}
+use Rattle.std.specs.Prelude.{MatchOption}
+use Rattle.std.specs.Borrow.{Bor}
 use Rattle.std.proofs.lemmas.List.{length-map}
 use Rattle.std.proofs.lemmas.Option.{same_Some}
 use Rattle.bench_types.specs.declared.entries.Entry.{Entry}
 use Rattle.model.specs.OwnerListView.{entries_of}
 use Rattle.model.specs.Numbers.{write_numbered}
+use Rattle.owner_writes.specs.declared.writes.Kept.{Kept}
+use Rattle.owner_writes.specs.Kept.{entry_kept}
 use Rattle.planes.specs.Planes.{cell}
 use Rattle.planes.proofs.Elementwise.{number-at}
 use Rattle.version_tables.specs.inner.Missed.{base_of}
@@ -23,8 +27,8 @@ bounds-least-write g c =
     let w = c.requires in
     omega (
       arith,
-      walk-index c.args.round g.N.Number.most c.args.nodes w.0 c.args.owner (g.N.Number.number c.args.first) c.args.list.now (map g.N.Number.number c.args.least.now) w.1 c.loop-place.place c.in-Some.write
-          (omega (arith, c.loop-place.auto.place, c.max-from.ensures, c.earlier_count.ensures)) (sym c.in-Some.ensures),
+      walk-index c.args.round g.N.Number.most c.args.nodes w.0 c.args.owner (g.N.Number.number c.args.first) c.args.list.now (map g.N.Number.number c.args.least.now) w.1 c.loop-place.place (entry_kept c.in-Some.write.now)
+          (omega (arith, c.loop-place.auto.place, c.max-from.ensures, c.earlier_count.ensures)) c.in-Some.ensures,
       length-map c.args.least.now g.N.Number.number,
     )
 
@@ -34,16 +38,16 @@ offset_bounds-least-write g c = omega (arith, bounds-least-write g c)
 pub overflow_sub-result : goal.overflow_sub-result
 overflow_sub-result g c =
     let w = c.requires in
-    walk-born c.args.round g.N.Number.most c.args.nodes w.0 c.args.owner (g.N.Number.number c.args.first) c.args.list.now (map g.N.Number.number c.args.least.now) w.1 c.loop-place.place c.in-Some.write
-    (omega (arith, c.loop-place.auto.place, c.max-from.ensures, c.earlier_count.ensures)) (sym c.in-Some.ensures)
+    walk-born c.args.round g.N.Number.most c.args.nodes w.0 c.args.owner (g.N.Number.number c.args.first) c.args.list.now (map g.N.Number.number c.args.least.now) w.1 c.loop-place.place (entry_kept c.in-Some.write.now)
+    (omega (arith, c.loop-place.auto.place, c.max-from.ensures, c.earlier_count.ensures)) c.in-Some.ensures
 
 pub returns-then-widen-place : goal.returns-then-widen-place
 returns-then-widen-place g c keys walks =
     let v = c.args.list.now in
     let numbers = map g.N.Number.number c.args.least.now in
-    let e = c.in-Some.write in
+    let e = entry_kept c.in-Some.write.now in
     let place = c.loop-place.place in
-    let is : write_numbered (entries_of v) (place + 1) ≡ Some e = sym c.in-Some.ensures in
+    let is : write_numbered (entries_of v) (place + 1) ≡ Some e = c.in-Some.ensures in
     let current : base_of v ≤ place = omega (arith, c.loop-place.auto.place, c.max-from.ensures, c.earlier_count.ensures) in
     let index = walk-index c.args.round g.N.Number.most c.args.nodes keys c.args.owner (g.N.Number.number c.args.first) v numbers walks place e current is in
     let here = number-at g.N.Number.number c.args.least.now (e.key * c.args.nodes + c.args.owner) c.index-least-write.result (omega (arith, index, length-map c.args.least.now g.N.Number.number)) c.index-least-write.is in
@@ -57,15 +61,19 @@ loop-place-preserved g c =
     let numbers = map g.N.Number.number c.args.least.now in
     let place = c.loop-place.place in
     let current : base_of v ≤ place = omega (arith, c.loop-place.auto.place, c.max-from.ensures, c.earlier_count.ensures) in
+    let Answers : Option (Bor Kept) → Type 0 = λ r. MatchOption r (write_numbered (entries_of v) (place + 1) ≡ None) (λ kept. write_numbered (entries_of v) (place + 1) ≡ Some (entry_kept kept.now)) in
     walk-next v (cell numbers c.args.nodes c.args.owner) place c.loop-place.invariant (λ e is. elim c.match-numbered.branch [
       | in-Some+else-widen-place w ↦
-          let x = w.in-Some.write in
-          let same : x ≡ e = same_Some x e (sym w.in-Some.is ∙ c.numbered.ensures ∙ is) in
-          let there : write_numbered (entries_of v) (place + 1) ≡ Some x = sym c.numbered.ensures ∙ w.in-Some.is in
+          let x = entry_kept w.in-Some.write.now in
+          let there : write_numbered (entries_of v) (place + 1) ≡ Some x = subst Answers w.in-Some.is c.numbered.ensures in
+          let same : x ≡ e = same_Some x e (sym there ∙ is) in
           let index = walk-index c.args.round g.N.Number.most c.args.nodes c.requires.0 c.args.owner (g.N.Number.number c.args.first) v numbers c.requires.1 place x current there in
           let here = number-at g.N.Number.number c.args.least.now (x.key * c.args.nodes + c.args.owner) w.index-least-write.result (omega (arith, index, length-map c.args.least.now g.N.Number.number)) w.index-least-write.is in
           omega (arith, w.if-widen-place.false, w.widen-in-Some.ensures, here, ap (λ (y : Entry). cell numbers c.args.nodes c.args.owner y.key) same)
-      | in_default w ↦ absurd (w.in_default.not-Some e (c.numbered.ensures ∙ is))
+      | in_default w ↦ absurd (elim c.numbered.result as (λ r. ((x : Bor Kept) → r ≡ Some x → ⊥) → Answers r → ⊥) [
+        | None ↦ λ _ none. let no : None ≡ Some e = sym none ∙ is in cc
+        | Some x ↦ λ other _. other x refl
+      ] w.in_default.not-Some c.numbered.ensures)
     ])
 
 pub returns : goal.returns

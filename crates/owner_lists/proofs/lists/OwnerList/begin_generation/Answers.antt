@@ -1,6 +1,8 @@
 use Rattle.std.proofs.Common.{◌≡◌, length, ap, ◌∙◌, arith}
 use Rattle.model.specs.OwnerListView.{begun_generation}
-use Rattle.owner_lists.proofs.Keeping.{begun_view, kept_begun}
+use Rattle.owner_lists.specs.declared.lists.Link.{Link}
+use Rattle.owner_writes.proofs.Keeping.{view_begun}
+use Rattle.owner_lists.proofs.Keeping.{kept_begun}
 use Rattle.owner_lists.proofs.lists.OwnerList.begin_generation.Goals as goal
 
 pub invariant_of-self : goal.invariant_of-self
@@ -13,4 +15,4 @@ pub returns : goal.returns
 returns c =
     let l = c.self.inside in
     let all : c.len-self-inside.result ≡ length l.links.items = omega (arith, c.len-self-inside.ensures, l.links.ok.0) in
-    begun_view l.links.items l.earlier c.len-self-inside.result l.generation all ∙ ap begun_generation c.self.view_is
+    view_begun (λ (k : Link). k.write) l.links.items l.earlier l.generation c.len-self-inside.result all ∙ ap begun_generation c.self.view_is

@@ -1,0 +1,106 @@
+-- What an owner's writes keep through the calls that change them.
+-- Serves `OwnerWrites::begin_generation`, `OwnerWrites::numbered`, `OwnerWrites::write`, `owner_lists` and
+-- `version_tables`.
+use Rattle.std.proofs.Common.{◌≡◌, ℕ, ◌+◌, ◌-◌, ◌^◌, ◌<◌, List, [], ◌∷◌, ◌++◌, length, get_or, map, take, drop, inl, inr, refl, sym, ap, ◌∙◌, subst, arith, length-append}
+use Rattle.std.proofs.lemmas.Bool.{cases_lt}
+use Rattle.std.proofs.lemmas.List.{length-drop, length-map, map-append, append_assoc, append-nil, get_or_append_left, get_or-append_right, get_or_push, take-append-drop, take-append-le, drop-append-le, take_all, drop_all}
+use Rattle.std.proofs.lemmas.List.Elements.{All-append}
+use Rattle.bench_types.specs.declared.entries.Entry.{Entry}
+use Rattle.bench_types.specs.Entry.{IsNextAfter, AreNextAfter}
+use Rattle.bench_types.specs.Mark.{mark_of, IsBefore}
+use Rattle.model.specs.OwnerListView.{OwnerListView, entries_of, MarksRise, AreWrites, next_entry, with_write, begun_generation}
+use Rattle.owner_writes.specs.inner.Views.{view_by, IsKept}
+
+-- marks stay in order where one is added above all
+rising_push : (es : List Entry) (e : Entry) → MarksRise es → ((i : ℕ) (d : Entry) → i < length es → IsBefore (mark_of (get_or es i d)) (mark_of e)) → MarksRise (es ++ e ∷ [])
+rising_push es e rising above i j d lt in_range =
+    let front : get_or (es ++ e ∷ []) i d ≡ get_or es i d = get_or_append_left es (e ∷ []) d i (omega (arith, length-append es (e ∷ []))) in
+    subst (λ x. IsBefore (mark_of x) (mark_of (get_or (es ++ e ∷ []) j d))) (sym front) (elim (cases_lt j (length es)) [
+      | inl before ↦ subst (λ x. IsBefore (mark_of (get_or es i d)) (mark_of x)) (sym (get_or_append_left es (e ∷ []) d j before)) (rising i j d lt before)
+      | inr last ↦ subst (λ x. IsBefore (mark_of (get_or es i d)) (mark_of x)) (sym (get_or_push es e d j (omega (arith, length-append es (e ∷ []))))) (above i d (omega (arith, length-append es (e ∷ []))))
+    ])
+
+-- one more write
+module _ (v : OwnerListView) (is : AreWrites v) (key value born : ℕ) where
+  abbrev e : Entry
+  e = next_entry v key value born
+
+  below : (i : ℕ) (d : Entry) → i < length (entries_of v) → IsBefore (mark_of (get_or (entries_of v) i d)) (mark_of e)
+  below i d lt = elim (cases_lt i (length v.earlier)) [
+    | inl before ↦
+        let older = is.earlier i d before in
+        subst (λ (x : Entry). IsBefore (mark_of x) (mark_of e)) (sym (get_or_append_left v.earlier v.current d i before))
+        (record { generation = grind (arith, older); version = λ same. absurd (grind (arith, older, same)) })
+    | inr behind ↦
+        let at = i - length v.earlier in
+        let within : at < length v.current = omega (arith, lt, behind, length-append v.earlier v.current) in
+        let here = is.current at d within in
+        subst (λ (x : Entry). IsBefore (mark_of x) (mark_of e)) (sym (get_or-append_right v.earlier v.current (length v.earlier) i d refl behind))
+        (record { generation = grind (arith, here.0); version = λ _. grind (arith, here.1, within) })
+  ]
+
+  pub writes_more : AreWrites (with_write v key value born)
+  writes_more = record {
+    current = numbered;
+    earlier = is.earlier;
+    rising = subst MarksRise (append_assoc v.earlier v.current (e ∷ [])) (rising_push (entries_of v) e is.rising below);
+  }
+    where
+      numbered : AreNextAfter v.generation 0 (v.current ++ e ∷ [])
+      numbered i d lt = elim (cases_lt i (length v.current)) [
+        | inl before ↦ subst (IsNextAfter v.generation (0 + i)) (sym (get_or_append_left v.current (e ∷ []) d i before)) (is.current i d before)
+        | inr behind ↦
+            let last : length v.current ≡ i = omega (arith, length-append v.current (e ∷ [])) in
+            subst (IsNextAfter v.generation (0 + i)) (sym (get_or_push v.current e d i last)) (refl, omega (arith, last))
+      ]
+
+-- the next generation
+pub writes_begun : (v : OwnerListView) → AreWrites v → AreWrites (begun_generation v)
+writes_begun v is = record {
+  current = λ i d lt. absurd (omega arith);
+  earlier = All-append (λ (x : Entry). x.generation < v.generation + 1) v.earlier v.current
+      (λ i d lt. omega (arith, is.earlier i d lt)) (λ i d lt. omega (arith, (is.current i d lt).0));
+  rising = subst MarksRise (sym (append-nil (entries_of v))) is.rising;
+}
+
+-- the same of what is kept, whatever stands beside an entry
+module _ {X : Type 0} (entry : X → Entry) (kept : List X) (n g : ℕ) where
+  abbrev v : OwnerListView
+  v = view_by entry kept n g
+
+  pub entries_whole : entries_of (view_by entry kept n g) ≡ map entry kept
+  entries_whole = sym (map-append entry (take n kept) (drop n kept)) ∙ ap (map entry) (take-append-drop n kept)
+
+  pub view_begun : (m : ℕ) → m ≡ length kept → view_by entry kept m (g + 1) ≡ begun_generation (view_by entry kept n g)
+  view_begun m all = λ i. record { earlier = taken i; current = dropped i; generation = g + 1 }
+    where
+      taken : map entry (take m kept) ≡ map entry (take n kept) ++ map entry (drop n kept)
+      taken = ap (map entry) (take_all m kept (omega (arith, all))) ∙ sym entries_whole
+
+      dropped : map entry (drop m kept) ≡ []
+      dropped = ap (map entry) (drop_all m kept (omega (arith, all)))
+
+  pub view_written : (kept' : List X) (key value born : ℕ) → take n kept' ≡ take n kept → map entry (drop n kept') ≡ map entry (drop n kept) ++ next_entry (view_by entry kept n g) key value born ∷ []
+      → view_by entry kept' n g ≡ with_write (view_by entry kept n g) key value born
+  view_written kept' key value born same added = λ i. record { earlier = map entry (same i); current = added i; generation = g }
+
+  module _ (is : IsKept entry kept n g) where
+    pub kept_begun : (m : ℕ) → m ≡ length kept → IsKept entry kept m (g + 1)
+    kept_begun m all = record {
+      within = omega (arith, all);
+      few = omega (arith, length-drop m kept, all);
+      writes = subst AreWrites (sym (view_begun m all)) (writes_begun v is.writes);
+    }
+
+    -- one more
+    module _ (x : X) (key value born : ℕ) (next : entry x ≡ next_entry (view_by entry kept n g) key value born) where
+      pub view_pushed : view_by entry (kept ++ x ∷ []) n g ≡ with_write (view_by entry kept n g) key value born
+      view_pushed = view_written (kept ++ x ∷ []) key value born (take-append-le n kept (x ∷ []) is.within)
+          (ap (map entry) (drop-append-le n kept (x ∷ []) is.within) ∙ map-append entry (drop n kept) (x ∷ []) ∙ ap (λ e. map entry (drop n kept) ++ e ∷ []) next)
+
+      pub kept_pushed : length v.current + 1 < 2 ^ 32 → IsKept entry (kept ++ x ∷ []) n g
+      kept_pushed few = record {
+        within = omega (arith, is.within, length-append kept (x ∷ []));
+        few = omega (arith, few, length-map (drop n kept) entry, length-drop n kept, length-drop n (kept ++ x ∷ []), length-append kept (x ∷ []), is.within);
+        writes = subst AreWrites (sym view_pushed) (writes_more v is.writes key value born);
+      }

@@ -1,0 +1,23 @@
+use Rattle.std.proofs.Common.{◌≡◌, suc, List, map, Some, None, sym, ap, ◌∙◌, arith}
+use Rattle.std.specs.Prelude.{MatchOption}
+use Rattle.std.specs.Slice.{IsGetResult}
+use Rattle.bench_types.specs.declared.entries.Entry.{Entry}
+use Rattle.model.specs.Numbers.{write_numbered}
+use Rattle.model.specs.OwnerListView.{entries_of}
+use Rattle.owner_writes.specs.Kept.{entry_kept}
+use Rattle.owner_writes.proofs.Keeping.{entries_whole}
+use Rattle.owner_writes.proofs.Numbered.{numbered-here, numbered-past}
+use Rattle.owner_writes.proofs.writes.OwnerWrites.numbered.Goals as goal
+
+pub returns-in-Some : goal.returns-in-Some
+returns-in-Some c =
+    let w = c.self.inside in
+    let xs = c.deref.result.now in
+    let place = c.in-Some.place in
+    let next : suc place ≡ c.args.number = omega (arith, c.in-Some.ensures.0, c.in-Some.ensures.1) in
+    let whole : write_numbered (entries_of c.args.self.now) c.args.number ≡ write_numbered (map entry_kept xs) c.args.number =
+    sym (ap (λ (es : List Entry). write_numbered es c.args.number) (ap (map entry_kept) c.deref.ensures.value ∙ sym (entries_whole entry_kept w.kept.items w.earlier w.generation) ∙ ap entries_of c.self.view_is)) in
+    elim c.get.result as (λ r. IsGetResult xs place place r → MatchOption r (write_numbered (entries_of c.args.self.now) c.args.number ≡ None) (λ kept. write_numbered (entries_of c.args.self.now) c.args.number ≡ Some (entry_kept kept.now))) [
+      | None ↦ λ found. whole ∙ numbered-past entry_kept xs place c.args.number next found.3
+      | Some x ↦ λ found. whole ∙ numbered-here entry_kept xs place c.args.number next x.now found.3.0 found.1
+    ] c.get.ensures.lookup

@@ -1,0 +1,13 @@
+//! All that an owner wrote, in order, as a run keeps it: each write in 16 bytes, found by its number.
+//!
+//! # Choices
+//!
+//! - The writes lie in one vector, those of earlier generations first. To begin a generation is to move the place at
+//!   which it starts, so it takes no memory.
+//! - The generation of a write is for contracts alone: nothing that a run does reads it. What reads of a write is its
+//!   version, which tells with its number where its generation begins.
+#![tactic(auto)]
+
+mod writes;
+
+pub use writes::{Kept, OwnerWrites};

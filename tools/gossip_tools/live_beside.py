@@ -1,0 +1,80 @@
+"""What the bench says of the scenario of a live cluster."""
+import statistics
+import subprocess
+
+from gossip_tools import read, scenario
+from gossip_tools.commands import Refused
+
+SUMS = ("entries", "cut")
+
+
+def stretched(top, fanout):
+    """The text of a scenario in which each interval is as many rounds as a node has calls. Writes are in the first."""
+    def first(round):
+        return (round - 1) * fanout + 1
+
+    def last(round):
+        return round * fanout
+
+    arrays = ("partition", "restart", "load")
+    fields = {name: it for name, it in top.items() if name not in arrays} | {"rounds": last(top["rounds"])}
+    text = scenario.written(fields)
+    for it in top.get("partition", []):
+        text += f"[[partition]]\nfrom = {first(it['from'])}\nto = {last(it['to'])}\napart = {it['apart']}\n"
+    for it in top.get("restart", []):
+        forget = f"forget = {str(it['forget']).lower()}\n" if "forget" in it else ""
+        text += f"[[restart]]\nnode = {it['node']}\nround = {first(it['round'])}\ndown = {it['down'] * fanout}\n{forget}"
+    for it in top.get("load", []):
+        text += scenario.load(first(it["from"]), last(it["to"]), it["writes"])
+    for round in range(1, top["rounds"] + 1):
+        text += scenario.load(first(round) + 1, last(round), 0)
+    return text
+
+
+def intervals(rows, fanout):
+    """The rows of a report by intervals of so many rounds."""
+    found = []
+    for at in range(0, len(rows), fanout):
+        rounds = rows[at:at + fanout]
+        last = rounds[-1]
+        sums = {name: sum(it[name] for it in rounds) for name in SUMS}
+        found.append({**last, **sums, "round": at // fanout + 1, "greatest": last["greatest"] // fanout})
+    return found
+
+
+def scenarios(text, fanout, seeds):
+    """What the bench is to run, by its names."""
+    if fanout > 1:
+        text = stretched(read.settings(text), fanout)
+    return {f"the scenario under seed {seed}": scenario.set_field(text, "seed", seed) for seed in range(1, seeds + 1)}
+
+
+def reports(runs, program, fanout):
+    """The rows of the bench under each seed, by intervals."""
+    found = []
+    for name, text in runs.items():
+        top = read.settings(text)
+        answer = subprocess.run([program, "run"], input=text.encode(), capture_output=True)
+        if answer.returncode:
+            raise Refused(f"{name}: the program ended with status {answer.returncode}: "
+                          f"{answer.stderr.decode(errors='replace').strip()}", 1)
+        try:
+            rows = read.rows_of(answer.stdout.decode("ascii", "replace"), top["format"], top["rounds"])
+        except read.NotWhole as lacks:
+            raise Refused(f"{name}: the program printed no whole report: {lacks}.", 1) from None
+        found.append(intervals(rows, fanout))
+    return found
+
+
+def mean(rows, name):
+    """With one decimal for an age, and none for a count."""
+    found = statistics.fmean(it[name] for it in rows)
+    return f"{found:.1f}" if name == "greatest" else f"{found:.0f}"
+
+
+def window(columns, live, benches):
+    """The row of some intervals: the mean of each column in the live cluster, and its least and most of the seeds."""
+    row = [live[0]["round"], live[-1]["round"]]
+    for name in columns:
+        row += [mean(live, name), read.span([mean(it[live[0]["round"] - 1:live[-1]["round"]], name) for it in benches])]
+    return row

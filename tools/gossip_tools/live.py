@@ -169,10 +169,10 @@ def print_report(columns, rows):
 
 def print_beside(columns, rows, benches, length):
     """A row for each window of the intervals, beside what the bench has."""
-    put("from", "to", *(name for it in columns for name in (it, f"bench_{it}")))
+    put("from", "to", *(name for it in [*columns, "greatest_most"] for name in (it, f"bench_{it}")))
     rows = iter(rows)
     while live := list(itertools.islice(rows, length)):
-        put(*live_beside.window(columns, live, benches))
+        put(*live_beside.side_by_side(columns, live, benches))
 
 
 def main(words):

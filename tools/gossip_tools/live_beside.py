@@ -72,9 +72,14 @@ def mean(rows, name):
     return f"{found:.1f}" if name == "greatest" else f"{found:.0f}"
 
 
-def window(columns, live, benches):
-    """The row of some intervals: the mean of each column in the live cluster, and its least and most of the seeds."""
-    row = [live[0]["round"], live[-1]["round"]]
-    for name in columns:
-        row += [mean(live, name), read.span([mean(it[live[0]["round"] - 1:live[-1]["round"]], name) for it in benches])]
-    return row
+def window(columns, rows):
+    """What some intervals have: the mean of each column, and the most of `greatest`."""
+    return {**{name: mean(rows, name) for name in columns}, "greatest_most": max(it["greatest"] for it in rows)}
+
+
+def side_by_side(columns, live, benches):
+    """The row of some intervals: of each column what the live cluster has, and the least and most of the bench."""
+    first, last = live[0]["round"], live[-1]["round"]
+    found = window(columns, live)
+    others = [window(columns, read.between(it, first, last)) for it in benches]
+    return [first, last, *(it for name in found for it in (found[name], read.span([each[name] for each in others])))]

@@ -24,7 +24,7 @@ At the end standard error has how late the timers of the nodes went off. Where m
 a tenth of an interval, or this machine lost more than one datagram in 1000, the figures are worthless, as it says, and
 the status is 4: take fewer nodes, or a longer interval.
 
-  GOSSIP_BENCH   the program, which checks the scenario, where it isn't the one beside this tool or the one that is built
+  GOSSIP_BENCH   the program, where it isn't the one beside this tool or the one that is built
   JOBS           in how many processes the nodes are, where they aren't as many as there are cores
 """
 import contextlib
@@ -38,8 +38,7 @@ import time
 from gossip_tools import live_beside, live_worker, read, running, sweep
 from gossip_tools.commands import Refused, number, the_program, workers
 from gossip_tools.live_figures import Figures
-from gossip_tools.live_node import LARGEST
-from gossip_tools.live_plan import Plan
+from gossip_tools.live_plan import LARGEST, Plan
 
 USUAL = {"interval": "1", "latency": "0", "fanout": "1", "beside": None, "window": "10"}
 LONGEST = 1048576  # bytes of a scenario

@@ -22,8 +22,8 @@ def stretched(top, fanout):
     for it in top.get("partition", []):
         text += f"[[partition]]\nfrom = {first(it['from'])}\nto = {last(it['to'])}\napart = {it['apart']}\n"
     for it in top.get("restart", []):
-        forget = f"forget = {str(it['forget']).lower()}\n" if "forget" in it else ""
-        text += f"[[restart]]\nnode = {it['node']}\nround = {first(it['round'])}\ndown = {it['down'] * fanout}\n{forget}"
+        text += f"[[restart]]\nnode = {it['node']}\nround = {first(it['round'])}\ndown = {it['down'] * fanout}\n"
+        text += "forget = true\n" if it.get("forget") else ""
     for it in top.get("load", []):
         text += scenario.load(first(it["from"]), last(it["to"]), it["writes"])
     for round in range(1, top["rounds"] + 1):

@@ -1,20 +1,18 @@
 """A node that gossips by datagrams: what it tells, what it sends, and what it makes of what comes.
 
-To be read beside tools/replay.py by those who write gossip. The rules are those of docs/model.md, here as bytes on a
-network that loses datagrams, holds them up and changes their order. An exchange of p, who begins it, with q has three:
+For those who write gossip, beside tools/replay.py: the rules of docs/model.md as bytes, the greatest first, on a network
+that loses datagrams, holds them up and changes their order. An exchange of p, who begins it, with q has three:
 
   DIGEST   p to q   what p holds
   ANSWER   q to p   what q holds, and a delta: what p lacks by its digest
   DELTA    p to q   a delta: what q lacks by the digest of the answer
 
-A node keeps nothing of an exchange that is under way. It answers each digest and takes each delta as it comes, however
-late, in whatever order, and also twice.
-
-That leaves no gap in a scuttle mode, where a mark stands for all that is below it. Of each owner a delta has what comes
-right above the mark that the digest told, in order and without holes. While a node runs its marks only rise, as an
-entry never takes the place of a newer one. So when the delta comes the node still holds all up to that mark, and what
-comes joins on. Only a restart takes copies away. So a digest tells how often its node has restarted, its `life`; a
-delta repeats that of the digest that it was made from; and a node drops a delta that was made for an earlier life.
+A node keeps nothing of an exchange. It answers each digest and takes each delta as it comes, however late, in whatever
+order, and also twice. That leaves no gap in a scuttle mode, where a mark stands for all that is below it. Of each owner
+a delta has what comes right above the mark that the digest told, in order and without holes. While a node runs its
+marks only rise, as an entry never takes the place of a newer one. So when the delta comes the node still holds all up
+to that mark, and what comes joins on. A restart alone takes copies away: so a digest tells how often its node has
+restarted, its `life`, a delta repeats that, and a node drops a delta that was made for an earlier life.
 """
 import random
 import struct
@@ -22,11 +20,9 @@ from enum import IntEnum
 from itertools import accumulate
 from typing import NamedTuple
 
-# All numbers go with the greatest byte first.
 HEADER = struct.Struct(">BHIIII")  # kind, sender, its life, the life that the delta is for, how much comes of both
 NUMBER = struct.Struct(">HHQ")  # of the digest: owner, key, mark; in a scuttle mode the key is always 0
 ENTRY = struct.Struct(">HHQIII")  # of the delta: owner, key, mark, value, born, how many bytes of padding follow
-LARGEST = 65507  # the most bytes that a datagram takes
 Kind = IntEnum("Kind", ("DIGEST", "ANSWER", "DELTA"))
 
 
@@ -42,7 +38,7 @@ class Message(NamedTuple):
     kind: Kind
     sender: int
     life: int  # the sender's
-    made_for: int  # the receiver's life by the digest that the delta was made from
+    made_for: int  # the receiver's life, by the digest that the delta was made from
     digest: dict  # for each owner the marks by key
     delta: list
 
@@ -56,7 +52,7 @@ def encoded(message, padding):
 
 
 def decoded(datagram):
-    kind, sender, life, made_for, numbers, entries = HEADER.unpack_from(datagram)
+    *head, numbers, entries = HEADER.unpack_from(datagram)
     at, digest, delta = HEADER.size + numbers * NUMBER.size, {}, []
     for owner, key, mark in NUMBER.iter_unpack(datagram[HEADER.size:at]):
         digest.setdefault(owner, {})[key] = mark
@@ -64,7 +60,7 @@ def decoded(datagram):
         *fields, padding = ENTRY.unpack_from(datagram, at)
         delta.append(Entry(*fields))
         at += ENTRY.size + padding
-    return Message(Kind(kind), sender, life, made_for, digest, delta)
+    return Message(*head, digest, delta)
 
 
 # The sending order: by rank and count among what is lacking of the same owner, and by the turned number of the owner.
@@ -84,7 +80,6 @@ class Node:
         self.table = {}  # for each owner of whom it holds something, the entries by key
         self.generation = self.version = self.life = 0
         self.entries = self.cut = 0  # so far, of all deltas that it sent
-        self.is_scuttle = rules.mode.startswith("scuttle-")
 
     def restart(self, forgets):
         self.life += 1
@@ -101,32 +96,32 @@ class Node:
         return entry
 
     def begin(self, peer):
-        self.put(peer, Kind.DIGEST, 0, self.digest(), [])
+        self.put(peer, Kind.DIGEST, 0, self.digest())
 
     def receive(self, datagram):
-        kind, sender, life, made_for, digest, came = decoded(datagram)
-        # (made before it takes what came, so that nothing of that goes back)
-        delta = [] if kind == Kind.DELTA else self.delta(sender, digest)
-        if kind != Kind.DIGEST and made_for == self.life:
-            self.apply(came)
-        if kind == Kind.DIGEST:
-            self.put(sender, Kind.ANSWER, life, self.digest(), delta)
-        elif kind == Kind.ANSWER:
-            self.put(sender, Kind.DELTA, life, {}, delta)
+        it = decoded(datagram)
+        if it.kind == Kind.DIGEST:
+            self.put(it.sender, Kind.ANSWER, it.life, self.digest(), self.delta(it.sender, it.digest))
+        elif it.kind == Kind.ANSWER:
+            # (made before it takes what came, so that nothing of that goes back)
+            self.put(it.sender, Kind.DELTA, it.life, {}, self.delta(it.sender, it.digest))
+        if it.made_for == self.life:
+            self.apply(it.delta)
 
-    def put(self, receiver, kind, made_for, digest, delta):
-        self.send(receiver, encoded(Message(kind, self.number, self.life, made_for, digest, delta), self.rules.padding))
+    def put(self, receiver, kind, made_for, digest, delta=()):
+        message = Message(kind, self.number, self.life, made_for, digest, delta)
+        self.send(receiver, encoded(message, self.rules.padding))
 
     def digest(self):
         """In a scuttle mode the greatest mark of each owner, in a precise one the mark of each key."""
-        if self.is_scuttle:
+        if self.rules.is_scuttle:
             return {owner: {0: max(it.mark for it in part.values())} for owner, part in self.table.items()}
         return {owner: {key: it.mark for key, it in part.items()} for owner, part in self.table.items()}
 
     def lacking(self, told, part):
-        """The entries of an owner that a node lacks who told this of it; none of an older generation than it holds."""
+        """The entries of an owner that a node lacks who told this of it; never those of an older generation."""
         greatest = max(told.values(), default=0)
-        if self.is_scuttle:
+        if self.rules.is_scuttle:
             return [it for it in part.values() if it.mark > greatest]
         return [it for it in part.values() if it.mark > max(told.get(it.key, 0), greatest >> 32 << 32)]
 
@@ -134,9 +129,8 @@ class Node:
         """What the receiver lacks by its digest, in the order of the mode, as much as the budget has room for."""
         turn = random.randrange(self.rules.nodes) if self.rules.rotation == "random" else 0
         order, ranked = ORDERS[self.rules.mode], []
-        for owner, part in self.table.items():
-            lacking = self.lacking(digest.get(owner, {}), part) if owner != receiver else []
-            lacking.sort(key=lambda it: it.mark)
+        for owner in self.table.keys() - {receiver}:
+            lacking = sorted(self.lacking(digest.get(owner, {}), self.table[owner]), key=lambda it: it.mark)
             turned = (owner - turn) % self.rules.nodes
             ranked += [(order(it, rank, len(lacking), turned), it) for rank, it in enumerate(lacking)]
         ordered = [it for _, it in sorted(ranked)]

@@ -1,11 +1,13 @@
 """What is to happen in a live cluster: a scenario with the interval, the latency and the fanout of the network."""
-import math
 import random
 from collections import defaultdict
-from dataclasses import dataclass, field
+from dataclasses import dataclass
 
-from gossip_tools.live_node import ENTRY, HEADER, LARGEST, NUMBER
+from gossip_tools.live_node import ENTRY, HEADER, NUMBER
 from gossip_tools.scenario import digest_numbers
+
+LARGEST = 65507  # the bytes of the largest datagram
+MOST_PADDING = 999
 
 
 @dataclass
@@ -28,34 +30,36 @@ class Plan:
     interval: float  # in seconds
     latency: tuple  # the least and the most, in intervals
     fanout: int
-    restarts: dict = field(init=False)
 
     def __post_init__(self):
-        self.restarts = defaultdict(list)
+        self.is_scuttle = self.mode.startswith("scuttle-")
+        self.restarts_of = defaultdict(list)
         for it in self.restart:
-            self.restarts[it["node"]].append(it)
+            self.restarts_of[it["node"]].append(it)
         self.apart = [(it["from"], it["to"], frozenset(it["apart"])) for it in self.partition]
 
     # What an entry takes.
     def padding(self, entry):
-        return entry.value % 1000 if self.format == 2 else 0
+        return entry.value % (MOST_PADDING + 1) if self.format == 2 else 0
 
     def size(self, entry):
+        """How much of the budget it takes."""
         return ENTRY.size + self.padding(entry) if self.format == 2 else 1
 
     def largest_message(self):
         """The most bytes that a message may take: a digest and a delta."""
-        others = (self.nodes - 1) * self.keys
-        entries = min(self.budget, others * (ENTRY.size + 999)) if self.format == 2 else \
-            min(self.budget, others) * ENTRY.size
-        return HEADER.size + digest_numbers(self.nodes, self.keys, self.mode) * NUMBER.size + entries
+        lacking = (self.nodes - 1) * self.keys
+        delta = min(self.budget, lacking) * ENTRY.size
+        if self.format == 2:
+            delta = min(self.budget, lacking * (ENTRY.size + MOST_PADDING))
+        return HEADER.size + digest_numbers(self.nodes, self.keys, self.mode) * NUMBER.size + delta
 
     # What the scenario says of an interval.
     def is_down(self, node, round):
-        return any(it["round"] <= round < it["round"] + it["down"] for it in self.restarts.get(node, ()))
+        return any(it["round"] <= round < it["round"] + it["down"] for it in self.restarts_of[node])
 
     def restarts_in(self, node, round):
-        return [it for it in self.restarts.get(node, ()) if it["round"] == round]
+        return [it for it in self.restarts_of[node] if it["round"] == round]
 
     def writes_in(self, round):
         """The writes of each node that is up. The last listed load counts."""

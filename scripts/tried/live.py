@@ -139,7 +139,7 @@ def children(pid):
 
 def try_words(room):
     for word, why in (("seed=1", "isn't one of interval"), ("latency=0.2,0.1", "the least first"),
-                      ("interval=0", "at least 0.01"), ("fanout=16", "15 others"), ("beside=0", "at least 1")):
+                      ("interval=0", "at least 0.01"), ("fanout=16", "15 others"), ("beside=0", "from 1 to 100")):
         refuses(room, why, "gossip_live", word, text=CLUSTER)
     large = CLUSTER.replace("nodes = 16", "nodes = 4000")
     # (19 bytes, 4000 numbers of 12, 16 entries of 24)
@@ -179,7 +179,7 @@ def try_clusters(room):
         holds(f"it says how fast it was: {name}", True, err.startswith("gossip_live: ") and " timers were late" in err)
         # (16 writes make 240 entries to be sent. What a restarted node lacks may be as old as the first round)
         settled, oldest = rows[5:15], 15 if RESTARTED in text else 8
-        is_plausible = all(120 <= it[1] <= 480 and 0 < it[3] <= 960 and 1 <= it[4] <= oldest for it in settled)
+        is_plausible = all(60 <= it[1] <= 480 and 0 < it[3] <= 960 and 1 <= it[4] <= oldest for it in settled)
         holds(f"figures of {name}", True, status == WORTHLESS or is_plausible or settled)
 
 

@@ -27,6 +27,7 @@ the status is 4: take fewer nodes, or a longer interval.
   GOSSIP_BENCH   the program, where it isn't the one beside this tool or the one that is built
   JOBS           in how many processes the nodes are, where they aren't as many as there are cores
 """
+import collections
 import contextlib
 import itertools
 import multiprocessing
@@ -41,15 +42,25 @@ from gossip_tools.live_figures import Figures
 from gossip_tools.live_plan import LARGEST, Plan
 
 USUAL = {"interval": "1", "latency": "0", "fanout": "1", "beside": None, "window": "10"}
+MOST = {"interval": 3600, "latency": 100, "fanout": 4095, "beside": 100, "window": 100000}
+LEAST_INTERVAL = 0.01
 LONGEST = 1048576  # bytes of a scenario
 WORTHLESS = 4  # the status
 NODES_OF_A_PROCESS = 16  # fewer aren't worth a process more
+TIME_TO_BEGIN = 0.2  # seconds, in which each process hears when the cluster begins
 
 
-def decimal(text, name, most):
-    if not re.fullmatch(r"[0-9]{1,6}(\.[0-9]{1,6})?", text) or float(text) > most:
-        raise Refused(f"{name} is a number up to {most}, which '{text}' isn't.")
+def decimal(name, text):
+    if not re.fullmatch(r"[0-9]{1,6}(\.[0-9]{1,6})?", text) or float(text) > MOST[name]:
+        raise Refused(f"{name} is a number up to {MOST[name]}, which '{text}' isn't.")
     return float(text)
+
+
+def whole(name, text):
+    found = number(text, name)
+    if not 1 <= found <= MOST[name]:
+        raise Refused(f"{name} is a number from 1 to {MOST[name]}, and not {found}.")
+    return found
 
 
 def told(words):
@@ -64,13 +75,11 @@ def told(words):
         values[name] = text
     values = {**USUAL, **values}
     for name in ("fanout", "beside", "window"):
-        values[name] = values[name] and number(values[name], name)
-        if values[name] == 0:
-            raise Refused(f"{name} is at least 1.")
-    values["interval"] = decimal(values["interval"], "interval", 3600)
-    if values["interval"] < 0.01:
-        raise Refused("an interval has at least 0.01 seconds.")
-    bounds = [decimal(it, "latency", 100) for it in values["latency"].split(",")]
+        values[name] = values[name] and whole(name, values[name])
+    values["interval"] = decimal("interval", values["interval"])
+    if values["interval"] < LEAST_INTERVAL:
+        raise Refused(f"an interval has at least {LEAST_INTERVAL} seconds.")
+    bounds = [decimal("latency", it) for it in values["latency"].split(",")]
     if len(bounds) > 2 or bounds != sorted(bounds):
         raise Refused("latency is one number, or two with a comma, the least first.")
     return {**values, "latency": (bounds[0], bounds[-1])}
@@ -115,6 +124,7 @@ def processes(plan):
     """The pipes to processes that have the nodes. They end with the block."""
     count = max(1, min(workers(), plan.nodes // NODES_OF_A_PROCESS))
     fork, started, pipes = multiprocessing.get_context("fork"), [], []
+    # (what a buffer has would be printed by each of them)
     sys.stdout.flush()
     try:
         for at in range(count):
@@ -122,8 +132,9 @@ def processes(plan):
                 pipe, theirs = fork.Pipe()
                 pipes.append(pipe)
                 words = plan, range(at, plan.nodes, count), theirs, list(pipes)
-                started.append(fork.Process(target=live_worker.main, args=words))
-                started[-1].start()
+                process = fork.Process(target=live_worker.main, args=words)
+                process.start()
+                started.append(process)
                 theirs.close()
         yield pipes
     finally:
@@ -132,28 +143,33 @@ def processes(plan):
             it.join()
 
 
-def heard(pipe):
-    """What a process tells."""
+@contextlib.contextmanager
+def talk():
+    """A block that speaks with processes, in which one may be found to have ended."""
     try:
-        it = pipe.recv()
-    except EOFError:
+        yield
+    except (EOFError, OSError):
         raise Refused("a process with nodes has ended, and with it the cluster.", 1) from None
-    if isinstance(it, str):
-        raise Refused(f"a process with nodes failed: {it}.", 1)
-    return it
 
 
-def rows_of(plan, figures):
+def heard(pipes):
+    """What each process tells next."""
+    with talk():
+        found = [it.recv() for it in pipes]
+    if failed := [it for it in found if isinstance(it, str)]:
+        raise Refused(f"a process with nodes failed: {failed[0]}.", 1)
+    return found
+
+
+def rows_of(plan, figures, pipes):
     """The rows of the report, each as soon as its interval is over."""
-    with processes(plan) as pipes:
-        addresses = {}
-        for pipe in pipes:
-            addresses |= heard(pipe)
-        begin = time.monotonic() + 0.2
-        for pipe in pipes:
-            pipe.send((addresses, begin))
-        for round in range(1, plan.rounds + 1):
-            yield figures.row(round, [heard(pipe) for pipe in pipes])
+    addresses = dict(collections.ChainMap(*heard(pipes)))
+    begin = time.monotonic() + TIME_TO_BEGIN
+    with talk():
+        for it in pipes:
+            it.send((addresses, begin))
+    for round in range(1, plan.rounds + 1):
+        yield figures.row(round, heard(pipes))
 
 
 def put(*values):
@@ -169,7 +185,6 @@ def print_report(columns, rows):
 def print_beside(columns, rows, benches, length):
     """A row for each window of the intervals, beside what the bench has."""
     put("from", "to", *(name for it in [*columns, "greatest_most"] for name in (it, f"bench_{it}")))
-    rows = iter(rows)
     while live := list(itertools.islice(rows, length)):
         put(*live_beside.side_by_side(columns, live, benches))
 
@@ -181,14 +196,17 @@ def main(words):
     text = scenario_given()
     sweep.check({"the scenario": text}, program)
     plan = plan_of(text, asked)
-    columns = ["entries", "cut", "stale", "greatest", "leftover"][:4 if plan.format == 1 else 5]
-    figures = Figures(plan)
+    columns = ["entries", "cut", "stale", "greatest", *(["leftover"] if plan.format == 2 else [])]
+    figures, benches = Figures(plan), []
     if asked["beside"]:
         runs = live_beside.scenarios(text, plan.fanout, asked["beside"])
         sweep.check(runs, program)
         benches = live_beside.reports(runs, program, plan.fanout)
-        print_beside(columns, rows_of(plan, figures), benches, asked["window"])
-    else:
-        print_report(columns, rows_of(plan, figures))
+    with processes(plan) as pipes:
+        rows = rows_of(plan, figures, pipes)
+        if benches:
+            print_beside(columns, rows, benches, asked["window"])
+        else:
+            print_report(columns, rows)
     print(f"gossip_live: {figures.how_fast()}", file=sys.stderr)
     return WORTHLESS if figures.is_worthless() else 0

@@ -16,6 +16,9 @@ def stretched(top, fanout):
     def last(round):
         return round * fanout
 
+    if (loads := len(top.get("load", [])) + top["rounds"]) > scenario.MOST_SECTIONS:
+        raise Refused(f"beside the bench a fanout needs {loads} loads, and a scenario takes {scenario.MOST_SECTIONS}: "
+                      "take fewer rounds.")
     arrays = ("partition", "restart", "load")
     fields = {name: it for name, it in top.items() if name not in arrays} | {"rounds": last(top["rounds"])}
     text = scenario.written(fields)

@@ -1,7 +1,7 @@
 """A node that gossips by datagrams: what it tells, what it sends, and what it makes of what comes.
 
-For those who write gossip, beside tools/replay.py: the rules of docs/model.md as bytes, the greatest first, on a network
-that loses datagrams, holds them up and changes their order. An exchange of p, who begins it, with q has three:
+For those who write gossip, beside tools/replay.py: the rules of docs/model.md as bytes, the greatest first, on a
+network that loses datagrams, holds them up and changes their order. An exchange of p, who begins it, with q has three:
 
   DIGEST   p to q   what p holds
   ANSWER   q to p   what q holds, and a delta: what p lacks by its digest

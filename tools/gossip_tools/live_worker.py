@@ -4,6 +4,7 @@ By a pipe, which has no part in gossip, it tells the process that supervises it 
 the end of each interval what they hold.
 """
 import asyncio
+import contextlib
 import os
 import queue
 import random
@@ -148,8 +149,14 @@ async def play(plan, numbers, pipe):
             outbox.put(None)
             ended.set()
 
-    # (by a thread, so that no node waits for the other side of the pipe)
-    sending = threading.Thread(target=lambda: [pipe.send(it) for it in iter(outbox.get, None)])
+    def send():
+        # (the supervisor may be gone)
+        with contextlib.suppress(OSError):
+            for told in iter(outbox.get, None):
+                pipe.send(told)
+
+    # (a thread of its own, so that no node waits for the other side of the pipe)
+    sending = threading.Thread(target=send)
     sending.start()
     for round in range(1, plan.rounds + 1):
         host.at(round, tell, round)

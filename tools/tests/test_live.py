@@ -103,6 +103,8 @@ class Beside(unittest.TestCase):
                   "[[restart]]\nnode = 1\nround = 4\ndown = 3\nforget = true\n[[load]]\nfrom = 4\nto = 6\nwrites = 5\n"
                   "[[load]]\nfrom = 2\nto = 3\nwrites = 0\n[[load]]\nfrom = 5\nto = 6\nwrites = 0\n")
         self.assertEqual(wanted, live_beside.stretched(self.top, 3))
+        with self.assertRaisesRegex(Refused, "needs 1001 loads"):
+            live_beside.stretched({**self.top, "rounds": 1000}, 3)
 
     def test_intervals(self):
         rows = [{"round": it, "entries": it, "cut": 10 * it, "stale": it, "greatest": it} for it in range(1, 7)]
@@ -129,7 +131,7 @@ class Words(unittest.TestCase):
     def test_refused(self):
         cases = {"latency": "isn't one of", "latency=": "latency is a number", "latency=0.2,0.1": "the least first",
                  "latency=1,2,3": "the least first", "interval=0": "at least 0.01", "interval=1s": "is a number",
-                 "fanout=0": "at least 1", "fanout=1.5": "whole number", "beside=0": "at least 1", "seed=1": "isn't one"}
+                 "fanout=0": "1 to 4095", "fanout=1.5": "whole number", "beside=101": "1 to 100", "seed=1": "isn't one"}
         for word, why in cases.items():
             with self.subTest(word), self.assertRaisesRegex(Refused, why):
                 live.told([word])

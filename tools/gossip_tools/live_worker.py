@@ -1,4 +1,4 @@
-"""A process with some nodes of a live cluster, each with a socket, a clock and random numbers of its own.
+"""A process with some nodes of a live cluster, each with a socket and a clock of its own.
 
 By a pipe, which has no part in gossip, it tells the process that supervises it on which addresses its nodes are, and at
 the end of each interval what they hold.
@@ -20,7 +20,6 @@ from gossip_tools.live_node import Node
 @dataclass
 class Told:
     """What a process tells at the end of an interval. Counts are of all intervals so far."""
-    round: int
     entries: int
     cut: int
     timers: int
@@ -126,10 +125,10 @@ class Host:
             if number not in self.down:
                 self.nodes[number].receive(datagram)
 
-    def told(self, round):
+    def told(self):
         nodes = self.nodes
-        told = Told(round, sum(it.entries for it in nodes.values()), sum(it.cut for it in nodes.values()),
-                    self.timers, self.late, self.lag, self.sent, self.received, self.writes,
+        told = Told(sum(it.entries for it in nodes.values()), sum(it.cut for it in nodes.values()), self.timers,
+                    self.late, self.lag, self.sent, self.received, self.writes,
                     {number: it.generation for number, it in nodes.items()},
                     {number: marks_of(it, self.plan) for number, it in nodes.items()})
         self.lag, self.writes = 0.0, []
@@ -144,7 +143,7 @@ async def play(plan, numbers, pipe):
     supervisor, outbox, ended = os.getppid(), queue.SimpleQueue(), asyncio.Event()
 
     def tell(round):
-        outbox.put(host.told(round))
+        outbox.put(host.told())
         if round == plan.rounds or os.getppid() != supervisor:
             outbox.put(None)
             ended.set()
@@ -167,6 +166,7 @@ async def play(plan, numbers, pipe):
 def main(plan, numbers, pipe, others):
     for it in others:
         it.close()
+    # (each node has an open file)
     _, most = resource.getrlimit(resource.RLIMIT_NOFILE)
     resource.setrlimit(resource.RLIMIT_NOFILE, (most, most))
     try:

@@ -179,15 +179,14 @@ def try_clusters(room):
         holds(f"copies agree: {name}", [0] * len(last), last)
         says_how_fast = err.startswith("gossip_live: ") and " timers were late" in err
         holds(f"it says how fast it was: {name}", (True, True), (status in (0, WORTHLESS), says_how_fast))
-        if status != WORTHLESS:
-            try_figures(name, rows[5:15], 15 if RESTARTED in text else 8)
+        are_judged = status != WORTHLESS
+        holds(f"figures of {name}", True, not are_judged or are_plausible(rows[5:15], 15 if RESTARTED in text else 8))
 
 
-def try_figures(name, rows, oldest):
-    """Before the writes stop the figures are within wide bounds. 16 writes make 240 entries to be sent in a round. What
-    a restarted node lacks may be as old as the first one."""
-    are_plausible = all(60 <= it[1] <= 480 and 0 < it[3] <= 960 and 1 <= it[4] <= oldest for it in rows)
-    holds(f"figures of {name}", True, are_plausible or rows)
+def are_plausible(rows, oldest):
+    """Whether the figures are within wide bounds while nodes write. 16 writes make 240 entries to be sent in a round.
+    What a restarted node lacks may be as old as the first one."""
+    return all(60 <= it[1] <= 480 and 0 < it[3] <= 960 and 1 <= it[4] <= oldest for it in rows) or rows
 
 
 def try_beside(room):

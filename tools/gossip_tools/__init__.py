@@ -11,8 +11,9 @@ Pictures need gnuplot, and a sweep over several machines GNU parallel.
   rules      what counts as better, as enough and as healed
   advise     from a cluster to a mode and a budget, over `study`, what is run, and `answer`, what it says
   page       the page that has it all, over `plots`, its pictures
-  live       a scenario as a live cluster, over `live_plan`, what is to happen; `live_worker`, processes with nodes;
-             `live_node`, what a node sends; `live_figures`, what all of them hold; and `live_beside`, the bench
+  live       a scenario as a live cluster, over `live_plan`, what is to happen, `live_cluster`, its processes, each a
+             `live_worker` with some nodes, `live_node`, what a node sends, `live_figures`, what all of them hold, and
+             `live_beside`, what the bench says
 """
 import sys
 

@@ -27,17 +27,12 @@ the status is 4: take fewer nodes, or a longer interval.
   GOSSIP_BENCH   the program, where it isn't the one beside this tool or the one that is built
   JOBS           in how many processes the nodes are, where they aren't as many as there are cores
 """
-import collections
-import contextlib
 import itertools
-import multiprocessing
 import re
-import signal
 import sys
-import time
 
-from gossip_tools import live_beside, live_worker, read, running, sweep
-from gossip_tools.commands import Refused, number, the_program, workers
+from gossip_tools import live_beside, live_cluster, read, running, sweep
+from gossip_tools.commands import Refused, number, the_program
 from gossip_tools.live_figures import Figures
 from gossip_tools.live_plan import LARGEST, Plan
 
@@ -46,8 +41,6 @@ MOST = {"interval": 3600, "latency": 100, "fanout": 4095, "beside": 100, "window
 LEAST_INTERVAL = 0.01
 LONGEST = 1048576  # bytes of a scenario
 WORTHLESS = 4  # the status
-NODES_OF_A_PROCESS = 16  # fewer aren't worth a process more
-TIME_TO_BEGIN = 0.2  # seconds, in which each process hears when the cluster begins
 
 
 def decimal(name, text):
@@ -109,69 +102,6 @@ def plan_of(text, asked):
     return plan
 
 
-@contextlib.contextmanager
-def deaf():
-    """A block in which no signal that ends a process comes, neither here nor to the processes that are started."""
-    before = signal.pthread_sigmask(signal.SIG_BLOCK, (signal.SIGINT, signal.SIGTERM, signal.SIGHUP))
-    try:
-        yield
-    finally:
-        signal.pthread_sigmask(signal.SIG_SETMASK, before)
-
-
-@contextlib.contextmanager
-def processes(plan):
-    """The pipes to processes that have the nodes. They end with the block."""
-    count = max(1, min(workers(), plan.nodes // NODES_OF_A_PROCESS))
-    fork, started, pipes = multiprocessing.get_context("fork"), [], []
-    # (what a buffer has would be printed by each of them)
-    sys.stdout.flush()
-    try:
-        for at in range(count):
-            with deaf():
-                pipe, theirs = fork.Pipe()
-                pipes.append(pipe)
-                words = plan, range(at, plan.nodes, count), theirs, list(pipes)
-                process = fork.Process(target=live_worker.main, args=words)
-                process.start()
-                started.append(process)
-                theirs.close()
-        yield pipes
-    finally:
-        for it in started:
-            it.kill()
-            it.join()
-
-
-@contextlib.contextmanager
-def talk():
-    """A block that speaks with processes, in which one may be found to have ended."""
-    try:
-        yield
-    except (EOFError, OSError):
-        raise Refused("a process with nodes has ended, and with it the cluster.", 1) from None
-
-
-def heard(pipes):
-    """What each process tells next."""
-    with talk():
-        found = [it.recv() for it in pipes]
-    if failed := [it for it in found if isinstance(it, str)]:
-        raise Refused(f"a process with nodes failed: {failed[0]}.", 1)
-    return found
-
-
-def rows_of(plan, figures, pipes):
-    """The rows of the report, each as soon as its interval is over."""
-    addresses = dict(collections.ChainMap(*heard(pipes)))
-    begin = time.monotonic() + TIME_TO_BEGIN
-    with talk():
-        for it in pipes:
-            it.send((addresses, begin))
-    for round in range(1, plan.rounds + 1):
-        yield figures.row(round, heard(pipes))
-
-
 def put(*values):
     print(*values, sep=",", flush=True)
 
@@ -202,8 +132,8 @@ def main(words):
         runs = live_beside.scenarios(text, plan.fanout, asked["beside"])
         sweep.check(runs, program)
         benches = live_beside.reports(runs, program, plan.fanout)
-    with processes(plan) as pipes:
-        rows = rows_of(plan, figures, pipes)
+    with live_cluster.processes(plan) as pipes:
+        rows = (figures.row(round, live_cluster.heard(pipes)) for round in range(1, plan.rounds + 1))
         if benches:
             print_beside(columns, rows, benches, asked["window"])
         else:

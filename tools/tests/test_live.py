@@ -63,11 +63,19 @@ class Figures(unittest.TestCase):
         row = live_figures.Figures(self.two).row(3, [told(writes, marks={0: [0, 1], 1: [0, 3]})])
         self.assertEqual((1, 2, 0), (row["stale"], row["greatest"], row["leftover"]))
 
+    def test_the_oldest_copy_counts(self):
+        """At the end of round 3 node 0 misses the write of round 3 alone, and node 1 that of round 2 too."""
+        writes = [Entry(2, 0, mark(0, it), 0, it) for it in (1, 2, 3)]
+        parts = [told(writes, {0: 0, 1: 0, 2: 0}, {0: [0, 0, 2], 2: [0, 0, 3]}), told(marks={1: [0, 0, 1]})]
+        row = live_figures.Figures(plan(nodes=3, keys=1)).row(3, parts)
+        self.assertEqual((2, 2), (row["stale"], row["greatest"]))
+
     def test_a_node_forgets(self):
-        """The case "worked rounds: a node forgets": node 0 keeps what node 1 has forgotten, which lacks its copy."""
+        """As in "worked rounds: a node forgets": node 0 keeps what node 1 has forgotten, which lacks its copy. But node
+        1 has written twice, and its second write never comes to node 0."""
         figures = live_figures.Figures(self.two)
-        writes = [Entry(0, 0, mark(0, 1), 0, 1), Entry(1, 0, mark(0, 1), 0, 1)]
-        figures.row(1, [told(writes, marks={0: [1, 1], 1: [1, 1]})])
+        writes = [Entry(0, 0, mark(0, 1), 0, 1), Entry(1, 0, mark(0, 1), 0, 1), Entry(1, 0, mark(0, 2), 0, 1)]
+        figures.row(1, [told(writes, marks={0: [1, 1], 1: [1, 2]})])
         row = figures.row(2, [told((), {0: 0, 1: 1}, {0: [1, 1], 1: [0, 0]})])
         self.assertEqual((1, 2, 1), (row["stale"], row["greatest"], row["leftover"]))
         # (its next write is of another generation, and node 0 misses it since round 3, not since round 1)

@@ -138,5 +138,6 @@ def main(words):
             print_beside(columns, rows, benches, asked["window"])
         else:
             print_report(columns, rows)
+        figures.end(live_cluster.heard(pipes))
     print(f"gossip_live: {figures.how_fast()}", file=sys.stderr)
     return WORTHLESS if figures.is_worthless() else 0

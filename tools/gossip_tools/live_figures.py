@@ -62,13 +62,16 @@ class Figures:
         row = {"round": round, "entries": entries - self.entries, "cut": cut - self.cut, "stale": stale,
                "greatest": greatest, "leftover": leftover}
         self.entries, self.cut = entries, cut
-        for name in ("timers", "late", "sent", "received"):
-            setattr(self, name, sum(getattr(it, name) for it in parts))
+        self.timers, self.late = sum(it.timers for it in parts), sum(it.late for it in parts)
         self.lag = max(self.lag, *(it.lag for it in parts))
         return row
 
+    def end(self, parts):
+        """Takes how many datagrams the nodes of each process have sent and received."""
+        self.sent, self.received = map(sum, zip(*parts))
+
     def lost(self):
-        """Datagrams that the machine lost, or that are under way."""
+        """Datagrams that the machine lost."""
         return max(self.sent - self.received, 0)
 
     def is_worthless(self):

@@ -1,7 +1,7 @@
 """A process with some nodes of a live cluster, each with a socket and a clock of its own.
 
-By a pipe, which has no part in gossip, it tells the process that supervises it on which addresses its nodes are, and at
-the end of each interval what they hold.
+By a pipe, which has no part in gossip, it tells the process that supervises it on which addresses its nodes are, at the
+end of each interval what they hold, and at last how many datagrams they sent and received.
 """
 import asyncio
 import contextlib
@@ -16,6 +16,9 @@ from dataclasses import dataclass
 from gossip_tools.live_figures import LATE
 from gossip_tools.live_node import Node
 
+MESSAGES = 3  # of an exchange
+TIME_TO_END = 0.2  # seconds, in which what is under way comes
+
 
 @dataclass
 class Told:
@@ -25,8 +28,6 @@ class Told:
     timers: int
     late: int
     lag: float  # the greatest since the last time, in intervals
-    sent: int  # datagrams, but for those that the scenario loses
-    received: int
     writes: list  # since the last time
     generations: dict
     marks: dict  # of each node, what it holds
@@ -60,7 +61,8 @@ class Host:
         self.phases = {it: random.random() for it in numbers}
         self.down = set()
         self.sockets, self.addresses, self.known, self.begin = {}, [], set(), 0.0
-        self.timers = self.late = self.sent = self.received = 0
+        self.timers = self.late = 0
+        self.sent = self.received = 0  # datagrams, but for those that the scenario loses
         self.lag, self.writes = 0.0, []
 
     async def bind(self):
@@ -128,8 +130,7 @@ class Host:
     def told(self):
         nodes = self.nodes
         told = Told(sum(it.entries for it in nodes.values()), sum(it.cut for it in nodes.values()), self.timers,
-                    self.late, self.lag, self.sent, self.received, self.writes,
-                    {number: it.generation for number, it in nodes.items()},
+                    self.late, self.lag, self.writes, {number: it.generation for number, it in nodes.items()},
                     {number: marks_of(it, self.plan) for number, it in nodes.items()})
         self.lag, self.writes = 0.0, []
         return told
@@ -145,7 +146,6 @@ async def play(plan, numbers, pipe):
     def tell(round):
         outbox.put(host.told())
         if round == plan.rounds or os.getppid() != supervisor:
-            outbox.put(None)
             ended.set()
 
     def send():
@@ -160,6 +160,10 @@ async def play(plan, numbers, pipe):
     for round in range(1, plan.rounds + 1):
         host.at(round, tell, round)
     await ended.wait()
+    # (until the exchanges that are under way are over)
+    await asyncio.sleep(MESSAGES * plan.latency[1] * plan.interval + TIME_TO_END)
+    outbox.put((host.sent, host.received))
+    outbox.put(None)
     sending.join()
 
 

@@ -50,7 +50,7 @@ class Plans(unittest.TestCase):
 
 
 def told(writes=(), generations=None, marks=None, **counts):
-    usual = dict.fromkeys(("entries", "cut", "timers", "late", "sent", "received", "lag"), 0)
+    usual = dict.fromkeys(("entries", "cut", "timers", "late", "lag"), 0)
     return SimpleNamespace(writes=writes, generations=generations or {0: 0, 1: 0}, marks=marks, **{**usual, **counts})
 
 
@@ -93,11 +93,11 @@ class Figures(unittest.TestCase):
         cases = {(100, 5, 1000, 999): False, (100, 6, 1000, 999): True, (100, 5, 1000, 998): True,
                  (100, 0, 10, 11): False}
         found = {}
-        for counts in cases:
+        for timers, late, sent, received in cases:
             figures = live_figures.Figures(self.two)
-            figures.row(1, [told(marks={0: [0, 0], 1: [0, 0]}, **dict(zip(("timers", "late", "sent", "received"),
-                                                                          counts)))])
-            found[counts] = figures.is_worthless()
+            figures.row(1, [told(marks={0: [0, 0], 1: [0, 0]}, timers=timers, late=late)])
+            figures.end([(sent, 0), (0, received)])
+            found[timers, late, sent, received] = figures.is_worthless()
         self.assertEqual(cases, found)
 
 

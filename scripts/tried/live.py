@@ -13,8 +13,10 @@ from tried.calls import TOOLS, fails, is_running, program_that, refuses, run, st
 from trials import PROGRAM, holds
 
 sys.path.insert(0, str(TOOLS))
+from gossip_tools.live_figures import Figures
 from gossip_tools.live_node import Node, decoded
 from gossip_tools.live_plan import Plan
+from gossip_tools.live_worker import Told, marks_of
 
 MODES = ("scuttle-breadth", "scuttle-depth", "precise-oldest", "precise-newest")
 CLUSTER = """format = 1
@@ -76,24 +78,36 @@ def rows_of(file):
 
 
 class Follower:
-    """Nodes that do what a trace says, without a network, and what they send and hold, as replay.py tells it."""
+    """Nodes that do what a trace says, without a network: what they send and hold, as replay.py tells it, and the rows
+    of the report, as gossip_live counts them."""
 
     def __init__(self, plan):
-        self.plan, self.sent, self.tables, self.put = plan, [], [], []
+        self.plan, self.sent, self.tables, self.rows, self.put = plan, [], [], [], []
         self.nodes = [Node(it, plan, lambda *what: self.put.append(what)) for it in range(plan.nodes)]
+        self.figures = Figures(plan)
 
     def follow(self, trace):
         for round in range(1, self.plan.rounds + 1):
-            for node in self.nodes:
-                if restarts := self.plan.restarts_in(node.number, round):
-                    node.restart(any(it.get("forget") for it in restarts))
-                for _ in range(0 if self.plan.is_down(node.number, round) else self.plan.writes_in(round)):
-                    node.write(round)
+            writes = [it for node in self.nodes for it in self.begin(node, round)]
             for row in trace:
                 if int(row["round"]) == round:
                     self.exchange(row)
             self.tables += [[round, node.number, *columns(it)] for node in self.nodes
                             for part in node.table.values() for it in part.values()]
+            self.rows.append(self.figures.row(round, [self.told(writes)]))
+
+    def begin(self, node, round):
+        """A node's round begins: it restarts and writes, as the scenario says."""
+        if restarts := self.plan.restarts_in(node.number, round):
+            node.restart(any(it.get("forget") for it in restarts))
+        return [] if self.plan.is_down(node.number, round) else \
+            [node.write(round) for _ in range(self.plan.writes_in(round))]
+
+    def told(self, writes):
+        entries, cut = sum(it.entries for it in self.nodes), sum(it.cut for it in self.nodes)
+        generations = {it.number: it.generation for it in self.nodes}
+        marks = {it.number: marks_of(it, self.plan) for it in self.nodes}
+        return Told(entries, cut, timers=0, late=0, lag=0, writes=writes, generations=generations, marks=marks)
 
     def exchange(self, row):
         self.nodes[int(row["initiator"])].begin(int(row["responder"]))
@@ -119,7 +133,8 @@ def planned(text):
 
 
 def try_following_traces(room):
-    """A live node sends and holds what replay.py does, entry by entry, where both meet the same and lose the same."""
+    """A live node sends and holds what replay.py does, entry by entry, where both meet the same and lose the same, and
+    the figures are those of the report."""
     for mode in MODES:
         for form, budget, more in ((1, "budget = 5", ""), (2, "budget_bytes = 1023", FORGETS)):
             text = f"format = {form}\nmode = '{mode}'\n{budget}\n{MISHAPS}{more}"
@@ -131,6 +146,10 @@ def try_following_traces(room):
                 rows = rows_of(room / f"{name}.csv")
                 holds(f"{name} of {mode} in format {form}", (0, rows), (replayed[0], found))
                 holds(f"there is much in {name} of {mode} in format {form}", True, len(rows) > 1000)
+            report = list(csv.DictReader(io.StringIO(replayed[1])))
+            found = [{name: str(row[name]) for name in report[0] if name in row} for row in follower.rows]
+            wanted = [{name: row[name] for name in it} for row, it in zip(report, found)]
+            holds(f"the report of {mode} in format {form}", (24, wanted), (len(report), found))
 
 
 def children(pid):

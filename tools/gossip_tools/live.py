@@ -31,7 +31,7 @@ import itertools
 import re
 import sys
 
-from gossip_tools import live_beside, live_cluster, read, running, sweep
+from gossip_tools import files, live_beside, live_cluster, read, running, sweep
 from gossip_tools.commands import Refused, number, the_program
 from gossip_tools.live_figures import Figures
 from gossip_tools.live_plan import LARGEST, Plan
@@ -84,7 +84,8 @@ def scenario_given():
     if sys.stdin.isatty():
         print("gossip_live: the scenario is read from here, as none comes by < SCENARIO.", file=sys.stderr)
     try:
-        return sys.stdin.buffer.read(LONGEST + 1).decode()
+        with files.named("standard input"):
+            return sys.stdin.buffer.read(LONGEST + 1).decode()
     except UnicodeDecodeError:
         raise Refused("the scenario isn't UTF-8.") from None
 

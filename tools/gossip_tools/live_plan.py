@@ -7,7 +7,7 @@ from gossip_tools.live_node import ENTRY, HEADER, NUMBER
 from gossip_tools.scenario import digest_numbers
 
 LARGEST = 65507  # the bytes of the largest datagram
-MOST_PADDING = 999
+PADDINGS = 1000  # in format 2 an entry has from 0 to 999 bytes of padding
 
 
 @dataclass
@@ -40,7 +40,7 @@ class Plan:
 
     # What an entry takes.
     def padding(self, entry):
-        return entry.value % (MOST_PADDING + 1) if self.format == 2 else 0
+        return entry.value % PADDINGS if self.format == 2 else 0
 
     def size(self, entry):
         """How much of the budget it takes."""
@@ -51,7 +51,7 @@ class Plan:
         lacking = (self.nodes - 1) * self.keys
         delta = min(self.budget, lacking) * ENTRY.size
         if self.format == 2:
-            delta = min(self.budget, lacking * (ENTRY.size + MOST_PADDING))
+            delta = min(self.budget, lacking * (ENTRY.size + PADDINGS - 1))
         return HEADER.size + digest_numbers(self.nodes, self.keys, self.mode) * NUMBER.size + delta
 
     # What the scenario says of an interval.

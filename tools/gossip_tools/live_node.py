@@ -20,7 +20,7 @@ from enum import IntEnum
 from itertools import accumulate
 from typing import NamedTuple
 
-HEADER = struct.Struct(">BHIIII")  # kind, sender, its life, the life that the delta is for, how much comes of both
+HEADER = struct.Struct(">BHIIII")  # kind, sender, its life, life that the delta is for, numbers and entries to come
 NUMBER = struct.Struct(">HHQ")  # of the digest: owner, key, mark; in a scuttle mode the key is always 0
 ENTRY = struct.Struct(">HHQIII")  # of the delta: owner, key, mark, value, born, how many bytes of padding follow
 Kind = IntEnum("Kind", ("DIGEST", "ANSWER", "DELTA"))

@@ -6,19 +6,18 @@ import pathlib
 import signal
 import statistics
 import sys
-import tomllib
 from concurrent.futures import ThreadPoolExecutor
 
 from tried.calls import TOOLS, fails, is_running, program_that, refuses, run, started, waits_for
 from trials import PROGRAM, holds
 
 sys.path.insert(0, str(TOOLS))
+from gossip_tools import live
 from gossip_tools.live_figures import Figures
 from gossip_tools.live_node import Node, decoded
-from gossip_tools.live_plan import Plan
 from gossip_tools.live_worker import Told, marks_of
+from gossip_tools.scenario import MODES
 
-MODES = ("scuttle-breadth", "scuttle-depth", "precise-oldest", "precise-newest")
 CLUSTER = """format = 1
 nodes = 16
 keys = 4
@@ -124,14 +123,6 @@ class Follower:
             self.nodes[receiver].receive(datagram)
 
 
-
-def planned(text):
-    top = {"partition": [], "restart": [], "load": [], **tomllib.loads(text)}
-    top["budget"] = top.pop("budget_bytes", top.get("budget"))
-    del top["seed"]
-    return Plan(**top, interval=1, latency=(0, 0), fanout=1)
-
-
 def try_following_traces(room):
     """A live node sends and holds what replay.py does, entry by entry, where both meet the same and lose the same, and
     the figures are those of the report."""
@@ -140,7 +131,7 @@ def try_following_traces(room):
             text = f"format = {form}\nmode = '{mode}'\n{budget}\n{MISHAPS}{more}"
             replayed = run(room, TOOLS / "replay.py", "run", "--trace", "trace.csv", "--sent", "sent.csv", "--tables",
                            "tables.csv", text=text)
-            follower = Follower(planned(text))
+            follower = Follower(live.plan_of(text, live.told([])))
             follower.follow(list(csv.DictReader(io.StringIO((room / "trace.csv").read_text()))))
             for name, found in (("sent", follower.sent), ("tables", sorted(follower.tables))):
                 rows = rows_of(room / f"{name}.csv")

@@ -262,6 +262,10 @@ def try_faults(room):
         process.stdout.readline()
         process.stdout.close()
         holds("a reader that has ended", (1, ""), (process.wait(timeout=60), process.stderr.read()))
+    with open(os.devnull, "w") as nowhere:
+        for closed, why in ((0, "standard input: it is closed"), (1, "the output: it is closed")):
+            fails(room, why, 1, "gossip_live", "interval=0.1", text=CLUSTER, out=nowhere,
+                  before=lambda: os.close(closed))
     half = program_that(room, "half", "echo half")
     fails(room, "printed no whole report", 1, "gossip_live", "beside=1", text=CLUSTER, GOSSIP_BENCH=half)
     faulty = program_that(room, "faulty", "echo fault 1: out of memory >&2; exit 1")

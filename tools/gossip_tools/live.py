@@ -31,7 +31,7 @@ import itertools
 import re
 import sys
 
-from gossip_tools import files, live_beside, live_cluster, read, running, sweep
+from gossip_tools import files, live_beside, live_cluster, read, running, scenario, sweep
 from gossip_tools.commands import Refused, number, the_program
 from gossip_tools.live_figures import Figures
 from gossip_tools.live_plan import LARGEST, Plan
@@ -39,7 +39,6 @@ from gossip_tools.live_plan import LARGEST, Plan
 USUAL = {"interval": "1", "latency": "0", "fanout": "1", "beside": None, "window": "10"}
 MOST = {"interval": 3600, "latency": 100, "fanout": 4095, "beside": 100, "window": 100000}
 LEAST_INTERVAL = 0.01
-LONGEST = 1048576  # bytes of a scenario
 WORTHLESS = 4  # the status
 
 
@@ -79,15 +78,10 @@ def told(words):
 
 
 def scenario_given():
-    if sys.stdin is None:
-        raise Refused("the scenario comes by standard input, as < SCENARIO, which is closed.")
     if sys.stdin.isatty():
         print("gossip_live: the scenario is read from here, as none comes by < SCENARIO.", file=sys.stderr)
-    try:
-        with files.named("standard input"):
-            return sys.stdin.buffer.read(LONGEST + 1).decode()
-    except UnicodeDecodeError:
-        raise Refused("the scenario isn't UTF-8.") from None
+    with files.named("standard input"):
+        return scenario.read(sys.stdin.buffer)
 
 
 def plan_of(text, asked):

@@ -24,11 +24,10 @@ from gossip_tools import rules, scenario
 from gossip_tools.commands import Refused
 from gossip_tools.scenario import limited
 
-TEXTS = {"mode": ("scuttle-depth", "scuttle-breadth", "precise-oldest", "precise-newest"),
-         "count": ("bytes", "entries"), "shared": ("yes", "no"), "forget": ("yes", "no")}
+TEXTS = {"mode": scenario.MODES, "count": ("bytes", "entries"), "shared": ("yes", "no"), "forget": ("yes", "no")}
 DECIMALS = ("loss", "interval")
 BYTES = ("entry", "packet", "digest")
-USUAL = {"digest": "0", "loss": "0", "fanout": "1", "rounds": None, "seed": "1", "mode": TEXTS["mode"][0],
+USUAL = {"digest": "0", "loss": "0", "fanout": "1", "rounds": None, "seed": "1", "mode": scenario.USUAL_MODE,
          "count": None}
 USUAL_ROUNDS = 60
 # What is asked of the wrong tool, or in another way.

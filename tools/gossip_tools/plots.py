@@ -8,8 +8,11 @@ import subprocess
 from gossip_tools import files, read, rules, scenario
 
 # Colours that the colour-blind tell apart; widths and points also tell them apart in black and white.
-MODES = {"scuttle-breadth": ("#e69f00", 9, 5), "precise-newest": ("#cc79a7", 6, 13),
-         "precise-oldest": ("#009e73", 3.5, 9), "scuttle-depth": ("#00407a", 1.5, 7)}
+COLOURS = dict(zip(scenario.MODES, (("#e69f00", 5), ("#00407a", 7), ("#009e73", 9), ("#cc79a7", 13))))
+WIDTHS = (9, 6, 3.5, 1.5)
+# (the usual mode comes last, on top of the others)
+STYLES = {mode: (COLOURS[mode][0], width, COLOURS[mode][1])
+          for mode, width in zip(reversed(rules.CHEAPEST_FIRST), WIDTHS)}
 BUDGETS = (("#e69f00", 8, 5), ("#56b4e9", 5.5, 9), ("#009e73", 3.5, 13), ("#00407a", 1.5, 7))
 HEAD = """set terminal svg size 480, 380 dynamic font "sans-serif,14" background "white"
 set output "{name}.svg"
@@ -52,9 +55,9 @@ def knee(decision, name, y, figure, capped):
     study, found = decision.study, decision.found
     text, plots, most = HEAD.format(name=name, x="budget, in entries", y=y), [], 0
     fits = study.whole(study.fits[decision.mode])
-    modes = [it for it in MODES if it in study.fits]
+    modes = [it for it in STYLES if it in study.fits]
     for at, mode in enumerate(modes):
-        (colour, width, point), rows = MODES[mode], []
+        (colour, width, point), rows = STYLES[mode], []
         for budget in (it for it in decision.budgets() if (it, mode) in found.rows):
             values = figure(budget, mode)
             # (a little beside each other, so that all bands are seen)
@@ -90,7 +93,7 @@ def rounds(decision, name, y, value):
     that it would take."""
     study, found = decision.study, decision.found
     text, plots = HEAD.format(name=name, x="round", y=y), []
-    for at, (mode, (colour, width, _)) in enumerate(MODES.items()):
+    for at, (mode, (colour, width, _)) in enumerate(STYLES.items()):
         if mode in study.fits:
             budget = decision.budget if mode == decision.mode else study.most(mode)
             rows = found.rows[(budget, mode)][0]

@@ -3,15 +3,16 @@
 A run's worst staleness is the most of `greatest` in the rounds of a window. A figure is a list of them, one for each
 seed, and its band goes from the least to the most. An interval has as many rounds as a node calls others in it.
 """
+from gossip_tools.scenario import MODES, USUAL_MODE, digest_numbers
+
 SEEDS = (1, 2, 3, 4, 5)
 # The intervals of a run and its window. In the first ones the tables fill, so they are left out.
 FEW, FEW_WINDOW = 60, (31, 60)
 MANY, MANY_WINDOW = 200, (101, 200)
 # Parts of `nodes * writes` at which a smaller budget is looked at, as numerator and denominator.
 KNEE = ((1, 4), (1, 2), (3, 4), (1, 1), (3, 2))
-USUAL_MODE = "scuttle-depth"
-# By the size of their digests, and scuttle-depth before scuttle-breadth, which lags longer below the knee.
-CHEAPEST_FIRST = (USUAL_MODE, "scuttle-breadth", "precise-oldest", "precise-newest")
+# By the size of their digests, and the usual one before scuttle-breadth, which lags longer below the knee.
+CHEAPEST_FIRST = sorted(MODES, key=lambda mode: (digest_numbers(2, 2, mode), mode != USUAL_MODE))
 FEW_ENTRIES = 50
 # How far a tenth was seen to hold in scuttle-depth: how many rounds more in `greatest` ten times the nodes had, with
 # which parts of `nodes * writes`.

@@ -5,6 +5,7 @@ from fractions import Fraction
 from gossip_tools.commands import Refused
 
 MODES = ("scuttle-breadth", "scuttle-depth", "precise-oldest", "precise-newest")
+USUAL_MODE = "scuttle-depth"
 LIMITS = {
     "nodes": (2, 4096), "keys": (1, 64), "writes": (0, 8), "rounds": (1, 100000), "seed": (0, 2**63 - 1),
     "loss_ppm": (0, 1000000), "budget": (1, 65535), "budget_bytes": (1023, 67108864),
@@ -42,7 +43,7 @@ def written(fields):
     return "".join(f'{name} = "{it}"\n' if isinstance(it, str) else f"{name} = {it}\n" for name, it in fields.items())
 
 
-def top(nodes, keys, rounds, writes, loss_ppm, entries, in_bytes, mode="scuttle-depth", seed=1):
+def top(nodes, keys, rounds, writes, loss_ppm, entries, in_bytes, mode=USUAL_MODE, seed=1):
     """The fields of a scenario with random peers, whose budget has room for so many mean entries."""
     field, budget = budget_field(entries, in_bytes)
     # (sizes of format 2 are spread evenly over 24 to 1023 bytes with choice = "random" alone)

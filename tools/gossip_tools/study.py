@@ -29,11 +29,11 @@ class Study:
 
     def __init__(self, told):
         self.told = told
-        self.usual = told["mode"] or rules.USUAL_MODE
+        self.usual = told["mode"] or scenario.USUAL_MODE
         self.parts = 10 if cluster.is_too_large(told["nodes"], told["keys"]) else 1
-        if self.parts > 1 and self.usual != rules.USUAL_MODE:
+        if self.parts > 1 and self.usual != scenario.USUAL_MODE:
             raise cluster.Refused(f"{told['nodes']} nodes are more than a scenario takes, and a tenth of them says "
-                                  f"little but in {rules.USUAL_MODE}: leave out mode={self.usual}.")
+                                  f"little but in {scenario.USUAL_MODE}: leave out mode={self.usual}.")
         it = dict(told)
         if told["shared"] == "no":
             it["digest"] = 0

@@ -93,7 +93,7 @@ def try_advice(room):
                        "nodes * writes = 8 entries takes packet=5120"),
                       ("rounds=9", "For rounds= there is gossip_scenario"), ("--jobs=2", "as JOBS=2"),
                       ("interval=100ms", "write interval=0.1."), ("split=1h", "it is in intervals"),
-                      ("restarts=5%", "'5%' isn't."), ("restarts", "Write restarts=VALUE, without a space.")):
+                      ("restarts=9", "of 8 nodes no 9 can restart at once"), ("restarts=5%", "'5%' isn't."), ("restarts", "Write restarts=VALUE, without a space.")):
         words = {it.partition("=")[0].replace("delta", "packet"): it for it in (*cluster, word)}
         refuses(room, why, "gossip_advise", "-o", "refused", *words.values())
     refuses(room, "nodes= is missing", "gossip_advise", "-o", "refused")
@@ -104,8 +104,8 @@ def try_advice(room):
 
 
 def try_reserve(room):
-    """Room for 60 entries, where 24 nodes write one of 6 keys: 24 are taken, if no seed is better with twice that by
-    more than they differ. The figures of both are counted here once more."""
+    """Room for 60 entries, where 24 nodes write one of 6 keys: 24 are taken, if the band of the seeds with twice
+    that touches theirs. The figures of both are counted here once more."""
     words = ("nodes=24", "keys=6", "writes=1", "entry=40", "packet=2400", "count=entries", "split=0", "restarts=0")
     status, out, err = run(room, TOOLS / "gossip_advise", "-o", "reserve", *words)
     first, said = out.partition("\n\n")[::2]
@@ -114,8 +114,8 @@ def try_reserve(room):
         is_worse = min(at_knee) > max(at_most)
         budget = f"{48 if is_worse else 24} entries in a delta, {1920 if is_worse else 960} bytes "
         other = (f"With nodes * writes = 24 entries it is {as_rounds(at_knee)}: worse" if is_worse else
-                 f"With the 48 entries (2 times nodes * writes) it is {as_rounds(at_most)}: not better under all seeds "
-                 "by more than they differ. So packet=960 is enough, and what is above that is a reserve")
+                 f"With the 48 entries (2 times nodes * writes) it is {as_rounds(at_most)}: no better, as the bands of the "
+                 "seeds touch. So packet=960 is enough, and what is above that is a reserve")
         holds(f"the budget after {stage} intervals", (0, True, True),
               (status, f"scuttle-depth with room for {budget}" in told, other in told))
     holds("nothing that heals is run where none is asked for", ({"few", "many"}, False),

@@ -72,6 +72,9 @@ def numbers_of(words, file):
         raise Refused("an interval has seconds.")
     if told["split"] > 100000:
         raise Refused("split is a number of intervals up to 100000.")
+    if told["restarts"] and told["restarts"] > told["nodes"]:
+        raise Refused(f"of {told['nodes']} nodes no {told['restarts']} can restart at once: restarts is the size of a "
+                      "group.")
     return told, kept
 
 

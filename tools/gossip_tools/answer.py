@@ -43,7 +43,8 @@ def unit(study):
     return "rounds" if study.fanout == 1 else "intervals"
 
 
-SURELY = "under all seeds by more than they differ"
+TOUCH = "as the bands of the seeds touch"
+APART = "as the bands of the seeds don't touch"
 
 
 class Decision:
@@ -202,8 +203,9 @@ class Decision:
         in_bytes = self.whole_budget() * it.told["entry"]
         why = self.times()
         if self.budget == it.nodes * it.keys:
-            why = f"nodes * keys, above which nothing changes; {why}"
-        elif self.budget == it.fits[self.mode]:
+            all_keys = "nodes * keys, above which nothing changes"
+            why = all_keys if why == "nodes * keys" else f"{all_keys}; {why}"
+        elif self.whole_budget() == it.fits_of_all[self.mode]:
             why = f"what fits; {why}"
         return f"room for {self.whole_budget()} entries in a delta, {int(in_bytes)} bytes ({why})"
 
@@ -212,7 +214,7 @@ class Decision:
         if not self.suffices or self.budget == self.most:
             return ""
         worst = briefly(self.study, self.figures[self.mode])
-        return (f"With {self.all_that_fits()} it is {worst}: not better {SURELY}. So packet={self.packet()} is enough, "
+        return (f"With {self.all_that_fits()} it is {worst}: no better, {TOUCH}. So packet={self.packet()} is enough, "
                 "and what is above that is a reserve")
 
     def why_not_knee(self):
@@ -226,9 +228,9 @@ class Decision:
         worst = self.worst_with(it.knee, self.mode)
         why = ", and another mode with what fits is better than that"
         if self.is_worse(it.knee):
-            why = f": worse {SURELY}"
+            why = f": worse, {APART}"
         elif rules.is_better(self.figures[self.mode], worst):
-            why = f": worse than {self.all_that_fits()} {SURELY}"
+            why = f": worse than {self.all_that_fits()}, {APART}"
         return f"{at_knee} it is {briefly(it, worst)}{why}"
 
     def still_to_run(self):
@@ -243,7 +245,7 @@ class Decision:
     def all_that_fits(self):
         """The largest budget that was looked at, in words."""
         it = self.study
-        what = "that fit" if self.most == it.fits[self.mode] else f"({self.most / it.knee:.2g} times {it.knee_name})"
+        what = "that fit" if it.whole(self.most) == it.fits_of_all[self.mode] else f"({self.most / it.knee:.2g} times {it.knee_name})"
         return f"the {it.whole(self.most)} entries {what}"
 
 
@@ -290,7 +292,7 @@ class Healing:
         harder = ", a harder test than one group" if groups > 1 else ""
         if not it.restarts:
             return f"of one node, down for one {unit(it)[:-1]}"
-        return f"of {in_nodes(each)} in each of {groups} {unit(it)}, each down for one{harder}"
+        return f"of {in_nodes(each)} in each of {groups} {unit(it)}{fewer(it, it.restarts)}, each down for one{harder}"
 
     def lines_now(self, stage, budget):
         """The lines of a stage as soon as it is run. How long to wait is known from the restart; where nodes forget,
@@ -336,7 +338,8 @@ class Healing:
         longest = "the longest of these two" if len(self.study.leaves()) > 1 else "the longest of a restart"
         if rounds is None:
             return "no wait is known, as not all of this is over in the rounds that were run: take a larger budget"
-        who = f"a group of {restarts} nodes" if restarts and restarts > 1 else "a node"
+        group = self.study.group()
+        who = f"a group of {group} nodes" if restarts and group > 1 else "a node"
         return (f"wait {lasting(self.study, [rounds])}, after {who} is up again: {rules.WAIT_MORE} more than "
                 f"{longest}, as a later group may take longer; {rules.NO_GUARANTEE}")
 
@@ -355,6 +358,15 @@ class Healing:
         rounds = self.waited(decision.most) if self.study.leaves() else None
         said += [f"wait {briefly(self.study, [rounds])} between groups"] if rounds else []
         return f"if your program fills the packet anyway, {'; '.join(said)}{self.run}"
+
+
+def fewer(study, asked):
+    """That fewer nodes restart at once than were asked for, in words; empty where that isn't so."""
+    each = study.restarting()[0]
+    if each == study.restarts:
+        return ""
+    why = "half of the nodes stay up" if each == study.nodes // 2 else f"a scenario takes {each} restarts"
+    return f", in place of {asked}, as {why}"
 
 
 # What heals, by its stage, and the words for that.
@@ -436,7 +448,7 @@ def too_close(decision):
     others = "other mode and smaller budget" if len(it.fits) > 1 else "smaller budget"
     smaller = [budget for budget in decision.of_mode() if budget < decision.budget]
     than = "" if all(map(decision.is_worse, smaller)) else " than this one or a larger one"
-    return said or [f"none: each {others} that was run is worse{than} {SURELY}"]
+    return said or [f"none: each {others} that was run is worse{than}, {APART}"]
 
 
 def warnings(decision):
@@ -482,9 +494,8 @@ def of_healing(it):
         said.append(f"A split of {it.split} {unit(it)} was run in place of {it.told['split']}: each key was written "
                     "anew meanwhile, so a longer one leaves no more to catch up with.")
     if it.restarts:
-        each, groups = it.restarting()
-        fewer = f", in place of {it.told['restarts']}" if it.told["restarts"] > it.whole(each) else ""
-        said.append(f"{it.whole(each)} is the size of a group that restarts at once{fewer}. What was run are "
+        _, groups = it.restarting()
+        said.append(f"{it.group()} is the size of a group that restarts at once{fewer(it, it.told['restarts'])}. What was run are "
                     f"{groups} such groups, one in each {unit(it)[:-1]}, each down for one. The times count from when "
                     "the last one is up again.")
         said.append(f"While nodes restart in each {unit(it)[:-1]}, `greatest` is the number of the round and bounds "

@@ -11,6 +11,7 @@ FEW, FEW_WINDOW = 60, (31, 60)
 MANY, MANY_WINDOW = 200, (101, 200)
 # Parts of `nodes * writes` at which a smaller budget is looked at, as numerator and denominator.
 KNEE = ((1, 4), (1, 2), (3, 4), (1, 1), (3, 2))
+LOOKED_AT = (*KNEE, (2, 1))
 # By the size of their digests, and the usual one before scuttle-breadth, which lags longer below the knee.
 CHEAPEST_FIRST = sorted(MODES, key=lambda mode: (digest_numbers(2, 2, mode), mode != USUAL_MODE))
 FEW_ENTRIES = 50
@@ -35,8 +36,8 @@ def middle(figure):
 
 
 def is_better(one, other):
-    """"A mode, or a budget, is better where it is so under all of five seeds, and by more than the seeds differ among
-    themselves." So the bands don't touch: the worst seed of the one is better than the best of the other."""
+    """"A mode, or a budget, is better where the worst of its five seeds is ahead of the best of the other's": where
+    their bands don't touch."""
     return max(one) < min(other)
 
 
@@ -59,7 +60,7 @@ def halves(window):
 
 def suffices(in_first_half, in_second_half):
     """"A budget suffices where `greatest` is level in both halves of the window." It isn't level where the first half
-    is better than the second: what is higher there under all seeds, and by more than they differ, still rises."""
+    is better than the second: where the bands of the seeds don't touch, and the second is higher, it still rises."""
     return not is_better(in_first_half, in_second_half)
 
 

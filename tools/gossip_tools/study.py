@@ -45,17 +45,22 @@ class Study:
         self.nodes, self.keys, self.writes = it["nodes"], int(it["keys"]), int(it["writes"])
         self.fanout, self.seconds = int(told["fanout"]), told["interval"] / told["fanout"]
         self.knee = max(LEAST, rules.knee(self.nodes, self.keys, self.writes, self.fanout))
-        self.knee_name = "nodes * writes" + (f" / {self.fanout}" if self.fanout > 1 else "")
+        self.knee_of_all = max(LEAST, rules.knee(int(told["nodes"]), self.keys, self.writes, self.fanout))
+        product = "nodes * writes" if self.writes <= self.keys else "nodes * keys"
+        self.knee_name = product + (f" / {self.fanout}" if self.fanout > 1 else "")
         self.rooms = {mode: cluster.room_for_delta(it, mode) / it["entry"] for mode in scenario.MODES}
         modes = (self.usual,) if told["mode"] or self.parts > 1 else scenario.MODES
         most = scenario.LIMITS["budget"][1]
         count = told["count"] or ("bytes" if rules.counts_bytes(max(self.rooms[it] for it in modes)) else "entries")
         self.in_bytes = count == "bytes"
-        self.fits = {mode: min(int(self.rooms[mode]), most) for mode in modes if self.rooms[mode] >= LEAST}
+        of_all = it | {"nodes": int(told["nodes"]), "packet": told["packet"]}
+        self.fits_of_all = {mode: int(cluster.room_for_delta(of_all, mode) / it["entry"]) for mode in modes}
+        self.fits = {mode: min(self.run_of(self.fits_of_all[mode]), most) for mode in modes
+                     if self.rooms[mode] >= LEAST}
         if self.usual not in self.fits:
             raise cluster.Refused(self.why_none_fits())
         budget = max(self.most(it) for it in self.fits)
-        intervals = rules.least_staleness(budget, self.nodes, self.keys, self.writes, self.fanout)
+        intervals = rules.least_staleness(self.whole(budget), int(told["nodes"]), self.keys, self.writes, self.fanout)
         if intervals > rules.MANY:
             raise cluster.Refused(self.why_too_few(self.whole(budget), int(intervals * self.fanout)))
         self.split = self.split_of(int(told["split"]))
@@ -65,7 +70,7 @@ class Study:
 
     def why_none_fits(self):
         """Why a delta has no room, and how large it would have to be."""
-        told, whole = self.told, self.whole(self.knee)
+        told, whole = self.told, self.knee_of_all
         lacks = f"no room for {LEAST} entries of {told['entry']} bytes"
         enough = f"takes packet={self.packet(self.usual)}"
         if told["shared"] == "no" or not told["digest"]:
@@ -80,7 +85,7 @@ class Study:
         """Why no run is worth while, and how large a packet would have to be."""
         return (f"no budget that fits is enough: each node has {(int(self.told['nodes']) - 1) * self.keys} copies to "
                 f"renew and gets about two deltas of {budget} entries in a round, so the worst staleness is at least "
-                f"{rounds} rounds; room for {self.knee_name} = {self.whole(self.knee)} entries takes "
+                f"{rounds} rounds; room for {self.knee_name} = {self.knee_of_all} entries takes "
                 f"packet={self.packet(self.usual)}.")
 
     def asks_for_healing(self):
@@ -95,7 +100,7 @@ class Study:
         """The bytes of a packet with room for so many entries of the whole cluster, nodes * writes where it isn't told,
         with the digest where they share it."""
         digest = self.digest_bytes(mode) if self.told["shared"] == "yes" else 0
-        return int((entries or self.whole(self.knee)) * self.told["entry"]) + digest
+        return int((entries or self.knee_of_all) * self.told["entry"]) + digest
 
     def tells_all(self):
         """The entries to reckon with in place of nodes * writes where a node tells all its keys as it starts, and the
@@ -103,13 +108,27 @@ class Study:
         if self.told["forget"] == "no" or not self.told["restarts"]:
             return None
         nodes = int(self.told["nodes"])
-        more = min(nodes * self.writes + int(self.told["restarts"]) * self.keys, nodes * self.keys) // self.fanout
+        writes = nodes * self.writes + int(self.told["restarts"]) * self.keys
+        if writes >= nodes * self.keys:
+            name = "nodes * keys" if self.fanout == 1 else f"nodes * keys / {self.fanout}"
+            return nodes * self.keys // self.fanout, name
         name = "nodes * writes + restarts * keys"
-        return more, name if self.fanout == 1 else f"({name}) / {self.fanout}"
+        return writes // self.fanout, name if self.fanout == 1 else f"({name}) / {self.fanout}"
+
+    def run_of(self, entries):
+        """A budget of the whole cluster as one of what is run, on the same side of nodes * writes."""
+        run = entries * self.nodes // int(self.told["nodes"])
+        return max(run, self.knee) if entries >= self.knee_of_all else min(run, self.knee - 1)
 
     def whole(self, budget):
-        """A budget of what is run as one of the whole cluster."""
-        return budget * self.parts
+        """A budget of what is run as one of the whole cluster: all that fits, nodes * keys, and what is looked at by
+        nodes * writes, as exactly that of the whole."""
+        if self.parts == 1:
+            return budget
+        exact = {self.fits.get(self.usual): self.fits_of_all[self.usual],
+                 self.nodes * self.keys: int(self.told["nodes"]) * self.keys}
+        exact |= {self.knee * over // under: self.knee_of_all * over // under for over, under in rules.LOOKED_AT}
+        return exact.get(budget, budget * self.knee_of_all // self.knee)
 
     def most(self, mode):
         """The largest budget that a mode may take."""
@@ -155,6 +174,10 @@ class Study:
         each = max(1, min(self.restarts or 1, self.nodes // 2, scenario.MOST_SECTIONS))
         most = RESTARTING if self.restarts else 1
         return each, min(most, self.nodes // each, scenario.MOST_SECTIONS // each)
+
+    def group(self):
+        """How many nodes restart at once, as told of the whole cluster."""
+        return min(int(self.told["restarts"] or 1), self.restarting()[0] * self.parts)
 
     def ends(self, stage):
         """The last round of what is to be healed."""

@@ -46,8 +46,8 @@ class Decided(unittest.TestCase):
                          "packet=24000", found.takes())
         self.assertIn("scuttle-depth with a budget from 450 entries on, 8 to 9 rounds with that; below nodes * writes, "
                       "where staleness rises steeply, none is taken for that", answer.too_close(found))
-        self.assertEqual("With the 1000 entries that fit it is 7 to 8 rounds: not better under all seeds by more than "
-                         "they differ. So packet=24000 is enough, and what is above that is a reserve", found.reserve())
+        self.assertEqual("With the 1000 entries that fit it is 7 to 8 rounds: no better, as the bands of the seeds "
+                         "touch. So packet=24000 is enough, and what is above that is a reserve", found.reserve())
         self.assertIn(f"  a reserve           {found.reserve()}", answer.in_words(found, None))
 
     def test_what_fits_is_better(self):
@@ -57,22 +57,22 @@ class Decided(unittest.TestCase):
         self.assertEqual(("scuttle-depth", 1000, None), (found.mode, found.budget, found.smaller()))
         self.assertEqual("scuttle-depth with room for 1000 entries in a delta, 40000 bytes (what fits; 1.7 times nodes "
                          "* writes); packet=40000", found.takes())
-        self.assertEqual("With nodes * writes = 600 entries it is 8 to 9 rounds: worse under all seeds by more than "
-                         "they differ", found.why_not_knee())
+        self.assertEqual("With nodes * writes = 600 entries it is 8 to 9 rounds: worse, as the bands of the seeds "
+                         "don't touch", found.why_not_knee())
         self.assertEqual(["", f"{found.why_not_knee()}.", "The last answer has 900 entries too, and takes them if "
                           "nothing is better than that."], [found.reserve(), *answer.first_words(found)[2:4]])
 
     def test_between(self):
-        """With 900, one and a half times 600, no seed of the 1000 is better by more than they differ: 900 are taken,
+        """With 900, one and a half times 600, the band of the 1000 touches: 900 are taken,
         which are 36000 bytes. 600 aren't worse than these, but than the 1000."""
         depth = {1000: [9, 9], 900: [9, 10], 600: [10, 12], 450: [13, 14]}
         found = decided({(budget, "scuttle-depth"): worst for budget, worst in depth.items()})
         self.assertEqual(("scuttle-depth", 900, None, ""),
                          (found.mode, found.budget, found.smaller(), found.still_to_run()))
-        self.assertEqual(["With the 1000 entries that fit it is 9 rounds: not better under all seeds by more than they "
-                          "differ. So packet=36000 is enough, and what is above that is a reserve",
+        self.assertEqual(["With the 1000 entries that fit it is 9 rounds: no better, as the bands of the seeds "
+                          "touch. So packet=36000 is enough, and what is above that is a reserve",
                           "With nodes * writes = 600 entries it is 10 to 12 rounds: worse than the 1000 entries that "
-                          "fit under all seeds by more than they differ"], [found.reserve(), found.why_not_knee()])
+                          "fit, as the bands of the seeds don't touch"], [found.reserve(), found.why_not_knee()])
         lines = answer.in_words(found, None)
         self.assertIn(f"  a reserve           {found.reserve()}", lines)
         self.assertIn(f"  nodes * writes      {found.why_not_knee()}", lines)
@@ -230,11 +230,11 @@ class Decided(unittest.TestCase):
         it = of("nodes=10000 keys=4 writes=1 entry=40 packet=400000 digest=10 fanout=3")
         figures = {(it.most("scuttle-depth"), "scuttle-depth"): [8, 9], (it.knee, "scuttle-depth"): [9, 11]}
         found = answer.Decision(it, Figures(figures), FEW)
-        self.assertEqual((333, 666, 3330), (found.budget, found.most, found.whole_budget()))
+        self.assertEqual((333, 666, 3333), (found.budget, found.most, found.whole_budget()))
         self.assertEqual("up to 17 rounds, 5.7 intervals, 5.7 s, for 10000 nodes: the 1000 that were run had 9 to 11 "
                          "rounds, 3.0 to 3.7 intervals, 3.0 to 3.7 s", found.staleness())
-        self.assertIn("With the 6660 entries (2 times nodes * writes / 3) it is 8 to 9 rounds, 2.7 to 3.0 "
-                      "intervals, 2.7 to 3.0 s: not better", found.reserve())
+        self.assertIn("With the 6666 entries (2 times nodes * writes / 3) it is 8 to 9 rounds, 2.7 to 3.0 "
+                      "intervals, 2.7 to 3.0 s: no better", found.reserve())
 
     def test_a_tenth(self):
         """1000 of 10000 nodes are run, with a tenth of the 11000 entries that fit. Budgets are told for all."""
@@ -245,6 +245,14 @@ class Decided(unittest.TestCase):
                          "nodes * writes); with the digest packet=640000", found.takes())
         self.assertEqual(["scuttle-depth with a budget from 7500 entries on, 8 to 9 rounds with that; below nodes * "
                           "writes, where staleness rises steeply, none is taken for that"], answer.too_close(found))
+
+    def test_nodes_times_keys(self):
+        """Each product once: 100 nodes with 2 keys that write 3 times."""
+        for words, why in (("keys=2 writes=3", "nodes * keys, above which nothing changes"),
+                           ("keys=2 writes=2", "nodes * keys, above which nothing changes; nodes * writes")):
+            it = of(f"nodes=100 entry=40 packet=40000 {words}")
+            found = answer.Decision(it, Figures({(200, mode): [7, 8] for mode in it.fits}), MANY)
+            self.assertEqual(f"room for 200 entries in a delta, 8000 bytes ({why})", found.room())
 
     def test_what_to_reckon_with(self):
         """1000 of 10000 nodes had 8 rounds, to which six are added."""
@@ -416,6 +424,15 @@ class Healed(unittest.TestCase):
         self.assertEqual([known], waits("restart", "", **restart))
         self.assertEqual([], waits("forgotten", "", **forgotten))
         self.assertEqual([], waits("restart", "forget=yes", restart=[6, None]))
+
+    def test_smaller_groups(self):
+        """80 of 200 nodes restart at once, 150 don't: of those 100 do, as half of them stay up. Both answers say so."""
+        lines = {restarts: healing(f"restarts={restarts}", restart=[6, 7]).lines_now("restart", 200)
+                 for restarts in (80, 150)}
+        self.assertIn(" of 80 nodes in each of 2 rounds, each down for one, a", lines[80][0])
+        self.assertIn(" of 100 nodes in each of 2 rounds, in place of 150, as half of the nodes stay up, each down for "
+                      "one, a", lines[150][0])
+        self.assertIn("after a group of 100 nodes is up again", lines[150][-1])
 
     def test_groups(self):
         """Ten groups are a harder test than the one node that is looked at otherwise."""

@@ -11,7 +11,7 @@ DEPTH_AT_100, OLDEST_AT_100 = [8, 7, 7, 7, 8], [9, 7, 8, 8, 9]
 
 class Better(unittest.TestCase):
     def test_five_seeds(self):
-        """With 50 depth is ahead under every seed by more than they differ, with 100 it is no reason to choose."""
+        """With 50 depth is ahead, as the bands don't touch, with 100 it is no reason to choose."""
         self.assertTrue(rules.is_better(DEPTH_AT_50, OLDEST_AT_50))
         self.assertFalse(rules.is_better(OLDEST_AT_50, DEPTH_AT_50))
         self.assertTrue(rules.are_close(DEPTH_AT_100, OLDEST_AT_100))

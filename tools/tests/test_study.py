@@ -32,6 +32,34 @@ class Numbers(unittest.TestCase):
                  ROOMY + " digest=0 shared=no fanout=3": (200, 400), SHARED + " fanout=16": (6, 12)}
         self.assertEqual(cases, {words: (of(words).knee, of(words).most(DEPTH)) for words in cases})
 
+    def test_more_nodes_than_a_scenario_takes(self):
+        """A tenth of 4109 nodes are 410, and a third of 12005 writes 4001: told are the whole cluster's. With room for
+        4108 entries, one fewer than 4109, what is run is below nodes * writes too."""
+        large = "nodes=4109 keys=4 writes=1 entry=40"
+        cases = {f"{large} packet=200000": (410, 4109, 5000), f"{large} packet=164360": (410, 4109, 4109),
+                 f"{large} packet=164320": (410, 4109, 4108),
+                 "nodes=12005 keys=4 writes=1 entry=40 packet=400000 fanout=3": (400, 4001, 10000)}
+        for words, wanted in cases.items():
+            it = of(words)
+            self.assertEqual(wanted, (it.knee, it.whole(it.knee), it.whole(it.fits[DEPTH])))
+        self.assertEqual(409, of(f"{large} packet=164320").fits[DEPTH])
+        it = of(f"{large} packet=4000000")
+        self.assertEqual([1027, 3081, 8218, 16436], [it.whole(budget) for budget in (102, 307, 820, 1640)])
+
+    def test_more_writes_than_keys(self):
+        """100 nodes with 2 keys never send more than 200 entries, be it that they write 3 times."""
+        cases = {"keys=2 writes=3": (200, "nodes * keys"), "keys=2 writes=2": (200, "nodes * writes"),
+                 "keys=2 writes=3 fanout=3": (66, "nodes * keys / 3")}
+        found = {more: of(f"nodes=100 entry=40 packet=40000 {more}") for more in cases}
+        self.assertEqual(cases, {more: (it.knee, it.knee_name) for more, it in found.items()})
+
+    def test_all_keys_at_the_start(self):
+        """100 * 2 + 20 * 4 entries; but of 100 nodes with 2 keys never more than 200, which is another product."""
+        cases = {"keys=4 writes=2": (280, "nodes * writes + restarts * keys"), "keys=2 writes=2": (200, "nodes * keys"),
+                 "keys=2 writes=2 fanout=2": (100, "nodes * keys / 2")}
+        self.assertEqual(cases, {more: of(f"nodes=100 entry=40 packet=40000 restarts=20 forget=yes {more}").tells_all()
+                                 for more in cases})
+
     def test_what_decides(self):
         """Each mode with what it may take, and the chosen one with nodes * writes, be that less or more."""
         cases = {

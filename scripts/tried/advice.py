@@ -97,7 +97,7 @@ def try_advice(room):
         words = {it.partition("=")[0].replace("delta", "packet"): it for it in (*cluster, word)}
         refuses(room, why, "gossip_advise", "-o", "refused", *words.values())
     refuses(room, "nodes= is missing", "gossip_advise", "-o", "refused")
-    refuses(room, "so the worst staleness is at least 208 rounds; room for nodes * writes = 2000 entries takes "
+    refuses(room, "so it is at least 208 rounds; room for nodes * writes = 2000 entries takes "
             "packet=100000", "gossip_advise", "-o", "refused", "nodes=2000", "keys=6", "writes=1", "entry=50",
             "packet=1400", "digest=10", "shared=no")
     holds("nothing is left of what was refused", False, (room / "refused").exists())
@@ -147,32 +147,55 @@ def try_calls(room):
 
 
 def try_hopeless_advice(room):
-    """Two entries for 40 nodes that write one each: with any of the modes some write of the first rounds is missing
-    throughout. So it ends after 200 rounds, without what heals, and names the 40 * 40 bytes and the call for that."""
+    """Two entries for 40 nodes that write one each: with any of the modes some write of the first rounds is missing for
+    more than 600 rounds. By a sum it is 39 * 6 / (2 * 2) - 6 at least, which 60 rounds can't show. So it ends after 800
+    rounds, without what heals, and names the 40 * 40 bytes and the call for that."""
     cluster = ("nodes=40", "keys=6", "writes=1", "entry=40", "packet=80", "digest=10", "shared=no", "restarts=4")
     status, out, err = run(room, TOOLS / "gossip_advise", *cluster, "-o", "no hope")
     first, said = out.partition("\n\n")[::2]
     enough = "packet=1600 has room for nodes * writes = 40 entries, worst staleness "
-    holds("the first answer is that none is enough", (0, True, True),
-          (status, first.startswith("First answer, from 60 rounds: no budget that fits is enough, still rising"),
-           f"\n{enough}" in first))
-    holds("so is the last", (True, True, True),
-          (said.startswith("No budget that fits is enough: still rising after 200 rounds. The most that fits: room for "
+    sum_says = ("By a sum, of the worst staleness: each node has 234 copies to renew and gets about two deltas of 2 "
+                "entries in a round, so it is at least 52 rounds; room for nodes * writes = 40 entries takes packet=1600.")
+    holds("a sum is told at once", (0, [sum_says, "So 60 rounds can't show a level, and there is no first answer. Whether "
+                                        "it levels off later is seen from 200 rounds now, and where it doesn't, from 400 "
+                                        "and 800, and no more."]), (status, first.splitlines()))
+    holds("none is enough", (True, True, True),
+          (said.startswith("No budget that fits is enough: still rising after 800 rounds. The most that fits: room for "
                            "2 entries in a delta, 80 bytes"),
-           f"  enough              {enough}" in said, "  worst staleness     not known: still rising" in said))
-    holds("nothing is run that heals", ["few", "many"],
+           f"  enough              {enough}" in said,
+           "  worst staleness     not known: still rising after 800 rounds; by a sum at least 52" in said))
+    holds("nothing is run that heals", ["longer", "longest", "many"],
           sorted(it.name for it in (room / "no hope").iterdir() if (it / "scenario").exists()))
     page = (room / "no hope" / "report.html").read_text()
     call = ("gossip_advise -o 'no hope-enough' nodes=40 keys=6 writes=1 entry=40 packet=1600 digest=10 shared=no "
             "restarts=4")
     not_run = "were not run, as no budget that fits is enough. To see them with a budget that is:"
-    holds("it says so, and how to see it", (True, True, True, True),
-          (f"{not_run}\n  {call}\n" in said, first.endswith(f"\n  {call}"), not_run in page, html.escape(call) in page))
+    holds("it says so, and how to see it", (True, True, True),
+          (f"{not_run}\n  {call}\n" in said, not_run in page, html.escape(call) in page))
     holds("it doesn't tell of groups that were not run", False, "What was run are" in said + page)
     status, out, _ = run(room, TOOLS / "gossip_advise", *shlex.split(call)[1:])
     holds("the call has what was not run", (0, True), (status, "\n  a rolling restart   wait " in out))
     holds("and the page", (True, True, []), ("<h1>40 nodes: no budget that fits is enough" in page,
                                              "none that fits is enough" in page, Tags(page).open))
+
+
+def try_longer_runs(room):
+    """Four entries for 40 nodes that write one of 6 keys each: a level above 150, which 200 rounds can't tell from none,
+    and below 300, which 400 rounds can."""
+    cluster = ("nodes=40", "keys=6", "writes=1", "entry=40", "packet=160", "count=entries", "loss=1", "split=0")
+    status, out, err = run(room, TOOLS / "gossip_advise", "-o", "longer", *cluster, "restarts=2")
+    first, said = out.partition("\n\n")[::2]
+    short, long = worst(room / "longer" / "many", 4, 151, 200), worst(room / "longer" / "longer", 4, 201, 400)
+    holds("200 rounds can't show the level, 400 can", (0, True, True), (status, max(short) > 150, max(long) <= 300))
+    holds("the first answer says how far is looked", True, "\nWhether it levels off later is seen from 200 rounds now, "
+          "and where it doesn't, from 400 and 800, and no more.\n" in first)
+    holds("the longer runs name mode and budget", (True, True, True),
+          (said.startswith("Take scuttle-depth with room for 4 entries in a delta, 160 bytes (what fits; 0.1 times nodes "
+                           "* writes); packet=160.\n"),
+           f"\n  worst staleness     {as_rounds(long)}, " in said, "in rounds 201 to 400, least and most of" in said))
+    holds("and what heals", True, "\n  a rolling restart   " in said)
+    page = (room / "longer" / "report.html").read_text()
+    holds("and the page", (True, []), ("In rounds 201 to 400, by budget" in page, Tags(page).open))
 
 
 def try_advice_below_the_knee(room):
@@ -220,4 +243,5 @@ def try_stopping_advice(room):
            "<h1>First answer. 6 nodes: " in page, Tags(page).open))
 
 
-TRIALS = (try_advice, try_reserve, try_calls, try_hopeless_advice, try_advice_below_the_knee, try_stopping_advice)
+TRIALS = (try_advice, try_reserve, try_calls, try_hopeless_advice, try_longer_runs,
+          try_advice_below_the_knee, try_stopping_advice)

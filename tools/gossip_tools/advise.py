@@ -118,7 +118,8 @@ class Stages:
         """Reckons with what is still to be run in these stages where this mode takes this budget, for the time left."""
         it, heals = self.study, {(budget, mode), (self.study.most(mode), mode)}
         many = it.wanted(mode) | it.next_smaller(budget, mode)
-        pairs = {"few": it.wanted(mode), "many": many, **dict.fromkeys(it.heals(), heals)}
+        pairs = {"few": it.wanted(mode), **dict.fromkeys(("many", "longer", "longest"), many),
+                 **dict.fromkeys(it.heals(), heals)}
         self.progress.plan({f"{stage}/{name}": it.work(stage, *pair) for stage in stages for pair in pairs[stage]
                             for name in self.runs(stage, {pair})[1]})
 
@@ -140,11 +141,25 @@ class Stages:
             return ""
         return f" (a split of {it.split} stands for {it.told['split']}, as each key is written anew in it)"
 
-    def decide(self, stage, pairs):
+    def decide(self, stage, pairs, dropped=()):
         """What follows from these runs of a stage, once the mode that is chosen was run with nodes * writes too."""
-        decision = answer.Decision(self.study, self.carry_out(stage, pairs), stage)
-        if more := self.study.wanted(decision.mode) - pairs:
-            return answer.Decision(self.study, self.carry_out(stage, pairs | more), stage)
+        decision = answer.Decision(self.study, self.carry_out(stage, pairs), stage, dropped)
+        if more := {(self.study.knee, decision.mode)} - pairs:
+            return answer.Decision(self.study, self.carry_out(stage, pairs | more), stage, dropped)
+        return decision
+
+    def decide_in_time(self, stages, pairs):
+        """What follows from the first of these stages in which a budget is enough, or from the last. From one to the
+        next those modes are left out than which another is better."""
+        first, *longer = stages
+        decision = self.decide(first, pairs)
+        for stage in longer:
+            if decision.suffices:
+                break
+            dropped, kept = decision.why_dropped(), decision.contenders()
+            pairs = {(self.study.most(mode), mode) for mode in kept}
+            self.expect(decision.mode, decision.budget, stage)
+            decision = self.decide(stage, pairs, dropped)
         return decision
 
     def look_below(self, decision):
@@ -153,7 +168,8 @@ class Stages:
             if pairs <= decision.found.rows.keys():
                 break
             pairs |= decision.found.rows.keys()
-            decision = answer.Decision(self.study, self.carry_out(decision.stage, pairs), decision.stage)
+            found = self.carry_out(decision.stage, pairs)
+            decision = answer.Decision(self.study, found, decision.stage, decision.dropped)
         return decision
 
     def heal(self, decision):
@@ -193,11 +209,11 @@ class Told:
         files.put(self.folder / "answer.txt", "\n".join(self.lines) + "\n")
 
 
-def first_answer(it, stages, check_sum):
+def first_answer(it, stages, told, check_sum):
     """The first answer, from few intervals, and what heals with its budget. The folder has it until the last answer
     comes."""
     stages.expect(it.usual, min(it.knee, it.most(it.usual)), "few", "many", *it.heals())
-    few, told = stages.decide("few", it.wanted(it.usual)), Told(stages.folder)
+    few = stages.decide("few", it.wanted(it.usual))
     told.tell(answer.first_words(few, call_with_enough(few, stages.folder)))
     if not few.suffices:
         print(flush=True)
@@ -214,23 +230,33 @@ def first_answer(it, stages, check_sum):
 
 
 def last_answer(it, stages, few):
-    """The last answer, from many intervals, and what heals with its budget, where one that fits is enough."""
-    stages.expect(few.mode, few.budget, "many", *(it.heals() if few.suffices else ()))
-    smaller = it.next_smaller(few.budget, few.mode) if few.suffices else set()
-    decision = stages.decide("many", it.wanted(few.mode) | smaller)
+    """The last answer, from many intervals, more where they show no level, and what heals with its budget, where one
+    that fits is enough. Where a sum says that few show nothing, there is no first one."""
+    first, *longer = [stage for stage in it.steady_stages() if stage != "few"]
+    pairs = it.wanted(few.mode if few else it.usual)
+    if few:
+        stages.expect(few.mode, few.budget, first, *(it.heals() if few.suffices else ()))
+        pairs |= it.next_smaller(few.budget, few.mode) if few.suffices else set()
+    decision = stages.decide_in_time((first, *longer), pairs)
     if not decision.suffices:
         return decision, None
-    stages.expect(decision.mode, decision.budget, "many", *it.heals())
+    stages.expect(decision.mode, decision.budget, decision.stage, *it.heals())
     decision = stages.look_below(decision)
     return decision, stages.heal(decision) if it.heals() else None
 
 
 def study_of(it, folder, program, check_sum):
     """Carries out the stages, and prints the answers."""
-    stages = Stages(it, folder, program)
-    few = first_answer(it, stages, check_sum)
+    stages, told = Stages(it, folder, program), Told(folder)
+    if sum_says := answer.at_least(it):
+        told.tell(sum_says)
+    few = None
+    if "few" in it.steady_stages():
+        few = first_answer(it, stages, told, check_sum)
+    else:
+        print(flush=True)
     decision, healing = last_answer(it, stages, few)
-    missing = answer.not_run(decision, call_with_enough(decision, folder), few.suffices)
+    missing = answer.not_run(decision, call_with_enough(decision, folder), few is not None and few.suffices)
     lines = answer.in_words(decision, healing, missing)
     Told(folder).tell(lines)
     print("", page.make(folder, decision, healing, stages.made, check_sum, missing), sep="\n")

@@ -18,6 +18,11 @@ def in_nodes(count):
     return f"{count} node{'s' if count != 1 else ''}"
 
 
+def listed(names):
+    *others, last = names
+    return f"{', '.join(others)} and {last}" if others else last
+
+
 def in_time(rounds, seconds):
     """Rounds of so many seconds as time: in seconds, or in minutes where they are many."""
     seconds = [float(it * seconds) for it in rules.band(rounds)]
@@ -50,13 +55,18 @@ APART = "as the bands of the seeds don't touch"
 class Decision:
     """What follows from the runs of a stage by the rules."""
 
-    def __init__(self, study, found, stage):
+    def __init__(self, study, found, stage, dropped=()):
         self.study, self.found, self.stage, self.window = study, found, stage, study.window(stage)
-        self.figures = {mode: self.worst_with(study.most(mode), mode) for mode in study.fits}
+        # (why a mode is no longer run, in words)
+        self.dropped = list(dropped)
+        self.figures = {mode: self.worst_with(study.most(mode), mode) for mode in study.fits
+                        if (study.most(mode), mode) in found.rows}
         enough = {mode: it for mode, it in self.figures.items() if self.is_enough(study.most(mode), mode)}
         # whether a budget that fits is enough, in some mode
         self.suffices = bool(enough)
-        self.mode = rules.mode_of(enough) if enough else study.usual
+        # (the mode that is better than the others though none is level)
+        self.ahead = None if enough else rules.ahead(self.figures, self.window[1])
+        self.mode = rules.mode_of(enough) if enough else self.ahead or self.usual()
         self.most = self.budget = study.most(self.mode)
         # (what that is held against: all that suffices from nodes * writes on, and the other modes)
         self.others = list(enough.values())
@@ -68,6 +78,24 @@ class Decision:
         self.worst = self.worst_with(self.budget, self.mode)
         self.cut = found.cut(self.budget, self.mode, self.window)
         self.close = [it for it in self.figures if it != self.mode and rules.are_close(self.figures[it], self.worst)]
+
+    def usual(self):
+        """The mode to begin with, of those that were run."""
+        return next(it for it in (self.study.usual, *rules.CHEAPEST_FIRST) if it in self.figures)
+
+    def contenders(self):
+        """The modes that may still be the best, none of them being level."""
+        return rules.contenders(self.figures, self.window[1])
+
+    def why_dropped(self):
+        """Why the other modes aren't run any longer, in words."""
+        kept = self.contenders()
+        best = min(kept, key=lambda mode: max(kept[mode]))
+        lost = [f"{mode} with {in_rounds(figure)}" for mode, figure in self.figures.items() if mode not in kept]
+        if not lost:
+            return self.dropped
+        return [*self.dropped, f"Up to round {self.window[1]} these modes were behind {best} with "
+                f"{in_rounds(self.figures[best])}, and weren't run on, {APART}: {', '.join(lost)}."]
 
     def worst_with(self, budget, mode):
         return self.found.worst(budget, mode, self.window)
@@ -121,10 +149,14 @@ class Decision:
     def staleness(self):
         """The worst staleness, in words."""
         if not self.suffices:
-            return f"not known: still rising after {self.window[1]} rounds"
+            return f"not known: still rising after {self.window[1]} rounds{self.at_least()}"
         it = self.study
         run = lasting(it, self.worst)
         return f"{self.at_most()}: the {it.nodes} that were run had {run}" if it.parts > 1 else run
+
+    def at_least(self):
+        """What a sum says of a worst staleness that isn't known, in words."""
+        return f"; by a sum at least {self.study.least_rounds()}" if self.study.least_rounds() else ""
 
     def to_knee(self):
         """The bytes with which nodes * writes entries fit, and what they would bring, in words. Empty where they do
@@ -185,10 +217,22 @@ class Decision:
                 f"{name} = {entries} entries, {packet}")
 
     def most_that_fits(self):
-        """The largest budget where none is enough, in words. The modes there all still rise, so none is named."""
-        none = (" No mode can be preferred with that by its `greatest`, which still rises in each that was run."
-                if len(self.study.fits) > 1 else "")
-        return f"The most that fits: {self.room()}.{none}"
+        """The largest budget where none is enough, and which mode is ahead with that, in words."""
+        return f"The most that fits: {self.room()}.{self.which_mode()}"
+
+    def which_mode(self):
+        """The mode that is ahead though none is level, or why none is; empty where one alone is looked at."""
+        last, runs_on = self.window[1], self.contenders()
+        if len(self.study.fits) == 1:
+            return ""
+        if self.ahead or self.dropped and len(runs_on) == 1:
+            figure = briefly(self.study, self.figures[self.mode])
+            return (f" Of the modes {self.mode} is ahead with that, though it isn't level yet: its `greatest` was at "
+                    f"most {figure} up to round {last}, and the others' higher, {APART}.")
+        if not any(rules.has_left_the_diagonal(it, last) for it in self.figures.values()):
+            return (f" No mode can be preferred with that: in each `greatest` is about the number of the round, which "
+                    "it can't exceed.")
+        return f" No mode can be preferred with that: of {listed(list(runs_on))} none is ahead, {TOUCH}."
 
     def forgetful(self):
         """What counts where nodes forget and the budget is short, in words; empty where that isn't so."""
@@ -394,12 +438,30 @@ def first_words(decision, call=""):
                 f"That is below {it.knee_name}. {to_knee}." if to_knee else "", decision.forgetful(), *limits(decision),
                 *(of_calls(it) if it.fanout > 1 else [])]
     else:
-        said = [f"First answer, from {since}: no budget that fits is enough, still rising after {few} rounds.",
+        said = [f"First answer, from {since}: no budget that fits is seen to be enough, still rising after {few} rounds.",
                 decision.most_that_fits(), decision.forgetful(), f"{to_knee}." if to_knee else "", *limits(decision),
-                f"Whether it levels off later is seen from {it.rounds('many')} rounds now."]
+                levels_off_later(it)]
         if call and it.asks_for_healing():
             said += [f"{WHAT_HEALS} are run only if it does. To see them with a budget that is enough:", f"  {call}"]
     return [it for it in said if it]
+
+
+def levels_off_later(study):
+    """How far is looked for a level, in words."""
+    first, *longer = [study.rounds(it) for it in study.steady_stages() if it != "few"]
+    then = f", and where it doesn't, from {' and '.join(map(str, longer))}, and no more" if longer else ""
+    return f"Whether it levels off later is seen from {first} rounds now{then}."
+
+
+def at_least(study):
+    """What a sum says of the worst staleness before anything is run, in words; empty where it says nothing."""
+    if not study.least_rounds():
+        return []
+    said = [f"By a sum, of the worst staleness: {study.why_at_least()}."]
+    if "few" not in study.steady_stages():
+        said.append(f"So {study.rounds('few')} rounds can't show a level, and there is no first answer. "
+                    f"{levels_off_later(study)}")
+    return said
 
 
 def last_of_first_words(decision, folder):
@@ -445,7 +507,7 @@ def too_close(decision):
         said.append(f"{decision.mode} with a budget from {whole(smaller)} entries on, {worst} with that")
         if decision.budget >= it.knee:
             said[-1] += f"; below {it.knee_name}, where staleness rises steeply, none is taken for that"
-    others = "other mode and smaller budget" if len(it.fits) > 1 else "smaller budget"
+    others = "other mode and smaller budget" if len(decision.figures) > 1 else "smaller budget"
     smaller = [budget for budget in decision.of_mode() if budget < decision.budget]
     than = "" if all(map(decision.is_worse, smaller)) else " than this one or a larger one"
     return said or [f"none: each {others} that was run is worse{than}, {APART}"]
@@ -465,7 +527,7 @@ def warnings(decision):
                     f"lag more than they have to. {decision.to_knee()}. Else "
                     f"{own}a shorter entry or fewer writes would help.")
     said += [decision.forgetful()] if decision.forgetful() else []
-    said += limits(decision)
+    said += decision.dropped + limits(decision)
     if it.in_bytes:
         said.append("With room for so few entries a large one holds up smaller ones behind it: give the delta room for "
                     "one mean entry more than the sum says.")

@@ -135,10 +135,10 @@ def pictures(folder, decision, healing):
 def table(decision):
     """Worst staleness and share cut, by budget and mode."""
     it, window = decision.study, decision.window
-    text = "<tr><th>budget</th>" + "".join(f"<th>{mode}</th>" for mode in it.fits) + "</tr>"
+    text = "<tr><th>budget</th>" + "".join(f"<th>{mode}</th>" for mode in decision.figures) + "</tr>"
     for budget in decision.budgets():
         text += f"<tr><th>{it.whole(budget)}</th>"
-        for mode in it.fits:
+        for mode in decision.figures:
             if (budget, mode) not in decision.found.rows:
                 text += "<td></td>"
                 continue

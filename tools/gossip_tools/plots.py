@@ -55,7 +55,7 @@ def knee(decision, name, y, figure, capped):
     study, found = decision.study, decision.found
     text, plots, most = HEAD.format(name=name, x="budget, in entries", y=y), [], 0
     fits = study.whole(study.fits[decision.mode])
-    modes = [it for it in STYLES if it in study.fits]
+    modes = [it for it in STYLES if it in decision.figures]
     for at, mode in enumerate(modes):
         (colour, width, point), rows = STYLES[mode], []
         for budget in (it for it in decision.budgets() if (it, mode) in found.rows):
@@ -94,7 +94,7 @@ def rounds(decision, name, y, value):
     study, found = decision.study, decision.found
     text, plots = HEAD.format(name=name, x="round", y=y), []
     for at, (mode, (colour, width, _)) in enumerate(STYLES.items()):
-        if mode in study.fits:
+        if mode in decision.figures:
             budget = decision.budget if mode == decision.mode else study.most(mode)
             rows = found.rows[(budget, mode)][0]
             intervals = [rows[first:first + study.fanout] for first in range(0, len(rows), study.fanout)]
@@ -150,7 +150,7 @@ def all_of(decision, healed):
 
 def lie_on_each_other(decision, figure):
     """The least budget from which on the modes have the same figures, of those that were run with all; or None."""
-    modes = [it for it in scenario.MODES if it in decision.study.fits]
+    modes = [it for it in scenario.MODES if it in decision.figures]
     with_all = [it for it in decision.budgets() if all((it, mode) in decision.found.rows for mode in modes)]
     from_here = None
     for budget in reversed(with_all):

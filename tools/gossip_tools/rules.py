@@ -9,6 +9,8 @@ SEEDS = (1, 2, 3, 4, 5)
 # The intervals of a run and its window. In the first ones the tables fill, so they are left out.
 FEW, FEW_WINDOW = 60, (31, 60)
 MANY, MANY_WINDOW = 200, (101, 200)
+# The intervals of longer runs, where nothing is level after those. Their windows are their second halves.
+LONGER, LONGEST = 400, 800
 # Parts of `nodes * writes` at which a smaller budget is looked at, as numerator and denominator.
 KNEE = ((1, 4), (1, 2), (3, 4), (1, 1), (3, 2))
 LOOKED_AT = (*KNEE, (2, 1))
@@ -58,10 +60,39 @@ def halves(window):
     return (first, first + half - 1), (first + half, last)
 
 
-def suffices(in_first_half, in_second_half):
+def suffices(in_first_half, in_second_half, window):
     """"A budget suffices where `greatest` is level in both halves of the window." It isn't level where the first half
-    is better than the second: where the bands of the seeds don't touch, and the second is higher, it still rises."""
-    return not is_better(in_first_half, in_second_half)
+    is better than the second: where the bands of the seeds don't touch, and the second is higher, it still rises. Nor
+    is it known to be where it is too high for such a window."""
+    return not is_better(in_first_half, in_second_half) and can_be_level(max(in_second_half), window)
+
+
+def can_be_level(figure, window):
+    """Whether what is as high as this can be seen to be level in a window. As `greatest` can't exceed the number of
+    the round, what is above the last round of the first half was lower in that half in any case."""
+    return figure <= halves(window)[0][1]
+
+
+def has_left_the_diagonal(figure, last):
+    """Whether `greatest` says something up to the last round. Where it is about the number of the round, which it can't
+    exceed, above nine tenths of it under some seed, it says nothing."""
+    return 10 * max(figure) <= 9 * last
+
+
+def ahead(figures, last):
+    """The mode that is better than each other one though none is level, or None. One that is on the diagonal is ahead
+    of none, but others are of it, as it gets at least as high as it was seen."""
+    for mode, figure in figures.items():
+        others = [other for name, other in figures.items() if name != mode]
+        if has_left_the_diagonal(figure, last) and others and all(is_better(figure, other) for other in others):
+            return mode
+    return None
+
+
+def contenders(figures, last):
+    """The modes than which none that has left the diagonal is better."""
+    left = [figure for figure in figures.values() if has_left_the_diagonal(figure, last)]
+    return {mode: figure for mode, figure in figures.items() if not any(is_better(it, figure) for it in left)}
 
 
 def reckoned(figure):

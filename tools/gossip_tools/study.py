@@ -5,6 +5,7 @@
   restart     nodes restart, by ascending number, and keep their own state
   forgotten   the same, in bytes, and they lose their own state too
   many        many intervals: as few, and the chosen mode with smaller budgets, until one is worse
+  longer      twice as many, where nothing is level after those; and again, as `longest`
 
 What is run is only what may change the answer. What heals is run with the budget that is taken, and in the end with all
 that fits too, where that is more. An interval has as many rounds as a node calls others in it, and writes in the first
@@ -22,6 +23,8 @@ LEAST = 2
 # How much more processor time a round takes, about: in bytes, in a precise mode, and with less than nodes * writes.
 IN_BYTES, IN_PRECISE, IN_SHORT = 3, 1.5, 1.8
 HEALED = ("split", "restart", "forgotten")
+WINDOWS = {"few": rules.FEW_WINDOW, "many": rules.MANY_WINDOW, "longer": (rules.LONGER // 2 + 1, rules.LONGER),
+           "longest": (rules.LONGEST // 2 + 1, rules.LONGEST)}
 
 
 class Study:
@@ -59,10 +62,9 @@ class Study:
                      if self.rooms[mode] >= LEAST}
         if self.usual not in self.fits:
             raise cluster.Refused(self.why_none_fits())
-        budget = max(self.most(it) for it in self.fits)
-        intervals = rules.least_staleness(self.whole(budget), int(told["nodes"]), self.keys, self.writes, self.fanout)
-        if intervals > rules.MANY:
-            raise cluster.Refused(self.why_too_few(self.whole(budget), int(intervals * self.fanout)))
+        if self.least_rounds() > rules.MANY * self.fanout:
+            raise cluster.Refused(f"no budget that fits keeps the worst staleness below {rules.MANY * self.fanout} "
+                                  f"rounds: {self.why_at_least()}.")
         self.split = self.split_of(int(told["split"]))
         self.restarts = None if told["restarts"] is None else -(-int(told["restarts"]) // self.parts)
         self.place_healing()
@@ -81,12 +83,25 @@ class Study:
                 f"delta has room for {alone}, {alone / whole:.2g} times {self.knee_name}{too_large}; room for the "
                 f"digest and {self.knee_name} = {whole} entries {enough}.")
 
-    def why_too_few(self, budget, rounds):
-        """Why no run is worth while, and how large a packet would have to be."""
-        return (f"no budget that fits is enough: each node has {(int(self.told['nodes']) - 1) * self.keys} copies to "
-                f"renew and gets about two deltas of {budget} entries in a round, so the worst staleness is at least "
-                f"{rounds} rounds; room for {self.knee_name} = {self.knee_of_all} entries takes "
-                f"packet={self.packet(self.usual)}.")
+    def largest(self):
+        """The largest budget that some mode may take, as one of the whole cluster."""
+        return self.whole(max(self.most(it) for it in self.fits))
+
+    def least_rounds(self):
+        """The rounds that the worst staleness has at least, by a sum; 0 where the sum says nothing."""
+        nodes = int(self.told["nodes"])
+        intervals = rules.least_staleness(self.largest(), nodes, self.keys, self.writes, self.fanout)
+        return max(0, int(intervals * self.fanout))
+
+    def why_at_least(self):
+        """The sum in words, and how large a packet would have to be."""
+        return (f"each node has {(int(self.told['nodes']) - 1) * self.keys} copies to renew and gets about two deltas "
+                f"of {self.largest()} entries in a round, so it is at least {self.least_rounds()} rounds; room for "
+                f"{self.knee_name} = {self.knee_of_all} entries takes packet={self.packet(self.usual)}")
+
+    def steady_stages(self):
+        """The stages that can show a budget to be level, each longer than the one before."""
+        return [it for it in WINDOWS if rules.can_be_level(self.least_rounds(), self.window(it))]
 
     def asks_for_healing(self):
         """Whether restarts or a split were asked for."""
@@ -154,8 +169,9 @@ class Study:
 
     def intervals(self, stage):
         """How many intervals a run of a stage has."""
-        usual = {"few": rules.FEW, "many": rules.MANY}
-        return usual.get(stage) or self.waits + max(self.split, RESTARTING) + self.tail
+        if stage in WINDOWS:
+            return WINDOWS[stage][1]
+        return self.waits + max(self.split, RESTARTING) + self.tail
 
     def rounds(self, stage):
         return self.intervals(stage) * self.fanout
@@ -167,7 +183,7 @@ class Study:
 
     def window(self, stage):
         """The rounds of a stage that are looked at."""
-        return rules.rounds_of(rules.FEW_WINDOW if stage == "few" else rules.MANY_WINDOW, self.fanout)
+        return rules.rounds_of(WINDOWS[stage], self.fanout)
 
     def restarting(self):
         """How many nodes restart at once, at least one, and in how many intervals such a group does."""
@@ -248,7 +264,7 @@ class Found:
         return [read.percent_cut(read.between(rows, *window)) for rows in self.rows[(budget, mode)]]
 
     def suffices(self, budget, mode, window):
-        return rules.suffices(*(self.worst(budget, mode, half) for half in rules.halves(window)))
+        return rules.suffices(*(self.worst(budget, mode, half) for half in rules.halves(window)), window)
 
     def healed_after(self, budget, mode, ends):
         """The rounds after `ends` until `greatest` was back at its level, for each seed; None where it never was."""

@@ -142,9 +142,43 @@ class Decided(unittest.TestCase):
             lines = answer.in_words(found, None)
             self.assertIn("No budget that fits is enough: still rising after 200 rounds. The most that fits: room for "
                           "28 entries in a delta, 1120 bytes", lines[0])
-            self.assertTrue(lines[0].endswith("No mode can be preferred with that by its `greatest`, which still rises "
-                                              "in each that was run."))
-            self.assertIn("  worst staleness     not known: still rising after 200 rounds", lines)
+            self.assertTrue(lines[0].endswith(f"No mode can be preferred with that: of {answer.listed(list(modes))} "
+                                              "none is ahead, as the bands of the seeds touch."))
+            self.assertIn("  worst staleness     not known: still rising after 200 rounds; by a sum at least 19", lines)
+
+    def test_a_mode_is_ahead(self):
+        """None is level with the 28 entries that fit. One whose band is below the others is named, and the others
+        aren't run on; but not where all are about the number of the last round, 200."""
+        it = of("nodes=300 keys=4 writes=2 entry=40 packet=1120")
+        rest = {"precise-oldest": [199, 200], "precise-newest": [185, 196]}
+        cases = (
+            ({"scuttle-depth": [150, 170], "scuttle-breadth": [171, 190]}, "scuttle-depth", {"scuttle-depth"},
+             "Of the modes scuttle-depth is ahead with that, though it isn't level yet: its `greatest` was at most 150 "
+             "to 170 rounds up to round 200, and the others' higher, as the bands of the seeds don't touch."),
+            ({"scuttle-depth": [150, 171], "scuttle-breadth": [171, 179]}, "scuttle-depth",
+             {"scuttle-breadth", "scuttle-depth"}, "of scuttle-breadth and scuttle-depth none is ahead, as the bands"),
+            ({"scuttle-depth": [190, 191], "scuttle-breadth": [200, 200]}, "scuttle-depth", set(it.fits),
+             "in each `greatest` is about the number of the round, which it can't exceed."),
+        )
+        for figures, mode, kept, said in cases:
+            worst = {(28, name): band for name, band in (figures | rest).items()}
+            found = answer.Decision(it, Figures(worst, worst), MANY)
+            self.assertEqual((mode, kept), (found.mode, set(found.contenders())))
+            self.assertIn(said, found.most_that_fits())
+        worst = {(28, name): band for name, band in (cases[0][0] | rest).items()}
+        said = answer.Decision(it, Figures(worst, worst), MANY).why_dropped()
+        self.assertEqual(["Up to round 200 these modes were behind scuttle-depth with 150 to 170 rounds, and weren't run "
+                          "on, as the bands of the seeds don't touch: scuttle-breadth with 171 to 190 rounds, "
+                          "precise-oldest with 199 to 200 rounds, precise-newest with 185 to 196 rounds."], said)
+        # (in the longer runs it is the only one, and is told as ahead until it is level)
+        worst = {(28, "scuttle-depth"): [210, 230], (600, "scuttle-depth"): [7, 8]}
+        for rising, begins in ((worst, "No budget that fits is enough: still rising after 400 rounds. The most that "
+                                "fits: room for 28 entries in a delta, 1120 bytes (what fits; 0.047 times nodes * "
+                                "writes). Of the modes scuttle-depth is ahead"),
+                               ((), "Take scuttle-depth with room for 28 entries")):
+            found = answer.Decision(it, Figures(worst, rising), "longer", said)
+            self.assertTrue(answer.in_words(found, None)[0].startswith(begins), answer.in_words(found, None)[0])
+            self.assertEqual(said, [it for it in answer.warnings(found) if "weren't run on" in it])
 
     def test_nothing_is_run_that_heals(self):
         """28 entries fit of 600, for which the delta is 24000 bytes. The call has the words that aren't the usual ones,

@@ -125,6 +125,16 @@ class Numbers(unittest.TestCase):
         with self.assertRaisesRegex(cluster.Refused, "30 bytes have no room .* 8 of them takes packet=320"):
             of("nodes=8 keys=2 writes=1 entry=40 packet=30")
 
+    def test_stages_that_can_show_a_level(self):
+        """39 * 6 copies at two times 2 entries in a round take 58 rounds, less 6; 60 rounds show no more than 45. With
+        3 entries they take 39, less 6. 199 * 8 copies at two times 5 take 159, less 8, and 200 rounds show 150."""
+        cases = {"nodes=40 keys=6 packet=80": (52, ["many", "longer", "longest"]),
+                 "nodes=40 keys=6 packet=120": (33, ["few", "many", "longer", "longest"]),
+                 "nodes=200 keys=8 packet=200": (151, ["longer", "longest"]),
+                 "nodes=40 keys=6 packet=1600": (0, ["few", "many", "longer", "longest"])}
+        found = {words: of(f"{words} writes=1 entry=40") for words in cases}
+        self.assertEqual(cases, {words: (it.least_rounds(), it.steady_stages()) for words, it in found.items()})
+
     def test_budget_that_a_sum_refuses(self):
         """Room for 28 entries, where 2000 of 50 bytes take 100000, and with the digest of 2000 numbers 120000. Where a
         node calls two others, an interval has twice the deltas: with room for 14 it takes 208 of two rounds each."""
@@ -218,7 +228,8 @@ class Reading(unittest.TestCase):
         self.assertEqual(cases, {ends: self.found.healed_after(9, DEPTH, ends) for ends in cases})
 
     def test_level(self):
-        """The first half of the rounds 1 to 4 has 3 and 4, the second 9 and 7; that of 3 to 6 has 9 and 7, then 5 and
-        6."""
-        cases = {(1, 4): False, (3, 6): True}
+        """The first half of the rounds 7 to 10 has 2 and 3, the second 5 and 4; that of 9 to 12 has 5 and 4, then 3 and
+        4."""
+        self.found.rows = {(9, DEPTH): [rows(*[0] * 6, 2, 2, 4, 5, 3, 1), rows(*[0] * 6, 3, 2, 4, 4, 4, 2)]}
+        cases = {(7, 10): False, (9, 12): True}
         self.assertEqual(cases, {it: self.found.suffices(9, DEPTH, it) for it in cases})

@@ -79,6 +79,14 @@ class Decision:
         self.cut = found.cut(self.budget, self.mode, self.window)
         self.close = [it for it in self.figures if it != self.mode and rules.are_close(self.figures[it], self.worst)]
 
+    def heals(self):
+        """Whether what heals is run with it."""
+        return self.suffices
+
+    def own_warnings(self):
+        """What speaks against this decision alone."""
+        return self.dropped
+
     def usual(self):
         """The mode to begin with, of those that were run."""
         return next(it for it in (self.study.usual, *rules.CHEAPEST_FIRST) if it in self.figures)
@@ -192,6 +200,29 @@ class Decision:
         """The bytes of a packet with room for the budget."""
         return self.study.packet(self.mode, self.whole_budget())
 
+    def given(self):
+        """The bytes of the packet that was told; that of the budget where none was."""
+        return self.packet() if self.study.told["packet"] is None else int(self.study.told["packet"])
+
+    def run_of(self, mode):
+        """The budget that a mode would take, and the mode."""
+        return (self.budget if mode == self.mode else self.study.most(mode)), mode
+
+    def headline(self):
+        """The decision, in a few words."""
+        if not self.suffices:
+            return f"no budget that fits is enough, still rising after {self.window[1]} rounds"
+        return f"{self.mode} with {self.whole_budget()} entries"
+
+    def why_empty(self):
+        """Why some budgets were not run in some modes."""
+        return "smaller budgets are run with the chosen mode, down to the first that is worse, for the last answer"
+
+    def in_window(self):
+        """What the worst staleness was read from, in words."""
+        first, last = self.window
+        return f": the most of `greatest` in rounds {first} to {last}, least and most of {len(rules.SEEDS)} seeds"
+
     def shares(self):
         """Whether the digest takes some of the packet."""
         return self.study.told["shared"] == "yes" and bool(self.study.told["digest"])
@@ -211,7 +242,7 @@ class Decision:
         packet = f"packet={needed}"
         if entries <= self.whole_budget():
             packet += "; this budget has room for them"
-        elif needed > it.told["packet"]:
+        elif it.told["packet"] is not None and needed > it.told["packet"]:
             packet += ", more than yours"
         return (f"In Cassandra a node tells all its keys as it starts, here as many as it writes. For that reckon with "
                 f"{name} = {entries} entries, {packet}")
@@ -237,7 +268,7 @@ class Decision:
     def forgetful(self):
         """What counts where nodes forget and the budget is short, in words; empty where that isn't so."""
         it = self.study
-        if it.told["forget"] == "no" or not it.leaves() or self.budget >= it.knee:
+        if not it.forgets() or not it.leaves() or self.budget >= it.knee:
             return ""
         return f"Nodes forget here, and the budget is below {it.knee_name}: {rules.FORGETFUL}."
 
@@ -277,14 +308,33 @@ class Decision:
             why = f": worse than {self.all_that_fits()}, {APART}"
         return f"{at_knee} it is {briefly(it, worst)}{why}"
 
-    def still_to_run(self):
-        """Which budget between nodes * writes and a larger one the last answer may take, in words; empty where there is
-        none."""
+    def to_look_closer(self):
+        """The budgets from nodes * writes on, with the mode, between which few rounds can't choose; none where they
+        can."""
         it = self.study
-        between = [smaller for smaller, _ in it.next_smaller(self.budget, self.mode) if smaller > it.knee]
-        if not between or not self.suffices or (between[0], self.mode) in self.found.rows:
-            return ""
-        return f"The last answer has {it.whole(between[0])} entries too, and takes them if nothing is better than that"
+        if not self.suffices or it.knee >= self.most:
+            return set()
+        if not rules.may_turn_over(self.worst_with(it.knee, self.mode), self.figures[self.mode]):
+            return set()
+        between = {pair for pair in it.next_smaller(self.most, self.mode) if pair[0] > it.knee}
+        return between | {(it.knee, self.mode), (self.most, self.mode)}
+
+    def too_close(self):
+        """Which figures are too close to call. Those that still rise say nothing."""
+        if not self.suffices:
+            return []
+        it, whole = self.study, self.study.whole
+        said = [f"{mode} with {whole(it.most(mode))} entries, {briefly(it, self.figures[mode])} against "
+                f"{span(self.worst)}" for mode in self.close]
+        if smaller := self.smaller():
+            worst = briefly(it, self.worst_with(smaller, self.mode))
+            said.append(f"{self.mode} with a budget from {whole(smaller)} entries on, {worst} with that")
+            if self.budget >= it.knee:
+                said[-1] += f"; below {it.knee_name}, where staleness rises steeply, none is taken for that"
+        others = "other mode and smaller budget" if len(self.figures) > 1 else "smaller budget"
+        smaller = [budget for budget in self.of_mode() if budget < self.budget]
+        than = "" if all(map(self.is_worse, smaller)) else " than this one or a larger one"
+        return said or [f"none: each {others} that was run is worse{than}, {APART}"]
 
     def all_that_fits(self):
         """The largest budget that was looked at, in words."""
@@ -297,7 +347,9 @@ class Healing:
     """How long a split, a restart and a forgotten state take to heal, in the chosen mode."""
 
     def __init__(self, study, mode, stages):
-        self.study, self.mode, self.stages = study, mode, stages
+        self.study, self.mode = study, mode
+        # (by what heals, its runs)
+        self.stages = {it: found for stage, found in stages.items() for it in study.healing_stages().get(stage, (stage,))}
         # (at the end of a line, where a tenth was run)
         self.run = f" ({study.nodes} nodes run)" if study.parts > 1 else ""
 
@@ -335,18 +387,14 @@ class Healing:
         each, groups = it.restarting()
         harder = ", a harder test than one group" if groups > 1 else ""
         if not it.restarts:
-            return f"of one node, down for one {unit(it)[:-1]}"
-        return f"of {in_nodes(each)} in each of {groups} {unit(it)}{fewer(it, it.restarts)}, each down for one{harder}"
+            return f"of one node, down for one {unit(it)[:-1]}{forgets(it)}"
+        return f"of {in_nodes(each)} in each of {groups} {unit(it)}{fewer(it, it.restarts)}, each down for one{forgets(it)}{harder}"
 
     def lines_now(self, stage, budget):
-        """The lines of a stage as soon as it is run. How long to wait is known from the restart; where nodes forget,
-        at least, until the forgotten state is run too."""
-        lines, leaves = self.lines(stage, budget), self.study.leaves()
-        if stage in leaves[-1:]:
-            lines.append(self.rolling(budget))
-        elif stage == "restart" and None not in self.taken(stage, budget):
-            lines.append(row(AT_LEAST, f"{self.wait_at_least(budget)}{self.run}"))
-        return lines
+        """The lines of a stage as soon as it is run."""
+        tells = self.study.healing_stages()[stage]
+        lines = [line for it in tells for line in self.lines(it, budget)]
+        return lines + ([self.rolling(budget)] if tells == self.study.leaves() else [])
 
     def all_lines(self, budget):
         """The lines of all stages."""
@@ -369,12 +417,6 @@ class Healing:
         seed, and some more. None where some of it isn't over in the rounds that were run."""
         taken = [it for stage in self.study.leaves() for it in self.taken(stage, budget)]
         return None if None in taken else max(taken) + rules.WAIT_MORE
-
-    def wait_at_least(self, budget):
-        """How long to wait as far as the restart alone tells, in words."""
-        rounds = [max(self.taken("restart", budget)) + rules.WAIT_MORE]
-        return (f"{lasting(self.study, rounds)}, by the restart alone; the line `{ROLLING}` takes the place of this "
-                "one, once the forgotten state was run")
 
     def wait(self, budget):
         """How long to wait between the groups of a rolling restart, in words."""
@@ -404,6 +446,11 @@ class Healing:
         return f"if your program fills the packet anyway, {'; '.join(said)}{self.run}"
 
 
+def forgets(study):
+    """That nodes lose their own state as they restart, in words; empty where they don't."""
+    return ", and then without its own state" if study.forgets() else ""
+
+
 def fewer(study, asked):
     """That fewer nodes restart at once than were asked for, in words; empty where that isn't so."""
     each = study.restarting()[0]
@@ -417,7 +464,6 @@ def fewer(study, asked):
 HEALED = {"split": "a split", "restart": "a restart", "forgotten": "a forgotten state"}
 ENDS = {"split": "healed", "restart": "healed", "forgotten": "gone from all copies"}
 ROLLING = "a rolling restart"
-AT_LEAST = "wait at least"
 IN_A_ROW = 98
 
 
@@ -426,15 +472,17 @@ def row(name, said):
     return f"  {name:<19} {said}"
 
 
-def first_words(decision, call=""):
+def first_words(decision, call="", about_target=()):
     """The first answer, from few intervals."""
-    it, few, to_knee = decision.study, decision.window[1], decision.to_knee()
+    it, few, to_knee = decision.study, decision.study.rounds("few"), decision.to_knee()
     since = f"{few} rounds" if it.fanout == 1 else f"{few // it.fanout} intervals of {it.fanout} rounds"
+    if decision.stage != "few":
+        since += f", and {it.intervals(decision.stage)} for the budgets between which those can't choose"
     if decision.suffices:
-        more = (decision.reserve(), decision.why_not_knee(), decision.still_to_run())
+        more = (decision.reserve(), decision.why_not_knee())
         said = [f"First answer, from {since}: {decision.takes()}.",
                 f"{decision.tells_all()}." if decision.tells_all() else "",
-                f"Worst staleness {decision.staleness()}.", *(f"{it}." for it in more if it),
+                f"Worst staleness {decision.staleness()}.", *about_target, *(f"{it}." for it in more if it),
                 f"That is below {it.knee_name}. {to_knee}." if to_knee else "", decision.forgetful(), *limits(decision),
                 *(of_calls(it) if it.fanout > 1 else [])]
     else:
@@ -495,24 +543,6 @@ def not_run(decision, call, was_enough=False):
     return [f"{why} To see them with a budget that is:", f"  {call}"] if call else [why]
 
 
-def too_close(decision):
-    """Which figures are too close to call. Those that still rise say nothing."""
-    if not decision.suffices:
-        return []
-    it, whole = decision.study, decision.study.whole
-    said = [f"{mode} with {whole(it.most(mode))} entries, {briefly(it, decision.figures[mode])} against "
-            f"{span(decision.worst)}" for mode in decision.close]
-    if smaller := decision.smaller():
-        worst = briefly(it, decision.worst_with(smaller, decision.mode))
-        said.append(f"{decision.mode} with a budget from {whole(smaller)} entries on, {worst} with that")
-        if decision.budget >= it.knee:
-            said[-1] += f"; below {it.knee_name}, where staleness rises steeply, none is taken for that"
-    others = "other mode and smaller budget" if len(decision.figures) > 1 else "smaller budget"
-    smaller = [budget for budget in decision.of_mode() if budget < decision.budget]
-    than = "" if all(map(decision.is_worse, smaller)) else " than this one or a larger one"
-    return said or [f"none: each {others} that was run is worse{than}, {APART}"]
-
-
 def warnings(decision):
     """What speaks against the decision, or limits it."""
     it, said = decision.study, []
@@ -527,7 +557,7 @@ def warnings(decision):
                     f"lag more than they have to. {decision.to_knee()}. Else "
                     f"{own}a shorter entry or fewer writes would help.")
     said += [decision.forgetful()] if decision.forgetful() else []
-    said += decision.dropped + limits(decision)
+    said += decision.own_warnings() + limits(decision)
     if it.in_bytes:
         said.append("With room for so few entries a large one holds up smaller ones behind it: give the delta room for "
                     "one mean entry more than the sum says.")
@@ -537,7 +567,7 @@ def warnings(decision):
                     f"{rules.TENTH}{calls}")
         if not rules.tenth_holds(decision.of_knee()):
             said.append(f"This budget is {decision.times()}, where a tenth wasn't seen to hold.")
-    return said + (of_healing(it) if decision.suffices else [])
+    return said + (of_healing(it) if decision.heals() else [])
 
 
 def limits(decision):
@@ -578,15 +608,15 @@ def of_digest(decision):
     if not told["digest"]:
         return [f"You gave no digest, so it is free here. With digest={SUPPOSED} its {numbers} numbers would take "
                 f"{numbers * SUPPOSED} bytes. {TYPICAL}"]
-    if told["shared"] == "no" and it.digest_bytes(decision.mode) > told["packet"]:
+    if told["shared"] == "no" and it.digest_bytes(decision.mode) > decision.given():
         return [f"The digest has {numbers} numbers of {told['digest']} bytes, which fit no packet of "
-                f"{told['packet']}: it would have to go in several."]
+                f"{decision.given()}: it would have to go in several."]
     return []
 
 
 def of_datagrams(decision):
     """That a packet is more than one datagram."""
-    told, it = int(decision.study.told["packet"]), decision
+    told, it = decision.given(), decision
     largest = max(told, it.study.packet(it.mode)) if it.to_knee() else told
     if largest <= rules.DATAGRAM:
         return []
@@ -626,7 +656,7 @@ def left_out(decision):
         said.append(f"A digest of up to {numbers} numbers, {size} bytes, comes on top of the delta.")
     if it.tells_all():
         said += [] if decision.suffices else [f"{decision.tells_all()}."]
-    elif decision.suffices and it.leaves():
+    elif decision.heals() and it.leaves():
         said.append(GENERATIONS if told["restarts"] else GROUPS)
     return said
 
@@ -641,16 +671,23 @@ def none_fits(decision):
     return f"No budget that fits is enough: still rising after {decision.window[1]} rounds"
 
 
-def in_words(decision, healing, missing=()):
-    """The answer, line by line. Without a budget that is enough there is no healing, but the lines on what is missing.
-    """
-    first, last = decision.window
+def heads(decision):
+    """What to mind, what is too close to call and what is left out, line by line."""
+    lines = []
+    for head, said in (("Mind", warnings(decision)), ("Too close to call", decision.too_close()),
+                       ("Left out for this cluster", left_out(decision))):
+        lines += ["", f"{head}:", *(f"  - {one}" for one in said)] if said else []
+    return lines
+
+
+def in_words(decision, healing, missing=(), more=()):
+    """The answer, line by line, with more names and words beside the worst staleness. Without a budget that is enough
+    there is no healing, but the lines on what is missing."""
     takes = f"Take {decision.takes()}." if decision.suffices else f"{none_fits(decision)}. {decision.most_that_fits()}"
-    in_window = f": the most of `greatest` in rounds {first} to {last}, least and most of {len(rules.SEEDS)} seeds"
-    in_window = in_window if decision.suffices else ""
+    in_window = decision.in_window() if decision.suffices else ""
     in_mode = "" if decision.suffices else f", in {decision.mode}"
     lines = [takes, *([f"{decision.tells_all()}."] if decision.suffices and decision.tells_all() else []), "",
-             row("worst staleness", f"{decision.staleness()}{in_window}")]
+             row("worst staleness", f"{decision.staleness()}{in_window}"), *(row(*one) for one in more)]
     for name, said in (("a reserve", decision.reserve()), (decision.study.knee_name, decision.why_not_knee())):
         lines += [row(name, said)] if said else []
     lines.append(row("share cut", f"{span(decision.cut, 2)} % of what was lacking{in_mode}"))
@@ -661,7 +698,4 @@ def in_words(decision, healing, missing=()):
     if not decision.suffices and decision.to_knee():
         lines.append(row("enough", decision.to_knee()))
     lines += ["", *missing] if missing else []
-    for head, said in (("Mind", warnings(decision)), ("Too close to call", too_close(decision)),
-                       ("Left out for this cluster", left_out(decision))):
-        lines += ["", f"{head}:", *(f"  - {one}" for one in said)] if said else []
-    return lines
+    return lines + heads(decision)

@@ -25,7 +25,7 @@ from gossip_tools.commands import Refused
 from gossip_tools.scenario import limited
 
 TEXTS = {"mode": scenario.MODES, "count": ("bytes", "entries"), "shared": ("yes", "no"), "forget": ("yes", "no")}
-DECIMALS = ("loss", "interval")
+DECIMALS = ("loss", "interval", "target")
 BYTES = ("entry", "packet", "digest")
 USUAL = {"digest": "0", "loss": "0", "fanout": "1", "rounds": None, "seed": "1", "mode": scenario.USUAL_MODE,
          "count": None}
@@ -34,7 +34,8 @@ USUAL_ROUNDS = 60
 ELSEWHERE = {
     **{name: f" For {name}= there is gossip_scenario, and gossip_sweep runs what that prints."
        for name in ("rounds", "seed")},
-    **{name: f" For {name}= there is gossip_advise." for name in ("shared", "interval", "restarts", "forget", "split")},
+    **{name: f" For {name}= there is gossip_advise."
+       for name in ("shared", "interval", "restarts", "forget", "split", "target")},
     **{name: " How many runs go at once is said in front of the call, as JOBS=2."
        for name in ("--jobs", "-j", "jobs", "JOBS")},
 }
@@ -67,7 +68,7 @@ def instead(name, text):
         return f"write {name}={int(thousands[1]) * 1000}"
     if name == "loss" and text.endswith("%"):
         return f"it is in per cent already, so write {name}={text[:-1]}"
-    if name == "interval" and (time := re.fullmatch(r"([0-9]+) ?(ms|s|sec|m|min)", text)):
+    if name in ("interval", "target") and (time := re.fullmatch(r"([0-9]+) ?(ms|s|sec|m|min)", text)):
         seconds = int(time[1]) * {"ms": Fraction(1, 1000), "m": 60, "min": 60}.get(time[2], 1)
         return f"it is in seconds, so write {name}={float(seconds):g}"
     if name == "split" and re.fullmatch(r"[0-9.]+ ?[a-z]+", text):
@@ -89,9 +90,10 @@ def number_of(name, text):
     raise Refused(f"{name} is a {kind} from 0 on, which '{text}' isn't{': ' if advice else ''}{advice}.")
 
 
-def told(words, usual, call):
-    """The values of the words by their names, numbers as such. A whole call is shown where a name is missing."""
-    names, values = (*NEEDED, *usual), {}
+def told(words, usual, call, instead_of=None):
+    """The values of the words by their names, numbers as such. A whole call is shown where a name is missing that is
+    needed, and isn't one that another may stand for, as `instead_of` has them."""
+    names, values = dict.fromkeys((*NEEDED, *usual)), {}
     for word in words:
         name, given, text = word.partition("=")
         name = ALIASES.get(name, name)
@@ -103,9 +105,9 @@ def told(words, usual, call):
             raise Refused(f"'{word}' isn't one of {', '.join(names)}, each once with = and its value.{more}")
         values[name] = text
     for name in NEEDED:
-        if name not in values:
+        if name not in values and (instead_of or {}).get(name) not in values:
             raise Refused(f"{name}= is missing; {call} is a whole call.")
-    values = {**usual, **values}
+    values = {**dict.fromkeys(NEEDED), **usual, **values}
     for name, text in values.items():
         if text is None:
             continue

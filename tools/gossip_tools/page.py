@@ -39,7 +39,7 @@ def listed(head, said, kind=""):
     return f'<h2>{head}</h2><ul class="{kind}">{lines}</ul>' if said else ""
 
 
-def cards(decision, healing):
+def cards(decision, healing, more):
     """The decision in a few large words."""
     it, budget = decision.study, decision.whole_budget()
     of_budget = f"{int(budget * it.told['entry'])} bytes, {decision.times()}"
@@ -53,6 +53,7 @@ def cards(decision, healing):
                 ("worst staleness", "not known", f"still rising after {decision.window[1]} rounds", "none")]
         if decision.to_knee():
             rows.append(("enough", f"{it.packet(decision.mode)} bytes", decision.to_knee(), "first"))
+    rows += [(name, *said.partition(": ")[::2], "") for name, said in more]
     rows.append(("share cut", f"{answer.span(decision.cut, 2)}\u00a0%", "of what was lacking", ""))
     for stage in it.heals() if healing else ():
         name = f"{answer.HEALED[stage]} is {answer.ENDS[stage]} after"
@@ -166,19 +167,14 @@ def made_of(folder, study, made, check_sum):
             f"<code>gnuplot NAME.gnuplot</code>.</p><pre>gossip_advise {told(call)}</pre>{text}")
 
 
-def make(folder, decision, healing, made, check_sum, missing=()):
+def make(folder, decision, healing, made, check_sum, missing=(), more=(), head=""):
     """Writes the page, and says where it is. It names the runs that were made, by stage their budgets and modes.
-    Without healing it has lines on what is missing. That of a first answer says so."""
+    Without healing it has lines on what is missing. What stands beside the worst staleness comes as names and words.
+    A first answer says so in the head."""
     it = decision.study
     first, last = decision.window
     tenth = f", of which {it.nodes} were run; budgets are those of all" if it.parts > 1 else ""
-    found = f"{decision.mode} with {decision.whole_budget()} entries"
-    if not decision.suffices:
-        found = f"no budget that fits is enough, still rising after {decision.window[1]} rounds"
-    first_answer = "First answer. " if decision.stage == "few" else ""
-    smaller = ("are run for the last answer" if first_answer else
-               "were run with the chosen mode, down to the first that is worse")
-    title = f"{first_answer}{int(it.told['nodes'])} nodes: {found}"
+    title = f"{head}{int(it.told['nodes'])} nodes: {decision.headline()}"
     text = f"""<!DOCTYPE html>
 <html lang="en"><head><meta charset="utf-8"><meta name="viewport" content="width=device-width, initial-scale=1">
 <title>{told(title)}</title><style>{STYLE}</style></head><body>
@@ -186,15 +182,15 @@ def make(folder, decision, healing, made, check_sum, missing=()):
 <p>{it.told['nodes']} nodes{tenth}. Keys of each: {it.keys}; writes in an interval of
 {float(it.told['interval']):g} s: {it.writes}; calls in an interval, each of which is a round: {it.fanout};
 messages lost: {float(it.told['loss']):g} %. All figures go from the least to the most of {len(rules.SEEDS)} seeds.</p>
-<div class="cards">{cards(decision, healing)}</div>
+<div class="cards">{cards(decision, healing, more)}</div>
 {below_the_cards(decision, healing)}{paragraphs(missing)}
 {listed("Mind", answer.warnings(decision), "mind")}
 {pictures(folder, decision, healing)}
 <h2>Worst staleness and share cut</h2>
 <p>In rounds {first} to {last}, by budget in entries and mode. Rising: this budget isn't enough. A field is empty where
-its runs could change nothing: smaller budgets {smaller}.</p>
+its runs could change nothing: {decision.why_empty()}.</p>
 {table(decision)}
-{listed("Too close to call", answer.too_close(decision))}
+{listed("Too close to call", decision.too_close())}
 {listed("Left out for this cluster", answer.left_out(decision))}
 <h2>To make it again</h2>
 {made_of(folder, it, made, check_sum)}

@@ -63,12 +63,12 @@ def knee(decision, name, y, figure, capped):
             # (a little beside each other, so that all bands are seen)
             beside = study.whole(budget) * 1.025**(at - (len(modes) - 1) / 2)
             rows.append((round(beside, 2), rules.middle(values), *rules.band(values)))
-        most = max(most, *(row[3] for row in rows))
+        most = max([most, *(row[3] for row in rows)])
         text += block(f"mode{at}", rows)
         plots += [f'$mode{at} using 1:2 with lines linewidth {min(width, 2)} linecolor "{colour}" notitle',
                   f'$mode{at} using 1:2:3:4 with yerrorbars linewidth 2 pointtype {point} pointsize 0.7 '
                   f'linecolor "{colour}" title "{mode}"']
-    top = (min(most, 6 * max(figure(decision.budget, decision.mode))) if capped else most) or 1
+    top = (min(most, 6 * max(figure(*decision.run_of(decision.mode)))) if capped else most) or 1
     budgets = [study.whole(it) for it in decision.budgets()]
     tics = ", ".join(str(it) for it in spaced(budgets))
     text += f"set logscale x 2\nset xtics ({tics}) rotate by -45\nset yrange [0:{1.08 * top:.4g}]\n"
@@ -95,8 +95,8 @@ def rounds(decision, name, y, value):
     text, plots = HEAD.format(name=name, x="round", y=y), []
     for at, (mode, (colour, width, _)) in enumerate(STYLES.items()):
         if mode in decision.figures:
-            budget = decision.budget if mode == decision.mode else study.most(mode)
-            rows = found.rows[(budget, mode)][0]
+            budget, _ = pair = decision.run_of(mode)
+            rows = found.rows[pair][0]
             intervals = [rows[first:first + study.fanout] for first in range(0, len(rows), study.fanout)]
             text += block(f"mode{at}", [(it[-1]["round"], max(value(row) for row in it)) for it in intervals])
             plots.append(f'$mode{at} with lines linewidth {width} linecolor "{colour}" '

@@ -43,6 +43,12 @@ def is_better(one, other):
     return max(one) < min(other)
 
 
+def may_turn_over(one, other):
+    """Whether few rounds can't tell that the other isn't better than the one: where their bands have one round in common
+    at most. More rounds make the higher one rise."""
+    return max(other) <= min(one)
+
+
 def are_close(one, other):
     """Whether two figures are too close to call: neither is better."""
     return not is_better(one, other) and not is_better(other, one)

@@ -2,10 +2,11 @@
 
   few         few intervals, for a first answer: each mode with what it may take, and the chosen one with nodes * writes
   split       half of the nodes are set apart for some intervals; under the mode that was chosen
-  restart     nodes restart, by ascending number, and keep their own state
-  forgotten   the same, in bytes, and they lose their own state too
+  restart     nodes restart, by ascending number, and keep their own state; or, where they lose it too,
+  forgotten   the same, in bytes, and they do
   many        many intervals: as few, and the chosen mode with smaller budgets, until one is worse
   longer      twice as many, where nothing is level after those; and again, as `longest`
+  many-stop   many intervals and some without writes, where a target is told: how old a stale copy is; so for the others
 
 What is run is only what may change the answer. What heals is run with the budget that is taken, and in the end with all
 that fits too, where that is more. An interval has as many rounds as a node calls others in it, and writes in the first
@@ -25,6 +26,8 @@ IN_BYTES, IN_PRECISE, IN_SHORT = 3, 1.5, 1.8
 HEALED = ("split", "restart", "forgotten")
 WINDOWS = {"few": rules.FEW_WINDOW, "many": rules.MANY_WINDOW, "longer": (rules.LONGER // 2 + 1, rules.LONGER),
            "longest": (rules.LONGEST // 2 + 1, rules.LONGEST)}
+# The stages in which the writes stop, and those that they begin as.
+STOPS = {f"{stage}-stop": stage for stage in WINDOWS}
 
 
 class Study:
@@ -40,7 +43,7 @@ class Study:
         it = dict(told)
         if told["shared"] == "no":
             it["digest"] = 0
-        it["nodes"], it["packet"] = int(told["nodes"]) // self.parts, told["packet"] / self.parts
+        it["nodes"] = int(told["nodes"]) // self.parts
         if cluster.is_too_large(it["nodes"], it["keys"]):
             raise cluster.Refused("a tenth of these nodes is still too large for a scenario, which takes 4096 nodes "
                                   f"and {scenario.MOST_TRIPLES} of nodes * nodes * keys.")
@@ -51,13 +54,13 @@ class Study:
         self.knee_of_all = max(LEAST, rules.knee(int(told["nodes"]), self.keys, self.writes, self.fanout))
         product = "nodes * writes" if self.writes <= self.keys else "nodes * keys"
         self.knee_name = product + (f" / {self.fanout}" if self.fanout > 1 else "")
-        self.rooms = {mode: cluster.room_for_delta(it, mode) / it["entry"] for mode in scenario.MODES}
+        self.rooms = {mode: self.room(it, mode) / self.parts for mode in scenario.MODES}
         modes = (self.usual,) if told["mode"] or self.parts > 1 else scenario.MODES
         most = scenario.LIMITS["budget"][1]
-        count = told["count"] or ("bytes" if rules.counts_bytes(max(self.rooms[it] for it in modes)) else "entries")
+        room = self.knee if told["packet"] is None else max(self.rooms[it] for it in modes)
+        count = told["count"] or ("bytes" if rules.counts_bytes(room) else "entries")
         self.in_bytes = count == "bytes"
-        of_all = it | {"nodes": int(told["nodes"]), "packet": told["packet"]}
-        self.fits_of_all = {mode: int(cluster.room_for_delta(of_all, mode) / it["entry"]) for mode in modes}
+        self.fits_of_all = {mode: int(self.room(it, mode)) for mode in modes}
         self.fits = {mode: min(self.run_of(self.fits_of_all[mode]), most) for mode in modes
                      if self.rooms[mode] >= LEAST}
         if self.usual not in self.fits:
@@ -65,10 +68,26 @@ class Study:
         if self.least_rounds() > rules.MANY * self.fanout:
             raise cluster.Refused(f"no budget that fits keeps the worst staleness below {rules.MANY * self.fanout} "
                                   f"rounds: {self.why_at_least()}.")
+        self.target = None if told["target"] is None else self.target_of(told["target"])
         self.split = self.split_of(int(told["split"]))
         self.restarts = None if told["restarts"] is None else -(-int(told["restarts"]) // self.parts)
         self.place_healing()
         self.loss = int(told["loss"] * 10000)
+
+    def room(self, it, mode):
+        """The entries that a delta of the whole cluster has room for in this mode; without a packet all that are of
+        use."""
+        if self.told["packet"] is None:
+            return int(self.told["nodes"]) * self.keys
+        return cluster.room_for_delta(it | {"nodes": int(self.told["nodes"])}, mode) / it["entry"]
+
+    def target_of(self, seconds):
+        """The rounds of a target, which the longest runs have to be able to show."""
+        rounds, (_, most) = int(seconds / self.seconds), rules.halves(self.window("longest"))[0]
+        if not 1 <= rounds <= most:
+            raise cluster.Refused(f"target={float(seconds):g} would be {rounds} rounds of {float(self.seconds):g} s, and "
+                                  f"has to be from 1 to {most} of them.")
+        return rounds
 
     def why_none_fits(self):
         """Why a delta has no room, and how large it would have to be."""
@@ -171,6 +190,8 @@ class Study:
         """How many intervals a run of a stage has."""
         if stage in WINDOWS:
             return WINDOWS[stage][1]
+        if stage in STOPS:
+            return WINDOWS[STOPS[stage]][1] - (-self.target // self.fanout)
         return self.waits + max(self.split, RESTARTING) + self.tail
 
     def rounds(self, stage):
@@ -200,15 +221,23 @@ class Study:
         intervals = self.split if stage == "split" else self.restarting()[1]
         return self.begins + intervals * self.fanout - 1
 
+    def forgets(self):
+        return self.told["forget"] == "yes"
+
     def leaves(self):
-        """The stages that tell what a restart leaves, in their order; none where no restart is looked at."""
+        """What a restart leaves and is looked at, in its order; nothing where no restart is looked at."""
         if self.restarts == 0:
             return ()
-        return ("restart", "forgotten") if self.told["forget"] == "yes" else ("restart",)
+        return ("restart", "forgotten") if self.forgets() else ("restart",)
 
     def heals(self):
-        """The stages of what heals that are looked at, in their order."""
+        """What heals and is looked at, in its order."""
         return ("split", *self.leaves()) if self.split else self.leaves()
+
+    def healing_stages(self):
+        """The stages that tell what heals, each with what it tells: where nodes forget, their runs tell both."""
+        restarts = {self.leaves()[-1]: self.leaves()} if self.leaves() else {}
+        return {"split": ("split",), **restarts} if self.split else restarts
 
     def wanted(self, mode):
         """The budgets and modes that decide: each mode with what it may take, and this one with nodes * writes."""
@@ -225,6 +254,10 @@ class Study:
         """The scenario of a stage. Its budget, mode and seed are other ones in each run."""
         rounds, in_bytes = self.rounds(stage), self.counts_bytes(stage)
         fields = scenario.top(self.nodes, self.keys, rounds, self.writes, self.loss, self.knee + 1, in_bytes)
+        if stage in STOPS:
+            last = self.rounds(STOPS[stage])
+            return (scenario.written(fields) + cluster.without_writes(last, self.fanout)
+                    + scenario.load(last + 1, rounds, 0))
         text = scenario.written(fields) + cluster.without_writes(rounds, self.fanout)
         if stage == "split":
             text += scenario.partition(0, self.nodes // 2 - 1, self.begins, self.ends(stage))
@@ -262,6 +295,21 @@ class Found:
     def cut(self, budget, mode, window):
         """The share that was cut, in per cent, for each seed."""
         return [read.percent_cut(read.between(rows, *window)) for rows in self.rows[(budget, mode)]]
+
+    def stale(self, budget, mode, window):
+        """The copies that are stale on average, for each seed."""
+        windows = [read.between(rows, *window) for rows in self.rows[(budget, mode)]]
+        return [sum(row["stale"] for row in rows) / len(rows) for rows in windows]
+
+    def half_of_stale_after(self, budget, mode, last, fanout):
+        """The intervals after the `last` round with writes until half of the copies that are stale then are so no more,
+        for each seed; None where they aren't in these rounds. By docs/study.md half of the stale copies lack only
+        writes of so many intervals."""
+        found = []
+        for rows in self.rows[(budget, mode)]:
+            after = rows[last - 1::fanout]
+            found.append(next((at for at, row in enumerate(after) if 2 * row["stale"] <= after[0]["stale"]), None))
+        return found
 
     def suffices(self, budget, mode, window):
         return rules.suffices(*(self.worst(budget, mode, half) for half in rules.halves(window)), window)

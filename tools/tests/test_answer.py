@@ -45,7 +45,7 @@ class Decided(unittest.TestCase):
         self.assertEqual("scuttle-depth with room for 600 entries in a delta, 24000 bytes (nodes * writes); "
                          "packet=24000", found.takes())
         self.assertIn("scuttle-depth with a budget from 450 entries on, 8 to 9 rounds with that; below nodes * writes, "
-                      "where staleness rises steeply, none is taken for that", answer.too_close(found))
+                      "where staleness rises steeply, none is taken for that", found.too_close())
         self.assertEqual("With the 1000 entries that fit it is 7 to 8 rounds: no better, as the bands of the seeds "
                          "touch. So packet=24000 is enough, and what is above that is a reserve", found.reserve())
         self.assertIn(f"  a reserve           {found.reserve()}", answer.in_words(found, None))
@@ -59,16 +59,14 @@ class Decided(unittest.TestCase):
                          "* writes); packet=40000", found.takes())
         self.assertEqual("With nodes * writes = 600 entries it is 8 to 9 rounds: worse, as the bands of the seeds "
                          "don't touch", found.why_not_knee())
-        self.assertEqual(["", f"{found.why_not_knee()}.", "The last answer has 900 entries too, and takes them if "
-                          "nothing is better than that."], [found.reserve(), *answer.first_words(found)[2:4]])
+        self.assertEqual(["", f"{found.why_not_knee()}."], [found.reserve(), answer.first_words(found)[2]])
 
     def test_between(self):
-        """With 900, one and a half times 600, the band of the 1000 touches: 900 are taken,
-        which are 36000 bytes. 600 aren't worse than these, but than the 1000."""
+        """The band of 900, one and a half times 600, touches that of the 1000: 900 are taken, which are 36000 bytes. 600
+        aren't worse than these, but than the 1000."""
         depth = {1000: [9, 9], 900: [9, 10], 600: [10, 12], 450: [13, 14]}
         found = decided({(budget, "scuttle-depth"): worst for budget, worst in depth.items()})
-        self.assertEqual(("scuttle-depth", 900, None, ""),
-                         (found.mode, found.budget, found.smaller(), found.still_to_run()))
+        self.assertEqual(("scuttle-depth", 900, None), (found.mode, found.budget, found.smaller()))
         self.assertEqual(["With the 1000 entries that fit it is 9 rounds: no better, as the bands of the seeds "
                           "touch. So packet=36000 is enough, and what is above that is a reserve",
                           "With nodes * writes = 600 entries it is 10 to 12 rounds: worse than the 1000 entries that "
@@ -76,6 +74,26 @@ class Decided(unittest.TestCase):
         lines = answer.in_words(found, None)
         self.assertIn(f"  a reserve           {found.reserve()}", lines)
         self.assertIn(f"  nodes * writes      {found.why_not_knee()}", lines)
+
+    def test_budgets_to_look_closer_at(self):
+        """Where the bands of 600 and 1000 have two rounds in common, few rounds can choose; where they have one or none,
+        they can't, and 900 may be taken too. With 600 that fit there is no choice."""
+        all_of_them = {(budget, "scuttle-depth") for budget in (600, 900, 1000)}
+        for at_600, at_1000, wanted in (([7, 8], [7, 8], set()), ([8, 9], [7, 8], all_of_them),
+                                        ([9, 9], [7, 8], all_of_them)):
+            found = decided({(600, "scuttle-depth"): at_600, (1000, "scuttle-depth"): at_1000}, stage=FEW)
+            self.assertEqual(wanted, found.to_look_closer())
+        it = of("nodes=300 keys=4 writes=2 entry=40 packet=24000")
+        self.assertEqual(set(), answer.Decision(it, Figures({(600, mode): [8, 8] for mode in it.fits}),
+                                                FEW).to_look_closer())
+
+    def test_first_answer_from_more_rounds(self):
+        depth = {(1000, "scuttle-depth"): [8, 8], (900, "scuttle-depth"): [8, 8], (600, "scuttle-depth"): [9, 10]}
+        it = of("nodes=300 keys=4 writes=2 entry=40 packet=40000")
+        said = answer.first_words(answer.Decision(it, Figures(depth), MANY))
+        self.assertEqual(["First answer, from 60 rounds, and 200 for the budgets between which those can't choose: "
+                          "scuttle-depth with room for 900 entries", "Worst staleness 8 rounds"],
+                         [said[0].partition(" in a delta")[0], said[1].partition(",")[0]])
 
     def test_between_is_worse_or_rises(self):
         """900 are worse than the 1000 under both seeds, or `greatest` still rises with them: then 1000 are taken. Where
@@ -92,7 +110,7 @@ class Decided(unittest.TestCase):
         depth = {1000: [7, 7], 600: [7, 8], 450: [8, 9]}
         found = decided({(budget, "scuttle-depth"): worst for budget, worst in depth.items()})
         self.assertEqual((600, None), (found.budget, found.smaller()))
-        self.assertNotIn("450", " ".join(answer.too_close(found)))
+        self.assertNotIn("450", " ".join(found.too_close()))
 
     def test_another_mode_with_what_fits_is_better(self):
         """precise-newest isn't better than scuttle-depth, each with 1000, but than it with 600. So 1000 are taken."""
@@ -278,7 +296,7 @@ class Decided(unittest.TestCase):
         self.assertEqual("scuttle-depth with room for 11000 entries in a delta, 440000 bytes (what fits; 1.1 times "
                          "nodes * writes); with the digest packet=640000", found.takes())
         self.assertEqual(["scuttle-depth with a budget from 7500 entries on, 8 to 9 rounds with that; below nodes * "
-                          "writes, where staleness rises steeply, none is taken for that"], answer.too_close(found))
+                          "writes, where staleness rises steeply, none is taken for that"], found.too_close())
 
     def test_nodes_times_keys(self):
         """Each product once: 100 nodes with 2 keys that write 3 times."""
@@ -323,15 +341,16 @@ class Decided(unittest.TestCase):
 
 
 class Taken:
-    """A stage whose rounds until it is healed are given."""
+    """A stage whose rounds until it is healed are given, and those until what was forgotten is gone."""
 
-    def __init__(self, taken, *pairs):
-        self.taken, self.rows = taken, pairs
+    def __init__(self, taken, *pairs, forgotten=None):
+        self.taken, self.rows, self.forgotten = taken, pairs, forgotten or taken
 
     def healed_after(self, *_):
         return self.taken
 
-    forgotten_after = healed_after
+    def forgotten_after(self, *_):
+        return self.forgotten
 
 
 def healing(more="", **taken):
@@ -375,14 +394,14 @@ class Healed(unittest.TestCase):
         it = of("nodes=200 keys=4 writes=1 entry=40 packet=10000 forget=yes")
         figures = {(250, mode): [7, 8] for mode in it.fits} | {(200, "scuttle-depth"): [7, 8]}
         found = answer.Decision(it, Figures(figures), MANY)
-        taken = {"split": [8, 9], "restart": [3, 4], "forgotten": [5, 4]}
         both = (200, found.mode), (250, found.mode)
-        heals = answer.Healing(it, found.mode, {stage: Taken(rounds, *both) for stage, rounds in taken.items()})
+        heals = answer.Healing(it, found.mode, {"split": Taken([8, 9], *both),
+                                                "forgotten": Taken([3, 4], *both, forgotten=[5, 4])})
         self.assertIn("  with the reserve    if your program fills the packet anyway, a split is healed after 8 to 9 "
                       "rounds; a restart is healed after 3 to 4 rounds; a forgotten state is gone from all copies "
                       "after 4 to 5 rounds; wait 7 rounds between groups", answer.in_words(found, heals))
         # (for the first answer it isn't run, so that says where to read it)
-        heals = answer.Healing(it, found.mode, {stage: Taken(rounds, both[0]) for stage, rounds in taken.items()})
+        heals = answer.Healing(it, found.mode, {"split": Taken([8, 9], both[0])})
         self.assertFalse(heals.has_reserve(found))
         said = " ".join(answer.last_of_first_words(found, pathlib.Path("mine")))
         self.assertIn("All these times are for packet=8000. If your program fills a larger one anyway, copies heal",
@@ -445,19 +464,18 @@ class Healed(unittest.TestCase):
                          "budget", healing(restart=[6, None], forgotten=[7, 8]).wait(200))
 
     def test_wait_at_once(self):
-        """Where nodes forget, the restart alone tells the least wait; where they don't, the wait."""
-        def waits(stage, more, **taken):
+        """The wait is told with the restart; where nodes forget, both that and the forgotten state are of their runs."""
+        def told(stage, more, **taken):
             lines = healing(f"restarts=5 {more}", **taken).lines_now(stage, 200)
-            return [it.partition(", ")[0] for it in lines
-                    if it.startswith((f"  {answer.ROLLING} ", f"  {answer.AT_LEAST} "))]
+            return [it[2:].partition(" rounds, ")[0] for it in lines if not it.startswith("   ")]
 
-        at_least, known = "  wait at least       9 rounds", "  a rolling restart   wait 9 rounds"
-        restart, forgotten = {"restart": [6, 7]}, {"restart": [6, 7], "forgotten": [8, 6]}
-        self.assertEqual([at_least], waits("restart", "forget=yes", **restart))
-        self.assertEqual([known.replace("9", "10")], waits("forgotten", "forget=yes", **forgotten))
-        self.assertEqual([known], waits("restart", "", **restart))
-        self.assertEqual([], waits("forgotten", "", **forgotten))
-        self.assertEqual([], waits("restart", "forget=yes", restart=[6, None]))
+        restart, heals = "a restart           of 5 nodes in each of 10", "healed after 6 to 7"
+        self.assertEqual([restart, "a rolling restart   wait 9"], told("restart", "split=0", restart=[6, 7]))
+        self.assertEqual([restart, "a forgotten state   of 5 nodes in each of 10", "a rolling restart   wait 10"],
+                         told("forgotten", "split=0 forget=yes", forgotten=[6, 8]))
+        line = healing("restarts=5 forget=yes", forgotten=[6, 7]).lines("restart", 200)[0]
+        self.assertTrue(line.endswith(f", each down for one, and then without its own state, a harder test than one group: "
+                                      f"{heals} rounds, 3.0 to 3.5 s"), line)
 
     def test_smaller_groups(self):
         """80 of 200 nodes restart at once, 150 don't: of those 100 do, as half of them stay up. Both answers say so."""

@@ -197,6 +197,8 @@ class Healing(unittest.TestCase):
         cases = {"": ("split", "restart"), "forget=yes": ("split", "restart", "forgotten"), "split=0": ("restart",),
                  "split=0 restarts=0 forget=yes": (), "restarts=0": ("split",)}
         self.assertEqual(cases, {more: of(f"{ROOMY} {more}").heals() for more in cases})
+        self.assertEqual({"split": ("split",), "forgotten": ("restart", "forgotten")},
+                         of(f"{ROOMY} forget=yes").healing_stages())
 
     def test_who_restarts(self):
         """One node, or a tenth of 50 in each of ten rounds; of 10 nodes 4 in each of two."""

@@ -54,7 +54,6 @@ def try_advice(room):
         lines = [it for it in out.splitlines() if it.startswith(f"  {name} ")]
         holds(f"{name} is told at once", (2, 1, True),
               (len(lines), len(set(lines)), bool(lines) and lines[0] in first.splitlines()))
-    holds("what to wait at least is told before", 1, first.count("\n  wait at least       "))
     holds("the budget", "Take scuttle-depth with room for 8 entries in a delta, 320 bytes (nodes * keys, above which "
           "nothing changes; nodes * writes); packet=320.", said.partition("\n")[0])
     holds("nothing is cut", True, "  share cut           0.00 % of what was lacking\n" in said)
@@ -64,12 +63,14 @@ def try_advice(room):
     others = [it for it in tags.named if not it.startswith("data:image/svg+xml;base64,")]
     holds("the page is whole and needs no other", ([], pictures, []), (tags.open, text.count("<img "), others))
     sum_of_program = hashlib.sha256(pathlib.Path(PROGRAM).read_bytes()).hexdigest()
-    holds("the page has the check sum and the scenarios", [True] * 6,
+    holds("the page has the check sum and the scenarios, and a restart is one of nodes that forget", [True] * 5 + [False],
           [sum_of_program in text, *(f"gossip_sweep -o {it} budget" in text for it in
-                                     ("few", "many", "split", "restart", "forgotten"))])
+                                     ("few", "many", "split", "forgotten", "restart"))])
     holds("the page says what is counted and how long to wait", (1, 1),
           (text.count("the age of the oldest missing write was for the first time at most one round above its highest"),
            text.count("a rolling restart<b>wait ")))
+    holds("the page is dark where the screen is, and its table has a head", (1, 1, 1),
+          tuple(text.count(it) for it in ("@media screen and (prefers-color-scheme: dark)", "<thead>", "</thead><tbody>")))
     before = {it: it.stat().st_mtime_ns for it in advice.glob("*/*.csv")}
     none = room / "nothing"
     none.mkdir()
@@ -126,6 +127,63 @@ def try_reserve(room):
     status, out, err = run(room, TOOLS / "gossip_advise", "-o", "one mode", *words, "mode=precise-newest")
     names = {it.stem.partition("mode-")[2] for it in (room / "one mode").glob("*/*.csv")}
     holds("one mode", (0, True, {"precise-newest"}), (status, "\nTake precise-newest with room for " in out, names))
+
+
+def column(folder, budget, name):
+    """A column of each run with this budget in scuttle-depth, by seed, as formats.md has its place."""
+    at = {"stale": 6, "greatest": 7}[name]
+    reports = [(folder / f"budget-{budget}.seed-{seed}.mode-scuttle-depth.csv").read_text() for seed in range(1, 6)]
+    return [[int(line.split(",")[at]) for line in text.splitlines()[1:]] for text in reports]
+
+
+def try_target(room):
+    """The smallest budget of 24 nodes with 6 keys that keeps the worst staleness within 4 s, which have 8 rounds of half
+    a second: counted once more from the reports. A delta of n entries of 40 bytes and a digest of 24 numbers of 10 bytes
+    take n * 40 + 240 bytes. 24 * 23 * 6 are 3312 copies."""
+    words = ("nodes=24", "keys=6", "writes=1", "entry=40", "digest=10", "interval=0.5", "count=entries", "loss=1")
+    call = ("-o", "target", "target=4", *words, "mode=scuttle-depth")
+    status, out, err = run(room, TOOLS / "gossip_advise", *call)
+    many, stop = room / "target" / "many", room / "target" / "many-stop"
+    budgets = sorted({int(it.name.split(".")[0].partition("-")[2]) for it in many.glob("budget-*.csv")})
+    least = min(it for it in budgets if max(worst(many, it, 101, 200)) <= 8)
+    below = max(it for it in budgets if it < least)
+    holds("one entry less is too few", (1, True), (least - below, max(worst(many, below, 101, 200)) > 8))
+    said = (f"Take scuttle-depth with room for {least} entries in a delta, {least * 40} bytes ", f"packet={least * 40 + 240}.")
+    line = next((it for it in out.splitlines() if it.startswith("Take ")), "")
+    holds("the smallest packet", (0, True, True), (status, line.startswith(said[0]), line.endswith(said[1])))
+    holds("the target", (True, True),
+          ("  target              met: the worst staleness is within 4 s, which have 8 rounds\n" in out,
+           f"  a smaller one       {below} entries: the next smaller budget that was run has " in out))
+    shares = [100 * sum(it[100:200]) / 100 / 3312 for it in column(many, least, "stale")]
+    half = [next(at for at in range(1, 9) if 2 * it[199 + at] <= it[199]) for it in column(stop, least, "stale")]
+    spans = [f"{min(it):.0f} to {max(it):.0f}" if f"{min(it):.0f}" < f"{max(it):.0f}" else f"{max(it):.0f}"
+             for it in (shares, half)]
+    holds("how many copies are stale, and how old a typical one is", (True, True),
+          (f"  stale copies        {spans[0]} %: " in out, f"  a typical one       {spans[1]} round" in out))
+    holds("no write in the 8 rounds after 200", True,
+          (stop / "scenario").read_text().endswith("\n[[load]]\nfrom = 201\nto = 208\nwrites = 0\n"))
+    page = (room / "target" / "report.html").read_text()
+    holds("the page has it", (True, 1, []), (f"<h1>24 nodes: scuttle-depth with {least} entries keep the worst staleness "
+                                             "within 4 s</h1>" in page, page.count("target<b>met</b>"), Tags(page).open))
+    before = {it: it.stat().st_mtime_ns for it in (room / "target").glob("*/*.csv")}
+    holds("it is read again", (0, out), run(room, TOOLS / "gossip_advise", "-o", "target")[:2])
+    holds("and no run made again", before, {it: it.stat().st_mtime_ns for it in (room / "target").glob("*/*.csv")})
+    for target, verdict in (("4", "met: the worst staleness is within 4 s"), ("1", "not met: the worst staleness is above")):
+        status, out, err = run(room, TOOLS / "gossip_advise", "-o", f"judged {target}", *words, "mode=scuttle-depth",
+                               f"packet={least * 40 + 240}", f"target={target}", "split=0", "restarts=0")
+        holds(f"a packet for target={target}", (0, True, True),
+              (status, f"\nThe target is {verdict}" in out, f"\n  target              {verdict}" in out))
+    status, out, err = run(room, TOOLS / "gossip_advise", "-o", "never", "target=1", *words)
+    holds("a target that no budget meets", (0, True, True),
+          (status, out.startswith("No budget keeps the worst staleness within 1 s, which have 2 rounds. The best that can "
+                                  "be had, with room for 144 entries"), "<h1>24 nodes: no budget keeps" in
+           (room / "never" / "report.html").read_text()))
+    for word, why in (("target=0", "target is in seconds, and above 0."), ("target=-4", "which '-4' isn't"),
+                      ("target=4s", "write target=4"), ("target=0.4", "would be 0 rounds of 0.5 s, and has to be from 1 to"),
+                      ("target=301", "would be 602 rounds of 0.5 s, and has to be from 1 to 600")):
+        refuses(room, why, "gossip_advise", "-o", "refused", word, *words)
+    refuses(room, "packet= is missing", "gossip_advise", "-o", "refused", *words)
+    holds("nothing is left of refused targets", False, (room / "refused").exists())
 
 
 def try_calls(room):
@@ -243,5 +301,5 @@ def try_stopping_advice(room):
            "<h1>First answer. 6 nodes: " in page, Tags(page).open))
 
 
-TRIALS = (try_advice, try_reserve, try_calls, try_hopeless_advice, try_longer_runs,
+TRIALS = (try_advice, try_reserve, try_target, try_calls, try_hopeless_advice, try_longer_runs,
           try_advice_below_the_knee, try_stopping_advice)

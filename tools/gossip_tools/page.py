@@ -5,26 +5,40 @@ import re
 
 from gossip_tools import answer, files, plots, read, rules
 
+# (on paper the page is light, whatever the screen is; pictures, which are drawn on white, are turned dark, each colour to
+# its own on black)
 STYLE = """
-body { font: 16px/1.45 sans-serif; color: #222; max-width: 1080px; margin: 0 auto; padding: 0 16px 32px; }
+:root { color-scheme: light; --page: #fff; --text: #222; --soft: #444; --line: #ccc; --code: #f4f4f4; --mark: #dbe9f6;
+    --first: #00407a; --none: #a33c00; --warn: #c60; }
+@media screen and (prefers-color-scheme: dark) {
+    :root { color-scheme: dark; --page: #161616; --text: #e4e4e4; --soft: #b8b8b8; --line: #4a4a4a; --code: #242424;
+        --mark: #1d3a57; --first: #00508f; --none: #a33c00; --warn: #f08a24; }
+    figure img { filter: invert(.91) hue-rotate(180deg); }
+}
+body { font: 16px/1.45 sans-serif; color: var(--text); background: var(--page); max-width: 1080px; margin: 0 auto;
+    padding: 0 16px 32px; }
 h1 { font-size: 1.5em; line-height: 1.2; } h2 { font-size: 1.2em; margin: 1.6em 0 .4em; break-after: avoid; }
 .cards { display: grid; grid-template-columns: repeat(auto-fit, minmax(128px, 1fr)); gap: 10px; }
-.cards div { border: 1px solid #ccc; border-radius: 6px; padding: 8px 10px; }
+.cards div { border: 1px solid var(--line); break-inside: avoid; border-radius: 6px; padding: 8px 10px; }
 .cards b { display: block; font-size: 1.25em; }
-.cards .first { background: #00407a; color: #fff; border-color: #00407a; }
-.cards .none { background: #a33c00; color: #fff; border-color: #a33c00; }
+.cards .first { background: var(--first); color: #fff; border-color: var(--first); }
+.cards .none { background: var(--none); color: #fff; border-color: var(--none); }
 .pictures { display: grid; grid-template-columns: repeat(auto-fit, minmax(min(100%, 440px), 1fr)); gap: 16px; }
 figure { margin: 0; break-inside: avoid; } figure img { width: 100%; max-width: 600px; display: block; }
-figcaption { font-size: .9em; color: #444; } .wide { overflow-x: auto; }
-.mind { border-left: 4px solid #c60; } ul { padding-left: 28px; }
+figcaption { font-size: .9em; color: var(--soft); } .wide { overflow-x: auto; }
+.mind { border-left: 4px solid var(--warn); } ul { padding-left: 28px; }
 table { border-collapse: collapse; font-size: .9em; }
-td, th { border: 1px solid #ccc; padding: 3px 8px; text-align: right; }
-td.chosen { background: #dbe9f6; font-weight: bold; }
-pre { font-size: .8em; white-space: pre-wrap; overflow-wrap: anywhere; background: #f4f4f4; padding: 8px; }
+td, th { border: 1px solid var(--line); padding: 3px 8px; text-align: right; }
+td.chosen { background: var(--mark); font-weight: bold; }
+pre { font-size: .8em; white-space: pre-wrap; overflow-wrap: anywhere; background: var(--code); padding: 8px; }
 @media print {
     body { font-size: 11pt; max-width: none; }
     .pictures { grid-template-columns: 1fr 1fr; }
     details { display: none; }
+    .wide { overflow-x: visible; }
+    .before-table { break-after: avoid; }
+    table, tr { break-inside: avoid; }
+    thead { display: table-header-group; }
 }
 """
 
@@ -136,7 +150,8 @@ def pictures(folder, decision, healing):
 def table(decision):
     """Worst staleness and share cut, by budget and mode."""
     it, window = decision.study, decision.window
-    text = "<tr><th>budget</th>" + "".join(f"<th>{mode}</th>" for mode in decision.figures) + "</tr>"
+    head = "<tr><th>budget</th>" + "".join(f"<th>{mode}</th>" for mode in decision.figures) + "</tr>"
+    text = ""
     for budget in decision.budgets():
         text += f"<tr><th>{it.whole(budget)}</th>"
         for mode in decision.figures:
@@ -148,7 +163,7 @@ def table(decision):
             text += (f'<td class="{chosen}">{answer.span(decision.worst_with(budget, mode))}{rising}<br>'
                      f"<small>{answer.span(decision.found.cut(budget, mode, window), 2)} %</small></td>")
         text += "</tr>"
-    return f'<div class="wide"><table>{text}</table></div>'
+    return f'<div class="wide"><table><thead>{head}</thead><tbody>{text}</tbody></table></div>'
 
 
 def made_of(folder, study, made, check_sum):
@@ -187,7 +202,7 @@ messages lost: {float(it.told['loss']):g} %. All figures go from the least to th
 {listed("Mind", answer.warnings(decision), "mind")}
 {pictures(folder, decision, healing)}
 <h2>Worst staleness and share cut</h2>
-<p>In rounds {first} to {last}, by budget in entries and mode. Rising: this budget isn't enough. A field is empty where
+<p class="before-table">In rounds {first} to {last}, by budget in entries and mode. Rising: this budget isn't enough. A field is empty where
 its runs could change nothing: {decision.why_empty()}.</p>
 {table(decision)}
 {listed("Too close to call", decision.too_close())}

@@ -163,7 +163,7 @@ def try_target(room):
     holds("no write in the 8 rounds after 200", True,
           (stop / "scenario").read_text().endswith("\n[[load]]\nfrom = 201\nto = 208\nwrites = 0\n"))
     page = (room / "target" / "report.html").read_text()
-    holds("the page has it", (True, 1, []), (f"<h1>24 nodes: scuttle-depth with {least} entries keep the worst staleness "
+    holds("the page has it", (True, 1, []), (f"<h1>24 nodes: scuttle-depth with {least} entries keeps the worst staleness "
                                              "within 4 s</h1>" in page, page.count("target<b>met</b>"), Tags(page).open))
     before = {it: it.stat().st_mtime_ns for it in (room / "target").glob("*/*.csv")}
     holds("it is read again", (0, out), run(room, TOOLS / "gossip_advise", "-o", "target")[:2])

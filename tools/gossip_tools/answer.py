@@ -519,10 +519,9 @@ def last_of_first_words(decision, folder):
     if it.heals() and decision.reserve():
         said.append(f"All these times are for packet={decision.packet()}. If your program fills a larger one anyway, "
                     "copies heal sooner: the last answer has that in the line `with the reserve`.")
-    other = ", and by that another budget be taken" if decision.most > it.knee else ""
-    return [*said, "Now all of it is refined, which takes longer. As more rounds are looked at then, the worst "
-            f"staleness may be a round or so higher{other}. Until then {folder / 'answer.txt'} and "
-            f"{folder / 'report.html'} have this first answer."]
+    moved = rules.FIRST_MOVED_BELOW if decision.budget < it.knee else rules.FIRST_MOVED
+    return [*said, f"Now comes the last answer, from more rounds, which takes longer. {rules.FIRST_HELD}, and {moved}. "
+            f"Until then {folder / 'answer.txt'} and {folder / 'report.html'} have this first answer."]
 
 
 WHAT_HEALS = "A split, a restart and a rolling restart"

@@ -54,7 +54,6 @@ def knee(decision, name, y, figure, capped):
     more than six times what the decision has, so that the knee is seen."""
     study, found = decision.study, decision.found
     text, plots, most = HEAD.format(name=name, x="budget, in entries", y=y), [], 0
-    fits = study.whole(study.fits[decision.mode])
     modes = [it for it in STYLES if it in decision.figures]
     for at, mode in enumerate(modes):
         (colour, width, point), rows = STYLES[mode], []
@@ -73,10 +72,28 @@ def knee(decision, name, y, figure, capped):
     tics = ", ".join(str(it) for it in spaced(budgets))
     text += f"set logscale x 2\nset xtics ({tics}) rotate by -45\nset yrange [0:{1.08 * top:.4g}]\n"
     text += f"set xrange [{0.85 * budgets[0]:.6g}:{1.18 * budgets[-1]:.6g}]\n"
-    at, label = (fits, f"fits: {fits}") if fits <= budgets[-1] else (budgets[-1], "all fit")
-    text += (f'set arrow from {at}, graph 0 to {at}, graph 1 nohead dashtype 2 linewidth 1.5 linecolor "#555555"\n'
-             f'set label "{label}" at {at}, graph 1.03 center\n')
+    text += budget_line(decision, budgets[-1])
+    if capped and study.target and study.parts == 1:
+        text += target_line(study.target)
     return text + "set clip two\nplot " + ", \\\n  ".join(plots) + "\n"
+
+
+LINE = 'nohead linewidth 1.5 linecolor "#555555" dashtype'
+
+
+def budget_line(decision, most):
+    """A line at what fits, or, where no packet was told, at what is taken."""
+    study = decision.study
+    at = study.whole(study.fits[decision.mode])
+    at, label = (at, f"fits: {at}") if at <= most else (most, "all fit")
+    if study.told["packet"] is None:
+        at, label = decision.whole_budget(), f"taken: {decision.whole_budget()}"
+    return f'set arrow from {at}, graph 0 to {at}, graph 1 {LINE} 2\nset label "{label}" at {at}, graph 1.03 center\n'
+
+
+def target_line(rounds):
+    return (f'set arrow from graph 0, first {rounds} to graph 1, first {rounds} {LINE} 3\n'
+            f'set label "target" at graph 1, first {rounds} right offset 0, 0.5\n')
 
 
 def spaced(budgets):

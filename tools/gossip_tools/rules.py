@@ -49,6 +49,12 @@ def may_turn_over(one, other):
     return max(other) <= min(one)
 
 
+# What became of the first answers for twenty clusters, by docs/study.md: with a budget from `nodes * writes` on, and below.
+FIRST_HELD = "In twenty clusters of 100 to 400 nodes it had the mode, the budget and the wait of the first one"
+FIRST_MOVED = "a worst staleness at most a round higher"
+FIRST_MOVED_BELOW = "a worst staleness up to five rounds higher, of 10 to 32"
+
+
 def are_close(one, other):
     """Whether two figures are too close to call: neither is better."""
     return not is_better(one, other) and not is_better(other, one)

@@ -161,7 +161,7 @@ class Met(answer.Decision):
     def headline(self):
         if not self.is_met:
             return f"no budget keeps the worst staleness within {float(self.study.told['target']):g} s"
-        return f"{super().headline()} keep the worst staleness within {float(self.study.told['target']):g} s"
+        return f"{super().headline()} keeps the worst staleness within {float(self.study.told['target']):g} s"
 
     def why_empty(self):
         return "in each mode budgets are halved until the smallest that keeps to the target is known"

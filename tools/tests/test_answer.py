@@ -406,7 +406,7 @@ class Healed(unittest.TestCase):
         said = " ".join(answer.last_of_first_words(found, pathlib.Path("mine")))
         self.assertIn("All these times are for packet=8000. If your program fills a larger one anyway, copies heal",
                       said)
-        self.assertIn("a round or so higher, and by that another budget be taken. Until then mine/answer.txt", said)
+        self.assertIn("and a worst staleness at most a round higher. Until then mine/answer.txt", said)
 
     def test_all_keys_at_the_start(self):
         """200 nodes and 5 that restart with 4 keys make 200 + 5 * 4 = 220 entries, 8800 bytes, and with the digest of

@@ -8,8 +8,8 @@ import math
 from gossip_tools import answer, rules, study
 from gossip_tools.answer import row
 
-# A budget isn't halved any further where the next smaller one that was run is less than a fiftieth below it.
-FINE = 50
+# Budgets aren't halved any further where the next smaller one that was run is an entry or less than a hundredth below.
+FINE = 100
 
 
 def keeps_to(it, figure):

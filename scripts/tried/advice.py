@@ -63,14 +63,15 @@ def try_advice(room):
     others = [it for it in tags.named if not it.startswith("data:image/svg+xml;base64,")]
     holds("the page is whole and needs no other", ([], pictures, []), (tags.open, text.count("<img "), others))
     sum_of_program = hashlib.sha256(pathlib.Path(PROGRAM).read_bytes()).hexdigest()
-    holds("the page has the check sum and the scenarios, and a restart is one of nodes that forget", [True] * 5 + [False],
+    # (a restart is told of nodes that forget)
+    holds("the page has the check sum and the scenarios", [True] * 5 + [False],
           [sum_of_program in text, *(f"gossip_sweep -o {it} budget" in text for it in
                                      ("few", "many", "split", "forgotten", "restart"))])
     holds("the page says what is counted and how long to wait", (1, 1),
           (text.count("the age of the oldest missing write was for the first time at most one round above its highest"),
            text.count("a rolling restart<b>wait ")))
-    holds("the page is dark where the screen is, and its table has a head", (1, 1, 1),
-          tuple(text.count(it) for it in ("@media screen and (prefers-color-scheme: dark)", "<thead>", "</thead><tbody>")))
+    parts = ("@media screen and (prefers-color-scheme: dark)", "<thead>", "</thead><tbody>")
+    holds("the page is dark where the screen is, and its table has a head", [1, 1, 1], [text.count(it) for it in parts])
     before = {it: it.stat().st_mtime_ns for it in advice.glob("*/*.csv")}
     none = room / "nothing"
     none.mkdir()
@@ -94,7 +95,8 @@ def try_advice(room):
                        "nodes * writes = 8 entries takes packet=5120"),
                       ("rounds=9", "For rounds= there is gossip_scenario"), ("--jobs=2", "as JOBS=2"),
                       ("interval=100ms", "write interval=0.1."), ("split=1h", "it is in intervals"),
-                      ("restarts=9", "of 8 nodes no 9 can restart at once"), ("restarts=5%", "'5%' isn't."), ("restarts", "Write restarts=VALUE, without a space.")):
+                      ("restarts=9", "of 8 nodes no 9 can restart at once"),
+                      ("restarts=5%", "'5%' isn't."), ("restarts", "Write restarts=VALUE, without a space.")):
         words = {it.partition("=")[0].replace("delta", "packet"): it for it in (*cluster, word)}
         refuses(room, why, "gossip_advise", "-o", "refused", *words.values())
     refuses(room, "nodes= is missing", "gossip_advise", "-o", "refused")
@@ -115,8 +117,8 @@ def try_reserve(room):
         is_worse = min(at_knee) > max(at_most)
         budget = f"{48 if is_worse else 24} entries in a delta, {1920 if is_worse else 960} bytes "
         other = (f"With nodes * writes = 24 entries it is {as_rounds(at_knee)}: worse" if is_worse else
-                 f"With the 48 entries (2 times nodes * writes) it is {as_rounds(at_most)}: no better, as the bands of the "
-                 "seeds touch. So packet=960 is enough, and what is above that is a reserve")
+                 f"With the 48 entries (2 times nodes * writes) it is {as_rounds(at_most)}: no better, as the bands of "
+                 "the seeds touch. So packet=960 is enough, and what is above that is a reserve")
         holds(f"the budget after {stage} intervals", (0, True, True),
               (status, f"scuttle-depth with room for {budget}" in told, other in told))
     holds("nothing that heals is run where none is asked for", ({"few", "many"}, False),
@@ -137,9 +139,9 @@ def column(folder, budget, name):
 
 
 def try_target(room):
-    """The smallest budget of 24 nodes with 6 keys that keeps the worst staleness within 4 s, which have 8 rounds of half
-    a second: counted once more from the reports. A delta of n entries of 40 bytes and a digest of 24 numbers of 10 bytes
-    take n * 40 + 240 bytes. 24 * 23 * 6 are 3312 copies."""
+    """The smallest budget of 24 nodes with 6 keys that keeps the worst staleness within 4 s, which have 8 rounds of
+    half a second: counted once more from the reports. A delta of n entries of 40 bytes and a digest of 24 numbers of 10
+    bytes take n * 40 + 240 bytes. 24 * 23 * 6 are 3312 copies."""
     words = ("nodes=24", "keys=6", "writes=1", "entry=40", "digest=10", "interval=0.5", "count=entries", "loss=1")
     call = ("-o", "target", "target=4", *words, "mode=scuttle-depth")
     status, out, err = run(room, TOOLS / "gossip_advise", *call)
@@ -148,7 +150,8 @@ def try_target(room):
     least = min(it for it in budgets if max(worst(many, it, 101, 200)) <= 8)
     below = max(it for it in budgets if it < least)
     holds("one entry less is too few", (1, True), (least - below, max(worst(many, below, 101, 200)) > 8))
-    said = (f"Take scuttle-depth with room for {least} entries in a delta, {least * 40} bytes ", f"packet={least * 40 + 240}.")
+    said = (f"Take scuttle-depth with room for {least} entries in a delta, {least * 40} bytes ",
+            f"packet={least * 40 + 240}.")
     line = next((it for it in out.splitlines() if it.startswith("Take ")), "")
     holds("the smallest packet", (0, True, True), (status, line.startswith(said[0]), line.endswith(said[1])))
     holds("the target", (True, True),
@@ -163,23 +166,25 @@ def try_target(room):
     holds("no write in the 8 rounds after 200", True,
           (stop / "scenario").read_text().endswith("\n[[load]]\nfrom = 201\nto = 208\nwrites = 0\n"))
     page = (room / "target" / "report.html").read_text()
-    holds("the page has it", (True, 1, []), (f"<h1>24 nodes: scuttle-depth with {least} entries keeps the worst staleness "
-                                             "within 4 s</h1>" in page, page.count("target<b>met</b>"), Tags(page).open))
+    head = f"<h1>24 nodes: scuttle-depth with {least} entries keeps the worst staleness within 4 s</h1>"
+    holds("the page has it", (True, 1, []), (head in page, page.count("target<b>met</b>"), Tags(page).open))
     before = {it: it.stat().st_mtime_ns for it in (room / "target").glob("*/*.csv")}
     holds("it is read again", (0, out), run(room, TOOLS / "gossip_advise", "-o", "target")[:2])
     holds("and no run made again", before, {it: it.stat().st_mtime_ns for it in (room / "target").glob("*/*.csv")})
-    for target, verdict in (("4", "met: the worst staleness is within 4 s"), ("1", "not met: the worst staleness is above")):
+    for target, verdict in (("4", "met: the worst staleness is within 4 s"),
+                            ("1", "not met: the worst staleness is above 1 s")):
         status, out, err = run(room, TOOLS / "gossip_advise", "-o", f"judged {target}", *words, "mode=scuttle-depth",
                                f"packet={least * 40 + 240}", f"target={target}", "split=0", "restarts=0")
         holds(f"a packet for target={target}", (0, True, True),
               (status, f"\nThe target is {verdict}" in out, f"\n  target              {verdict}" in out))
     status, out, err = run(room, TOOLS / "gossip_advise", "-o", "never", "target=1", *words)
     holds("a target that no budget meets", (0, True, True),
-          (status, out.startswith("No budget keeps the worst staleness within 1 s, which have 2 rounds. The best that can "
-                                  "be had, with room for 144 entries"), "<h1>24 nodes: no budget keeps" in
+          (status, out.startswith("No budget keeps the worst staleness within 1 s, which have 2 rounds. The best that "
+                                  "can be had, with room for 144 entries"), "<h1>24 nodes: no budget keeps" in
            (room / "never" / "report.html").read_text()))
     for word, why in (("target=0", "target is in seconds, and above 0."), ("target=-4", "which '-4' isn't"),
-                      ("target=4s", "write target=4"), ("target=0.4", "would be 0 rounds of 0.5 s, and has to be from 1 to"),
+                      ("target=4s", "write target=4"),
+                      ("target=0.4", "would be 0 rounds of 0.5 s, and has to be from 1 to 600"),
                       ("target=301", "would be 602 rounds of 0.5 s, and has to be from 1 to 600")):
         refuses(room, why, "gossip_advise", "-o", "refused", word, *words)
     refuses(room, "packet= is missing", "gossip_advise", "-o", "refused", *words)
@@ -213,15 +218,16 @@ def try_hopeless_advice(room):
     first, said = out.partition("\n\n")[::2]
     enough = "packet=1600 has room for nodes * writes = 40 entries, worst staleness "
     sum_says = ("By a sum, of the worst staleness: each node has 234 copies to renew and gets about two deltas of 2 "
-                "entries in a round, so it is at least 52 rounds; room for nodes * writes = 40 entries takes packet=1600.")
-    holds("a sum is told at once", (0, [sum_says, "So 60 rounds can't show a level, and there is no first answer. Whether "
-                                        "it levels off later is seen from 200 rounds now, and where it doesn't, from 400 "
-                                        "and 800, and no more."]), (status, first.splitlines()))
+                "entries in a round, so it is at least 52 rounds; room for nodes * writes = 40 entries takes "
+                "packet=1600.")
+    holds("a sum is told at once", (0, [sum_says, "So 60 rounds can't show a level, and there is no first answer. "
+                                        "Whether it levels off later is seen from 200 rounds now, and where it "
+                                        "doesn't, from 400 and 800, and no more."]), (status, first.splitlines()))
     holds("none is enough", (True, True, True),
-          (said.startswith("No budget that fits is enough: still rising after 800 rounds. The most that fits: room for "
+          (said.startswith("No budget that fits is enough: not level within 800 rounds. The most that fits: room for "
                            "2 entries in a delta, 80 bytes"),
            f"  enough              {enough}" in said,
-           "  worst staleness     not known: still rising after 800 rounds; by a sum at least 52" in said))
+           "  worst staleness     not known: not level within 800 rounds; by a sum at least 52" in said))
     holds("nothing is run that heals", ["longer", "longest", "many"],
           sorted(it.name for it in (room / "no hope").iterdir() if (it / "scenario").exists()))
     page = (room / "no hope" / "report.html").read_text()
@@ -238,8 +244,8 @@ def try_hopeless_advice(room):
 
 
 def try_longer_runs(room):
-    """Four entries for 40 nodes that write one of 6 keys each: a level above 150, which 200 rounds can't tell from none,
-    and below 300, which 400 rounds can."""
+    """Four entries for 40 nodes that write one of 6 keys each: a level above 150, which 200 rounds can't tell from
+    none, and below 300, which 400 rounds can."""
     cluster = ("nodes=40", "keys=6", "writes=1", "entry=40", "packet=160", "count=entries", "loss=1", "split=0")
     status, out, err = run(room, TOOLS / "gossip_advise", "-o", "longer", *cluster, "restarts=2")
     first, said = out.partition("\n\n")[::2]
@@ -248,8 +254,8 @@ def try_longer_runs(room):
     holds("the first answer says how far is looked", True, "\nWhether it levels off later is seen from 200 rounds now, "
           "and where it doesn't, from 400 and 800, and no more.\n" in first)
     holds("the longer runs name mode and budget", (True, True, True),
-          (said.startswith("Take scuttle-depth with room for 4 entries in a delta, 160 bytes (what fits; 0.1 times nodes "
-                           "* writes); packet=160.\n"),
+          (said.startswith("Take scuttle-depth with room for 4 entries in a delta, 160 bytes (what fits; 0.1 times "
+                           "nodes * writes); packet=160.\n"),
            f"\n  worst staleness     {as_rounds(long)}, " in said, "in rounds 201 to 400, least and most of" in said))
     holds("and what heals", True, "\n  a rolling restart   " in said)
     page = (room / "longer" / "report.html").read_text()

@@ -121,7 +121,7 @@ class Decision:
         return rules.is_better(self.worst, self.worst_with(budget, self.mode))
 
     def is_out(self, budget):
-        """Whether a budget that was run isn't taken, be it that it still rises, or that something is better."""
+        """Whether a budget that was run isn't taken, be it that it isn't level, or that something is better."""
         worst = self.worst_with(budget, self.mode)
         return not self.is_enough(budget, self.mode) or any(
             rules.is_better(it, worst) for it in [self.worst, *self.others])
@@ -157,7 +157,7 @@ class Decision:
     def staleness(self):
         """The worst staleness, in words."""
         if not self.suffices:
-            return f"not known: still rising after {self.window[1]} rounds{self.at_least()}"
+            return f"not known: not level within {self.window[1]} rounds{self.at_least()}"
         it = self.study
         run = lasting(it, self.worst)
         return f"{self.at_most()}: the {it.nodes} that were run had {run}" if it.parts > 1 else run
@@ -178,7 +178,7 @@ class Decision:
         if (at_knee, self.mode) not in self.found.rows:
             return said
         if not self.knee_suffices():
-            return f"{said}, where `greatest` still rises too"
+            return f"{said}, where `greatest` isn't level either"
         return f"{said}, worst staleness {briefly(it, self.worst_with(at_knee, self.mode))} with that"
 
     def knee_suffices(self):
@@ -211,7 +211,7 @@ class Decision:
     def headline(self):
         """The decision, in a few words."""
         if not self.suffices:
-            return f"no budget that fits is enough, still rising after {self.window[1]} rounds"
+            return f"no budget that fits is enough, not level within {self.window[1]} rounds"
         return f"{self.mode} with {self.whole_budget()} entries"
 
     def why_empty(self):
@@ -299,7 +299,7 @@ class Decision:
             return ""
         at_knee = f"With {it.knee_name} = {it.whole(it.knee)} entries"
         if not self.knee_suffices():
-            return f"{at_knee} `greatest` still rises"
+            return f"{at_knee} `greatest` isn't level"
         worst = self.worst_with(it.knee, self.mode)
         why = ", and another mode with what fits is better than that"
         if self.is_worse(it.knee):
@@ -320,7 +320,7 @@ class Decision:
         return between | {(it.knee, self.mode), (self.most, self.mode)}
 
     def too_close(self):
-        """Which figures are too close to call. Those that still rise say nothing."""
+        """Which figures are too close to call. Those that aren't level say nothing."""
         if not self.suffices:
             return []
         it, whole = self.study, self.study.whole
@@ -339,7 +339,9 @@ class Decision:
     def all_that_fits(self):
         """The largest budget that was looked at, in words."""
         it = self.study
-        what = "that fit" if it.whole(self.most) == it.fits_of_all[self.mode] else f"({self.most / it.knee:.2g} times {it.knee_name})"
+        what = f"({self.most / it.knee:.2g} times {it.knee_name})"
+        if it.whole(self.most) == it.fits_of_all[self.mode]:
+            what = "that fit"
         return f"the {it.whole(self.most)} entries {what}"
 
 
@@ -349,7 +351,8 @@ class Healing:
     def __init__(self, study, mode, stages):
         self.study, self.mode = study, mode
         # (by what heals, its runs)
-        self.stages = {it: found for stage, found in stages.items() for it in study.healing_stages().get(stage, (stage,))}
+        tells = study.healing_stages()
+        self.stages = {it: found for stage, found in stages.items() for it in tells.get(stage, (stage,))}
         # (at the end of a line, where a tenth was run)
         self.run = f" ({study.nodes} nodes run)" if study.parts > 1 else ""
 
@@ -388,7 +391,8 @@ class Healing:
         harder = ", a harder test than one group" if groups > 1 else ""
         if not it.restarts:
             return f"of one node, down for one {unit(it)[:-1]}{forgets(it)}"
-        return f"of {in_nodes(each)} in each of {groups} {unit(it)}{fewer(it, it.restarts)}, each down for one{forgets(it)}{harder}"
+        who = f"of {in_nodes(each)} in each of {groups} {unit(it)}{fewer(it, it.restarts)}"
+        return f"{who}, each down for one{forgets(it)}{harder}"
 
     def lines_now(self, stage, budget):
         """The lines of a stage as soon as it is run."""
@@ -486,7 +490,7 @@ def first_words(decision, call="", about_target=()):
                 f"That is below {it.knee_name}. {to_knee}." if to_knee else "", decision.forgetful(), *limits(decision),
                 *(of_calls(it) if it.fanout > 1 else [])]
     else:
-        said = [f"First answer, from {since}: no budget that fits is seen to be enough, still rising after {few} rounds.",
+        said = [f"First answer, from {since}: no budget that fits is seen to be enough, not level within {few} rounds.",
                 decision.most_that_fits(), decision.forgetful(), f"{to_knee}." if to_knee else "", *limits(decision),
                 levels_off_later(it)]
         if call and it.asks_for_healing():
@@ -549,7 +553,7 @@ def warnings(decision):
     own = "a delta in packets of its own (shared=no), " if shared else ""
     if not decision.suffices:
         larger = f"A larger packet, {own}a shorter entry or fewer" if decision.to_knee() else "Less loss or fewer"
-        said.append("`greatest` still rises in the second half of the window, in each mode that was run. "
+        said.append("`greatest` isn't level in any mode that was run. "
                     f"{larger} writes would help.")
     elif decision.budget < it.knee:
         said.append(f"The budget is below {it.knee_name}, the knee above which a larger one hardly helps, so copies "
@@ -586,9 +590,10 @@ def of_healing(it):
                     "anew meanwhile, so a longer one leaves no more to catch up with.")
     if it.restarts:
         _, groups = it.restarting()
-        said.append(f"{it.group()} is the size of a group that restarts at once{fewer(it, it.told['restarts'])}. What was run are "
-                    f"{groups} such groups, one in each {unit(it)[:-1]}, each down for one. The times count from when "
-                    "the last one is up again.")
+        in_place = fewer(it, it.told["restarts"])
+        said.append(f"{it.group()} is the size of a group that restarts at once{in_place}. What was run are {groups} "
+                    f"such groups, one in each {unit(it)[:-1]}, each down for one. The times count from when the last "
+                    "one is up again.")
         said.append(f"While nodes restart in each {unit(it)[:-1]}, `greatest` is the number of the round and bounds "
                     "nothing.")
     return said + ([rules.DOWN_FOR_LONGER] if it.leaves() else [])
@@ -667,7 +672,7 @@ GROUPS = ("Groups: one node restarts at a time here. For a rolling restart in gr
 
 def none_fits(decision):
     """That no budget is enough, in words."""
-    return f"No budget that fits is enough: still rising after {decision.window[1]} rounds"
+    return f"No budget that fits is enough: not level within {decision.window[1]} rounds"
 
 
 def heads(decision):

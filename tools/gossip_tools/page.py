@@ -5,8 +5,8 @@ import re
 
 from gossip_tools import answer, files, plots, read, rules
 
-# (on paper the page is light, whatever the screen is; pictures, which are drawn on white, are turned dark, each colour to
-# its own on black)
+# (on paper the page is light, whatever the screen is; pictures, which are drawn on white, are turned dark, and their
+# colours stay what they are)
 STYLE = """
 :root { color-scheme: light; --page: #fff; --text: #222; --soft: #444; --line: #ccc; --code: #f4f4f4; --mark: #dbe9f6;
     --first: #00407a; --none: #a33c00; --warn: #c60; }
@@ -64,7 +64,7 @@ def cards(decision, healing, more):
                 ("worst staleness", rounds, "; ".join(filter(None, (time, decision.reckon()))), "")]
     else:
         rows = [("budget", "none that fits is enough", f"tried: {budget} entries, {of_budget}", "none"),
-                ("worst staleness", "not known", f"still rising after {decision.window[1]} rounds", "none")]
+                ("worst staleness", "not known", f"not level within {decision.window[1]} rounds", "none")]
         if decision.to_knee():
             rows.append(("enough", f"{it.packet(decision.mode)} bytes", decision.to_knee(), "first"))
     rows += [(name, *said.partition(": ")[::2], "") for name, said in more]
@@ -158,9 +158,9 @@ def table(decision):
             if (budget, mode) not in decision.found.rows:
                 text += "<td></td>"
                 continue
-            rising = "" if decision.found.suffices(budget, mode, window) else " rising"
+            level = "" if decision.found.suffices(budget, mode, window) else " not level"
             chosen = "chosen" if decision.suffices and (budget, mode) == (decision.budget, decision.mode) else ""
-            text += (f'<td class="{chosen}">{answer.span(decision.worst_with(budget, mode))}{rising}<br>'
+            text += (f'<td class="{chosen}">{answer.span(decision.worst_with(budget, mode))}{level}<br>'
                      f"<small>{answer.span(decision.found.cut(budget, mode, window), 2)} %</small></td>")
         text += "</tr>"
     return f'<div class="wide"><table><thead>{head}</thead><tbody>{text}</tbody></table></div>'
@@ -202,8 +202,8 @@ messages lost: {float(it.told['loss']):g} %. All figures go from the least to th
 {listed("Mind", answer.warnings(decision), "mind")}
 {pictures(folder, decision, healing)}
 <h2>Worst staleness and share cut</h2>
-<p class="before-table">In rounds {first} to {last}, by budget in entries and mode. Rising: this budget isn't enough. A field is empty where
-its runs could change nothing: {decision.why_empty()}.</p>
+<p class="before-table">In rounds {first} to {last}, by budget in entries and mode. Not level: this budget isn't
+enough. A field is empty where its runs could change nothing: {decision.why_empty()}.</p>
 {table(decision)}
 {listed("Too close to call", decision.too_close())}
 {listed("Left out for this cluster", answer.left_out(decision))}

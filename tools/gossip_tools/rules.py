@@ -44,12 +44,12 @@ def is_better(one, other):
 
 
 def may_turn_over(one, other):
-    """Whether few rounds can't tell that the other isn't better than the one: where their bands have one round in common
-    at most. More rounds make the higher one rise."""
+    """Whether few rounds can't tell that the other isn't better than the one: where their bands have one round in
+    common at most. More rounds may make the higher one rise."""
     return max(other) <= min(one)
 
 
-# What became of the first answers for twenty clusters, by docs/study.md: with a budget from `nodes * writes` on, and below.
+# What became of the first answers for twenty clusters, by docs/study.md, from `nodes * writes` on and below.
 FIRST_HELD = "In twenty clusters of 100 to 400 nodes it had the mode, the budget and the wait of the first one"
 FIRST_MOVED = "a worst staleness at most a round higher"
 FIRST_MOVED_BELOW = "a worst staleness up to five rounds higher, of 10 to 32"
@@ -152,7 +152,7 @@ def smaller_budgets(budget, at_knee):
 
 def mode_of(figures):
     """"`scuttle-depth`", unless another mode is better; "else take the cheaper one". The figures are by mode, of those
-    whose budget suffices: those that still rise say nothing."""
+    whose budget suffices: those that aren't level say nothing."""
     chosen, *others = [it for it in CHEAPEST_FIRST if it in figures]
     for mode in others:
         if is_better(figures[mode], figures[chosen]):

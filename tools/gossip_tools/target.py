@@ -33,8 +33,8 @@ def judged(decision):
         said = (f"met with all that fits alone: with {decision.all_that_fits()} the worst staleness is within "
                 f"{in_time(it)}")
     else:
-        said = (f"not met: the worst staleness is above {in_time(it)}. Without packet= the smallest that keeps to it is "
-                "looked for")
+        said = (f"not met: the worst staleness is above {in_time(it)}. Without packet= the smallest that keeps to it "
+                "is looked for")
     return "target", said
 
 
@@ -63,10 +63,10 @@ class Ages:
     def told(self, budget, mode):
         """Both, as names and words."""
         first, last = self.window
-        return [("stale copies", f"{answer.span(self.shares(budget, mode))} %: so many of all copies lack some write, on "
-                                 f"average over rounds {first} to {last}"),
-                ("a typical one", f"{self.typical(budget, mode)}: half of the stale copies lack only writes that are no "
-                                  "older")]
+        share, age = answer.span(self.shares(budget, mode)), self.typical(budget, mode)
+        return [("stale copies", f"{share} %: so many of all copies lack some write, on average over rounds {first} to "
+                                 f"{last}"),
+                ("a typical one", f"{age}: half of the stale copies lack only writes that are no older")]
 
 
 def aged(stages, stage, found, pairs):
@@ -191,9 +191,9 @@ class Met(answer.Decision):
         below = self.search.below[self.mode]
         if (below, self.mode) in self.found.rows:
             worst = self.worst_with(below, self.mode)
-            rising = "" if self.is_enough(below, self.mode) else ", still rising"
+            level = "" if self.is_enough(below, self.mode) else ", not level"
             said.append(("a smaller one", f"{it.whole(below)} entries: the next smaller budget that was run has "
-                                 f"{answer.briefly(it, worst)}{rising}"))
+                                 f"{answer.briefly(it, worst)}{level}"))
         elif it.parts > 1:
             said.append(("a smaller one", f"not known: below {it.knee_name} a tenth of the nodes says too little"))
         return said
@@ -214,7 +214,8 @@ class Met(answer.Decision):
         it = self.study
         if not self.is_met:
             lines = [f"No budget keeps the worst staleness within {in_time(it)}. The best that can be had, with "
-                     f"{self.room()}: {self.staleness()}. A shorter interval, more calls in it or less loss would help."]
+                     f"{self.room()}: {self.staleness()}. A shorter interval, more calls in it or less loss would "
+                     "help."]
         else:
             lines = [f"To keep the worst staleness within {in_time(it)}, each mode needs at least:",
                      *(row(mode, self.of_mode_in_words(mode)) for mode in it.fits), "", f"Take {self.takes()}."]

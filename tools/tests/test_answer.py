@@ -62,8 +62,8 @@ class Decided(unittest.TestCase):
         self.assertEqual(["", f"{found.why_not_knee()}."], [found.reserve(), answer.first_words(found)[2]])
 
     def test_between(self):
-        """The band of 900, one and a half times 600, touches that of the 1000: 900 are taken, which are 36000 bytes. 600
-        aren't worse than these, but than the 1000."""
+        """The band of 900, one and a half times 600, touches that of the 1000: 900 are taken, which are 36000 bytes.
+        600 aren't worse than these, but than the 1000."""
         depth = {1000: [9, 9], 900: [9, 10], 600: [10, 12], 450: [13, 14]}
         found = decided({(budget, "scuttle-depth"): worst for budget, worst in depth.items()})
         self.assertEqual(("scuttle-depth", 900, None), (found.mode, found.budget, found.smaller()))
@@ -76,8 +76,8 @@ class Decided(unittest.TestCase):
         self.assertIn(f"  nodes * writes      {found.why_not_knee()}", lines)
 
     def test_budgets_to_look_closer_at(self):
-        """Where the bands of 600 and 1000 have two rounds in common, few rounds can choose; where they have one or none,
-        they can't, and 900 may be taken too. With 600 that fit there is no choice."""
+        """Where the bands of 600 and 1000 have two rounds in common, few rounds can choose; where they have one or
+        none, they can't, and 900 may be taken too. With 600 that fit there is no choice."""
         all_of_them = {(budget, "scuttle-depth") for budget in (600, 900, 1000)}
         for at_600, at_1000, wanted in (([7, 8], [7, 8], set()), ([8, 9], [7, 8], all_of_them),
                                         ([9, 9], [7, 8], all_of_them)):
@@ -96,7 +96,7 @@ class Decided(unittest.TestCase):
                          [said[0].partition(" in a delta")[0], said[1].partition(",")[0]])
 
     def test_between_is_worse_or_rises(self):
-        """900 are worse than the 1000 under both seeds, or `greatest` still rises with them: then 1000 are taken. Where
+        """900 are worse than the 1000 under both seeds, or `greatest` isn't level with them: then 1000 are taken. Where
         600 are no worse than the 1000, 900 that are worse by accident change nothing."""
         cases = {((10, 10), (10, 12), ()): 1000, ((9, 10), (10, 12), ((900, "scuttle-depth"),)): 1000,
                  ((10, 10), (9, 10), ()): 600}
@@ -122,7 +122,7 @@ class Decided(unittest.TestCase):
     def test_nodes_times_writes_still_rise(self):
         depth = {(1000, "scuttle-depth"): [7, 9], (600, "scuttle-depth"): [8, 9]}
         found = decided(depth, [(600, "scuttle-depth")])
-        self.assertEqual((1000, "With nodes * writes = 600 entries `greatest` still rises"),
+        self.assertEqual((1000, "With nodes * writes = 600 entries `greatest` isn't level"),
                          (found.budget, found.why_not_knee()))
 
     def test_another_mode_is_better(self):
@@ -134,14 +134,14 @@ class Decided(unittest.TestCase):
         it = of("nodes=300 keys=4 writes=2 entry=40 packet=24000 digest=10 mode=precise-newest")
         figures = {(300, "precise-newest"): [12, 13], (600, "precise-newest"): [7, 8]}
         for rises, first in (([], "Take precise-newest with room for 300 entries"),
-                             ([(300, "precise-newest")], "No budget that fits is enough: still rising after 200 "
+                             ([(300, "precise-newest")], "No budget that fits is enough: not level within 200 "
                               "rounds. The most that fits: room for 300 entries")):
             lines = answer.in_words(answer.Decision(it, Figures(figures, rises), MANY), None)
             self.assertTrue(lines[0].startswith(first), lines[0])
             self.assertFalse([line for line in lines if "scuttle" in line or "other mode" in line])
 
     def test_one_mode_is_enough(self):
-        """Where scuttle-depth still rises and scuttle-breadth doesn't, the figures of the former say nothing."""
+        """Where scuttle-breadth is level and scuttle-depth isn't, the figures of the former say nothing."""
         found = decided({(1000, "scuttle-depth"): [5, 6]}, [(1000, "scuttle-depth")])
         self.assertEqual(("scuttle-breadth", True), (found.mode, found.suffices))
 
@@ -158,11 +158,11 @@ class Decided(unittest.TestCase):
             self.assertEqual(("scuttle-depth", False, f"packet={delta}, worst staleness 7 to 8 rounds with that"),
                              (found.mode, found.suffices, found.to_knee()))
             lines = answer.in_words(found, None)
-            self.assertIn("No budget that fits is enough: still rising after 200 rounds. The most that fits: room for "
+            self.assertIn("No budget that fits is enough: not level within 200 rounds. The most that fits: room for "
                           "28 entries in a delta, 1120 bytes", lines[0])
             self.assertTrue(lines[0].endswith(f"No mode can be preferred with that: of {answer.listed(list(modes))} "
                                               "none is ahead, as the bands of the seeds touch."))
-            self.assertIn("  worst staleness     not known: still rising after 200 rounds; by a sum at least 19", lines)
+            self.assertIn("  worst staleness     not known: not level within 200 rounds; by a sum at least 19", lines)
 
     def test_a_mode_is_ahead(self):
         """None is level with the 28 entries that fit. One whose band is below the others is named, and the others
@@ -185,12 +185,12 @@ class Decided(unittest.TestCase):
             self.assertIn(said, found.most_that_fits())
         worst = {(28, name): band for name, band in (cases[0][0] | rest).items()}
         said = answer.Decision(it, Figures(worst, worst), MANY).why_dropped()
-        self.assertEqual(["Up to round 200 these modes were behind scuttle-depth with 150 to 170 rounds, and weren't run "
-                          "on, as the bands of the seeds don't touch: scuttle-breadth with 171 to 190 rounds, "
+        self.assertEqual(["Up to round 200 these modes were behind scuttle-depth with 150 to 170 rounds, and weren't "
+                          "run on, as the bands of the seeds don't touch: scuttle-breadth with 171 to 190 rounds, "
                           "precise-oldest with 199 to 200 rounds, precise-newest with 185 to 196 rounds."], said)
         # (in the longer runs it is the only one, and is told as ahead until it is level)
         worst = {(28, "scuttle-depth"): [210, 230], (600, "scuttle-depth"): [7, 8]}
-        for rising, begins in ((worst, "No budget that fits is enough: still rising after 400 rounds. The most that "
+        for rising, begins in ((worst, "No budget that fits is enough: not level within 400 rounds. The most that "
                                 "fits: room for 28 entries in a delta, 1120 bytes (what fits; 0.047 times nodes * "
                                 "writes). Of the modes scuttle-depth is ahead"),
                                ((), "Take scuttle-depth with room for 28 entries")):
@@ -464,7 +464,8 @@ class Healed(unittest.TestCase):
                          "budget", healing(restart=[6, None], forgotten=[7, 8]).wait(200))
 
     def test_wait_at_once(self):
-        """The wait is told with the restart; where nodes forget, both that and the forgotten state are of their runs."""
+        """The wait is told with the restart; where nodes forget, both that and the forgotten state are of runs in which
+        they do."""
         def told(stage, more, **taken):
             lines = healing(f"restarts=5 {more}", **taken).lines_now(stage, 200)
             return [it[2:].partition(" rounds, ")[0] for it in lines if not it.startswith("   ")]
@@ -474,8 +475,8 @@ class Healed(unittest.TestCase):
         self.assertEqual([restart, "a forgotten state   of 5 nodes in each of 10", "a rolling restart   wait 10"],
                          told("forgotten", "split=0 forget=yes", forgotten=[6, 8]))
         line = healing("restarts=5 forget=yes", forgotten=[6, 7]).lines("restart", 200)[0]
-        self.assertTrue(line.endswith(f", each down for one, and then without its own state, a harder test than one group: "
-                                      f"{heals} rounds, 3.0 to 3.5 s"), line)
+        self.assertTrue(line.endswith(", each down for one, and then without its own state, a harder test than one "
+                                      f"group: {heals} rounds, 3.0 to 3.5 s"), line)
 
     def test_smaller_groups(self):
         """80 of 200 nodes restart at once, 150 don't: of those 100 do, as half of them stay up. Both answers say so."""

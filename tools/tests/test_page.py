@@ -10,7 +10,8 @@ CONTRAST = 4.5
 
 def themes():
     """The colours of the light theme and of the dark one, by name."""
-    return [dict(re.findall("--([a-z]+): (#[0-9a-f]+)", block)) for block in re.findall(r":root {(.*?)}", page.STYLE, re.S)]
+    blocks = re.findall(r":root {(.*?)}", page.STYLE, re.S)
+    return [dict(re.findall("--([a-z]+): (#[0-9a-f]+)", block)) for block in blocks]
 
 
 def luminance(colour):

@@ -73,7 +73,8 @@ class Searched(unittest.TestCase):
         search = target.Search(it, Made(it, {DEPTH: 12345}))
         search.carry_out()
         least, below = search.least[DEPTH], search.below[DEPTH]
-        self.assertEqual((True, True, True), (below < 1235 <= least, least - below <= least // 100, len(search.pairs) < 12))
+        self.assertEqual((True, True, True),
+                         (below < 1235 <= least, least - below <= least // 100, len(search.pairs) < 12))
 
     def test_the_largest_budget(self):
         """None has less than 7 rounds. Where all that is told is 7, the modes may need all 400, which cut nothing."""
@@ -116,27 +117,29 @@ class Told(unittest.TestCase):
         self.assertEqual({"many", "many-stop"}, search.stages.asked)
         for line in (
                 "To keep the worst staleness within 5 s, which have 10 rounds, each mode needs at least:",
-                "  scuttle-breadth     120 entries, packet=5800: worst staleness 10 rounds; 40 to 50 % of the copies are "
-                "stale, half of them by at most 2 to 3 rounds, 1.0 to 1.5 s",
-                "Take scuttle-depth with room for 80 entries in a delta, 3200 bytes (0.8 times nodes * writes); with the "
-                "digest packet=4200.",
+                "  scuttle-breadth     120 entries, packet=5800: worst staleness 10 rounds; 40 to 50 % of the copies "
+                "are stale, half of them by at most 2 to 3 rounds, 1.0 to 1.5 s",
+                "Take scuttle-depth with room for 80 entries in a delta, 3200 bytes (0.8 times nodes * writes); with "
+                "the digest packet=4200.",
                 "  target              met: the worst staleness is within 5 s, which have 10 rounds",
                 "  a smaller one       79 entries: the next smaller budget that was run has 11 rounds",
-                "  stale copies        40 to 50 %: so many of all copies lack some write, on average over rounds 101 to 200",
-                "  a typical one       2 to 3 rounds, 1.0 to 1.5 s: half of the stale copies lack only writes that are no "
-                "older", "  CALL"):
+                "  stale copies        40 to 50 %: so many of all copies lack some write, on average over rounds 101 "
+                "to 200",
+                "  a typical one       2 to 3 rounds, 1.0 to 1.5 s: half of the stale copies lack only writes that are "
+                "no older", "  CALL"):
             self.assertIn(line, lines)
         # (nothing was run that heals)
-        self.assertFalse([line for line in lines if "Groups:" in line or "down for longer" in line or "reserve" in line])
+        of_healing = ("Groups:", "down for longer", "reserve")
+        self.assertFalse([line for line in lines if any(it in line for it in of_healing)])
 
     def test_none_keeps_to_it(self):
         search, is_met = searched("target=6")
         met = target.Met(search, is_met, target.aged(search.stages, search.stage, search.found, {(400, DEPTH)}))
         lines = met.in_words("CALL")
-        self.assertEqual("No budget keeps the worst staleness within 6 s, which have 6 rounds. The best that can be had, "
-                         "with room for 400 entries in a delta, 16000 bytes (nodes * keys, above which nothing changes; 4 "
-                         "times nodes * writes): 7 rounds, 7 s. A shorter interval, more calls in it or less loss would "
-                         "help.", lines[0])
+        self.assertEqual("No budget keeps the worst staleness within 6 s, which have 6 rounds. The best that can be "
+                         "had, with room for 400 entries in a delta, 16000 bytes (nodes * keys, above which nothing "
+                         "changes; 4 times nodes * writes): 7 rounds, 7 s. A shorter interval, more calls in it or "
+                         "less loss would help.", lines[0])
         self.assertEqual("no budget keeps the worst staleness within 6 s", met.headline())
         self.assertNotIn("  CALL", lines)
 
@@ -144,8 +147,8 @@ class Told(unittest.TestCase):
         """400 entries fit, of which 100 are taken: 9 to 10 rounds, and with all of them 8 to 9."""
         figures = {(200, mode): [9, 9] for mode in ROUNDS} | {(200, DEPTH): [8, 9], (100, DEPTH): [9, 10]}
         cases = {10: "met: the worst staleness is within 10 s, which have 10 rounds",
-                 9: "met with all that fits alone: with the 200 entries (2 times nodes * writes) the worst staleness is "
-                    "within 9 s, which have 9 rounds",
+                 9: "met with all that fits alone: with the 200 entries (2 times nodes * writes) the worst staleness "
+                    "is within 9 s, which have 9 rounds",
                  8: "not met: the worst staleness is above 8 s, which have 8 rounds. Without packet= the smallest that "
                     "keeps to it is looked for"}
         for seconds, said in cases.items():

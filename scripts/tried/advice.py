@@ -224,8 +224,8 @@ def try_hopeless_advice(room):
                                         "Whether it levels off later is seen from 200 rounds now, and where it "
                                         "doesn't, from 400 and 800, and no more."]), (status, first.splitlines()))
     holds("none is enough", (True, True, True),
-          (said.startswith("No budget that fits is enough: not level within 800 rounds. The most that fits: room for "
-                           "2 entries in a delta, 80 bytes"),
+          (said.startswith("No budget that fits is enough: none is level within 800 rounds. The most that fits: room "
+                           "for 2 entries in a delta, 80 bytes"),
            f"  enough              {enough}" in said,
            "  worst staleness     not known: not level within 800 rounds; by a sum at least 52" in said))
     holds("nothing is run that heals", ["longer", "longest", "many"],

@@ -211,7 +211,7 @@ class Decision:
     def headline(self):
         """The decision, in a few words."""
         if not self.suffices:
-            return f"no budget that fits is enough, not level within {self.window[1]} rounds"
+            return f"no budget that fits is enough: none is level within {self.window[1]} rounds"
         return f"{self.mode} with {self.whole_budget()} entries"
 
     def why_empty(self):
@@ -490,7 +490,8 @@ def first_words(decision, call="", about_target=()):
                 f"That is below {it.knee_name}. {to_knee}." if to_knee else "", decision.forgetful(), *limits(decision),
                 *(of_calls(it) if it.fanout > 1 else [])]
     else:
-        said = [f"First answer, from {since}: no budget that fits is seen to be enough, not level within {few} rounds.",
+        said = [f"First answer, from {since}: no budget that fits is seen to be enough, as none is level within {few} "
+                "rounds.",
                 decision.most_that_fits(), decision.forgetful(), f"{to_knee}." if to_knee else "", *limits(decision),
                 levels_off_later(it)]
         if call and it.asks_for_healing():
@@ -672,7 +673,7 @@ GROUPS = ("Groups: one node restarts at a time here. For a rolling restart in gr
 
 def none_fits(decision):
     """That no budget is enough, in words."""
-    return f"No budget that fits is enough: not level within {decision.window[1]} rounds"
+    return f"No budget that fits is enough: none is level within {decision.window[1]} rounds"
 
 
 def heads(decision):

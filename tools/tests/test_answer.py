@@ -134,7 +134,7 @@ class Decided(unittest.TestCase):
         it = of("nodes=300 keys=4 writes=2 entry=40 packet=24000 digest=10 mode=precise-newest")
         figures = {(300, "precise-newest"): [12, 13], (600, "precise-newest"): [7, 8]}
         for rises, first in (([], "Take precise-newest with room for 300 entries"),
-                             ([(300, "precise-newest")], "No budget that fits is enough: not level within 200 "
+                             ([(300, "precise-newest")], "No budget that fits is enough: none is level within 200 "
                               "rounds. The most that fits: room for 300 entries")):
             lines = answer.in_words(answer.Decision(it, Figures(figures, rises), MANY), None)
             self.assertTrue(lines[0].startswith(first), lines[0])
@@ -158,8 +158,8 @@ class Decided(unittest.TestCase):
             self.assertEqual(("scuttle-depth", False, f"packet={delta}, worst staleness 7 to 8 rounds with that"),
                              (found.mode, found.suffices, found.to_knee()))
             lines = answer.in_words(found, None)
-            self.assertIn("No budget that fits is enough: not level within 200 rounds. The most that fits: room for "
-                          "28 entries in a delta, 1120 bytes", lines[0])
+            self.assertIn("No budget that fits is enough: none is level within 200 rounds. The most that fits: room "
+                          "for 28 entries in a delta, 1120 bytes", lines[0])
             self.assertTrue(lines[0].endswith(f"No mode can be preferred with that: of {answer.listed(list(modes))} "
                                               "none is ahead, as the bands of the seeds touch."))
             self.assertIn("  worst staleness     not known: not level within 200 rounds; by a sum at least 19", lines)
@@ -190,7 +190,7 @@ class Decided(unittest.TestCase):
                           "precise-oldest with 199 to 200 rounds, precise-newest with 185 to 196 rounds."], said)
         # (in the longer runs it is the only one, and is told as ahead until it is level)
         worst = {(28, "scuttle-depth"): [210, 230], (600, "scuttle-depth"): [7, 8]}
-        for rising, begins in ((worst, "No budget that fits is enough: not level within 400 rounds. The most that "
+        for rising, begins in ((worst, "No budget that fits is enough: none is level within 400 rounds. The most that "
                                 "fits: room for 28 entries in a delta, 1120 bytes (what fits; 0.047 times nodes * "
                                 "writes). Of the modes scuttle-depth is ahead"),
                                ((), "Take scuttle-depth with room for 28 entries")):

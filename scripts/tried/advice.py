@@ -139,7 +139,7 @@ def column(folder, budget, name):
 
 
 def try_target(room):
-    """The smallest budget of 24 nodes with 6 keys that keeps the worst staleness within 4 s, which have 8 rounds of
+    """The smallest budget of 24 nodes with 6 keys that keeps the worst staleness within 4 s, or 8 rounds of
     half a second: counted once more from the reports. A delta of n entries of 40 bytes and a digest of 24 numbers of 10
     bytes take n * 40 + 240 bytes. 24 * 23 * 6 are 3312 copies."""
     words = ("nodes=24", "keys=6", "writes=1", "entry=40", "digest=10", "interval=0.5", "count=entries", "loss=1")
@@ -155,7 +155,7 @@ def try_target(room):
     line = next((it for it in out.splitlines() if it.startswith("Take ")), "")
     holds("the smallest packet", (0, True, True), (status, line.startswith(said[0]), line.endswith(said[1])))
     holds("the target", (True, True),
-          ("  target              met: the worst staleness is within 4 s, which have 8 rounds\n" in out,
+          ("  target              met: the worst staleness is within 4 s, or 8 rounds\n" in out,
            f"  a smaller one       {below} entries: the next smaller budget that was run has " in out))
     shares = [100 * sum(it[100:200]) / 100 / 3312 for it in column(many, least, "stale")]
     half = [next(at for at in range(1, 9) if 2 * it[199 + at] <= it[199]) for it in column(stop, least, "stale")]
@@ -179,7 +179,7 @@ def try_target(room):
               (status, f"\nThe target is {verdict}" in out, f"\n  target              {verdict}" in out))
     status, out, err = run(room, TOOLS / "gossip_advise", "-o", "never", "target=1", *words)
     holds("a target that no budget meets", (0, True, True),
-          (status, out.startswith("No budget keeps the worst staleness within 1 s, which have 2 rounds. The best that "
+          (status, out.startswith("No budget keeps the worst staleness within 1 s, or 2 rounds. The best that "
                                   "can be had, with room for 144 entries"), "<h1>24 nodes: no budget keeps" in
            (room / "never" / "report.html").read_text()))
     for word, why in (("target=0", "target is in seconds, and above 0."), ("target=-4", "which '-4' isn't"),

@@ -79,6 +79,10 @@ class Decision:
         self.cut = found.cut(self.budget, self.mode, self.window)
         self.close = [it for it in self.figures if it != self.mode and rules.are_close(self.figures[it], self.worst)]
 
+    def is_taken(self):
+        """Whether its budget is one to take."""
+        return self.suffices
+
     def heals(self):
         """Whether what heals is run with it."""
         return self.suffices

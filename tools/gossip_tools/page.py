@@ -60,7 +60,8 @@ def cards(decision, healing, more):
     if decision.suffices:
         of_budget += f"; packet={decision.packet()}"
         rounds, _, time = answer.lasting(it, decision.worst).partition(", ")
-        rows = [("mode", decision.mode, "", "first"), ("budget", f"{budget} entries", of_budget, "first"),
+        kind = "first" if decision.is_taken() else "none"
+        rows = [("mode", decision.mode, "", kind), ("budget", f"{budget} entries", of_budget, kind),
                 ("worst staleness", rounds, "; ".join(filter(None, (time, decision.reckon()))), "")]
     else:
         rows = [("budget", "none that fits is enough", f"tried: {budget} entries, {of_budget}", "none"),

@@ -19,7 +19,7 @@ def keeps_to(it, figure):
 
 def in_time(it):
     """The target, in seconds and in rounds."""
-    return f"{float(it.told['target']):g} s, which have {answer.in_rounds([it.target])}"
+    return f"{float(it.told['target']):g} s, or {answer.in_rounds([it.target])}"
 
 
 def judged(decision):
@@ -53,20 +53,27 @@ class Ages:
         return [100 * stale / copies for stale in self.found.stale(budget, mode, self.window)]
 
     def typical(self, budget, mode):
-        """The intervals of whose writes alone half of the stale copies lack some, as rounds; in words."""
+        """The rounds after which half of the stale copies lack nothing that was written before, for each seed; None
+        where the runs are too short for that."""
         it = self.study
         intervals = self.stopped.half_of_stale_after(budget, mode, self.last, it.fanout)
-        if None in intervals:
-            return f"more than {answer.in_rounds([it.target])}"
-        return answer.lasting(it, [at * it.fanout for at in intervals])
+        return None if None in intervals else [at * it.fanout for at in intervals]
+
+    def at_most(self, budget, mode):
+        """How old a typical stale copy is, in words."""
+        it, rounds = self.study, self.typical(budget, mode)
+        return f"more than {answer.in_rounds([it.target])}" if rounds is None else answer.lasting(it, rounds)
 
     def told(self, budget, mode):
         """Both, as names and words."""
         first, last = self.window
-        share, age = answer.span(self.shares(budget, mode)), self.typical(budget, mode)
+        share, age = answer.span(self.shares(budget, mode)), self.at_most(budget, mode)
+        why = "half of the stale copies lack only writes that are no older"
+        if self.typical(budget, mode) is None:
+            why = "so long after the last write fewer than half of the stale copies have caught up"
         return [("stale copies", f"{share} %: so many of all copies lack some write, on average over rounds {first} to "
                                  f"{last}"),
-                ("a typical one", f"{age}: half of the stale copies lack only writes that are no older")]
+                ("a typical one", f"{age}: {why}")]
 
 
 def aged(stages, stage, found, pairs):
@@ -148,8 +155,9 @@ class Met(answer.Decision):
     def __init__(self, search, is_met, ages):
         self.study, self.found, self.stage, self.window = search.study, search.found, search.stage, ages.window
         self.search, self.is_met, self.ages = search, is_met, ages
-        self.dropped, self.suffices, self.ahead = [], True, None
+        self.dropped, self.ahead = [], None
         self.mode = search.best() if is_met else self.study.usual
+        self.suffices = is_met or self.is_enough(search.top, self.mode)
         self.budget = self.most = search.least[self.mode]
         self.figures = {mode: self.worst_with(*search.run_of(mode)) for mode in self.study.fits}
         self.worst = self.figures[self.mode]
@@ -157,6 +165,9 @@ class Met(answer.Decision):
 
     def run_of(self, mode):
         return self.search.run_of(mode)
+
+    def is_taken(self):
+        return self.is_met
 
     def headline(self):
         if not self.is_met:
@@ -205,9 +216,11 @@ class Met(answer.Decision):
     def of_mode_in_words(self, mode):
         """What a mode needs, and what it then has."""
         it, budget, pair = self.study, self.search.least[mode], self.run_of(mode)
+        age = self.ages.at_most(*pair)
+        half = age if self.ages.typical(*pair) is None else f"at most {age}"
         return (f"{it.whole(budget)} entries, packet={self.search.packet(mode)}: worst staleness "
                 f"{answer.in_rounds(self.figures[mode])}; {answer.span(self.ages.shares(*pair))} % of the copies are "
-                f"stale, half of them by at most {self.ages.typical(*pair)}")
+                f"stale, half of them by {half}")
 
     def in_words(self, call):
         """The answer, line by line."""
@@ -219,7 +232,8 @@ class Met(answer.Decision):
         else:
             lines = [f"To keep the worst staleness within {in_time(it)}, each mode needs at least:",
                      *(row(mode, self.of_mode_in_words(mode)) for mode in it.fits), "", f"Take {self.takes()}."]
-        lines += ["", row("worst staleness", f"{self.staleness()}{self.in_window()}"),
+        in_window = self.in_window() if self.suffices else ""
+        lines += ["", row("worst staleness", f"{self.staleness()}{in_window}"),
                   *(row(*more) for more in self.more())]
         if self.is_met:
             lines += ["", "What heals, and what else speaks for a mode, is told with that packet:", f"  {call}"]

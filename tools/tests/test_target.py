@@ -116,12 +116,12 @@ class Told(unittest.TestCase):
         lines = met.in_words("CALL")
         self.assertEqual({"many", "many-stop"}, search.stages.asked)
         for line in (
-                "To keep the worst staleness within 5 s, which have 10 rounds, each mode needs at least:",
+                "To keep the worst staleness within 5 s, or 10 rounds, each mode needs at least:",
                 "  scuttle-breadth     120 entries, packet=5800: worst staleness 10 rounds; 40 to 50 % of the copies "
                 "are stale, half of them by at most 2 to 3 rounds, 1.0 to 1.5 s",
                 "Take scuttle-depth with room for 80 entries in a delta, 3200 bytes (0.8 times nodes * writes); with "
                 "the digest packet=4200.",
-                "  target              met: the worst staleness is within 5 s, which have 10 rounds",
+                "  target              met: the worst staleness is within 5 s, or 10 rounds",
                 "  a smaller one       79 entries: the next smaller budget that was run has 11 rounds",
                 "  stale copies        40 to 50 %: so many of all copies lack some write, on average over rounds 101 "
                 "to 200",
@@ -136,20 +136,33 @@ class Told(unittest.TestCase):
         search, is_met = searched("target=6")
         met = target.Met(search, is_met, target.aged(search.stages, search.stage, search.found, {(400, DEPTH)}))
         lines = met.in_words("CALL")
-        self.assertEqual("No budget keeps the worst staleness within 6 s, which have 6 rounds. The best that can be "
+        self.assertEqual("No budget keeps the worst staleness within 6 s, or 6 rounds. The best that can be "
                          "had, with room for 400 entries in a delta, 16000 bytes (nodes * keys, above which nothing "
                          "changes; 4 times nodes * writes): 7 rounds, 7 s. A shorter interval, more calls in it or "
                          "less loss would help.", lines[0])
         self.assertEqual("no budget keeps the worst staleness within 6 s", met.headline())
         self.assertNotIn("  CALL", lines)
+        search.found.suffices = lambda *_: False
+        met = target.Met(search, is_met, target.aged(search.stages, search.stage, search.found, {(400, DEPTH)}))
+        self.assertIn("  worst staleness     not known: not level within 200 rounds", met.in_words("CALL"))
+
+    def test_older_than_the_target(self):
+        search, is_met = searched("target=8 mode=scuttle-depth")
+        pairs = {search.run_of(DEPTH)}
+        ages = target.aged(search.stages, search.stage, search.found, pairs)
+        ages.stopped.half_of_stale_after = lambda *_: [3, None]
+        self.assertEqual(("a typical one", "more than 8 rounds: so long after the last write fewer than half of the "
+                          "stale copies have caught up"), ages.told(100, DEPTH)[1])
+        self.assertTrue(target.Met(search, is_met, ages).of_mode_in_words(DEPTH).endswith("half of them by more than 8 "
+                                                                                          "rounds"))
 
     def test_a_packet(self):
         """400 entries fit, of which 100 are taken: 9 to 10 rounds, and with all of them 8 to 9."""
         figures = {(200, mode): [9, 9] for mode in ROUNDS} | {(200, DEPTH): [8, 9], (100, DEPTH): [9, 10]}
-        cases = {10: "met: the worst staleness is within 10 s, which have 10 rounds",
+        cases = {10: "met: the worst staleness is within 10 s, or 10 rounds",
                  9: "met with all that fits alone: with the 200 entries (2 times nodes * writes) the worst staleness "
-                    "is within 9 s, which have 9 rounds",
-                 8: "not met: the worst staleness is above 8 s, which have 8 rounds. Without packet= the smallest that "
+                    "is within 9 s, or 9 rounds",
+                 8: "not met: the worst staleness is above 8 s, or 8 rounds. Without packet= the smallest that "
                     "keeps to it is looked for"}
         for seconds, said in cases.items():
             it = of(f"nodes=100 keys=4 writes=1 entry=40 packet=16000 target={seconds}")

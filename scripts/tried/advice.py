@@ -108,18 +108,22 @@ def try_advice(room):
 
 def try_reserve(room):
     """Room for 60 entries, where 24 nodes write one of 6 keys: 24 are taken, if the band of the seeds with twice
-    that touches theirs. The figures of both are counted here once more."""
+    that touches theirs. The figures of both are counted here once more. In both answers they are of 200 rounds, as 60
+    can't choose: there the bands have two rounds in common at most."""
     words = ("nodes=24", "keys=6", "writes=1", "entry=40", "packet=2400", "count=entries", "split=0", "restarts=0")
     status, out, err = run(room, TOOLS / "gossip_advise", "-o", "reserve", *words)
     first, said = out.partition("\n\n")[::2]
-    for stage, window, told in (("few", (31, 60), first), ("many", (101, 200), said)):
-        at_knee, at_most = (worst(room / "reserve" / stage, budget, *window) for budget in (24, 48))
-        is_worse = min(at_knee) > max(at_most)
-        budget = f"{48 if is_worse else 24} entries in a delta, {1920 if is_worse else 960} bytes "
-        other = (f"With nodes * writes = 24 entries it is {as_rounds(at_knee)}: worse" if is_worse else
-                 f"With the 48 entries (2 times nodes * writes) it is {as_rounds(at_most)}: no better, as the bands of "
-                 "the seeds touch. So packet=960 is enough, and what is above that is a reserve")
-        holds(f"the budget after {stage} intervals", (0, True, True),
+    at_knee, at_most = (worst(room / "reserve" / "few", budget, 31, 60) for budget in (24, 48))
+    holds("60 rounds can't choose", (True, True), (max(at_most) - min(at_knee) <= 1, first.startswith(
+        "First answer, from 60 rounds, and 200 for the budgets between which those can't choose: scuttle-depth with ")))
+    at_knee, at_most = (worst(room / "reserve" / "many", budget, 101, 200) for budget in (24, 48))
+    is_worse = min(at_knee) > max(at_most)
+    budget = f"{48 if is_worse else 24} entries in a delta, {1920 if is_worse else 960} bytes "
+    other = (f"With nodes * writes = 24 entries it is {as_rounds(at_knee)}: worse" if is_worse else
+             f"With the 48 entries (2 times nodes * writes) it is {as_rounds(at_most)}: no better, as the bands of the "
+             "seeds touch. So packet=960 is enough, and what is above that is a reserve")
+    for name, told in (("first", first), ("last", said)):
+        holds(f"the budget of the {name} answer", (0, True, True),
               (status, f"scuttle-depth with room for {budget}" in told, other in told))
     holds("nothing that heals is run where none is asked for", ({"few", "many"}, False),
           ({it.parent.name for it in (room / "reserve").glob("*/scenario")}, "a split" in out or "a restart" in out))

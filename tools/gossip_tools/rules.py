@@ -44,9 +44,9 @@ def is_better(one, other):
 
 
 def may_turn_over(one, other):
-    """Whether few rounds can't tell that the other isn't better than the one: where their bands have one round in
-    common at most. More rounds may make the higher one rise."""
-    return max(other) <= min(one)
+    """Whether few rounds can't tell if the other is better than the one: where their bands have two rounds in common at
+    most. More rounds may make one of them rise."""
+    return max(other) - min(one) <= 1
 
 
 # What became of the first answers for twenty clusters, by docs/study.md, from `nodes * writes` on and below.

@@ -76,11 +76,11 @@ class Decided(unittest.TestCase):
         self.assertIn(f"  nodes * writes      {found.why_not_knee()}", lines)
 
     def test_budgets_to_look_closer_at(self):
-        """Where the bands of 600 and 1000 have two rounds in common, few rounds can choose; where they have one or
-        none, they can't, and 900 may be taken too. With 600 that fit there is no choice."""
+        """Where the bands of 600 and 1000 have three rounds in common, few rounds can choose; where they have two or
+        fewer, they can't, and 900 may be taken too. With 600 that fit there is no choice."""
         all_of_them = {(budget, "scuttle-depth") for budget in (600, 900, 1000)}
-        for at_600, at_1000, wanted in (([7, 8], [7, 8], set()), ([8, 9], [7, 8], all_of_them),
-                                        ([9, 9], [7, 8], all_of_them)):
+        for at_600, at_1000, wanted in (([7, 9], [7, 9], set()), ([8, 9], [7, 9], all_of_them),
+                                        ([8, 9], [7, 8], all_of_them), ([9, 9], [7, 8], all_of_them)):
             found = decided({(600, "scuttle-depth"): at_600, (1000, "scuttle-depth"): at_1000}, stage=FEW)
             self.assertEqual(wanted, found.to_look_closer())
         it = of("nodes=300 keys=4 writes=2 entry=40 packet=24000")

@@ -278,7 +278,7 @@ def smallest_packet(it, stages, check_sum):
     """The smallest packet that keeps to the target: its search, and its answer and page."""
     search = target.Search(it, stages)
     is_met = search.carry_out()
-    pairs = {search.run_of(mode) for mode in (it.fits if is_met else [it.usual])}
+    pairs = {search.run_of(mode) for mode in search.modes or [it.usual]}
     stages.plan(f"{search.stage}-stop", pairs, 0)
     met = target.Met(search, is_met, target.aged(stages, search.stage, search.found, pairs))
     call = call_with(it, met.packet(), f"{stages.folder}-packet")

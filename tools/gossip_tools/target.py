@@ -90,6 +90,8 @@ class Search:
                           if stage != "few" and rules.can_be_level(it.target, it.window(stage)))
         least, self.top = self.bounds()
         self.pairs, self.found = set(), None
+        # (those that can keep to the target)
+        self.modes = list(it.fits)
         # by mode, the least budget that keeps to the target, and the largest below it that doesn't
         self.least = dict.fromkeys(it.fits, self.top)
         self.below = dict.fromkeys(it.fits, least - 1)
@@ -101,7 +103,7 @@ class Search:
         return (study.LEAST, top) if it.parts == 1 else (it.knee, min(top, rules.TENTH_HOLDS[1] * it.knee))
 
     def run(self, pairs):
-        self.stages.plan(self.stage, pairs, max(map(self.halvings, self.study.fits)))
+        self.stages.plan(self.stage, pairs, max(map(self.halvings, self.modes)))
         self.pairs |= pairs
         self.found = self.stages.carry_out(self.stage, self.pairs)
 
@@ -129,24 +131,25 @@ class Search:
         return max(0, math.ceil(math.log2(FINE * (least - below) / least)))
 
     def carry_out(self):
-        """Whether the largest budget keeps to the target, and then the least of each mode that does."""
-        usual = self.study.usual
-        self.run({(self.top, usual)})
-        if not self.keeps(self.top, usual):
-            return False
-        while steps := {mode: budget for mode in self.study.fits if (budget := self.next(mode))}:
+        """Whether the largest budget keeps to the target in some mode, and then the least of each mode that does. Where
+        nothing can be cut, all modes do the same."""
+        it = self.study
+        cuts = self.top < (it.nodes - 1) * it.keys
+        self.run({(self.top, mode) for mode in (it.fits if cuts else [it.usual])})
+        self.modes = [mode for mode in it.fits if self.keeps(*self.run_of(mode))]
+        while steps := {mode: budget for mode in self.modes if (budget := self.next(mode))}:
             self.run({(budget, mode) for mode, budget in steps.items()})
             for mode, budget in steps.items():
                 bounds = self.least if self.keeps(budget, mode) else self.below
                 bounds[mode] = budget
-        return True
+        return bool(self.modes)
 
     def packet(self, mode):
         return self.study.packet(mode, self.study.whole(self.least[mode]))
 
     def best(self):
         """The mode that keeps to the target with the smallest packet."""
-        return min(self.study.fits, key=lambda mode: (self.packet(mode), rules.CHEAPEST_FIRST.index(mode)))
+        return min(self.modes, key=lambda mode: (self.packet(mode), rules.CHEAPEST_FIRST.index(mode)))
 
 
 class Met(answer.Decision):
@@ -159,7 +162,7 @@ class Met(answer.Decision):
         self.mode = search.best() if is_met else self.study.usual
         self.suffices = is_met or self.is_enough(search.top, self.mode)
         self.budget = self.most = search.least[self.mode]
-        self.figures = {mode: self.worst_with(*search.run_of(mode)) for mode in self.study.fits}
+        self.figures = {mode: self.worst_with(*search.run_of(mode)) for mode in search.modes or [self.mode]}
         self.worst = self.figures[self.mode]
         self.cut = self.found.cut(*search.run_of(self.mode), self.window)
 
@@ -193,11 +196,11 @@ class Met(answer.Decision):
     def too_close(self):
         return []
 
-    def judged(self):
+    def of_target(self):
         """Whether the target is met, and what the next smaller budget has, as names and words."""
         it = self.study
         if not self.is_met:
-            return [("target", f"not met: the largest budget of use has more than {in_time(it)}")]
+            return [("target", f"not met: the largest budget that was run has more than {in_time(it)}")]
         said = [("target", f"met: the worst staleness is within {in_time(it)}")]
         below = self.search.below[self.mode]
         if (below, self.mode) in self.found.rows:
@@ -211,7 +214,7 @@ class Met(answer.Decision):
 
     def more(self):
         """What stands beside the worst staleness, as names and words."""
-        return self.judged() + self.ages.told(*self.run_of(self.mode))
+        return self.of_target() + self.ages.told(*self.run_of(self.mode))
 
     def of_mode_in_words(self, mode):
         """What a mode needs, and what it then has."""
@@ -230,8 +233,8 @@ class Met(answer.Decision):
                      f"{self.room()}: {self.staleness()}. A shorter interval, more calls in it or less loss would "
                      "help."]
         else:
-            lines = [f"To keep the worst staleness within {in_time(it)}, each mode needs at least:",
-                     *(row(mode, self.of_mode_in_words(mode)) for mode in it.fits), "", f"Take {self.takes()}."]
+            lines = [f"To keep the worst staleness within {in_time(it)}, each mode takes, by halving over budgets:",
+                     *(row(mode, self.of_mode_in_words(mode)) for mode in self.figures), "", f"Take {self.takes()}."]
         in_window = self.in_window() if self.suffices else ""
         lines += ["", row("worst staleness", f"{self.staleness()}{in_window}"),
                   *(row(*more) for more in self.more())]

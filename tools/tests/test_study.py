@@ -164,6 +164,13 @@ class Calls(unittest.TestCase):
         text = it = self.it.scene("few")
         self.assertEqual((60, True), (text.count("[[load]]"), scenario.load(179, 180, 0) in it))
 
+    def test_writes_that_stop(self):
+        """After 200 intervals, which are 600 rounds, none for the 7 rounds of a target of 70 s, so for 3 intervals."""
+        it = of(f"{SHARED} fanout=3 interval=30 target=70")
+        text = it.scene("many-stop")
+        self.assertEqual((7, 609, 201, True), (it.target, it.rounds("many-stop"), text.count("[[load]]"),
+                                               text.endswith(scenario.load(601, 609, 0))))
+
     def test_healing(self):
         """After 50 intervals, so in round 151. A split of 40 of them ends with round 270; ten groups are down for an
         interval each, and the last of them until round 180."""

@@ -83,6 +83,14 @@ class Searched(unittest.TestCase):
         search, is_met = searched("target=7", dict.fromkeys(ROUNDS, 2796) | {DEPTH: 2800})
         self.assertEqual((400, (400, DEPTH), True), (search.least[OLDEST], search.run_of(OLDEST), is_met))
 
+    def test_a_largest_budget_that_may_cut(self):
+        """1999 * 64 entries may be lacking, and a scenario takes a budget of 65535 at most. So all modes are run with
+        that, and one that has 11 rounds then isn't looked at any more."""
+        it = of("nodes=2000 keys=64 writes=1 entry=40 target=10")
+        search = target.Search(it, Made(it, ROUNDS | {NEWEST: 11 * 65535}))
+        self.assertEqual((True, [BREADTH, DEPTH, OLDEST]), (search.carry_out(), search.modes))
+        self.assertEqual({(65535, mode) for mode in ROUNDS}, {pair for pair in search.pairs if pair[0] == 65535})
+
     def test_a_tenth(self):
         """1000 of 10000 nodes are run, to whose rounds six are added, with budgets from 1000 to 2000: 10 rounds, which
         1000 entries have, are 16 for all."""
@@ -111,12 +119,12 @@ class Told(unittest.TestCase):
     def test_answer(self):
         """15840 and 19800 of 100 * 99 * 4 copies are 40 and 50 %."""
         search, is_met = searched("target=5 interval=0.5 digest=10")
-        pairs = {search.run_of(mode) for mode in search.study.fits}
+        pairs = {search.run_of(mode) for mode in search.modes}
         met = target.Met(search, is_met, target.aged(search.stages, search.stage, search.found, pairs))
         lines = met.in_words("CALL")
         self.assertEqual({"many", "many-stop"}, search.stages.asked)
         for line in (
-                "To keep the worst staleness within 5 s, or 10 rounds, each mode needs at least:",
+                "To keep the worst staleness within 5 s, or 10 rounds, each mode takes, by halving over budgets:",
                 "  scuttle-breadth     120 entries, packet=5800: worst staleness 10 rounds; 40 to 50 % of the copies "
                 "are stale, half of them by at most 2 to 3 rounds, 1.0 to 1.5 s",
                 "Take scuttle-depth with room for 80 entries in a delta, 3200 bytes (0.8 times nodes * writes); with "

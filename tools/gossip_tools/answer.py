@@ -429,12 +429,12 @@ class Healing:
     def wait(self, budget):
         """How long to wait between the groups of a rolling restart, in words."""
         restarts, rounds = self.study.told["restarts"], self.waited(budget)
-        longest = "the longest of these two" if len(self.study.leaves()) > 1 else "the longest of a restart"
+        longest = "the longer one" if len(self.study.leaves()) > 1 else "the restart took at most"
         if rounds is None:
             return "no wait is known, as not all of this is over in the rounds that were run: take a larger budget"
         group = self.study.group()
         who = f"a group of {group} nodes" if restarts and group > 1 else "a node"
-        return (f"wait {lasting(self.study, [rounds])}, after {who} is up again: {rules.WAIT_MORE} more than "
+        return (f"wait {lasting(self.study, [rounds])}, after {who} is up again: {rules.MORE_IN_WORDS} more than "
                 f"{longest}, as a later group may take longer; {rules.NO_GUARANTEE}")
 
     def has_reserve(self, decision):

@@ -177,7 +177,7 @@ FORGETFUL = ("old state goes sooner in `scuttle-breadth`, but a restart heals la
 DATAGRAM = 65507
 # How many rounds more than the longest of the seeds to wait between groups of a rolling restart. Each group is one draw
 # more: of 95 that waited so two hadn't caught up, and of 95 that forget none, where without it 19 and 3 hadn't.
-WAIT_MORE = 2
+WAIT_MORE, MORE_IN_WORDS = 2, "two rounds"
 NO_GUARANTEE = "no guarantee: in a test, of 200 nodes with 6 keys, two of 95 groups that waited so weren't healed"
 # What a restart takes where nodes are down for longer than the one round of the test.
 DOWN_FOR_LONGER = ("Nodes that are down for longer take up to two rounds more, which no time above has: one group of 5 "

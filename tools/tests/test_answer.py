@@ -444,17 +444,17 @@ class Healed(unittest.TestCase):
         self.assertTrue(line.endswith(": not within 52 rounds under 2 of 3 seeds"), line)
 
     def test_wait(self):
-        """Two rounds more than the longest of what a restart leaves. A forgotten state is none of it where nodes don't
-        forget."""
+        """Two rounds more than the longer one of what a restart leaves. A forgotten state is none of it where nodes
+        don't forget."""
         both = {"restart": [6, 7], "forgotten": [8, 7]}
         cases = {
-            "": "wait 9 rounds, 4.5 s, after a node is up again: 2 more than the longest of a restart",
-            "fanout=5": "wait 9 rounds, 1.8 intervals, 0.9 s, after a node is up again: 2 more than the longest of a "
-                        "restart",
-            "restarts=5": "wait 9 rounds, 4.5 s, after a group of 5 nodes is up again: 2 more than the longest of a "
-                          "restart",
-            "restarts=5 forget=yes": "wait 10 rounds, 5 s, after a group of 5 nodes is up again: 2 more than the "
-                                     "longest of these two",
+            "": "wait 9 rounds, 4.5 s, after a node is up again: two rounds more than the restart took at most",
+            "fanout=5": "wait 9 rounds, 1.8 intervals, 0.9 s, after a node is up again: two rounds more than the "
+                        "restart took at most",
+            "restarts=5": "wait 9 rounds, 4.5 s, after a group of 5 nodes is up again: two rounds more than the "
+                          "restart took at most",
+            "restarts=5 forget=yes": "wait 10 rounds, 5 s, after a group of 5 nodes is up again: two rounds more than "
+                                     "the longer one",
         }
         why = f", as a later group may take longer; {rules.NO_GUARANTEE}"
         cases = {more: said + why for more, said in cases.items()}

@@ -5,7 +5,9 @@ from pathlib import PurePosixPath
 
 from installed import Missing
 
-PAGES = ("README.md", "docs/guide.md", "docs/study.md", "docs/testing.md", "docs/model.md", "docs/formats.md")
+# The pages of docs/ that show commands with their outputs, which scripts/check_guide runs.
+WITH_OUTPUTS = ("guide.md", "by_hand.md", "study.md", "testing.md")
+PAGES = ("README.md", *(f"docs/{page}" for page in WITH_OUTPUTS), "docs/model.md", "docs/formats.md")
 # Where the Python package of the tools stands, from the folder of README.md.
 MODULES = "../../../lib/gossip_bench/gossip_tools"
 # What stands between these marks is for a clone. Where the first one has a name, a package says something else there.
@@ -22,7 +24,8 @@ INSTEAD = {
         "checked": "was run, and printed that",
         "top": "The commands are for a folder of your own, into which you copied `examples` from "
                "`share/doc/gossip-bench` of the package, where these pages are too.",
-        "machines": ". ",
+    },
+    "docs/by_hand.md": {
         "portable": "the one for `x86-64-v2`",
         "benchmark": "were measured too",
     },

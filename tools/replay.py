@@ -1,4 +1,4 @@
-#!/usr/bin/env python3
+#!/usr/bin/env -S python3 -S
 """replay.py: the bench once more, in plain Python: the rules of docs/model.md and docs/formats.md in a form to read.
 
     replay.py check < SCENARIO
@@ -11,30 +11,39 @@ round, by holder, owner and key. It needs Python 3.11 or newer and nothing else.
 for 30 rounds.
 
 The status is 1 after a fault, and 2 where the words are refused. The line of a fault in the scenario is the program's,
-but where a number is too large or something is nested too deep it may be another. What only TOML 1.1 has, such as an
-inline table over several lines, is refused too, as Python reads TOML 1.0.
+but where something is nested too deep it may be another. What only TOML 1.1 has, such as an inline table over several
+lines, is refused too, as Python reads TOML 1.0.
 """
-import argparse
-import os
+import _signal
 import sys
 
+# (Ctrl-C ends it without a word, also while it loads. So signal.py isn't waited for, nor site, by -S above.)
+if _signal.getsignal(_signal.SIGINT) is _signal.default_int_handler:
+    _signal.signal(_signal.SIGINT, _signal.SIG_DFL)
 if sys.version_info < (3, 11):
     sys.exit("Python 3.11 or later is needed, and this one is " + sys.version.split()[0])
 
+import argparse
+import errno
+import os
 import tomllib
 from collections import defaultdict
+from contextlib import contextmanager, suppress
 from dataclasses import dataclass, field, replace
 from functools import lru_cache
 from itertools import accumulate, pairwise
+from math import isinf
 from types import SimpleNamespace
 from typing import NamedTuple
 
+VERSION = "2.1"
 REPORT = "round,exchanges,unreached,lost,entries,cut,stale,greatest"
 TRACE = "round,index,initiator,responder,fate,digest1,digest2,back,forth,back_cut,forth_cut"
 SENT = "round,index,direction,sender,receiver,arrived,owner,key,generation,version,value,born"
 TABLES = "round,holder,owner,key,generation,version,value,born"
 MODES = ("scuttle-breadth", "scuttle-depth", "precise-oldest", "precise-newest")
 ROUNDS = range(1, 100001)
+INTEGERS = range(-2**63, 2**63)
 ABSENT = (0, 0)  # the mark where there is no entry
 
 
@@ -107,13 +116,33 @@ def check_scenario(top):
             raise Fault(f"fault 7: unknown field in table {array}")
 
 
+def binary64(text):
+    """A float, which is infinite only where the text says so."""
+    value = float(text)
+    if isinf(value) and "inf" not in text:
+        raise ValueError(text)
+    return value
+
+
+def integers(value):
+    """All integers in a value, however deep."""
+    if isinstance(value, int):
+        yield value
+    elif isinstance(value, (dict, list)):
+        for it in value.values() if isinstance(value, dict) else value:
+            yield from integers(it)
+
+
 def read_scenario(text):
     """The scenario by the names of its fields. The elements of its three arrays stay as they stand in the text."""
     if len(text) > 1048576:
         raise Fault("fault 3: input is longer than 1048576 bytes")
     try:
-        top = tomllib.loads(text.decode("utf-8-sig"))
+        top = tomllib.loads(text.decode("utf-8-sig"), parse_float=binary64)
+        is_toml = all(it in INTEGERS for it in integers(top))
     except (ValueError, RecursionError):
+        is_toml = False
+    if not is_toml:
         raise Fault("fault 2: input is not TOML")
     check_scenario(top)
     return SimpleNamespace(**{"partition": [], "restart": [], "load": []} | top)
@@ -354,9 +383,33 @@ def play(scenario):
 
 # The texts, and the words of the command line.
 
+@contextmanager
+def named(what):
+    """A block whose faults are those of this file, also where the system doesn't say so, as on a full disk."""
+    try:
+        yield
+    except OSError as error:
+        error.filename = error.filename or what
+        raise
+
+
+@contextmanager
+def made(path):
+    """A file that is made anew, or None without a path. It is written whole once the block ends."""
+    if not path:
+        yield None
+        return
+    with named(path), open(path, "w", newline="\n") as file:
+        yield file
+
+
 def put(file, *values):
     if file:
-        print(*values, sep=",", file=file)
+        try:
+            print(*values, sep=",", file=file)
+        except OSError as error:
+            error.filename = "the output" if file is sys.stdout else file.name
+            raise
 
 
 def put_record(trace, sent, round, index, it):
@@ -389,10 +442,17 @@ def compare(scenario, columns):
             put(sys.stdout, scenario.mode, *row)
 
 
-def main():
-    name = os.path.basename(sys.argv[0])
-    words = argparse.ArgumentParser(prog=name, description=__doc__.replace("replay.py", name),
-                                    formatter_class=argparse.RawDescriptionHelpFormatter)
+class Words(argparse.ArgumentParser):
+    def print_help(self, file=None):
+        """(argparse drops it where it can't be written)"""
+        print(self.format_help(), end="", file=file)
+
+
+def words_told(name):
+    """The words of the command line, by their names."""
+    words = Words(prog=name, description=__doc__.replace("replay.py", name),
+                  formatter_class=argparse.RawDescriptionHelpFormatter)
+    words.add_argument("--version", action="store_true", help="prints its version")
     commands = words.add_subparsers(dest="command", required=True)
     commands.add_parser("check", help="checks the scenario and prints ok")
     options = commands.add_parser("run", help="runs the scenario and prints the report")
@@ -403,25 +463,69 @@ def main():
     asked, others = words.parse_known_args()
     if others:
         words.error(f"{' '.join(others)} isn't taken: the scenario comes by < FILE, and only run has options")
-    asked = vars(asked)
+    return vars(asked)
+
+
+def carry_out(asked):
     sys.stdout.reconfigure(newline="\n", line_buffering=True)
-    try:
-        files = [open(path, "w", newline="\n") if (path := asked.get(name)) else None
-                 for name in ("trace", "sent", "tables")]
-        scenario = read_scenario(sys.stdin.buffer.read(1048577))
+    with made(asked.get("trace")) as trace, made(asked.get("sent")) as sent, made(asked.get("tables")) as tables:
+        with named("standard input"):
+            text = sys.stdin.buffer.read(1048577)
+        scenario = read_scenario(text)
         columns = REPORT if scenario.format == 1 else f"{REPORT},leftover"
         if asked["command"] == "check":
             put(sys.stdout, "ok")
         elif asked["command"] == "run":
-            run(scenario, columns, *files)
+            run(scenario, columns, trace, sent, tables)
         else:
             compare(scenario, columns)
+
+
+def fill_closed_streams():
+    """A standard stream that is closed fails where it is used, and no file of ours gets its number."""
+    for number, way in enumerate((os.O_WRONLY, os.O_RDONLY, os.O_RDONLY)):
+        try:
+            os.fstat(number)
+        except OSError:
+            os.open(os.devnull, way)
+    sys.stdin = sys.stdin or open(0, closefd=False)
+    sys.stdout = sys.stdout or open(1, "w", closefd=False)
+    sys.stderr = sys.stderr or open(2, "w", closefd=False)
+
+
+def end(status, why):
+    """Ends with this status, also where a stream takes nothing more: what is left for it is dropped."""
+    if why:
+        with suppress(OSError):
+            print(why, file=sys.stderr)
+    for number, stream in ((1, sys.stdout), (2, sys.stderr)):
+        try:
+            stream.flush()
+        except OSError:
+            os.dup2(os.open(os.devnull, os.O_WRONLY), number)
+    sys.exit(status)
+
+
+def main():
+    name = os.path.basename(sys.argv[0])
+    fill_closed_streams()
+    status, why = 0, ""
+    try:
+        try:
+            if "--version" in sys.argv[1:]:
+                print(name, VERSION)
+            else:
+                carry_out(words_told(name))
+        finally:
+            sys.stdout.flush()
     except Fault as fault:
-        sys.exit(str(fault))
+        status, why = 1, str(fault)
     except OSError as error:
-        sys.exit(f"{name}: {error.filename or 'the output'}: {error.strerror}.")
-    except KeyboardInterrupt:
-        sys.exit(130)
+        reason = "it is closed" if error.errno == errno.EBADF else error.strerror
+        status, why = 1, f"{name}: {error.filename or 'the output'}: {reason}."
+    except SystemExit as ended:
+        status = ended.code
+    end(status, why)
 
 
 main()

@@ -1,20 +1,27 @@
-#!/usr/bin/env python3
+#!/usr/bin/env -S python3 -S
 """check_trace.py REPORT TRACE
 
 Works out from a trace what the report of the same run says of each round, but for the columns that don't follow from a
 trace. Prints how many rounds agree, or the first that doesn't, with status 1. An implementation is held against the
 bench in the same way, by lines of its own in place of one of the two.
 """
-import csv
-import os
+import _signal
 import sys
+
+# (Ctrl-C ends it without a word, also while it loads. So signal.py isn't waited for, nor site, by -S above.)
+if _signal.getsignal(_signal.SIGINT) is _signal.default_int_handler:
+    _signal.signal(_signal.SIGINT, _signal.SIG_DFL)
+
+import contextlib
+import csv
+import errno
+import os
 
 COLUMNS = ["exchanges", "lost", "entries", "cut"]
 
 
-def refuse(why):
-    print(f"check_trace.py: {why}", file=sys.stderr)
-    sys.exit(2)
+class Refused(Exception):
+    """Why nothing can be said of the two."""
 
 
 def rows(path, column):
@@ -23,13 +30,13 @@ def rows(path, column):
         with open(path, newline="") as file:
             lines = csv.DictReader(file)
             if column not in (lines.fieldnames or []):
-                refuse(f"{path} has no column {column}.")
+                raise Refused(f"{path} has no column {column}.")
             return list(lines)
     except (OSError, UnicodeDecodeError, csv.Error):
-        refuse(f"{path} can't be read.")
+        raise Refused(f"{path} can't be read.") from None
 
 
-def main(report, trace):
+def compare(report, trace):
     try:
         told = {it["round"]: [int(it[name]) for name in COLUMNS] for it in report}
         found = {number: [0, 0, 0, 0] for number in told}
@@ -38,7 +45,7 @@ def main(report, trace):
             before = found.setdefault(it["round"], [0, 0, 0, 0])
             found[it["round"]] = [a + b for a, b in zip(before, (1, it["fate"] != "ok", sent, cut))]
     except (KeyError, TypeError, ValueError):
-        refuse("a line isn't whole.")
+        raise Refused("a line isn't whole.") from None
     for number in found:
         if told.get(number) != found[number]:
             print(f"round {number}, {', '.join(COLUMNS)}: the report {told.get(number)}, the trace {found[number]}")
@@ -47,15 +54,47 @@ def main(report, trace):
     return 0
 
 
-if "--help" in sys.argv:
-    print(__doc__)
-    sys.exit()
-if len(sys.argv) != 3:
-    refuse("usage: check_trace.py REPORT TRACE")
+def main(words):
+    if "--help" in words:
+        print(__doc__)
+        return 0
+    if len(words) != 2:
+        raise Refused("usage: check_trace.py REPORT TRACE")
+    return compare(rows(words[0], "greatest"), rows(words[1], "forth_cut"))
+
+
+def fill_closed_streams():
+    """A standard stream that is closed fails where it is used, and no file of ours gets its number."""
+    for number, way in enumerate((os.O_WRONLY, os.O_RDONLY, os.O_RDONLY)):
+        try:
+            os.fstat(number)
+        except OSError:
+            os.open(os.devnull, way)
+    sys.stdout = sys.stdout or open(1, "w", closefd=False)
+    sys.stderr = sys.stderr or open(2, "w", closefd=False)
+
+
+def end(status, why):
+    """Ends with this status, also where a stream takes nothing more: what is left for it is dropped."""
+    if why:
+        with contextlib.suppress(OSError):
+            print(f"check_trace.py: {why}", file=sys.stderr)
+    for number, stream in ((1, sys.stdout), (2, sys.stderr)):
+        try:
+            stream.flush()
+        except OSError:
+            os.dup2(os.open(os.devnull, os.O_WRONLY), number)
+    sys.exit(status)
+
+
+fill_closed_streams()
+why = ""
 try:
-    status = main(rows(sys.argv[1], "greatest"), rows(sys.argv[2], "forth_cut"))
+    status = main(sys.argv[1:])
     sys.stdout.flush()
+except Refused as refused:
+    status, why = 2, str(refused)
 except OSError as error:
-    os.dup2(os.open(os.devnull, os.O_WRONLY), 1)
-    refuse(f"the output can't be written: {error.strerror}.")
-sys.exit(status)
+    reason = "it is closed" if error.errno == errno.EBADF else error.strerror
+    status, why = 2, f"the output can't be written: {reason}."
+end(status, why)

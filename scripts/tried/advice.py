@@ -54,7 +54,6 @@ def try_advice(room):
         lines = [it for it in out.splitlines() if it.startswith(f"  {name} ")]
         holds(f"{name} is told at once", (2, 1, True),
               (len(lines), len(set(lines)), bool(lines) and lines[0] in first.splitlines()))
-    holds("what to wait at least is told before", 1, first.count("\n  wait at least       "))
     holds("the budget", "Take scuttle-depth with room for 8 entries in a delta, 320 bytes (nodes * keys, above which "
           "nothing changes; nodes * writes); packet=320.", said.partition("\n")[0])
     holds("nothing is cut", True, "  share cut           0.00 % of what was lacking\n" in said)
@@ -64,12 +63,15 @@ def try_advice(room):
     others = [it for it in tags.named if not it.startswith("data:image/svg+xml;base64,")]
     holds("the page is whole and needs no other", ([], pictures, []), (tags.open, text.count("<img "), others))
     sum_of_program = hashlib.sha256(pathlib.Path(PROGRAM).read_bytes()).hexdigest()
-    holds("the page has the check sum and the scenarios", [True] * 6,
+    # (a restart is told of nodes that forget)
+    holds("the page has the check sum and the scenarios", [True] * 5 + [False],
           [sum_of_program in text, *(f"gossip_sweep -o {it} budget" in text for it in
-                                     ("few", "many", "split", "restart", "forgotten"))])
+                                     ("few", "many", "split", "forgotten", "restart"))])
     holds("the page says what is counted and how long to wait", (1, 1),
           (text.count("the age of the oldest missing write was for the first time at most one round above its highest"),
            text.count("a rolling restart<b>wait ")))
+    parts = ("@media screen and (prefers-color-scheme: dark)", "<thead>", "</thead><tbody>")
+    holds("the page is dark where the screen is, and its table has a head", [1, 1, 1], [text.count(it) for it in parts])
     before = {it: it.stat().st_mtime_ns for it in advice.glob("*/*.csv")}
     none = room / "nothing"
     none.mkdir()
@@ -93,30 +95,35 @@ def try_advice(room):
                        "nodes * writes = 8 entries takes packet=5120"),
                       ("rounds=9", "For rounds= there is gossip_scenario"), ("--jobs=2", "as JOBS=2"),
                       ("interval=100ms", "write interval=0.1."), ("split=1h", "it is in intervals"),
+                      ("restarts=9", "of 8 nodes no 9 can restart at once"),
                       ("restarts=5%", "'5%' isn't."), ("restarts", "Write restarts=VALUE, without a space.")):
         words = {it.partition("=")[0].replace("delta", "packet"): it for it in (*cluster, word)}
         refuses(room, why, "gossip_advise", "-o", "refused", *words.values())
     refuses(room, "nodes= is missing", "gossip_advise", "-o", "refused")
-    refuses(room, "so the worst staleness is at least 208 rounds; room for nodes * writes = 2000 entries takes "
+    refuses(room, "so it is at least 208 rounds; room for nodes * writes = 2000 entries takes "
             "packet=100000", "gossip_advise", "-o", "refused", "nodes=2000", "keys=6", "writes=1", "entry=50",
             "packet=1400", "digest=10", "shared=no")
     holds("nothing is left of what was refused", False, (room / "refused").exists())
 
 
 def try_reserve(room):
-    """Room for 60 entries, where 24 nodes write one of 6 keys: 24 are taken, if no seed is better with twice that by
-    more than they differ. The figures of both are counted here once more."""
+    """Room for 60 entries, where 24 nodes write one of 6 keys: 24 are taken, if the band of the seeds with twice
+    that touches theirs. The figures of both are counted here once more. In both answers they are of 200 rounds, as 60
+    can't choose: there the bands have two rounds in common at most."""
     words = ("nodes=24", "keys=6", "writes=1", "entry=40", "packet=2400", "count=entries", "split=0", "restarts=0")
     status, out, err = run(room, TOOLS / "gossip_advise", "-o", "reserve", *words)
     first, said = out.partition("\n\n")[::2]
-    for stage, window, told in (("few", (31, 60), first), ("many", (101, 200), said)):
-        at_knee, at_most = (worst(room / "reserve" / stage, budget, *window) for budget in (24, 48))
-        is_worse = min(at_knee) > max(at_most)
-        budget = f"{48 if is_worse else 24} entries in a delta, {1920 if is_worse else 960} bytes "
-        other = (f"With nodes * writes = 24 entries it is {as_rounds(at_knee)}: worse" if is_worse else
-                 f"With the 48 entries (2 times nodes * writes) it is {as_rounds(at_most)}: not better under all seeds "
-                 "by more than they differ. So packet=960 is enough, and what is above that is a reserve")
-        holds(f"the budget after {stage} intervals", (0, True, True),
+    at_knee, at_most = (worst(room / "reserve" / "few", budget, 31, 60) for budget in (24, 48))
+    holds("60 rounds can't choose", (True, True), (max(at_most) - min(at_knee) <= 1, first.startswith(
+        "First answer, from 60 rounds, and 200 for the budgets between which those can't choose: scuttle-depth with ")))
+    at_knee, at_most = (worst(room / "reserve" / "many", budget, 101, 200) for budget in (24, 48))
+    is_worse = min(at_knee) > max(at_most)
+    budget = f"{48 if is_worse else 24} entries in a delta, {1920 if is_worse else 960} bytes "
+    other = (f"With nodes * writes = 24 entries it is {as_rounds(at_knee)}: worse" if is_worse else
+             f"With the 48 entries (2 times nodes * writes) it is {as_rounds(at_most)}: no better, as the bands of the "
+             "seeds touch. So packet=960 is enough, and what is above that is a reserve")
+    for name, told in (("first", first), ("last", said)):
+        holds(f"the budget of the {name} answer", (0, True, True),
               (status, f"scuttle-depth with room for {budget}" in told, other in told))
     holds("nothing that heals is run where none is asked for", ({"few", "many"}, False),
           ({it.parent.name for it in (room / "reserve").glob("*/scenario")}, "a split" in out or "a restart" in out))
@@ -126,6 +133,66 @@ def try_reserve(room):
     status, out, err = run(room, TOOLS / "gossip_advise", "-o", "one mode", *words, "mode=precise-newest")
     names = {it.stem.partition("mode-")[2] for it in (room / "one mode").glob("*/*.csv")}
     holds("one mode", (0, True, {"precise-newest"}), (status, "\nTake precise-newest with room for " in out, names))
+
+
+def column(folder, budget, name):
+    """A column of each run with this budget in scuttle-depth, by seed, as formats.md has its place."""
+    at = {"stale": 6, "greatest": 7}[name]
+    reports = [(folder / f"budget-{budget}.seed-{seed}.mode-scuttle-depth.csv").read_text() for seed in range(1, 6)]
+    return [[int(line.split(",")[at]) for line in text.splitlines()[1:]] for text in reports]
+
+
+def try_target(room):
+    """The smallest budget of 24 nodes with 6 keys that keeps the worst staleness within 4 s, or 8 rounds of
+    half a second: counted once more from the reports. A delta of n entries of 40 bytes and a digest of 24 numbers of 10
+    bytes take n * 40 + 240 bytes. 24 * 23 * 6 are 3312 copies."""
+    words = ("nodes=24", "keys=6", "writes=1", "entry=40", "digest=10", "interval=0.5", "count=entries", "loss=1")
+    call = ("-o", "target", "target=4", *words, "mode=scuttle-depth")
+    status, out, err = run(room, TOOLS / "gossip_advise", *call)
+    many, stop = room / "target" / "many", room / "target" / "many-stop"
+    budgets = sorted({int(it.name.split(".")[0].partition("-")[2]) for it in many.glob("budget-*.csv")})
+    least = min(it for it in budgets if max(worst(many, it, 101, 200)) <= 8)
+    below = max(it for it in budgets if it < least)
+    holds("one entry less is too few", (1, True), (least - below, max(worst(many, below, 101, 200)) > 8))
+    said = (f"Take scuttle-depth with room for {least} entries in a delta, {least * 40} bytes ",
+            f"packet={least * 40 + 240}.")
+    line = next((it for it in out.splitlines() if it.startswith("Take ")), "")
+    holds("the smallest packet", (0, True, True), (status, line.startswith(said[0]), line.endswith(said[1])))
+    holds("the target", (True, True),
+          ("  target              met: the worst staleness is within 4 s, or 8 rounds\n" in out,
+           f"  a smaller one       {below} entries: the next smaller budget that was run has " in out))
+    shares = [100 * sum(it[100:200]) / 100 / 3312 for it in column(many, least, "stale")]
+    half = [next(at for at in range(1, 9) if 2 * it[199 + at] <= it[199]) for it in column(stop, least, "stale")]
+    spans = [f"{min(it):.0f} to {max(it):.0f}" if f"{min(it):.0f}" < f"{max(it):.0f}" else f"{max(it):.0f}"
+             for it in (shares, half)]
+    holds("how many copies are stale, and how old a typical one is", (True, True),
+          (f"  stale copies        {spans[0]} %: " in out, f"  a typical one       {spans[1]} round" in out))
+    holds("no write in the 8 rounds after 200", True,
+          (stop / "scenario").read_text().endswith("\n[[load]]\nfrom = 201\nto = 208\nwrites = 0\n"))
+    page = (room / "target" / "report.html").read_text()
+    head = f"<h1>24 nodes: scuttle-depth with {least} entries keeps the worst staleness within 4 s</h1>"
+    holds("the page has it", (True, 1, []), (head in page, page.count("target<b>met</b>"), Tags(page).open))
+    before = {it: it.stat().st_mtime_ns for it in (room / "target").glob("*/*.csv")}
+    holds("it is read again", (0, out), run(room, TOOLS / "gossip_advise", "-o", "target")[:2])
+    holds("and no run made again", before, {it: it.stat().st_mtime_ns for it in (room / "target").glob("*/*.csv")})
+    for target, verdict in (("4", "met: the worst staleness is within 4 s"),
+                            ("1", "not met: the worst staleness is above 1 s")):
+        status, out, err = run(room, TOOLS / "gossip_advise", "-o", f"judged {target}", *words, "mode=scuttle-depth",
+                               f"packet={least * 40 + 240}", f"target={target}", "split=0", "restarts=0")
+        holds(f"a packet for target={target}", (0, True, True),
+              (status, f"\nThe target is {verdict}" in out, f"\n  target              {verdict}" in out))
+    status, out, err = run(room, TOOLS / "gossip_advise", "-o", "never", "target=1", *words)
+    holds("a target that no budget meets", (0, True, True),
+          (status, out.startswith("No budget keeps the worst staleness within 1 s, or 2 rounds. The best that "
+                                  "can be had, with room for 144 entries"), "<h1>24 nodes: no budget keeps" in
+           (room / "never" / "report.html").read_text()))
+    for word, why in (("target=0", "target is in seconds, and above 0."), ("target=-4", "which '-4' isn't"),
+                      ("target=4s", "write target=4"),
+                      ("target=0.4", "would be 0 rounds of 0.5 s, and has to be from 1 to 600"),
+                      ("target=301", "would be 602 rounds of 0.5 s, and has to be from 1 to 600")):
+        refuses(room, why, "gossip_advise", "-o", "refused", word, *words)
+    refuses(room, "packet= is missing", "gossip_advise", "-o", "refused", *words)
+    holds("nothing is left of refused targets", False, (room / "refused").exists())
 
 
 def try_calls(room):
@@ -147,32 +214,56 @@ def try_calls(room):
 
 
 def try_hopeless_advice(room):
-    """Two entries for 40 nodes that write one each: with any of the modes some write of the first rounds is missing
-    throughout. So it ends after 200 rounds, without what heals, and names the 40 * 40 bytes and the call for that."""
+    """Two entries for 40 nodes that write one each: with any of the modes some write of the first rounds is missing for
+    more than 600 rounds. By a sum it is 39 * 6 / (2 * 2) - 6 at least, which 60 rounds can't show. So it ends after 800
+    rounds, without what heals, and names the 40 * 40 bytes and the call for that."""
     cluster = ("nodes=40", "keys=6", "writes=1", "entry=40", "packet=80", "digest=10", "shared=no", "restarts=4")
     status, out, err = run(room, TOOLS / "gossip_advise", *cluster, "-o", "no hope")
     first, said = out.partition("\n\n")[::2]
     enough = "packet=1600 has room for nodes * writes = 40 entries, worst staleness "
-    holds("the first answer is that none is enough", (0, True, True),
-          (status, first.startswith("First answer, from 60 rounds: no budget that fits is enough, still rising"),
-           f"\n{enough}" in first))
-    holds("so is the last", (True, True, True),
-          (said.startswith("No budget that fits is enough: still rising after 200 rounds. The most that fits: room for "
-                           "2 entries in a delta, 80 bytes"),
-           f"  enough              {enough}" in said, "  worst staleness     not known: still rising" in said))
-    holds("nothing is run that heals", ["few", "many"],
+    sum_says = ("By a sum, of the worst staleness: each node has 234 copies to renew and gets about two deltas of 2 "
+                "entries in a round, so it is at least 52 rounds; room for nodes * writes = 40 entries takes "
+                "packet=1600.")
+    holds("a sum is told at once", (0, [sum_says, "So 60 rounds can't show a level, and there is no first answer. "
+                                        "Whether it levels off later is seen from 200 rounds now, and where it "
+                                        "doesn't, from 400 and 800, and no more."]), (status, first.splitlines()))
+    holds("none is enough", (True, True, True),
+          (said.startswith("No budget that fits is enough: none is level within 800 rounds. The most that fits: room "
+                           "for 2 entries in a delta, 80 bytes"),
+           f"  enough              {enough}" in said,
+           "  worst staleness     not known: not level within 800 rounds; by a sum at least 52" in said))
+    holds("nothing is run that heals", ["longer", "longest", "many"],
           sorted(it.name for it in (room / "no hope").iterdir() if (it / "scenario").exists()))
     page = (room / "no hope" / "report.html").read_text()
     call = ("gossip_advise -o 'no hope-enough' nodes=40 keys=6 writes=1 entry=40 packet=1600 digest=10 shared=no "
             "restarts=4")
     not_run = "were not run, as no budget that fits is enough. To see them with a budget that is:"
-    holds("it says so, and how to see it", (True, True, True, True),
-          (f"{not_run}\n  {call}\n" in said, first.endswith(f"\n  {call}"), not_run in page, html.escape(call) in page))
+    holds("it says so, and how to see it", (True, True, True),
+          (f"{not_run}\n  {call}\n" in said, not_run in page, html.escape(call) in page))
     holds("it doesn't tell of groups that were not run", False, "What was run are" in said + page)
     status, out, _ = run(room, TOOLS / "gossip_advise", *shlex.split(call)[1:])
     holds("the call has what was not run", (0, True), (status, "\n  a rolling restart   wait " in out))
     holds("and the page", (True, True, []), ("<h1>40 nodes: no budget that fits is enough" in page,
                                              "none that fits is enough" in page, Tags(page).open))
+
+
+def try_longer_runs(room):
+    """Four entries for 40 nodes that write one of 6 keys each: a level above 150, which 200 rounds can't tell from
+    none, and below 300, which 400 rounds can."""
+    cluster = ("nodes=40", "keys=6", "writes=1", "entry=40", "packet=160", "count=entries", "loss=1", "split=0")
+    status, out, err = run(room, TOOLS / "gossip_advise", "-o", "longer", *cluster, "restarts=2")
+    first, said = out.partition("\n\n")[::2]
+    short, long = worst(room / "longer" / "many", 4, 151, 200), worst(room / "longer" / "longer", 4, 201, 400)
+    holds("200 rounds can't show the level, 400 can", (0, True, True), (status, max(short) > 150, max(long) <= 300))
+    holds("the first answer says how far is looked", True, "\nWhether it levels off later is seen from 200 rounds now, "
+          "and where it doesn't, from 400 and 800, and no more.\n" in first)
+    holds("the longer runs name mode and budget", (True, True, True),
+          (said.startswith("Take scuttle-depth with room for 4 entries in a delta, 160 bytes (what fits; 0.1 times "
+                           "nodes * writes); packet=160.\n"),
+           f"\n  worst staleness     {as_rounds(long)}, " in said, "in rounds 201 to 400, least and most of" in said))
+    holds("and what heals", True, "\n  a rolling restart   " in said)
+    page = (room / "longer" / "report.html").read_text()
+    holds("and the page", (True, []), ("In rounds 201 to 400, by budget" in page, Tags(page).open))
 
 
 def try_advice_below_the_knee(room):
@@ -220,4 +311,5 @@ def try_stopping_advice(room):
            "<h1>First answer. 6 nodes: " in page, Tags(page).open))
 
 
-TRIALS = (try_advice, try_reserve, try_calls, try_hopeless_advice, try_advice_below_the_knee, try_stopping_advice)
+TRIALS = (try_advice, try_reserve, try_target, try_calls, try_hopeless_advice, try_longer_runs,
+          try_advice_below_the_knee, try_stopping_advice)

@@ -34,13 +34,14 @@ writes = 1
 LACKING = '#!/bin/sh\necho "this machine lacks a feature" >&2\nexit 127\n'
 
 
-def started(room, script, *words, text="", out=subprocess.PIPE, before=None, **variables):
-    """A script that runs in a room of its own, with its input."""
+def started(room, script, *words, text="", given=None, out=subprocess.PIPE, err=subprocess.PIPE, before=None,
+            **variables):
+    """A script that runs in a room of its own, with its input, which is a text or a file."""
     environment = {**os.environ, "GOSSIP_BENCH": PROGRAM, "JOBS": "2", **variables}
-    with tempfile.TemporaryFile("w+") as given:
-        given.write(text)
-        given.seek(0)
-        return subprocess.Popen([str(script), *words], stdin=given, stdout=out, stderr=subprocess.PIPE, text=True,
+    with tempfile.TemporaryFile("w+") as written_text:
+        written_text.write(text)
+        written_text.seek(0)
+        return subprocess.Popen([str(script), *words], stdin=given or written_text, stdout=out, stderr=err, text=True,
                                 cwd=room, env=environment, preexec_fn=before)
 
 
@@ -52,7 +53,7 @@ def run(room, script, *words, **how):
 
 
 def place(script):
-    return (TOOLS if script.startswith("gossip_") else GUIDE) / script
+    return (GUIDE if script == "check_trace.py" else TOOLS) / script
 
 
 def gives(room, wanted, script, *words, **how):

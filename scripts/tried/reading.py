@@ -13,7 +13,8 @@ def try_reading(room):
     refuses(room, "aren't in", "gossip_read", "level", "3", "0", "read")
     refuses(room, "no column leftover", "gossip_read", "leftover", "1", "0", "read")
     refuses(room, "'one'", "gossip_read", "window", "one", "2", "read")
-    refuses(room, "'-1'", "gossip_read", "level", "1", "-1", "read")
+    refuses(room, "LEVEL is a whole number from 0 on, which '-1' isn't.", "gossip_read", "level", "1", "-1", "read")
+    refuses(room, "FROM has at most 18 digits", "gossip_read", "window", "1" * 19, "2", "read")
     refuses(room, "there are no runs in nowhere, which isn't there", "gossip_read", "window", "1", "2", "nowhere")
     refuses(room, "there are no runs in ., but in its ", "gossip_read", "window", "1", "2", ".")
     refuses(room, "usage", "gossip_read", "window", "1", "2", "read", "-o", "read")
@@ -32,6 +33,8 @@ def try_reading(room):
     refuses(room, "isn't the scenario of a run", "gossip_read", "window", "1", "2", "read")
     other.write_bytes(b"# \xe9\n")
     refuses(room, "isn't UTF-8", "gossip_read", "window", "1", "2", "read")
+    other.write_bytes(b"#" * 1048577)
+    refuses(room, f"{other.relative_to(room)} is longer than 1048576 bytes", "gossip_read", "window", "1", "2", "read")
 
 
 TRIALS = (try_reading,)

@@ -11,21 +11,26 @@ def try_scenarios(room):
         return dict(it.split(" = ") for it in out.splitlines() if not it.startswith("#"))
 
     cluster = ("nodes=1000", "keys=4", "writes=1", "entry=40")
-    wanted = {
+    in_bytes = {
         "format": "2", "nodes": "1000", "keys": "4", "rounds": "60", "seed": "1", "mode": '"scuttle-depth"',
         "budget_bytes": "785250", "peers": '"random"', "rotation": '"random"', "choice": '"random"', "loss_ppm": "0",
         "writes": "1",
     }
-    holds("60000 / 40 * 523.5", wanted, fields(*cluster, "packet=60000"))
+    in_entries = {name: it for name, it in in_bytes.items() if name != "budget_bytes"}
+    in_entries |= {"format": "1", "budget": "1100", "choice": '"cycle"'}
+    holds("60000 / 40 * 523.5", in_bytes, fields(*cluster, "packet=60000", "count=bytes"))
     # (44000 / 40 = 1100 entries; * 523.5 = 575850)
     shared = (*cluster, "packet=64000", "digest=20")
-    holds("with a digest", "575850", fields(*shared)["budget_bytes"])
-    in_entries = fields(*shared, "count=entries", "loss=0.5", "rounds=9", "seed=7", "mode=scuttle-breadth")
-    holds("in entries", wanted | {
-        "format": "1", "budget": "1100", "rounds": "9", "seed": "7", "mode": '"scuttle-breadth"', "choice": '"cycle"',
-        "loss_ppm": "5000"} | {"budget_bytes": None}, in_entries | {"budget_bytes": None})
+    holds("with a digest", "575850", fields(*shared, "count=bytes")["budget_bytes"])
+    more = {"rounds": "9", "seed": "7", "mode": '"scuttle-breadth"', "loss_ppm": "5000"}
+    holds("in entries", in_entries | more, fields(*shared, "loss=0.5", "rounds=9", "seed=7", "mode=scuttle-breadth"))
+    # (bytes where a delta has room for fewer than fifty entries: 49.975, and the 49 that a digest leaves)
+    for words, count in ((("packet=2000",), "budget"), (("packet=1999",), "budget_bytes"),
+                         (("packet=21999", "digest=20"), "budget_bytes"), (("packet=22000", "digest=20"), "budget")):
+        holds(f"what is counted with {words}", {"budget", "budget_bytes"} & {count},
+              {"budget", "budget_bytes"} & fields(*cluster, *words).keys())
     # (a precise digest has a number for each key: 1000 * 4 * 5 = 20000)
-    precise = (*cluster, "packet=64000", "digest=5", "mode=precise-oldest", "count=entries")
+    precise = (*cluster, "packet=64000", "digest=5", "mode=precise-oldest")
     holds("with a precise digest", "1100", fields(*precise)["budget"])
     for count in ("bytes", "entries"):
         printed = run(room, TOOLS / "gossip_scenario", *shared, f"count={count}")[1]
@@ -46,7 +51,7 @@ def try_scenarios(room):
     for word in ("loss=1%", "loss=."):
         refuses(room, "loss is a number", "gossip_scenario", *shared, word)
     for word in ("rounds=2,000", "seed=-1", "rounds=1.5"):
-        refuses(room, "is a whole number", "gossip_scenario", *shared, word)
+        refuses(room, "is a whole number from 0 on", "gossip_scenario", *shared, word)
     # (what to do instead is told)
     refuses(room, "take writes=1 and give 1 of 10 rounds writes = 2 by [[load]]", "gossip_scenario", "writes=1.1",
             *cluster[:2], "entry=40", "packet=64000")

@@ -22,10 +22,11 @@ def try_sections(room):
     refuses(room, "usage", "gossip_restarts", "3", "2", "4", "5")
     refuses(room, "usage", "gossip_restarts", "3", "2", "4", "5", "2", "forgets")
     for words in (("3", "two", "4", "5", "2"), ("3", "2", "-4", "5", "2"), ("3", "2", "4", "5", "")):
-        refuses(room, "is a whole number", "gossip_restarts", *words)
+        refuses(room, "is a whole number from 0 on", "gossip_restarts", *words)
     refuses(room, "aren't rounds", "gossip_restarts", "3", "2", "5", "4", "2")
     refuses(room, "aren't rounds", "gossip_restarts", "3", "2", "0", "4", "2")
     refuses(room, "4 nodes", "gossip_restarts", "3", "4", "4", "5", "2")
+    refuses(room, "0 nodes in a round are no restarts", "gossip_restarts", "10", "0", "1", "2", "1")
     refuses(room, "1001 restarts", "gossip_restarts", "7", "1", "1", "1001", "0")
     _, printed, _ = run(room, TOOLS / "gossip_restarts", "7", "1", "1", "1000", "0")
     holds("1000 restarts", 1000, printed.count("[[restart]]"))

@@ -1,5 +1,7 @@
 """Trials of gossip_sweep: what it refuses, what it makes, and that it loses nothing, whatever happens to it."""
+import hashlib
 import os
+import resource
 import signal
 import subprocess
 import time
@@ -21,7 +23,14 @@ def try_words_of_sweeps(room):
     refuses(room, "2 lines of the scenario above all sections set the field seed", "gossip_sweep", "seed=1",
             text="seed = 2\n" + COMPARED)
     refuses(room, "the scenario is empty", "gossip_sweep", "seed=1")
-    refuses(room, "JOBS", "gossip_sweep", "seed=1", text=COMPARED, JOBS="0")
+    for jobs in ("0", "-2", "two", "99999"):
+        refuses(room, f"JOBS is a whole number from 1 to 9999, which '{jobs}' isn't.", "gossip_sweep", "seed=1",
+                text=COMPARED, JOBS=jobs)
+    for hosts in (",", "alpha,,beta", ":, "):
+        refuses(room, f"HOSTS is '{hosts}', which lacks the name of a machine", "gossip_sweep", "seed=1", text=COMPARED,
+                HOSTS=hosts)
+        refuses(room, f"HOSTS is '{hosts}'", "gossip_advise", "nodes=8", "keys=1", "writes=1", "entry=40",
+                "packet=4000", HOSTS=hosts)
     refuses(room, "GOSSIP_BENCH names 'no_program'", "gossip_sweep", "seed=1", text=COMPARED,
             GOSSIP_BENCH="no_program")
     refuses(room, "as < mine.toml", "gossip_sweep", "seed=1", "mine.toml")
@@ -38,6 +47,20 @@ def try_words_of_sweeps(room):
     answered("another format", "fault 4: missing field budget_bytes", "format=2")
     answered("a text that isn't whole", "fault 4: missing field format", "mode=scuttle-depth", text="mode = ''\n")
     holds("nor are any of those", False, (room / "runs").exists())
+
+
+def try_long_scenarios(room):
+    """No more is read than a scenario may have, which is 1048576 bytes."""
+    def little_memory():
+        resource.setrlimit(resource.RLIMIT_AS, (2**28, 2**28))
+
+    with open("/dev/zero") as endless:
+        refuses(room, "the scenario is longer than 1048576 bytes", "gossip_sweep", "seed=1", given=endless,
+                before=little_memory)
+    longest = COMPARED + "#" * (1048575 - len(COMPARED)) + "\n"
+    refuses(room, "the scenario is longer than 1048576 bytes", "gossip_sweep", "-o", "long", "mode=scuttle-depth",
+            text=longest + "\n")
+    gives(room, "1 runs in long\n", "gossip_sweep", "-o", "long", "mode=scuttle-depth", text=longest)
 
 
 def try_runs(room):
@@ -73,7 +96,8 @@ def try_runs(room):
     holds("runs of other fields aren't added", of_budgets, sorted(it.name for it in (room / "runs").iterdir()))
 
     kept = room / "runs" / "budget-1.mode-precise-newest.csv"
-    kept.write_text(HEADER + "1,2,0,0,4,6,2,1\n2,2,0,0,9,9,9,9\n")
+    kept.write_text(text := HEADER + "1,2,0,0,4,6,2,1\n2,2,0,0,9,9,9,9\n")
+    kept.with_suffix(".sum").write_text(f"{len(text)} {hashlib.sha256(text.encode()).hexdigest()}\n")
     gives(room, "2 runs in runs\n", "gossip_sweep", "budget=1,65535", "mode=precise-newest", text=COMPARED)
     # (with room for all, exchange 1 of round 1 brings 3 each way, exchange 1 of round 2 one each way)
     gives(room, "budget,mode,percent_cut,greatest_least,greatest_most,stale_least,stale_most\n"
@@ -211,4 +235,5 @@ def try_wrong_programs(room):
               list(room.glob("wrong/*.csv")) + list(room.glob("wrong/.*.part")))
 
 
-TRIALS = (try_words_of_sweeps, try_runs, try_missing, try_sweeps_at_once, try_stopping, try_wrong_programs)
+TRIALS = (try_words_of_sweeps, try_long_scenarios, try_runs, try_missing, try_sweeps_at_once, try_stopping,
+          try_wrong_programs)

@@ -4,6 +4,8 @@ import subprocess
 import sys
 import unittest
 
+import installed
+from gossip_tools import VERSION
 from tried.calls import COMPARED, GUIDE, LACKING, TOOLS, run, written
 from trials import TOP, holds, passed
 
@@ -14,6 +16,9 @@ def try_help(room):
     for tool in (*tools, GUIDE / "check_trace.py", TOP / "scripts/install", TOP / "scripts/package"):
         status, out, err = run(room, tool, "--help")
         holds(f"{tool.name} --help", (0, True, ""), (status, out.startswith(tool.name) and out.count("\n") > 1, err))
+    for name, tool in installed.commands().items():
+        (room / name).symlink_to(tool)
+        holds(f"{name} --version", (0, f"{name} {VERSION}\n", ""), run(room, room / name, "--version"))
     older = "import sys; sys.version_info = (3, 10); sys.path.insert(0, sys.argv[1]); import gossip_tools"
     status, out, err = run(room, sys.executable, "-c", older, str(TOOLS))
     holds("an older Python", (2, "", True), (status, out, "Python 3.11 or later is needed" in err))

@@ -3,13 +3,17 @@
 Python 3.11 is the oldest that they run on, and the one that they were tried with. They need its standard library alone.
 Pictures need gnuplot, and a sweep over several machines GNU parallel.
 
+  starting   how a tool starts and ends, whatever streams are closed and signals come
   commands   how a tool answers its caller: help, refusals, faults, the program
   scenario   scenarios and their sections; `cluster` has the numbers that they are made of, `sections` two tools
   sweep      runs of one scenario with other values of its fields, over `files`, `folders`, `running` and `progress`
   read       reports and what they say of some rounds
   rules      what counts as better, as enough and as healed
-  advise     from a cluster to a mode and a budget, over `study`, what is run, and `answer`, what it says
+  advise     from a cluster to a mode and a budget, over `study`, what is run, `answer`, what it says, and `target`
   page       the page that has it all, over `plots`, its pictures
+  live       a scenario as a live cluster, over `live_plan`, what is to happen, `live_cluster`, its processes, each a
+             `live_worker` with some nodes, `live_node`, what a node sends, `live_figures`, what all of them hold, and
+             `live_beside`, what the bench says
 """
 import sys
 

@@ -1,9 +1,11 @@
 """gossip_advise [-o FOLDER] nodes=N keys=N writes=N entry=BYTES packet=BYTES [NAME=VALUE ..]
+gossip_advise [-o FOLDER] target=SECONDS nodes=N keys=N writes=N entry=BYTES [NAME=VALUE ..]
 gossip_advise -o FOLDER
 
 Says which mode and which budget to take for a cluster, how stale its copies get, and how long it takes to heal. It runs
 the modes with what fits and with nodes * writes, under five seeds, on all cores: first few intervals, for a first
-answer, then what is to heal, then many intervals. Where no budget that fits is enough, it says so, and what would be.
+answer, then what is to heal, then many intervals, and up to 800 where they show no level. Where no budget that fits is
+enough, it says so, and what would be. With a target and no packet it looks for the smallest packet that keeps to it.
 The folder, `advice` where none is named, gets the scenarios, the reports, `answer.txt` and the page `report.html`; both
 have the first answer until the last one comes. It can be stopped, which loses the runs under way: the same call goes
 on. Without numbers it takes those that the folder has. Restarts and a split may be asked for in one call, so that what
@@ -20,6 +22,9 @@ comes before them is run once.
   fanout    how many others a node calls in an interval, 1 where it isn't given. Each call is a round of its own
   loss      how many messages of a hundred are lost, 0 where it isn't given
   interval  its seconds, 1 where it isn't given
+  target    the seconds that the worst copy may be behind. Without a packet the smallest budget and packet that keep to
+            it under all seeds are looked for, in each mode; with one it is told whether that does. Beside it stand the
+            share of copies that are stale and how old a typical one is
   restarts  how many nodes restart at once, the size of a group, for the time to wait between groups: such a group
             restarts in each of ten intervals, and is down for one. Where it isn't given, one node restarts, and with 0
             none
@@ -40,12 +45,12 @@ import sys
 import tomllib
 from fractions import Fraction
 
-from gossip_tools import answer, cluster, files, page, running, scenario, study, sweep
+from gossip_tools import answer, cluster, files, page, running, scenario, study, sweep, target
 from gossip_tools.commands import Refused, folder_of, the_program, workers
 from gossip_tools.progress import Progress, in_words
 
 USUAL = {"digest": "0", "shared": "yes", "fanout": "1", "loss": "0", "interval": "1", "restarts": None, "forget": "no",
-         "split": str(study.USUAL_SPLIT), "mode": None, "count": None}
+         "split": str(study.USUAL_SPLIT), "mode": None, "count": None, "target": None}
 CALL = "gossip_advise nodes=1000 keys=4 writes=1 entry=40 packet=64000 digest=20 loss=1"
 
 
@@ -62,7 +67,7 @@ def numbers_of(words, file):
             raise Refused(f"nodes= is missing, and {file.parent} has no answer to be read again; {CALL} is a whole "
                           "call.")
         words = [f"{name}={value}" for name, value in kept.items() if name != "program"]
-    told = cluster.told(words, USUAL, CALL)
+    told = cluster.told(words, USUAL, CALL, {"packet": "target"})
     cluster.check_limits(told)
     cluster.check_fanout(told["fanout"])
     if not told["writes"]:
@@ -70,8 +75,13 @@ def numbers_of(words, file):
                       "a heartbeat for one as keys=1 and writes=1.")
     if not told["interval"]:
         raise Refused("an interval has seconds.")
+    if told["target"] == 0:
+        raise Refused("target is in seconds, and above 0.")
     if told["split"] > 100000:
         raise Refused("split is a number of intervals up to 100000.")
+    if told["restarts"] and told["restarts"] > told["nodes"]:
+        raise Refused(f"of {told['nodes']} nodes no {told['restarts']} can restart at once: restarts is the size of a "
+                      "group.")
     return told, kept
 
 
@@ -115,9 +125,17 @@ class Stages:
         """Reckons with what is still to be run in these stages where this mode takes this budget, for the time left."""
         it, heals = self.study, {(budget, mode), (self.study.most(mode), mode)}
         many = it.wanted(mode) | it.next_smaller(budget, mode)
-        pairs = {"few": it.wanted(mode), "many": many, **dict.fromkeys(it.heals(), heals)}
+        pairs = {"few": it.wanted(mode), **dict.fromkeys(("many", "longer", "longest"), many),
+                 **dict.fromkeys(it.healing_stages(), heals)}
         self.progress.plan({f"{stage}/{name}": it.work(stage, *pair) for stage in stages for pair in pairs[stage]
                             for name in self.runs(stage, {pair})[1]})
+
+    def plan(self, stage, pairs, times):
+        """Reckons with these budgets and modes, for the time left, and with as many again so many times."""
+        work = {f"{stage}/{name}": self.study.work(stage, *pair) for pair in pairs
+                for name in self.runs(stage, {pair})[1]}
+        again = {f"{name} {at}": it for at in range(times) for name, it in work.items()}
+        self.progress.plan(work | again)
 
     def carry_out(self, stage, pairs):
         text, runs = self.runs(stage, pairs)
@@ -137,12 +155,33 @@ class Stages:
             return ""
         return f" (a split of {it.split} stands for {it.told['split']}, as each key is written anew in it)"
 
-    def decide(self, stage, pairs):
+    def decide(self, stage, pairs, dropped=()):
         """What follows from these runs of a stage, once the mode that is chosen was run with nodes * writes too."""
-        decision = answer.Decision(self.study, self.carry_out(stage, pairs), stage)
-        if more := self.study.wanted(decision.mode) - pairs:
-            return answer.Decision(self.study, self.carry_out(stage, pairs | more), stage)
+        decision = answer.Decision(self.study, self.carry_out(stage, pairs), stage, dropped)
+        if more := {(self.study.knee, decision.mode)} - pairs:
+            return answer.Decision(self.study, self.carry_out(stage, pairs | more), stage, dropped)
         return decision
+
+    def decide_in_time(self, stages, pairs):
+        """What follows from the first of these stages in which a budget is enough, or from the last. From one to the
+        next those modes are left out than which another is better."""
+        first, *longer = stages
+        decision = self.decide(first, pairs)
+        for stage in longer:
+            if decision.suffices:
+                break
+            dropped, kept = decision.why_dropped(), decision.contenders()
+            pairs = {(self.study.most(mode), mode) for mode in kept}
+            self.expect(decision.mode, decision.budget, stage)
+            decision = self.decide(stage, pairs, dropped)
+        return decision
+
+    def look_closer(self, few):
+        """What follows from many intervals, where few can't choose between budgets."""
+        if not (pairs := few.to_look_closer()):
+            return few
+        closer = answer.Decision(self.study, self.carry_out("many", pairs), "many")
+        return closer if closer.suffices else few
 
     def look_below(self, decision):
         """The same decision with smaller budgets beside it, of which the last is worse."""
@@ -150,13 +189,15 @@ class Stages:
             if pairs <= decision.found.rows.keys():
                 break
             pairs |= decision.found.rows.keys()
-            decision = answer.Decision(self.study, self.carry_out(decision.stage, pairs), decision.stage)
+            found = self.carry_out(decision.stage, pairs)
+            decision = answer.Decision(self.study, found, decision.stage, decision.dropped)
         return decision
 
     def heal(self, decision):
         """What heals, with the budget that is taken and with all that fits."""
         pairs = {(budget, decision.mode) for budget in (decision.budget, decision.most)}
-        return answer.Healing(self.study, decision.mode, {it: self.carry_out(it, pairs) for it in self.study.heals()})
+        return answer.Healing(self.study, decision.mode, {stage: self.carry_out(stage, pairs)
+                                                          for stage in self.study.healing_stages()})
 
 
 def look(folder):
@@ -172,10 +213,15 @@ def call_with_enough(decision, folder):
     where that wasn't enough either."""
     if decision.suffices or not decision.knee_suffices():
         return ""
-    told = decision.study.told | {"packet": decision.study.packet(decision.mode)}
+    return call_with(decision.study, decision.study.packet(decision.mode), f"{folder}-enough")
+
+
+def call_with(it, packet, folder):
+    """The whole call with another packet, into another folder."""
+    told = it.told | {"packet": packet}
     words = {name: str(as_text(told[name])) for name in (*cluster.NEEDED, *USUAL) if told[name] is not None}
     asked = [f"{name}={text}" for name, text in words.items() if text != USUAL.get(name)]
-    return shlex.join(["gossip_advise", "-o", f"{folder}-enough", *asked])
+    return shlex.join(["gossip_advise", "-o", folder, *asked])
 
 
 class Told:
@@ -190,54 +236,90 @@ class Told:
         files.put(self.folder / "answer.txt", "\n".join(self.lines) + "\n")
 
 
-def first_answer(it, stages, check_sum):
+def first_answer(it, stages, told, check_sum):
     """The first answer, from few intervals, and what heals with its budget. The folder has it until the last answer
     comes."""
-    stages.expect(it.usual, min(it.knee, it.most(it.usual)), "few", "many", *it.heals())
-    few, told = stages.decide("few", it.wanted(it.usual)), Told(stages.folder)
-    told.tell(answer.first_words(few, call_with_enough(few, stages.folder)))
+    stages.expect(it.usual, min(it.knee, it.most(it.usual)), "few", "many", *it.healing_stages())
+    few = stages.look_closer(stages.decide("few", it.wanted(it.usual)))
+    about_target = [f"The target is {target.judged(few)[1]}."] if it.target else []
+    told.tell(answer.first_words(few, call_with_enough(few, stages.folder), about_target))
     if not few.suffices:
         print(flush=True)
         return few
-    stages.expect(few.mode, few.budget, "many", *it.heals())
+    stages.expect(few.mode, few.budget, "many", *it.healing_stages())
     healed = {}
-    for stage in it.heals():
+    for stage in it.healing_stages():
         healed[stage] = stages.carry_out(stage, {(few.budget, few.mode)})
         told.tell(answer.Healing(it, few.mode, healed).lines_now(stage, few.budget))
-    page.make(stages.folder, few, answer.Healing(it, few.mode, healed) if healed else None, stages.made, check_sum)
+    healing = answer.Healing(it, few.mode, healed) if healed else None
+    page.make(stages.folder, few, healing, stages.made, check_sum, head="First answer. ")
     told.tell(answer.last_of_first_words(few, stages.folder))
     print(flush=True)
     return few
 
 
 def last_answer(it, stages, few):
-    """The last answer, from many intervals, and what heals with its budget, where one that fits is enough."""
-    stages.expect(few.mode, few.budget, "many", *(it.heals() if few.suffices else ()))
-    smaller = it.next_smaller(few.budget, few.mode) if few.suffices else set()
-    decision = stages.decide("many", it.wanted(few.mode) | smaller)
+    """The last answer, from many intervals, more where they show no level, and what heals with its budget, where one
+    that fits is enough. Where a sum says that few show nothing, there is no first one."""
+    first, *longer = [stage for stage in it.steady_stages() if stage != "few"]
+    pairs = it.wanted(few.mode if few else it.usual)
+    if few:
+        stages.expect(few.mode, few.budget, first, *(it.healing_stages() if few.suffices else ()))
+        pairs |= it.next_smaller(few.budget, few.mode) if few.suffices else set()
+    decision = stages.decide_in_time((first, *longer), pairs)
     if not decision.suffices:
         return decision, None
-    stages.expect(decision.mode, decision.budget, "many", *it.heals())
+    stages.expect(decision.mode, decision.budget, decision.stage, *it.healing_stages())
     decision = stages.look_below(decision)
     return decision, stages.heal(decision) if it.heals() else None
 
 
+def smallest_packet(it, stages, check_sum):
+    """The smallest packet that keeps to the target: its search, and its answer and page."""
+    search = target.Search(it, stages)
+    is_met = search.carry_out()
+    pairs = {search.run_of(mode) for mode in search.modes or [it.usual]}
+    stages.plan(f"{search.stage}-stop", pairs, 0)
+    met = target.Met(search, is_met, target.aged(stages, search.stage, search.found, pairs))
+    call = call_with(it, met.packet(), f"{stages.folder}-packet")
+    Told(stages.folder).tell(met.in_words(call))
+    print("", page.make(stages.folder, met, None, stages.made, check_sum, more=met.more()), sep="\n")
+
+
+def beside(it, stages, decision):
+    """What a target and the ages of copies say of a decision, as names and words; nothing where no target was told."""
+    if it.target is None:
+        return []
+    if not decision.suffices:
+        return [target.judged(decision)]
+    pairs = {(decision.budget, decision.mode)}
+    stages.plan(f"{decision.stage}-stop", pairs, 0)
+    ages = target.aged(stages, decision.stage, decision.found, pairs)
+    return [target.judged(decision), *ages.told(decision.budget, decision.mode)]
+
+
 def study_of(it, folder, program, check_sum):
     """Carries out the stages, and prints the answers."""
-    stages = Stages(it, folder, program)
-    few = first_answer(it, stages, check_sum)
+    stages, told = Stages(it, folder, program), Told(folder)
+    if it.told["packet"] is None:
+        return smallest_packet(it, stages, check_sum)
+    if sum_says := answer.at_least(it):
+        told.tell(sum_says)
+    few = None
+    if "few" in it.steady_stages():
+        few = first_answer(it, stages, told, check_sum)
+    else:
+        print(flush=True)
     decision, healing = last_answer(it, stages, few)
-    missing = answer.not_run(decision, call_with_enough(decision, folder), few.suffices)
-    lines = answer.in_words(decision, healing, missing)
-    Told(folder).tell(lines)
-    print("", page.make(folder, decision, healing, stages.made, check_sum, missing), sep="\n")
+    missing = answer.not_run(decision, call_with_enough(decision, folder), few is not None and few.suffices)
+    more = beside(it, stages, decision)
+    Told(folder).tell(answer.in_words(decision, healing, missing, more))
+    print("", page.make(folder, decision, healing, stages.made, check_sum, missing, more), sep="\n")
 
 
 def main(words):
     folder, words = folder_of(words, "advice")
-    hosts = os.environ.get("HOSTS")
-    if hosts and not running.is_gnu_parallel():
-        raise Refused("other machines need GNU parallel, which isn't there.")
+    hosts = running.hosts()
     look(folder)
     it = study.Study(numbers_of(words, folder / "cluster.toml")[0])
     program = the_program()

@@ -18,6 +18,11 @@ def in_nodes(count):
     return f"{count} node{'s' if count != 1 else ''}"
 
 
+def listed(names):
+    *others, last = names
+    return f"{', '.join(others)} and {last}" if others else last
+
+
 def in_time(rounds, seconds):
     """Rounds of so many seconds as time: in seconds, or in minutes where they are many."""
     seconds = [float(it * seconds) for it in rules.band(rounds)]
@@ -43,19 +48,25 @@ def unit(study):
     return "rounds" if study.fanout == 1 else "intervals"
 
 
-SURELY = "under all seeds by more than they differ"
+TOUCH = "as the bands of the seeds touch"
+APART = "as the bands of the seeds don't touch"
 
 
 class Decision:
     """What follows from the runs of a stage by the rules."""
 
-    def __init__(self, study, found, stage):
+    def __init__(self, study, found, stage, dropped=()):
         self.study, self.found, self.stage, self.window = study, found, stage, study.window(stage)
-        self.figures = {mode: self.worst_with(study.most(mode), mode) for mode in study.fits}
+        # (why a mode is no longer run, in words)
+        self.dropped = list(dropped)
+        self.figures = {mode: self.worst_with(study.most(mode), mode) for mode in study.fits
+                        if (study.most(mode), mode) in found.rows}
         enough = {mode: it for mode, it in self.figures.items() if self.is_enough(study.most(mode), mode)}
         # whether a budget that fits is enough, in some mode
         self.suffices = bool(enough)
-        self.mode = rules.mode_of(enough) if enough else study.usual
+        # (the mode that is better than the others though none is level)
+        self.ahead = None if enough else rules.ahead(self.figures, self.window[1])
+        self.mode = rules.mode_of(enough) if enough else self.ahead or self.usual()
         self.most = self.budget = study.most(self.mode)
         # (what that is held against: all that suffices from nodes * writes on, and the other modes)
         self.others = list(enough.values())
@@ -67,6 +78,36 @@ class Decision:
         self.worst = self.worst_with(self.budget, self.mode)
         self.cut = found.cut(self.budget, self.mode, self.window)
         self.close = [it for it in self.figures if it != self.mode and rules.are_close(self.figures[it], self.worst)]
+
+    def is_taken(self):
+        """Whether its budget is one to take."""
+        return self.suffices
+
+    def heals(self):
+        """Whether what heals is run with it."""
+        return self.suffices
+
+    def own_warnings(self):
+        """What speaks against this decision alone."""
+        return self.dropped
+
+    def usual(self):
+        """The mode to begin with, of those that were run."""
+        return next(it for it in (self.study.usual, *rules.CHEAPEST_FIRST) if it in self.figures)
+
+    def contenders(self):
+        """The modes that may still be the best, none of them being level."""
+        return rules.contenders(self.figures, self.window[1])
+
+    def why_dropped(self):
+        """Why the other modes aren't run any longer, in words."""
+        kept = self.contenders()
+        best = min(kept, key=lambda mode: max(kept[mode]))
+        lost = [f"{mode} with {in_rounds(figure)}" for mode, figure in self.figures.items() if mode not in kept]
+        if not lost:
+            return self.dropped
+        return [*self.dropped, f"Up to round {self.window[1]} these modes were behind {best} with "
+                f"{in_rounds(self.figures[best])}, and weren't run on, {APART}: {', '.join(lost)}."]
 
     def worst_with(self, budget, mode):
         return self.found.worst(budget, mode, self.window)
@@ -84,7 +125,7 @@ class Decision:
         return rules.is_better(self.worst, self.worst_with(budget, self.mode))
 
     def is_out(self, budget):
-        """Whether a budget that was run isn't taken, be it that it still rises, or that something is better."""
+        """Whether a budget that was run isn't taken, be it that it isn't level, or that something is better."""
         worst = self.worst_with(budget, self.mode)
         return not self.is_enough(budget, self.mode) or any(
             rules.is_better(it, worst) for it in [self.worst, *self.others])
@@ -120,10 +161,14 @@ class Decision:
     def staleness(self):
         """The worst staleness, in words."""
         if not self.suffices:
-            return f"not known: still rising after {self.window[1]} rounds"
+            return f"not known: not level within {self.window[1]} rounds{self.at_least()}"
         it = self.study
         run = lasting(it, self.worst)
         return f"{self.at_most()}: the {it.nodes} that were run had {run}" if it.parts > 1 else run
+
+    def at_least(self):
+        """What a sum says of a worst staleness that isn't known, in words."""
+        return f"; by a sum at least {self.study.least_rounds()}" if self.study.least_rounds() else ""
 
     def to_knee(self):
         """The bytes with which nodes * writes entries fit, and what they would bring, in words. Empty where they do
@@ -137,7 +182,7 @@ class Decision:
         if (at_knee, self.mode) not in self.found.rows:
             return said
         if not self.knee_suffices():
-            return f"{said}, where `greatest` still rises too"
+            return f"{said}, where `greatest` isn't level either"
         return f"{said}, worst staleness {briefly(it, self.worst_with(at_knee, self.mode))} with that"
 
     def knee_suffices(self):
@@ -159,6 +204,29 @@ class Decision:
         """The bytes of a packet with room for the budget."""
         return self.study.packet(self.mode, self.whole_budget())
 
+    def given(self):
+        """The bytes of the packet that was told; that of the budget where none was."""
+        return self.packet() if self.study.told["packet"] is None else int(self.study.told["packet"])
+
+    def run_of(self, mode):
+        """The budget that a mode would take, and the mode."""
+        return (self.budget if mode == self.mode else self.study.most(mode)), mode
+
+    def headline(self):
+        """The decision, in a few words."""
+        if not self.suffices:
+            return f"no budget that fits is enough: none is level within {self.window[1]} rounds"
+        return f"{self.mode} with {self.whole_budget()} entries"
+
+    def why_empty(self):
+        """Why some budgets were not run in some modes."""
+        return "smaller budgets are run with the chosen mode, down to the first that is worse, for the last answer"
+
+    def in_window(self):
+        """What the worst staleness was read from, in words."""
+        first, last = self.window
+        return f": the most of `greatest` in rounds {first} to {last}, least and most of {len(rules.SEEDS)} seeds"
+
     def shares(self):
         """Whether the digest takes some of the packet."""
         return self.study.told["shared"] == "yes" and bool(self.study.told["digest"])
@@ -178,21 +246,33 @@ class Decision:
         packet = f"packet={needed}"
         if entries <= self.whole_budget():
             packet += "; this budget has room for them"
-        elif needed > it.told["packet"]:
+        elif it.told["packet"] is not None and needed > it.told["packet"]:
             packet += ", more than yours"
         return (f"In Cassandra a node tells all its keys as it starts, here as many as it writes. For that reckon with "
                 f"{name} = {entries} entries, {packet}")
 
     def most_that_fits(self):
-        """The largest budget where none is enough, in words. The modes there all still rise, so none is named."""
-        none = (" No mode can be preferred with that by its `greatest`, which still rises in each that was run."
-                if len(self.study.fits) > 1 else "")
-        return f"The most that fits: {self.room()}.{none}"
+        """The largest budget where none is enough, and which mode is ahead with that, in words."""
+        return f"The most that fits: {self.room()}.{self.which_mode()}"
+
+    def which_mode(self):
+        """The mode that is ahead though none is level, or why none is; empty where one alone is looked at."""
+        last, runs_on = self.window[1], self.contenders()
+        if len(self.study.fits) == 1:
+            return ""
+        if self.ahead or self.dropped and len(runs_on) == 1:
+            figure = briefly(self.study, self.figures[self.mode])
+            return (f" Of the modes {self.mode} is ahead with that, though it isn't level yet: its `greatest` was at "
+                    f"most {figure} up to round {last}, and the others' higher, {APART}.")
+        if not any(rules.has_left_the_diagonal(it, last) for it in self.figures.values()):
+            return (f" No mode can be preferred with that: in each `greatest` is about the number of the round, which "
+                    "it can't exceed.")
+        return f" No mode can be preferred with that: of {listed(list(runs_on))} none is ahead, {TOUCH}."
 
     def forgetful(self):
         """What counts where nodes forget and the budget is short, in words; empty where that isn't so."""
         it = self.study
-        if it.told["forget"] == "no" or not it.leaves() or self.budget >= it.knee:
+        if not it.forgets() or not it.leaves() or self.budget >= it.knee:
             return ""
         return f"Nodes forget here, and the budget is below {it.knee_name}: {rules.FORGETFUL}."
 
@@ -202,8 +282,9 @@ class Decision:
         in_bytes = self.whole_budget() * it.told["entry"]
         why = self.times()
         if self.budget == it.nodes * it.keys:
-            why = f"nodes * keys, above which nothing changes; {why}"
-        elif self.budget == it.fits[self.mode]:
+            all_keys = "nodes * keys, above which nothing changes"
+            why = all_keys if why == "nodes * keys" else f"{all_keys}; {why}"
+        elif self.whole_budget() == it.fits_of_all[self.mode]:
             why = f"what fits; {why}"
         return f"room for {self.whole_budget()} entries in a delta, {int(in_bytes)} bytes ({why})"
 
@@ -212,7 +293,7 @@ class Decision:
         if not self.suffices or self.budget == self.most:
             return ""
         worst = briefly(self.study, self.figures[self.mode])
-        return (f"With {self.all_that_fits()} it is {worst}: not better {SURELY}. So packet={self.packet()} is enough, "
+        return (f"With {self.all_that_fits()} it is {worst}: no better, {TOUCH}. So packet={self.packet()} is enough, "
                 "and what is above that is a reserve")
 
     def why_not_knee(self):
@@ -222,28 +303,49 @@ class Decision:
             return ""
         at_knee = f"With {it.knee_name} = {it.whole(it.knee)} entries"
         if not self.knee_suffices():
-            return f"{at_knee} `greatest` still rises"
+            return f"{at_knee} `greatest` isn't level"
         worst = self.worst_with(it.knee, self.mode)
         why = ", and another mode with what fits is better than that"
         if self.is_worse(it.knee):
-            why = f": worse {SURELY}"
+            why = f": worse, {APART}"
         elif rules.is_better(self.figures[self.mode], worst):
-            why = f": worse than {self.all_that_fits()} {SURELY}"
+            why = f": worse than {self.all_that_fits()}, {APART}"
         return f"{at_knee} it is {briefly(it, worst)}{why}"
 
-    def still_to_run(self):
-        """Which budget between nodes * writes and a larger one the last answer may take, in words; empty where there is
-        none."""
+    def to_look_closer(self):
+        """The budgets from nodes * writes on, with the mode, between which few rounds can't choose; none where they
+        can."""
         it = self.study
-        between = [smaller for smaller, _ in it.next_smaller(self.budget, self.mode) if smaller > it.knee]
-        if not between or not self.suffices or (between[0], self.mode) in self.found.rows:
-            return ""
-        return f"The last answer has {it.whole(between[0])} entries too, and takes them if nothing is better than that"
+        if not self.suffices or it.knee >= self.most:
+            return set()
+        if not rules.may_turn_over(self.worst_with(it.knee, self.mode), self.figures[self.mode]):
+            return set()
+        between = {pair for pair in it.next_smaller(self.most, self.mode) if pair[0] > it.knee}
+        return between | {(it.knee, self.mode), (self.most, self.mode)}
+
+    def too_close(self):
+        """Which figures are too close to call. Those that aren't level say nothing."""
+        if not self.suffices:
+            return []
+        it, whole = self.study, self.study.whole
+        said = [f"{mode} with {whole(it.most(mode))} entries, {briefly(it, self.figures[mode])} against "
+                f"{span(self.worst)}" for mode in self.close]
+        if smaller := self.smaller():
+            worst = briefly(it, self.worst_with(smaller, self.mode))
+            said.append(f"{self.mode} with a budget from {whole(smaller)} entries on, {worst} with that")
+            if self.budget >= it.knee:
+                said[-1] += f"; below {it.knee_name}, where staleness rises steeply, none is taken for that"
+        others = "other mode and smaller budget" if len(self.figures) > 1 else "smaller budget"
+        smaller = [budget for budget in self.of_mode() if budget < self.budget]
+        than = "" if all(map(self.is_worse, smaller)) else " than this one or a larger one"
+        return said or [f"none: each {others} that was run is worse{than}, {APART}"]
 
     def all_that_fits(self):
         """The largest budget that was looked at, in words."""
         it = self.study
-        what = "that fit" if self.most == it.fits[self.mode] else f"({self.most / it.knee:.2g} times {it.knee_name})"
+        what = f"({self.most / it.knee:.2g} times {it.knee_name})"
+        if it.whole(self.most) == it.fits_of_all[self.mode]:
+            what = "that fit"
         return f"the {it.whole(self.most)} entries {what}"
 
 
@@ -251,7 +353,10 @@ class Healing:
     """How long a split, a restart and a forgotten state take to heal, in the chosen mode."""
 
     def __init__(self, study, mode, stages):
-        self.study, self.mode, self.stages = study, mode, stages
+        self.study, self.mode = study, mode
+        # (by what heals, its runs)
+        tells = study.healing_stages()
+        self.stages = {it: found for stage, found in stages.items() for it in tells.get(stage, (stage,))}
         # (at the end of a line, where a tenth was run)
         self.run = f" ({study.nodes} nodes run)" if study.parts > 1 else ""
 
@@ -289,18 +394,15 @@ class Healing:
         each, groups = it.restarting()
         harder = ", a harder test than one group" if groups > 1 else ""
         if not it.restarts:
-            return f"of one node, down for one {unit(it)[:-1]}"
-        return f"of {in_nodes(each)} in each of {groups} {unit(it)}, each down for one{harder}"
+            return f"of one node, down for one {unit(it)[:-1]}{forgets(it)}"
+        who = f"of {in_nodes(each)} in each of {groups} {unit(it)}{fewer(it, it.restarts)}"
+        return f"{who}, each down for one{forgets(it)}{harder}"
 
     def lines_now(self, stage, budget):
-        """The lines of a stage as soon as it is run. How long to wait is known from the restart; where nodes forget,
-        at least, until the forgotten state is run too."""
-        lines, leaves = self.lines(stage, budget), self.study.leaves()
-        if stage in leaves[-1:]:
-            lines.append(self.rolling(budget))
-        elif stage == "restart" and None not in self.taken(stage, budget):
-            lines.append(row(AT_LEAST, f"{self.wait_at_least(budget)}{self.run}"))
-        return lines
+        """The lines of a stage as soon as it is run."""
+        tells = self.study.healing_stages()[stage]
+        lines = [line for it in tells for line in self.lines(it, budget)]
+        return lines + ([self.rolling(budget)] if tells == self.study.leaves() else [])
 
     def all_lines(self, budget):
         """The lines of all stages."""
@@ -324,19 +426,14 @@ class Healing:
         taken = [it for stage in self.study.leaves() for it in self.taken(stage, budget)]
         return None if None in taken else max(taken) + rules.WAIT_MORE
 
-    def wait_at_least(self, budget):
-        """How long to wait as far as the restart alone tells, in words."""
-        rounds = [max(self.taken("restart", budget)) + rules.WAIT_MORE]
-        return (f"{lasting(self.study, rounds)}, by the restart alone; the line `{ROLLING}` takes the place of this "
-                "one, once the forgotten state was run")
-
     def wait(self, budget):
         """How long to wait between the groups of a rolling restart, in words."""
         restarts, rounds = self.study.told["restarts"], self.waited(budget)
         longest = "the longest of these two" if len(self.study.leaves()) > 1 else "the longest of a restart"
         if rounds is None:
             return "no wait is known, as not all of this is over in the rounds that were run: take a larger budget"
-        who = f"a group of {restarts} nodes" if restarts and restarts > 1 else "a node"
+        group = self.study.group()
+        who = f"a group of {group} nodes" if restarts and group > 1 else "a node"
         return (f"wait {lasting(self.study, [rounds])}, after {who} is up again: {rules.WAIT_MORE} more than "
                 f"{longest}, as a later group may take longer; {rules.NO_GUARANTEE}")
 
@@ -357,11 +454,24 @@ class Healing:
         return f"if your program fills the packet anyway, {'; '.join(said)}{self.run}"
 
 
+def forgets(study):
+    """That nodes lose their own state as they restart, in words; empty where they don't."""
+    return ", and then without its own state" if study.forgets() else ""
+
+
+def fewer(study, asked):
+    """That fewer nodes restart at once than were asked for, in words; empty where that isn't so."""
+    each = study.restarting()[0]
+    if each == study.restarts:
+        return ""
+    why = "half of the nodes stay up" if each == study.nodes // 2 else f"a scenario takes {each} restarts"
+    return f", in place of {asked}, as {why}"
+
+
 # What heals, by its stage, and the words for that.
 HEALED = {"split": "a split", "restart": "a restart", "forgotten": "a forgotten state"}
 ENDS = {"split": "healed", "restart": "healed", "forgotten": "gone from all copies"}
 ROLLING = "a rolling restart"
-AT_LEAST = "wait at least"
 IN_A_ROW = 98
 
 
@@ -370,24 +480,45 @@ def row(name, said):
     return f"  {name:<19} {said}"
 
 
-def first_words(decision, call=""):
+def first_words(decision, call="", about_target=()):
     """The first answer, from few intervals."""
-    it, few, to_knee = decision.study, decision.window[1], decision.to_knee()
+    it, few, to_knee = decision.study, decision.study.rounds("few"), decision.to_knee()
     since = f"{few} rounds" if it.fanout == 1 else f"{few // it.fanout} intervals of {it.fanout} rounds"
+    if decision.stage != "few":
+        since += f", and {it.intervals(decision.stage)} for the budgets between which those can't choose"
     if decision.suffices:
-        more = (decision.reserve(), decision.why_not_knee(), decision.still_to_run())
+        more = (decision.reserve(), decision.why_not_knee())
         said = [f"First answer, from {since}: {decision.takes()}.",
                 f"{decision.tells_all()}." if decision.tells_all() else "",
-                f"Worst staleness {decision.staleness()}.", *(f"{it}." for it in more if it),
+                f"Worst staleness {decision.staleness()}.", *about_target, *(f"{it}." for it in more if it),
                 f"That is below {it.knee_name}. {to_knee}." if to_knee else "", decision.forgetful(), *limits(decision),
                 *(of_calls(it) if it.fanout > 1 else [])]
     else:
-        said = [f"First answer, from {since}: no budget that fits is enough, still rising after {few} rounds.",
+        said = [f"First answer, from {since}: no budget that fits is seen to be enough, as none is level within {few} "
+                "rounds.",
                 decision.most_that_fits(), decision.forgetful(), f"{to_knee}." if to_knee else "", *limits(decision),
-                f"Whether it levels off later is seen from {it.rounds('many')} rounds now."]
+                levels_off_later(it)]
         if call and it.asks_for_healing():
             said += [f"{WHAT_HEALS} are run only if it does. To see them with a budget that is enough:", f"  {call}"]
     return [it for it in said if it]
+
+
+def levels_off_later(study):
+    """How far is looked for a level, in words."""
+    first, *longer = [study.rounds(it) for it in study.steady_stages() if it != "few"]
+    then = f", and where it doesn't, from {' and '.join(map(str, longer))}, and no more" if longer else ""
+    return f"Whether it levels off later is seen from {first} rounds now{then}."
+
+
+def at_least(study):
+    """What a sum says of the worst staleness before anything is run, in words; empty where it says nothing."""
+    if not study.least_rounds():
+        return []
+    said = [f"By a sum, of the worst staleness: {study.why_at_least()}."]
+    if "few" not in study.steady_stages():
+        said.append(f"So {study.rounds('few')} rounds can't show a level, and there is no first answer. "
+                    f"{levels_off_later(study)}")
+    return said
 
 
 def last_of_first_words(decision, folder):
@@ -397,10 +528,9 @@ def last_of_first_words(decision, folder):
     if it.heals() and decision.reserve():
         said.append(f"All these times are for packet={decision.packet()}. If your program fills a larger one anyway, "
                     "copies heal sooner: the last answer has that in the line `with the reserve`.")
-    other = ", and by that another budget be taken" if decision.most > it.knee else ""
-    return [*said, "Now all of it is refined, which takes longer. As more rounds are looked at then, the worst "
-            f"staleness may be a round or so higher{other}. Until then {folder / 'answer.txt'} and "
-            f"{folder / 'report.html'} have this first answer."]
+    moved = rules.FIRST_MOVED_BELOW if decision.budget < it.knee else rules.FIRST_MOVED
+    return [*said, f"Now comes the last answer, from more rounds, which takes longer. {rules.FIRST_HELD}, and {moved}. "
+            f"Until then {folder / 'answer.txt'} and {folder / 'report.html'} have this first answer."]
 
 
 WHAT_HEALS = "A split, a restart and a rolling restart"
@@ -421,24 +551,6 @@ def not_run(decision, call, was_enough=False):
     return [f"{why} To see them with a budget that is:", f"  {call}"] if call else [why]
 
 
-def too_close(decision):
-    """Which figures are too close to call. Those that still rise say nothing."""
-    if not decision.suffices:
-        return []
-    it, whole = decision.study, decision.study.whole
-    said = [f"{mode} with {whole(it.most(mode))} entries, {briefly(it, decision.figures[mode])} against "
-            f"{span(decision.worst)}" for mode in decision.close]
-    if smaller := decision.smaller():
-        worst = briefly(it, decision.worst_with(smaller, decision.mode))
-        said.append(f"{decision.mode} with a budget from {whole(smaller)} entries on, {worst} with that")
-        if decision.budget >= it.knee:
-            said[-1] += f"; below {it.knee_name}, where staleness rises steeply, none is taken for that"
-    others = "other mode and smaller budget" if len(it.fits) > 1 else "smaller budget"
-    smaller = [budget for budget in decision.of_mode() if budget < decision.budget]
-    than = "" if all(map(decision.is_worse, smaller)) else " than this one or a larger one"
-    return said or [f"none: each {others} that was run is worse{than} {SURELY}"]
-
-
 def warnings(decision):
     """What speaks against the decision, or limits it."""
     it, said = decision.study, []
@@ -446,14 +558,14 @@ def warnings(decision):
     own = "a delta in packets of its own (shared=no), " if shared else ""
     if not decision.suffices:
         larger = f"A larger packet, {own}a shorter entry or fewer" if decision.to_knee() else "Less loss or fewer"
-        said.append("`greatest` still rises in the second half of the window, in each mode that was run. "
+        said.append("`greatest` isn't level in any mode that was run. "
                     f"{larger} writes would help.")
     elif decision.budget < it.knee:
         said.append(f"The budget is below {it.knee_name}, the knee above which a larger one hardly helps, so copies "
                     f"lag more than they have to. {decision.to_knee()}. Else "
                     f"{own}a shorter entry or fewer writes would help.")
     said += [decision.forgetful()] if decision.forgetful() else []
-    said += limits(decision)
+    said += decision.own_warnings() + limits(decision)
     if it.in_bytes:
         said.append("With room for so few entries a large one holds up smaller ones behind it: give the delta room for "
                     "one mean entry more than the sum says.")
@@ -463,7 +575,7 @@ def warnings(decision):
                     f"{rules.TENTH}{calls}")
         if not rules.tenth_holds(decision.of_knee()):
             said.append(f"This budget is {decision.times()}, where a tenth wasn't seen to hold.")
-    return said + (of_healing(it) if decision.suffices else [])
+    return said + (of_healing(it) if decision.heals() else [])
 
 
 def limits(decision):
@@ -482,11 +594,11 @@ def of_healing(it):
         said.append(f"A split of {it.split} {unit(it)} was run in place of {it.told['split']}: each key was written "
                     "anew meanwhile, so a longer one leaves no more to catch up with.")
     if it.restarts:
-        each, groups = it.restarting()
-        fewer = f", in place of {it.told['restarts']}" if it.told["restarts"] > it.whole(each) else ""
-        said.append(f"{it.whole(each)} is the size of a group that restarts at once{fewer}. What was run are "
-                    f"{groups} such groups, one in each {unit(it)[:-1]}, each down for one. The times count from when "
-                    "the last one is up again.")
+        _, groups = it.restarting()
+        in_place = fewer(it, it.told["restarts"])
+        said.append(f"{it.group()} is the size of a group that restarts at once{in_place}. What was run are {groups} "
+                    f"such groups, one in each {unit(it)[:-1]}, each down for one. The times count from when the last "
+                    "one is up again.")
         said.append(f"While nodes restart in each {unit(it)[:-1]}, `greatest` is the number of the round and bounds "
                     "nothing.")
     return said + ([rules.DOWN_FOR_LONGER] if it.leaves() else [])
@@ -505,15 +617,15 @@ def of_digest(decision):
     if not told["digest"]:
         return [f"You gave no digest, so it is free here. With digest={SUPPOSED} its {numbers} numbers would take "
                 f"{numbers * SUPPOSED} bytes. {TYPICAL}"]
-    if told["shared"] == "no" and it.digest_bytes(decision.mode) > told["packet"]:
+    if told["shared"] == "no" and it.digest_bytes(decision.mode) > decision.given():
         return [f"The digest has {numbers} numbers of {told['digest']} bytes, which fit no packet of "
-                f"{told['packet']}: it would have to go in several."]
+                f"{decision.given()}: it would have to go in several."]
     return []
 
 
 def of_datagrams(decision):
     """That a packet is more than one datagram."""
-    told, it = int(decision.study.told["packet"]), decision
+    told, it = decision.given(), decision
     largest = max(told, it.study.packet(it.mode)) if it.to_knee() else told
     if largest <= rules.DATAGRAM:
         return []
@@ -553,7 +665,7 @@ def left_out(decision):
         said.append(f"A digest of up to {numbers} numbers, {size} bytes, comes on top of the delta.")
     if it.tells_all():
         said += [] if decision.suffices else [f"{decision.tells_all()}."]
-    elif decision.suffices and it.leaves():
+    elif decision.heals() and it.leaves():
         said.append(GENERATIONS if told["restarts"] else GROUPS)
     return said
 
@@ -565,19 +677,26 @@ GROUPS = ("Groups: one node restarts at a time here. For a rolling restart in gr
 
 def none_fits(decision):
     """That no budget is enough, in words."""
-    return f"No budget that fits is enough: still rising after {decision.window[1]} rounds"
+    return f"No budget that fits is enough: none is level within {decision.window[1]} rounds"
 
 
-def in_words(decision, healing, missing=()):
-    """The answer, line by line. Without a budget that is enough there is no healing, but the lines on what is missing.
-    """
-    first, last = decision.window
+def heads(decision):
+    """What to mind, what is too close to call and what is left out, line by line."""
+    lines = []
+    for head, said in (("Mind", warnings(decision)), ("Too close to call", decision.too_close()),
+                       ("Left out for this cluster", left_out(decision))):
+        lines += ["", f"{head}:", *(f"  - {one}" for one in said)] if said else []
+    return lines
+
+
+def in_words(decision, healing, missing=(), more=()):
+    """The answer, line by line, with more names and words beside the worst staleness. Without a budget that is enough
+    there is no healing, but the lines on what is missing."""
     takes = f"Take {decision.takes()}." if decision.suffices else f"{none_fits(decision)}. {decision.most_that_fits()}"
-    in_window = f": the most of `greatest` in rounds {first} to {last}, least and most of {len(rules.SEEDS)} seeds"
-    in_window = in_window if decision.suffices else ""
+    in_window = decision.in_window() if decision.suffices else ""
     in_mode = "" if decision.suffices else f", in {decision.mode}"
     lines = [takes, *([f"{decision.tells_all()}."] if decision.suffices and decision.tells_all() else []), "",
-             row("worst staleness", f"{decision.staleness()}{in_window}")]
+             row("worst staleness", f"{decision.staleness()}{in_window}"), *(row(*one) for one in more)]
     for name, said in (("a reserve", decision.reserve()), (decision.study.knee_name, decision.why_not_knee())):
         lines += [row(name, said)] if said else []
     lines.append(row("share cut", f"{span(decision.cut, 2)} % of what was lacking{in_mode}"))
@@ -588,7 +707,4 @@ def in_words(decision, healing, missing=()):
     if not decision.suffices and decision.to_knee():
         lines.append(row("enough", decision.to_knee()))
     lines += ["", *missing] if missing else []
-    for head, said in (("Mind", warnings(decision)), ("Too close to call", too_close(decision)),
-                       ("Left out for this cluster", left_out(decision))):
-        lines += ["", f"{head}:", *(f"  - {one}" for one in said)] if said else []
-    return lines
+    return lines + heads(decision)

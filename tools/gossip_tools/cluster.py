@@ -11,8 +11,8 @@ Prints a scenario from the numbers of a cluster, with what it leaves out in fron
   digest   the bytes that the digest has for each node (in a precise mode for each key), where it shares the packet
            with the delta: what names the node, its generation and its version, as sent; 0 where it doesn't
   loss     how many messages of a hundred are lost, 0 where it isn't given
-  count    `bytes`, as where it isn't given, a scenario of format 2, or `entries`, one of format 1 for entries of about
-           one size
+  count    `entries`, a scenario of format 1 for entries of about one size, or `bytes`, one of format 2. Where it isn't
+           given entries, and bytes where a delta has room for fewer than fifty
   fanout   how many peers a node calls in an interval, 1 where it isn't given. Each call is a round of its own then, so
            divide `greatest` by it; only the first round of an interval has writes
   mode, rounds, seed    `scuttle-depth`, 60 for each call of an interval, and 1 where they aren't given
@@ -20,28 +20,31 @@ Prints a scenario from the numbers of a cluster, with what it leaves out in fron
 import re
 from fractions import Fraction
 
-from gossip_tools import scenario
+from gossip_tools import rules, scenario
 from gossip_tools.commands import Refused
 from gossip_tools.scenario import limited
 
-TEXTS = {"mode": ("scuttle-depth", "scuttle-breadth", "precise-oldest", "precise-newest"),
-         "count": ("bytes", "entries"), "shared": ("yes", "no"), "forget": ("yes", "no")}
-DECIMALS = ("loss", "interval")
+TEXTS = {"mode": scenario.MODES, "count": ("bytes", "entries"), "shared": ("yes", "no"), "forget": ("yes", "no")}
+DECIMALS = ("loss", "interval", "target")
 BYTES = ("entry", "packet", "digest")
-USUAL = {"digest": "0", "loss": "0", "fanout": "1", "rounds": None, "seed": "1", "mode": TEXTS["mode"][0],
-         "count": "bytes"}
+USUAL = {"digest": "0", "loss": "0", "fanout": "1", "rounds": None, "seed": "1", "mode": scenario.USUAL_MODE,
+         "count": None}
 USUAL_ROUNDS = 60
 # What is asked of the wrong tool, or in another way.
 ELSEWHERE = {
     **{name: f" For {name}= there is gossip_scenario, and gossip_sweep runs what that prints."
        for name in ("rounds", "seed")},
-    **{name: f" For {name}= there is gossip_advise." for name in ("shared", "interval", "restarts", "forget", "split")},
+    **{name: f" For {name}= there is gossip_advise."
+       for name in ("shared", "interval", "restarts", "forget", "split", "target")},
     **{name: " How many runs go at once is said in front of the call, as JOBS=2."
        for name in ("--jobs", "-j", "jobs", "JOBS")},
 }
 NEEDED = ("nodes", "keys", "writes", "entry", "packet")
 # Names that are taken for others.
 ALIASES = {"delta": "packet"}
+# How a number looks, how one that is taken, and what to say of the others.
+WHOLE = "[0-9]+", "[0-9]{1,19}", "19 are the most"
+DECIMAL = r"[0-9]+(\.[0-9]+)?", r"[0-9]{1,18}(\.[0-9]{1,9})?", "18 are the most, and 9 behind the point"
 
 
 def parts_of_writes(writes):
@@ -65,7 +68,7 @@ def instead(name, text):
         return f"write {name}={int(thousands[1]) * 1000}"
     if name == "loss" and text.endswith("%"):
         return f"it is in per cent already, so write {name}={text[:-1]}"
-    if name == "interval" and (time := re.fullmatch(r"([0-9]+) ?(ms|s|sec|m|min)", text)):
+    if name in ("interval", "target") and (time := re.fullmatch(r"([0-9]+) ?(ms|s|sec|m|min)", text)):
         seconds = int(time[1]) * {"ms": Fraction(1, 1000), "m": 60, "min": 60}.get(time[2], 1)
         return f"it is in seconds, so write {name}={float(seconds):g}"
     if name == "split" and re.fullmatch(r"[0-9.]+ ?[a-z]+", text):
@@ -77,17 +80,20 @@ def instead(name, text):
 
 def number_of(name, text):
     """The number that is given for a name."""
-    allowed = r"[0-9]{1,18}(\.[0-9]{1,9})?" if name in DECIMALS else "[0-9]{1,19}"
-    if not re.fullmatch(allowed, text):
-        kind = "number" if name in DECIMALS else "whole number of bytes" if name in BYTES else "whole number"
-        advice = instead(name, text)
-        raise Refused(f"{name} is a {kind}, which '{text}' isn't{': ' if advice else ''}{advice}.")
-    return Fraction(text)
+    shape, taken, most = DECIMAL if name in DECIMALS else WHOLE
+    if re.fullmatch(taken, text):
+        return Fraction(text)
+    if re.fullmatch(shape, text):
+        raise Refused(f"{name} has too many digits in '{text}': {most}.")
+    kind = "number" if name in DECIMALS else "whole number of bytes" if name in BYTES else "whole number"
+    advice = instead(name, text)
+    raise Refused(f"{name} is a {kind} from 0 on, which '{text}' isn't{': ' if advice else ''}{advice}.")
 
 
-def told(words, usual, call):
-    """The values of the words by their names, numbers as such. A whole call is shown where a name is missing."""
-    names, values = (*NEEDED, *usual), {}
+def told(words, usual, call, instead_of=None):
+    """The values of the words by their names, numbers as such. A whole call is shown where a name is missing that is
+    needed, and isn't one that another may stand for, as `instead_of` has them."""
+    names, values = dict.fromkeys((*NEEDED, *usual)), {}
     for word in words:
         name, given, text = word.partition("=")
         name = ALIASES.get(name, name)
@@ -99,9 +105,9 @@ def told(words, usual, call):
             raise Refused(f"'{word}' isn't one of {', '.join(names)}, each once with = and its value.{more}")
         values[name] = text
     for name in NEEDED:
-        if name not in values:
+        if name not in values and (instead_of or {}).get(name) not in values:
             raise Refused(f"{name}= is missing; {call} is a whole call.")
-    values = {**usual, **values}
+    values = {**dict.fromkeys(NEEDED), **usual, **values}
     for name, text in values.items():
         if text is None:
             continue
@@ -175,7 +181,8 @@ def main(words):
     taken = it["packet"] - room
     if room < it["entry"]:
         raise Refused(f"the digest takes {taken} of the {it['packet']} bytes, which leaves no entry.")
-    in_bytes = it["count"] == "bytes"
+    count = it["count"] or ("bytes" if rules.counts_bytes(room / it["entry"]) else "entries")
+    in_bytes = count == "bytes"
     fields = scenario.top(it["nodes"], it["keys"], rounds, it["writes"], it["loss"] * 10000, room / it["entry"],
                           in_bytes, it["mode"], seed)
     print(f"# {room} bytes for a delta are {float(room / it['entry']):.6g} entries of {it['entry']} bytes.")

@@ -1,10 +1,15 @@
 """How a tool answers its caller: help, refusals in one sentence, faults of files, and where the program is."""
+import errno
 import os
 import pathlib
 import re
 import shutil
 import signal
 import sys
+
+from gossip_tools import VERSION
+
+MOST_DIGITS = 18
 
 
 class Refused(Exception):
@@ -25,8 +30,10 @@ class Stopped(Exception):
 
 def number(text, what):
     """The whole number that a word has."""
-    if not re.fullmatch("[0-9]{1,18}", text):
-        raise Refused(f"{what} is a whole number, which '{text}' isn't.")
+    if not re.fullmatch("[0-9]+", text):
+        raise Refused(f"{what} is a whole number from 0 on, which '{text}' isn't.")
+    if len(text) > MOST_DIGITS:
+        raise Refused(f"{what} has at most {MOST_DIGITS} digits, which '{text}' hasn't.")
     return int(text)
 
 
@@ -59,7 +66,7 @@ def workers():
     """How many runs may go at once: JOBS, else as many as there are cores for this process."""
     told = os.environ.get("JOBS", "")
     if told and not re.fullmatch("[1-9][0-9]{0,3}", told):
-        raise Refused("JOBS isn't a number from 1 on.")
+        raise Refused(f"JOBS is a whole number from 1 to 9999, which '{told}' isn't.")
     if told:
         return int(told)
     return len(os.sched_getaffinity(0)) if hasattr(os, "sched_getaffinity") else os.cpu_count() or 1
@@ -71,17 +78,28 @@ def drop_output():
     os.dup2(nowhere, 1)
 
 
+def reason(error):
+    """Why a call of the system failed, in words."""
+    return "it is closed" if error.errno == errno.EBADF else error.strerror
+
+
+def answer(name, main, text):
+    """Carries out a tool by the words of the command line, and answers its status."""
+    words, status = sys.argv[1:], 0
+    if "--help" in words or "-h" in words:
+        print(text.strip())
+    elif "--version" in words:
+        print(name, VERSION)
+    else:
+        status = main(words) or 0
+    sys.stdout.flush()
+    return status
+
+
 def run(name, main, text):
-    """Carries out a tool by the words of the command line. Its status: what `main` returns, or of what was refused."""
-    words = sys.argv[1:]
+    """The status of a tool: what `main` returns, or of what was refused, which it says in a sentence."""
     try:
-        if "--help" in words or "-h" in words:
-            print(text.strip())
-            status = 0
-        else:
-            status = main(words) or 0
-        sys.stdout.flush()
-        return status
+        return answer(name, main, text)
     except Refused as refused:
         why, status = str(refused), refused.status
     except (Stopped, KeyboardInterrupt) as stopped:
@@ -91,7 +109,7 @@ def run(name, main, text):
         drop_output()
         return 1
     except OSError as error:
-        why, status = f"{error.filename or 'the output'}: {error.strerror}.", 1
+        why, status = f"{error.filename or 'the output'}: {reason(error)}.", 1
     except MemoryError:
         why, status = "out of memory.", 1
     try:

@@ -1,6 +1,7 @@
 """Files that are there whole, or not at all, and folders that one process at a time works in."""
 import contextlib
 import fcntl
+import hashlib
 import os
 import socket
 
@@ -20,6 +21,17 @@ def named(path):
 def part_of(path):
     """Where this process writes what is to have that name."""
     return path.with_name(f".{path.name}.{os.getpid()}.part")
+
+
+def check_sum(path):
+    """The SHA-256 of a file."""
+    with open(path, "rb") as file:
+        return hashlib.file_digest(file, "sha256").hexdigest()
+
+
+def length_and_sum(content):
+    """What stands beside a file of this content, so that it shows where the file is another later."""
+    return f"{len(content)} {hashlib.sha256(content).hexdigest()}\n"
 
 
 def text_of(path):

@@ -1,8 +1,9 @@
 """A folder of runs of one scenario: locked while a sweep works in it, and never with a report that isn't whole.
 
-It has the `scenario`, the `lock`, and for each run its scenario and, once that is whole, its report, as
-budget-600.mode-precise-oldest.toml and .csv. A run writes to a name of its own, `.NAME.PROCESS.part`, and the one who
-holds the lock renames that. So nobody writes to a name that counts.
+It has the `scenario`, the check sum of the `program`, the `lock`, and for each run its scenario and, once that is
+whole, its report and the report's length and check sum, as budget-600.mode-precise-oldest.toml, .csv and .sum. A run
+writes to a name of its own, `.NAME.PROCESS.part`, and the one who holds the lock renames that. So nobody writes to a
+name that counts.
 """
 import contextlib
 import os
@@ -17,10 +18,10 @@ def fields_of(name):
 
 
 class Folder:
-    """A folder with the runs of a scenario, which are scenarios by name."""
+    """A folder with the runs of a scenario, which are scenarios by name, by a program of this check sum."""
 
-    def __init__(self, path, scenario, runs):
-        self.path, self.scenario, self.runs = path, scenario, runs
+    def __init__(self, path, scenario, runs, program):
+        self.path, self.scenario, self.runs, self.program = path, scenario, runs, f"{program}\n"
         self.lengths = {}
         for name, text in runs.items():
             top = read.settings(text)
@@ -37,7 +38,8 @@ class Folder:
             yield self
 
     def look(self):
-        """Refuses a folder with other things in it, with runs of another scenario or of other fields."""
+        """Refuses a folder with other things in it, with runs of another scenario, of other fields or of another
+        program."""
         if not self.path.exists():
             return
         if not self.path.is_dir():
@@ -51,10 +53,20 @@ class Folder:
         wanted = {fields_of(name) for name in self.runs}
         for it in sorted(names):
             name, dot, ending = it.rpartition(".")
-            if dot and ending in ("toml", "csv") and "-" in name and fields_of(name) not in wanted:
+            if dot and ending in ("toml", "csv", "sum") and "-" in name and fields_of(name) not in wanted:
                 others = ", ".join(fields_of(name))
                 raise Refused(f"{self.path} has runs of the fields {others}: take these, in this order, or a new "
                               "folder.")
+        is_known = "program" in names and self.has_reports()
+        if is_known and (self.path / "program").read_bytes() != self.program.encode():
+            raise Refused(f"{self.path} has reports of another program: name a new folder by -o.")
+
+    def has_reports(self):
+        return any(self.path.glob("*.csv"))
+
+    def is_of_before(self):
+        """Whether it has reports of an earlier version, which kept no check sums."""
+        return self.has_reports() and not (self.path / "program").exists()
 
     def fill(self):
         """Fixes the scenario and those of the runs, and drops what ended sweeps have left half-written."""
@@ -62,6 +74,8 @@ class Folder:
             it.unlink()
         if not (self.path / "scenario").exists():
             files.put(self.path / "scenario", self.scenario)
+        if not self.has_reports():
+            files.put(self.path / "program", self.program)
         for name, text in self.runs.items():
             it = self.path / f"{name}.toml"
             if not it.exists() or it.read_bytes() != text.encode():
@@ -82,11 +96,15 @@ class Folder:
 
     def keep(self, name):
         """Gives the report of a run its name. Answers what it lacks, and drops it, where it isn't whole."""
-        part = self.part(name)
+        part, report = self.part(name), self.path / f"{name}.csv"
         try:
-            read.report(part, *self.lengths[name])
+            content = part.read_bytes()
+            read.rows_in(content, *self.lengths[name])
+            # (in this order, as a report whose sum is another is made again)
+            files.put(report.with_suffix(".sum"), files.length_and_sum(content))
+            os.replace(part, report)
         except read.NotWhole as why:
-            part.unlink(missing_ok=True)
             return str(why)
-        os.replace(part, self.path / f"{name}.csv")
+        finally:
+            part.unlink(missing_ok=True)
         return ""

@@ -5,26 +5,40 @@ import re
 
 from gossip_tools import answer, files, plots, read, rules
 
+# (on paper the page is light, whatever the screen is; pictures, which are drawn on white, are turned dark, and their
+# colours stay what they are)
 STYLE = """
-body { font: 16px/1.45 sans-serif; color: #222; max-width: 1080px; margin: 0 auto; padding: 0 16px 32px; }
+:root { color-scheme: light; --page: #fff; --text: #222; --soft: #444; --line: #ccc; --code: #f4f4f4; --mark: #dbe9f6;
+    --first: #00407a; --none: #a33c00; --warn: #c60; }
+@media screen and (prefers-color-scheme: dark) {
+    :root { color-scheme: dark; --page: #161616; --text: #e4e4e4; --soft: #b8b8b8; --line: #4a4a4a; --code: #242424;
+        --mark: #1d3a57; --first: #00508f; --none: #a33c00; --warn: #f08a24; }
+    figure img { filter: invert(.91) hue-rotate(180deg); }
+}
+body { font: 16px/1.45 sans-serif; color: var(--text); background: var(--page); max-width: 1080px; margin: 0 auto;
+    padding: 0 16px 32px; }
 h1 { font-size: 1.5em; line-height: 1.2; } h2 { font-size: 1.2em; margin: 1.6em 0 .4em; break-after: avoid; }
 .cards { display: grid; grid-template-columns: repeat(auto-fit, minmax(128px, 1fr)); gap: 10px; }
-.cards div { border: 1px solid #ccc; border-radius: 6px; padding: 8px 10px; }
+.cards div { border: 1px solid var(--line); break-inside: avoid; border-radius: 6px; padding: 8px 10px; }
 .cards b { display: block; font-size: 1.25em; }
-.cards .first { background: #00407a; color: #fff; border-color: #00407a; }
-.cards .none { background: #a33c00; color: #fff; border-color: #a33c00; }
+.cards .first { background: var(--first); color: #fff; border-color: var(--first); }
+.cards .none { background: var(--none); color: #fff; border-color: var(--none); }
 .pictures { display: grid; grid-template-columns: repeat(auto-fit, minmax(min(100%, 440px), 1fr)); gap: 16px; }
 figure { margin: 0; break-inside: avoid; } figure img { width: 100%; max-width: 600px; display: block; }
-figcaption { font-size: .9em; color: #444; } .wide { overflow-x: auto; }
-.mind { border-left: 4px solid #c60; } ul { padding-left: 28px; }
+figcaption { font-size: .9em; color: var(--soft); } .wide { overflow-x: auto; }
+.mind { border-left: 4px solid var(--warn); } ul { padding-left: 28px; }
 table { border-collapse: collapse; font-size: .9em; }
-td, th { border: 1px solid #ccc; padding: 3px 8px; text-align: right; }
-td.chosen { background: #dbe9f6; font-weight: bold; }
-pre { font-size: .8em; white-space: pre-wrap; overflow-wrap: anywhere; background: #f4f4f4; padding: 8px; }
+td, th { border: 1px solid var(--line); padding: 3px 8px; text-align: right; }
+td.chosen { background: var(--mark); font-weight: bold; }
+pre { font-size: .8em; white-space: pre-wrap; overflow-wrap: anywhere; background: var(--code); padding: 8px; }
 @media print {
     body { font-size: 11pt; max-width: none; }
     .pictures { grid-template-columns: 1fr 1fr; }
     details { display: none; }
+    .wide { overflow-x: visible; }
+    .before-table { break-after: avoid; }
+    table, tr { break-inside: avoid; }
+    thead { display: table-header-group; }
 }
 """
 
@@ -39,20 +53,22 @@ def listed(head, said, kind=""):
     return f'<h2>{head}</h2><ul class="{kind}">{lines}</ul>' if said else ""
 
 
-def cards(decision, healing):
+def cards(decision, healing, more):
     """The decision in a few large words."""
     it, budget = decision.study, decision.whole_budget()
     of_budget = f"{int(budget * it.told['entry'])} bytes, {decision.times()}"
     if decision.suffices:
         of_budget += f"; packet={decision.packet()}"
         rounds, _, time = answer.lasting(it, decision.worst).partition(", ")
-        rows = [("mode", decision.mode, "", "first"), ("budget", f"{budget} entries", of_budget, "first"),
+        kind = "first" if decision.is_taken() else "none"
+        rows = [("mode", decision.mode, "", kind), ("budget", f"{budget} entries", of_budget, kind),
                 ("worst staleness", rounds, "; ".join(filter(None, (time, decision.reckon()))), "")]
     else:
         rows = [("budget", "none that fits is enough", f"tried: {budget} entries, {of_budget}", "none"),
-                ("worst staleness", "not known", f"still rising after {decision.window[1]} rounds", "none")]
+                ("worst staleness", "not known", f"not level within {decision.window[1]} rounds", "none")]
         if decision.to_knee():
             rows.append(("enough", f"{it.packet(decision.mode)} bytes", decision.to_knee(), "first"))
+    rows += [(name, *said.partition(": ")[::2], "") for name, said in more]
     rows.append(("share cut", f"{answer.span(decision.cut, 2)}\u00a0%", "of what was lacking", ""))
     for stage in it.heals() if healing else ():
         name = f"{answer.HEALED[stage]} is {answer.ENDS[stage]} after"
@@ -135,19 +151,20 @@ def pictures(folder, decision, healing):
 def table(decision):
     """Worst staleness and share cut, by budget and mode."""
     it, window = decision.study, decision.window
-    text = "<tr><th>budget</th>" + "".join(f"<th>{mode}</th>" for mode in it.fits) + "</tr>"
+    head = "<tr><th>budget</th>" + "".join(f"<th>{mode}</th>" for mode in decision.figures) + "</tr>"
+    text = ""
     for budget in decision.budgets():
         text += f"<tr><th>{it.whole(budget)}</th>"
-        for mode in it.fits:
+        for mode in decision.figures:
             if (budget, mode) not in decision.found.rows:
                 text += "<td></td>"
                 continue
-            rising = "" if decision.found.suffices(budget, mode, window) else " rising"
+            level = "" if decision.found.suffices(budget, mode, window) else " not level"
             chosen = "chosen" if decision.suffices and (budget, mode) == (decision.budget, decision.mode) else ""
-            text += (f'<td class="{chosen}">{answer.span(decision.worst_with(budget, mode))}{rising}<br>'
+            text += (f'<td class="{chosen}">{answer.span(decision.worst_with(budget, mode))}{level}<br>'
                      f"<small>{answer.span(decision.found.cut(budget, mode, window), 2)} %</small></td>")
         text += "</tr>"
-    return f'<div class="wide"><table>{text}</table></div>'
+    return f'<div class="wide"><table><thead>{head}</thead><tbody>{text}</tbody></table></div>'
 
 
 def made_of(folder, study, made, check_sum):
@@ -166,19 +183,14 @@ def made_of(folder, study, made, check_sum):
             f"<code>gnuplot NAME.gnuplot</code>.</p><pre>gossip_advise {told(call)}</pre>{text}")
 
 
-def make(folder, decision, healing, made, check_sum, missing=()):
+def make(folder, decision, healing, made, check_sum, missing=(), more=(), head=""):
     """Writes the page, and says where it is. It names the runs that were made, by stage their budgets and modes.
-    Without healing it has lines on what is missing. That of a first answer says so."""
+    Without healing it has lines on what is missing. What stands beside the worst staleness comes as names and words.
+    A first answer says so in the head."""
     it = decision.study
     first, last = decision.window
     tenth = f", of which {it.nodes} were run; budgets are those of all" if it.parts > 1 else ""
-    found = f"{decision.mode} with {decision.whole_budget()} entries"
-    if not decision.suffices:
-        found = f"no budget that fits is enough, still rising after {decision.window[1]} rounds"
-    first_answer = "First answer. " if decision.stage == "few" else ""
-    smaller = ("are run for the last answer" if first_answer else
-               "were run with the chosen mode, down to the first that is worse")
-    title = f"{first_answer}{int(it.told['nodes'])} nodes: {found}"
+    title = f"{head}{int(it.told['nodes'])} nodes: {decision.headline()}"
     text = f"""<!DOCTYPE html>
 <html lang="en"><head><meta charset="utf-8"><meta name="viewport" content="width=device-width, initial-scale=1">
 <title>{told(title)}</title><style>{STYLE}</style></head><body>
@@ -186,15 +198,15 @@ def make(folder, decision, healing, made, check_sum, missing=()):
 <p>{it.told['nodes']} nodes{tenth}. Keys of each: {it.keys}; writes in an interval of
 {float(it.told['interval']):g} s: {it.writes}; calls in an interval, each of which is a round: {it.fanout};
 messages lost: {float(it.told['loss']):g} %. All figures go from the least to the most of {len(rules.SEEDS)} seeds.</p>
-<div class="cards">{cards(decision, healing)}</div>
+<div class="cards">{cards(decision, healing, more)}</div>
 {below_the_cards(decision, healing)}{paragraphs(missing)}
 {listed("Mind", answer.warnings(decision), "mind")}
 {pictures(folder, decision, healing)}
 <h2>Worst staleness and share cut</h2>
-<p>In rounds {first} to {last}, by budget in entries and mode. Rising: this budget isn't enough. A field is empty where
-its runs could change nothing: smaller budgets {smaller}.</p>
+<p class="before-table">In rounds {first} to {last}, by budget in entries and mode. Not level: this budget isn't
+enough. A field is empty where its runs could change nothing: {decision.why_empty()}.</p>
 {table(decision)}
-{listed("Too close to call", answer.too_close(decision))}
+{listed("Too close to call", decision.too_close())}
 {listed("Left out for this cluster", answer.left_out(decision))}
 <h2>To make it again</h2>
 {made_of(folder, it, made, check_sum)}

@@ -8,8 +8,11 @@ import subprocess
 from gossip_tools import files, read, rules, scenario
 
 # Colours that the colour-blind tell apart; widths and points also tell them apart in black and white.
-MODES = {"scuttle-breadth": ("#e69f00", 9, 5), "precise-newest": ("#cc79a7", 6, 13),
-         "precise-oldest": ("#009e73", 3.5, 9), "scuttle-depth": ("#00407a", 1.5, 7)}
+COLOURS = dict(zip(scenario.MODES, (("#e69f00", 5), ("#00407a", 7), ("#009e73", 9), ("#cc79a7", 13))))
+WIDTHS = (9, 6, 3.5, 1.5)
+# (the usual mode comes last, on top of the others)
+STYLES = {mode: (COLOURS[mode][0], width, COLOURS[mode][1])
+          for mode, width in zip(reversed(rules.CHEAPEST_FIRST), WIDTHS)}
 BUDGETS = (("#e69f00", 8, 5), ("#56b4e9", 5.5, 9), ("#009e73", 3.5, 13), ("#00407a", 1.5, 7))
 HEAD = """set terminal svg size 480, 380 dynamic font "sans-serif,14" background "white"
 set output "{name}.svg"
@@ -51,29 +54,46 @@ def knee(decision, name, y, figure, capped):
     more than six times what the decision has, so that the knee is seen."""
     study, found = decision.study, decision.found
     text, plots, most = HEAD.format(name=name, x="budget, in entries", y=y), [], 0
-    fits = study.whole(study.fits[decision.mode])
-    modes = [it for it in MODES if it in study.fits]
+    modes = [it for it in STYLES if it in decision.figures]
     for at, mode in enumerate(modes):
-        (colour, width, point), rows = MODES[mode], []
+        (colour, width, point), rows = STYLES[mode], []
         for budget in (it for it in decision.budgets() if (it, mode) in found.rows):
             values = figure(budget, mode)
             # (a little beside each other, so that all bands are seen)
             beside = study.whole(budget) * 1.025**(at - (len(modes) - 1) / 2)
             rows.append((round(beside, 2), rules.middle(values), *rules.band(values)))
-        most = max(most, *(row[3] for row in rows))
+        most = max([most, *(row[3] for row in rows)])
         text += block(f"mode{at}", rows)
         plots += [f'$mode{at} using 1:2 with lines linewidth {min(width, 2)} linecolor "{colour}" notitle',
                   f'$mode{at} using 1:2:3:4 with yerrorbars linewidth 2 pointtype {point} pointsize 0.7 '
                   f'linecolor "{colour}" title "{mode}"']
-    top = (min(most, 6 * max(figure(decision.budget, decision.mode))) if capped else most) or 1
+    top = (min(most, 6 * max(figure(*decision.run_of(decision.mode)))) if capped else most) or 1
     budgets = [study.whole(it) for it in decision.budgets()]
     tics = ", ".join(str(it) for it in spaced(budgets))
     text += f"set logscale x 2\nset xtics ({tics}) rotate by -45\nset yrange [0:{1.08 * top:.4g}]\n"
     text += f"set xrange [{0.85 * budgets[0]:.6g}:{1.18 * budgets[-1]:.6g}]\n"
-    at, label = (fits, f"fits: {fits}") if fits <= budgets[-1] else (budgets[-1], "all fit")
-    text += (f'set arrow from {at}, graph 0 to {at}, graph 1 nohead dashtype 2 linewidth 1.5 linecolor "#555555"\n'
-             f'set label "{label}" at {at}, graph 1.03 center\n')
+    text += budget_line(decision, budgets[-1])
+    if capped and study.target and study.parts == 1:
+        text += target_line(study.target)
     return text + "set clip two\nplot " + ", \\\n  ".join(plots) + "\n"
+
+
+LINE = 'nohead linewidth 1.5 linecolor "#555555" dashtype'
+
+
+def budget_line(decision, most):
+    """A line at what fits, or, where no packet was told, at what is taken."""
+    study = decision.study
+    at = study.whole(study.fits[decision.mode])
+    at, label = (at, f"fits: {at}") if at <= most else (most, "all fit")
+    if study.told["packet"] is None:
+        at, label = decision.whole_budget(), f"taken: {decision.whole_budget()}"
+    return f'set arrow from {at}, graph 0 to {at}, graph 1 {LINE} 2\nset label "{label}" at {at}, graph 1.03 center\n'
+
+
+def target_line(rounds):
+    return (f'set arrow from graph 0, first {rounds} to graph 1, first {rounds} {LINE} 3\n'
+            f'set label "target" at graph 1, first {rounds} right offset 0, 0.5\n')
 
 
 def spaced(budgets):
@@ -90,10 +110,10 @@ def rounds(decision, name, y, value):
     that it would take."""
     study, found = decision.study, decision.found
     text, plots = HEAD.format(name=name, x="round", y=y), []
-    for at, (mode, (colour, width, _)) in enumerate(MODES.items()):
-        if mode in study.fits:
-            budget = decision.budget if mode == decision.mode else study.most(mode)
-            rows = found.rows[(budget, mode)][0]
+    for at, (mode, (colour, width, _)) in enumerate(STYLES.items()):
+        if mode in decision.figures:
+            budget, _ = pair = decision.run_of(mode)
+            rows = found.rows[pair][0]
             intervals = [rows[first:first + study.fanout] for first in range(0, len(rows), study.fanout)]
             text += block(f"mode{at}", [(it[-1]["round"], max(value(row) for row in it)) for it in intervals])
             plots.append(f'$mode{at} with lines linewidth {width} linecolor "{colour}" '
@@ -147,7 +167,7 @@ def all_of(decision, healed):
 
 def lie_on_each_other(decision, figure):
     """The least budget from which on the modes have the same figures, of those that were run with all; or None."""
-    modes = [it for it in scenario.MODES if it in decision.study.fits]
+    modes = [it for it in scenario.MODES if it in decision.figures]
     with_all = [it for it in decision.budgets() if all((it, mode) in decision.found.rows for mode in modes)]
     from_here = None
     for budget in reversed(with_all):

@@ -19,9 +19,10 @@ class Progress:
     that the last of them had, in the middle, as a single run may be held up for long.
     """
 
-    def __init__(self, work=(), stream=sys.stderr):
+    def __init__(self, work=(), stream=None):
         self.work, self.over = dict(work), set()
-        self.stream, self.shown = stream, stream.isatty()
+        self.stream = stream or sys.stderr
+        self.shown = self.stream.isatty()
         self.what, self.total, self.count, self.at_once = "", 0, 0, 1
         self.done_work, self.processor = 0, 0.0
         self.shares = collections.deque(maxlen=LAST)

@@ -18,9 +18,8 @@ import re
 import sys
 import tomllib
 
-from gossip_tools import files
+from gossip_tools import files, scenario
 from gossip_tools.commands import Refused, folder_of, number
-from gossip_tools.scenario import MODES
 
 COLUMNS = ["round", "exchanges", "unreached", "lost", "entries", "cut", "stale", "greatest"]
 OF_FORMAT_2 = [*COLUMNS, "leftover"]
@@ -58,14 +57,28 @@ def rows_of(text, form, rounds):
     return [dict(zip(header, map(int, it.split(",")))) for it in lines[:-1]]
 
 
-def report(path, form, rounds):
-    """The rows of a report in a file."""
+def rows_in(content, form, rounds):
+    """The rows of a report in bytes."""
     try:
-        return rows_of(path.read_bytes().decode("ascii"), form, rounds)
-    except FileNotFoundError:
-        raise NotWhole("it isn't there") from None
+        return rows_of(content.decode("ascii"), form, rounds)
     except UnicodeDecodeError:
         raise NotWhole("it has other bytes than those of a report") from None
+
+
+def report(path, form, rounds):
+    """The rows of a report in a folder. Its length and check sum stand beside it, but in folders of earlier versions,
+    which lack the check sum of the program too."""
+    try:
+        content = path.read_bytes()
+    except FileNotFoundError:
+        raise NotWhole("it isn't there") from None
+    rows, beside = rows_in(content, form, rounds), path.with_suffix(".sum")
+    if beside.exists():
+        if beside.read_bytes() != files.length_and_sum(content).encode():
+            raise NotWhole(f"its length and check sum aren't those of {beside.name}")
+    elif path.with_name("program").exists():
+        raise NotWhole(f"{beside.name}, which has its length and check sum, isn't there")
+    return rows
 
 
 class Runs:
@@ -79,10 +92,8 @@ class Runs:
             self.fields = self.fields or names
             if names != self.fields:
                 raise Refused(f"the runs in {folder} differ in their fields.")
-            try:
-                top = settings(files.text_of(file))
-            except UnicodeDecodeError:
-                raise Refused(f"{file} isn't UTF-8, as scenarios are.") from None
+            with open(file, "rb") as text:
+                top = settings(scenario.read(text, file))
             if not {"format", "rounds"} <= top.keys():
                 raise Refused(f"{file} isn't the scenario of a run.")
             if top["format"] != (form := form or top["format"]):
@@ -111,7 +122,8 @@ class Runs:
 
 
 def place(values):
-    return [(MODES.index(it),) if it in MODES else (int(it), "") if it.isdigit() else (0, it) for it in values]
+    modes = scenario.MODES
+    return [(modes.index(it),) if it in modes else (int(it), "") if it.isdigit() else (0, it) for it in values]
 
 
 def percent_cut(rows):

@@ -3,15 +3,19 @@
 A run's worst staleness is the most of `greatest` in the rounds of a window. A figure is a list of them, one for each
 seed, and its band goes from the least to the most. An interval has as many rounds as a node calls others in it.
 """
+from gossip_tools.scenario import MODES, USUAL_MODE, digest_numbers
+
 SEEDS = (1, 2, 3, 4, 5)
 # The intervals of a run and its window. In the first ones the tables fill, so they are left out.
 FEW, FEW_WINDOW = 60, (31, 60)
 MANY, MANY_WINDOW = 200, (101, 200)
+# The intervals of longer runs, where nothing is level after those. Their windows are their second halves.
+LONGER, LONGEST = 400, 800
 # Parts of `nodes * writes` at which a smaller budget is looked at, as numerator and denominator.
 KNEE = ((1, 4), (1, 2), (3, 4), (1, 1), (3, 2))
-USUAL_MODE = "scuttle-depth"
-# By the size of their digests, and scuttle-depth before scuttle-breadth, which lags longer below the knee.
-CHEAPEST_FIRST = (USUAL_MODE, "scuttle-breadth", "precise-oldest", "precise-newest")
+LOOKED_AT = (*KNEE, (2, 1))
+# By the size of their digests, and the usual one before scuttle-breadth, which lags longer below the knee.
+CHEAPEST_FIRST = sorted(MODES, key=lambda mode: (digest_numbers(2, 2, mode), mode != USUAL_MODE))
 FEW_ENTRIES = 50
 # How far a tenth was seen to hold in scuttle-depth: how many rounds more in `greatest` ten times the nodes had, with
 # which parts of `nodes * writes`.
@@ -34,9 +38,21 @@ def middle(figure):
 
 
 def is_better(one, other):
-    """"A mode, or a budget, is better where it is so under all of five seeds, and by more than the seeds differ among
-    themselves." So the bands don't touch: the worst seed of the one is better than the best of the other."""
+    """"A mode, or a budget, is better where the worst of its five seeds is ahead of the best of the other's": where
+    their bands don't touch."""
     return max(one) < min(other)
+
+
+def may_turn_over(one, other):
+    """Whether few rounds can't tell if the other is better than the one: where their bands have two rounds in common at
+    most. More rounds may make one of them rise."""
+    return max(other) - min(one) <= 1
+
+
+# What became of the first answers for twenty clusters, by docs/study.md, from `nodes * writes` on and below.
+FIRST_HELD = "In twenty clusters of 100 to 400 nodes it had the mode, the budget and the wait of the first one"
+FIRST_MOVED = "a worst staleness at most a round higher"
+FIRST_MOVED_BELOW = "a worst staleness up to five rounds higher, of 10 to 32"
 
 
 def are_close(one, other):
@@ -56,10 +72,39 @@ def halves(window):
     return (first, first + half - 1), (first + half, last)
 
 
-def suffices(in_first_half, in_second_half):
+def suffices(in_first_half, in_second_half, window):
     """"A budget suffices where `greatest` is level in both halves of the window." It isn't level where the first half
-    is better than the second: what is higher there under all seeds, and by more than they differ, still rises."""
-    return not is_better(in_first_half, in_second_half)
+    is better than the second: where the bands of the seeds don't touch, and the second is higher, it still rises. Nor
+    is it known to be where it is too high for such a window."""
+    return not is_better(in_first_half, in_second_half) and can_be_level(max(in_second_half), window)
+
+
+def can_be_level(figure, window):
+    """Whether what is as high as this can be seen to be level in a window. As `greatest` can't exceed the number of
+    the round, what is above the last round of the first half was lower in that half in any case."""
+    return figure <= halves(window)[0][1]
+
+
+def has_left_the_diagonal(figure, last):
+    """Whether `greatest` says something up to the last round. Where it is about the number of the round, which it can't
+    exceed, above nine tenths of it under some seed, it says nothing."""
+    return 10 * max(figure) <= 9 * last
+
+
+def ahead(figures, last):
+    """The mode that is better than each other one though none is level, or None. One that is on the diagonal is ahead
+    of none, but others are of it, as it gets at least as high as it was seen."""
+    for mode, figure in figures.items():
+        others = [other for name, other in figures.items() if name != mode]
+        if has_left_the_diagonal(figure, last) and others and all(is_better(figure, other) for other in others):
+            return mode
+    return None
+
+
+def contenders(figures, last):
+    """The modes than which none that has left the diagonal is better."""
+    left = [figure for figure in figures.values() if has_left_the_diagonal(figure, last)]
+    return {mode: figure for mode, figure in figures.items() if not any(is_better(it, figure) for it in left)}
 
 
 def reckoned(figure):
@@ -107,7 +152,7 @@ def smaller_budgets(budget, at_knee):
 
 def mode_of(figures):
     """"`scuttle-depth`", unless another mode is better; "else take the cheaper one". The figures are by mode, of those
-    whose budget suffices: those that still rise say nothing."""
+    whose budget suffices: those that aren't level say nothing."""
     chosen, *others = [it for it in CHEAPEST_FIRST if it in figures]
     for mode in others:
         if is_better(figures[mode], figures[chosen]):

@@ -132,6 +132,16 @@ def is_gnu_parallel():
     return answer.stdout.startswith("GNU parallel")
 
 
+def hosts():
+    """The machines of HOSTS, divided by commas; empty where there are none."""
+    told = os.environ.get("HOSTS", "")
+    if told and not all(it.strip() for it in told.split(",")):
+        raise Refused(f"HOSTS is '{told}', which lacks the name of a machine: write them as in HOSTS=:,alpha,8/beta.")
+    if told and not is_gnu_parallel():
+        raise Refused("other machines need GNU parallel, which isn't there.")
+    return told
+
+
 def end(process):
     """Ends GNU parallel: by its first TERM it begins no more, by the second it ends what runs."""
     for _ in range(2):
@@ -163,7 +173,7 @@ def gnu_parallel(words, given, told):
 def start(program, hosts):
     """Starts the program on each of the hosts, and refuses where it doesn't start, with what it says there."""
     command = f'{shlex.quote(program)} --help 2>&1 >/dev/null || {{ status=$?; echo "status $status"; exit $status; }}'
-    for host in dict.fromkeys(filter(None, hosts.split(","))):
+    for host in dict.fromkeys(hosts.split(",")):
         with tempfile.TemporaryFile("w+", errors="replace") as told:
             words = ["-n0", "--jobs", "1", "--sshlogin", host, command, ":::", "once"]
             with gnu_parallel(words, subprocess.DEVNULL, told) as process:

@@ -5,12 +5,14 @@ from fractions import Fraction
 from gossip_tools.commands import Refused
 
 MODES = ("scuttle-breadth", "scuttle-depth", "precise-oldest", "precise-newest")
+USUAL_MODE = "scuttle-depth"
 LIMITS = {
     "nodes": (2, 4096), "keys": (1, 64), "writes": (0, 8), "rounds": (1, 100000), "seed": (0, 2**63 - 1),
     "loss_ppm": (0, 1000000), "budget": (1, 65535), "budget_bytes": (1023, 67108864),
 }
 MOST_TRIPLES = 268435456  # of nodes * nodes * keys
 MOST_SECTIONS = 1000
+MOST_BYTES = 1048576
 MEAN = Fraction("523.5")  # bytes of an entry of format 2, which has 24 + value mod 1000
 
 
@@ -41,7 +43,7 @@ def written(fields):
     return "".join(f'{name} = "{it}"\n' if isinstance(it, str) else f"{name} = {it}\n" for name, it in fields.items())
 
 
-def top(nodes, keys, rounds, writes, loss_ppm, entries, in_bytes, mode="scuttle-depth", seed=1):
+def top(nodes, keys, rounds, writes, loss_ppm, entries, in_bytes, mode=USUAL_MODE, seed=1):
     """The fields of a scenario with random peers, whose budget has room for so many mean entries."""
     field, budget = budget_field(entries, in_bytes)
     # (sizes of format 2 are spread evenly over 24 to 1023 bytes with choice = "random" alone)
@@ -50,6 +52,17 @@ def top(nodes, keys, rounds, writes, loss_ppm, entries, in_bytes, mode="scuttle-
         field: limited(field, budget), "peers": "random", "rotation": "random",
         "choice": "random" if in_bytes else "cycle", "loss_ppm": loss_ppm, "writes": writes,
     }
+
+
+def read(file, what="the scenario"):
+    """The text of a scenario, from a file that is open for its bytes. No more is read than a scenario has."""
+    given = file.read(MOST_BYTES + 1)
+    if len(given) > MOST_BYTES:
+        raise Refused(f"{what} is longer than {MOST_BYTES} bytes, the most that a scenario has.")
+    try:
+        return given.decode()
+    except UnicodeDecodeError:
+        raise Refused(f"{what} isn't UTF-8, as scenarios are.") from None
 
 
 def set_field(text, field, value):
@@ -75,6 +88,8 @@ def restarts(nodes, each, first_round, last_round, down, forget=False, first=0, 
     """Restarts: in every `every`-th of these rounds the next `each` nodes, by ascending number from `first` on."""
     if not 1 <= first_round <= last_round:
         raise Refused(f"{first_round} to {last_round} aren't rounds.")
+    if each < 1:
+        raise Refused(f"{each} nodes in a round are no restarts: 1 is the least.")
     if each > nodes:
         raise Refused(f"{each} nodes can't restart in a round, of {nodes}.")
     if first >= nodes:

@@ -2,9 +2,11 @@
 
   few         few intervals, for a first answer: each mode with what it may take, and the chosen one with nodes * writes
   split       half of the nodes are set apart for some intervals; under the mode that was chosen
-  restart     nodes restart, by ascending number, and keep their own state
-  forgotten   the same, in bytes, and they lose their own state too
+  restart     nodes restart, by ascending number, and keep their own state; or, where they lose it too,
+  forgotten   the same, in bytes, and they do
   many        many intervals: as few, and the chosen mode with smaller budgets, until one is worse
+  longer      twice as many, where nothing is level after those; and again, as `longest`
+  many-stop   many intervals and some without writes, where a target is told: how old a stale copy is; so for the others
 
 What is run is only what may change the answer. What heals is run with the budget that is taken, and in the end with all
 that fits too, where that is more. An interval has as many rounds as a node calls others in it, and writes in the first
@@ -22,6 +24,10 @@ LEAST = 2
 # How much more processor time a round takes, about: in bytes, in a precise mode, and with less than nodes * writes.
 IN_BYTES, IN_PRECISE, IN_SHORT = 3, 1.5, 1.8
 HEALED = ("split", "restart", "forgotten")
+WINDOWS = {"few": rules.FEW_WINDOW, "many": rules.MANY_WINDOW, "longer": (rules.LONGER // 2 + 1, rules.LONGER),
+           "longest": (rules.LONGEST // 2 + 1, rules.LONGEST)}
+# The stages in which the writes stop, and those that they begin as.
+STOPS = {f"{stage}-stop": stage for stage in WINDOWS}
 
 
 class Study:
@@ -29,15 +35,15 @@ class Study:
 
     def __init__(self, told):
         self.told = told
-        self.usual = told["mode"] or rules.USUAL_MODE
+        self.usual = told["mode"] or scenario.USUAL_MODE
         self.parts = 10 if cluster.is_too_large(told["nodes"], told["keys"]) else 1
-        if self.parts > 1 and self.usual != rules.USUAL_MODE:
+        if self.parts > 1 and self.usual != scenario.USUAL_MODE:
             raise cluster.Refused(f"{told['nodes']} nodes are more than a scenario takes, and a tenth of them says "
-                                  f"little but in {rules.USUAL_MODE}: leave out mode={self.usual}.")
+                                  f"little but in {scenario.USUAL_MODE}: leave out mode={self.usual}.")
         it = dict(told)
         if told["shared"] == "no":
             it["digest"] = 0
-        it["nodes"], it["packet"] = int(told["nodes"]) // self.parts, told["packet"] / self.parts
+        it["nodes"] = int(told["nodes"]) // self.parts
         if cluster.is_too_large(it["nodes"], it["keys"]):
             raise cluster.Refused("a tenth of these nodes is still too large for a scenario, which takes 4096 nodes "
                                   f"and {scenario.MOST_TRIPLES} of nodes * nodes * keys.")
@@ -45,27 +51,47 @@ class Study:
         self.nodes, self.keys, self.writes = it["nodes"], int(it["keys"]), int(it["writes"])
         self.fanout, self.seconds = int(told["fanout"]), told["interval"] / told["fanout"]
         self.knee = max(LEAST, rules.knee(self.nodes, self.keys, self.writes, self.fanout))
-        self.knee_name = "nodes * writes" + (f" / {self.fanout}" if self.fanout > 1 else "")
-        self.rooms = {mode: cluster.room_for_delta(it, mode) / it["entry"] for mode in scenario.MODES}
+        self.knee_of_all = max(LEAST, rules.knee(int(told["nodes"]), self.keys, self.writes, self.fanout))
+        product = "nodes * writes" if self.writes <= self.keys else "nodes * keys"
+        self.knee_name = product + (f" / {self.fanout}" if self.fanout > 1 else "")
+        self.rooms = {mode: self.room(it, mode) / self.parts for mode in scenario.MODES}
         modes = (self.usual,) if told["mode"] or self.parts > 1 else scenario.MODES
         most = scenario.LIMITS["budget"][1]
-        count = told["count"] or ("bytes" if rules.counts_bytes(max(self.rooms[it] for it in modes)) else "entries")
+        room = self.knee if told["packet"] is None else max(self.rooms[it] for it in modes)
+        count = told["count"] or ("bytes" if rules.counts_bytes(room) else "entries")
         self.in_bytes = count == "bytes"
-        self.fits = {mode: min(int(self.rooms[mode]), most) for mode in modes if self.rooms[mode] >= LEAST}
+        self.fits_of_all = {mode: int(self.room(it, mode)) for mode in modes}
+        self.fits = {mode: min(self.run_of(self.fits_of_all[mode]), most) for mode in modes
+                     if self.rooms[mode] >= LEAST}
         if self.usual not in self.fits:
             raise cluster.Refused(self.why_none_fits())
-        budget = max(self.most(it) for it in self.fits)
-        intervals = rules.least_staleness(budget, self.nodes, self.keys, self.writes, self.fanout)
-        if intervals > rules.MANY:
-            raise cluster.Refused(self.why_too_few(self.whole(budget), int(intervals * self.fanout)))
+        if self.least_rounds() > rules.MANY * self.fanout:
+            raise cluster.Refused(f"no budget that fits keeps the worst staleness below {rules.MANY * self.fanout} "
+                                  f"rounds: {self.why_at_least()}.")
+        self.target = None if told["target"] is None else self.target_of(told["target"])
         self.split = self.split_of(int(told["split"]))
         self.restarts = None if told["restarts"] is None else -(-int(told["restarts"]) // self.parts)
         self.place_healing()
         self.loss = int(told["loss"] * 10000)
 
+    def room(self, it, mode):
+        """The entries that a delta of the whole cluster has room for in this mode; without a packet all that are of
+        use."""
+        if self.told["packet"] is None:
+            return int(self.told["nodes"]) * self.keys
+        return cluster.room_for_delta(it | {"nodes": int(self.told["nodes"])}, mode) / it["entry"]
+
+    def target_of(self, seconds):
+        """The rounds of a target, which the longest runs have to be able to show."""
+        rounds, (_, most) = int(seconds / self.seconds), rules.halves(self.window("longest"))[0]
+        if not 1 <= rounds <= most:
+            raise cluster.Refused(f"target={float(seconds):g} would be {rounds} rounds of {float(self.seconds):g} s, "
+                                  f"and has to be from 1 to {most} of them.")
+        return rounds
+
     def why_none_fits(self):
         """Why a delta has no room, and how large it would have to be."""
-        told, whole = self.told, self.whole(self.knee)
+        told, whole = self.told, self.knee_of_all
         lacks = f"no room for {LEAST} entries of {told['entry']} bytes"
         enough = f"takes packet={self.packet(self.usual)}"
         if told["shared"] == "no" or not told["digest"]:
@@ -76,12 +102,25 @@ class Study:
                 f"delta has room for {alone}, {alone / whole:.2g} times {self.knee_name}{too_large}; room for the "
                 f"digest and {self.knee_name} = {whole} entries {enough}.")
 
-    def why_too_few(self, budget, rounds):
-        """Why no run is worth while, and how large a packet would have to be."""
-        return (f"no budget that fits is enough: each node has {(int(self.told['nodes']) - 1) * self.keys} copies to "
-                f"renew and gets about two deltas of {budget} entries in a round, so the worst staleness is at least "
-                f"{rounds} rounds; room for {self.knee_name} = {self.whole(self.knee)} entries takes "
-                f"packet={self.packet(self.usual)}.")
+    def largest(self):
+        """The largest budget that some mode may take, as one of the whole cluster."""
+        return self.whole(max(self.most(it) for it in self.fits))
+
+    def least_rounds(self):
+        """The rounds that the worst staleness has at least, by a sum; 0 where the sum says nothing."""
+        nodes = int(self.told["nodes"])
+        intervals = rules.least_staleness(self.largest(), nodes, self.keys, self.writes, self.fanout)
+        return max(0, int(intervals * self.fanout))
+
+    def why_at_least(self):
+        """The sum in words, and how large a packet would have to be."""
+        return (f"each node has {(int(self.told['nodes']) - 1) * self.keys} copies to renew and gets about two deltas "
+                f"of {self.largest()} entries in a round, so it is at least {self.least_rounds()} rounds; room for "
+                f"{self.knee_name} = {self.knee_of_all} entries takes packet={self.packet(self.usual)}")
+
+    def steady_stages(self):
+        """The stages that can show a budget to be level, each longer than the one before."""
+        return [it for it in WINDOWS if rules.can_be_level(self.least_rounds(), self.window(it))]
 
     def asks_for_healing(self):
         """Whether restarts or a split were asked for."""
@@ -95,7 +134,7 @@ class Study:
         """The bytes of a packet with room for so many entries of the whole cluster, nodes * writes where it isn't told,
         with the digest where they share it."""
         digest = self.digest_bytes(mode) if self.told["shared"] == "yes" else 0
-        return int((entries or self.whole(self.knee)) * self.told["entry"]) + digest
+        return int((entries or self.knee_of_all) * self.told["entry"]) + digest
 
     def tells_all(self):
         """The entries to reckon with in place of nodes * writes where a node tells all its keys as it starts, and the
@@ -103,13 +142,27 @@ class Study:
         if self.told["forget"] == "no" or not self.told["restarts"]:
             return None
         nodes = int(self.told["nodes"])
-        more = min(nodes * self.writes + int(self.told["restarts"]) * self.keys, nodes * self.keys) // self.fanout
+        writes = nodes * self.writes + int(self.told["restarts"]) * self.keys
+        if writes >= nodes * self.keys:
+            name = "nodes * keys" if self.fanout == 1 else f"nodes * keys / {self.fanout}"
+            return nodes * self.keys // self.fanout, name
         name = "nodes * writes + restarts * keys"
-        return more, name if self.fanout == 1 else f"({name}) / {self.fanout}"
+        return writes // self.fanout, name if self.fanout == 1 else f"({name}) / {self.fanout}"
+
+    def run_of(self, entries):
+        """A budget of the whole cluster as one of what is run, on the same side of nodes * writes."""
+        run = entries * self.nodes // int(self.told["nodes"])
+        return max(run, self.knee) if entries >= self.knee_of_all else min(run, self.knee - 1)
 
     def whole(self, budget):
-        """A budget of what is run as one of the whole cluster."""
-        return budget * self.parts
+        """A budget of what is run as one of the whole cluster: all that fits, nodes * keys, and what is looked at by
+        nodes * writes, as exactly that of the whole."""
+        if self.parts == 1:
+            return budget
+        exact = {self.fits.get(self.usual): self.fits_of_all[self.usual],
+                 self.nodes * self.keys: int(self.told["nodes"]) * self.keys}
+        exact |= {self.knee * over // under: self.knee_of_all * over // under for over, under in rules.LOOKED_AT}
+        return exact.get(budget, budget * self.knee_of_all // self.knee)
 
     def most(self, mode):
         """The largest budget that a mode may take."""
@@ -135,8 +188,11 @@ class Study:
 
     def intervals(self, stage):
         """How many intervals a run of a stage has."""
-        usual = {"few": rules.FEW, "many": rules.MANY}
-        return usual.get(stage) or self.waits + max(self.split, RESTARTING) + self.tail
+        if stage in WINDOWS:
+            return WINDOWS[stage][1]
+        if stage in STOPS:
+            return WINDOWS[STOPS[stage]][1] - (-self.target // self.fanout)
+        return self.waits + max(self.split, RESTARTING) + self.tail
 
     def rounds(self, stage):
         return self.intervals(stage) * self.fanout
@@ -148,7 +204,7 @@ class Study:
 
     def window(self, stage):
         """The rounds of a stage that are looked at."""
-        return rules.rounds_of(rules.FEW_WINDOW if stage == "few" else rules.MANY_WINDOW, self.fanout)
+        return rules.rounds_of(WINDOWS[stage], self.fanout)
 
     def restarting(self):
         """How many nodes restart at once, at least one, and in how many intervals such a group does."""
@@ -156,20 +212,32 @@ class Study:
         most = RESTARTING if self.restarts else 1
         return each, min(most, self.nodes // each, scenario.MOST_SECTIONS // each)
 
+    def group(self):
+        """How many nodes restart at once, as told of the whole cluster."""
+        return min(int(self.told["restarts"] or 1), self.restarting()[0] * self.parts)
+
     def ends(self, stage):
         """The last round of what is to be healed."""
         intervals = self.split if stage == "split" else self.restarting()[1]
         return self.begins + intervals * self.fanout - 1
 
+    def forgets(self):
+        return self.told["forget"] == "yes"
+
     def leaves(self):
-        """The stages that tell what a restart leaves, in their order; none where no restart is looked at."""
+        """What a restart leaves and is looked at, in its order; nothing where no restart is looked at."""
         if self.restarts == 0:
             return ()
-        return ("restart", "forgotten") if self.told["forget"] == "yes" else ("restart",)
+        return ("restart", "forgotten") if self.forgets() else ("restart",)
 
     def heals(self):
-        """The stages of what heals that are looked at, in their order."""
+        """What heals and is looked at, in its order."""
         return ("split", *self.leaves()) if self.split else self.leaves()
+
+    def healing_stages(self):
+        """The stages that tell what heals, each with what it tells: where nodes forget, their runs tell both."""
+        restarts = {self.leaves()[-1]: self.leaves()} if self.leaves() else {}
+        return {"split": ("split",), **restarts} if self.split else restarts
 
     def wanted(self, mode):
         """The budgets and modes that decide: each mode with what it may take, and this one with nodes * writes."""
@@ -186,6 +254,10 @@ class Study:
         """The scenario of a stage. Its budget, mode and seed are other ones in each run."""
         rounds, in_bytes = self.rounds(stage), self.counts_bytes(stage)
         fields = scenario.top(self.nodes, self.keys, rounds, self.writes, self.loss, self.knee + 1, in_bytes)
+        if stage in STOPS:
+            last = self.rounds(STOPS[stage])
+            return (scenario.written(fields) + cluster.without_writes(last, self.fanout)
+                    + scenario.load(last + 1, rounds, 0))
         text = scenario.written(fields) + cluster.without_writes(rounds, self.fanout)
         if stage == "split":
             text += scenario.partition(0, self.nodes // 2 - 1, self.begins, self.ends(stage))
@@ -224,8 +296,23 @@ class Found:
         """The share that was cut, in per cent, for each seed."""
         return [read.percent_cut(read.between(rows, *window)) for rows in self.rows[(budget, mode)]]
 
+    def stale(self, budget, mode, window):
+        """The copies that are stale on average, for each seed."""
+        windows = [read.between(rows, *window) for rows in self.rows[(budget, mode)]]
+        return [sum(row["stale"] for row in rows) / len(rows) for rows in windows]
+
+    def half_of_stale_after(self, budget, mode, last, fanout):
+        """The intervals after the `last` round with writes until half of the copies that are stale then are so no more,
+        for each seed; None where they aren't in these rounds. By docs/study.md half of the stale copies lack only
+        writes of so many intervals."""
+        found = []
+        for rows in self.rows[(budget, mode)]:
+            after = rows[last - 1::fanout]
+            found.append(next((at for at, row in enumerate(after) if 2 * row["stale"] <= after[0]["stale"]), None))
+        return found
+
     def suffices(self, budget, mode, window):
-        return rules.suffices(*(self.worst(budget, mode, half) for half in rules.halves(window)))
+        return rules.suffices(*(self.worst(budget, mode, half) for half in rules.halves(window)), window)
 
     def healed_after(self, budget, mode, ends):
         """The rounds after `ends` until `greatest` was back at its level, for each seed; None where it never was."""

@@ -1,9 +1,10 @@
 """gossip_sweep [-o FOLDER] FIELD=VALUE,VALUE.. .. < SCENARIO
 
 Runs the scenario with each choice of values, in all four modes where `mode` isn't among the fields. The folder, `runs`
-where none is named, gets the scenario and the report of each run, as budget-600.mode-precise-oldest.csv. A whole report
-that is there isn't made again, so a sweep that was ended goes on where it was. A folder takes runs of one scenario and
-of the same fields in the same order, so that gossip_read can read them, and one sweep at a time.
+where none is named, gets the scenario and the report of each run, as budget-600.mode-precise-oldest.csv. A report that
+is there as it was made, by its length and check sum in the .sum beside it, isn't made again, so a sweep that was ended
+goes on where it was. A folder takes runs of one scenario and of the same fields in the same order, so that gossip_read
+can read them, by one program, and one sweep at a time.
 
   GOSSIP_BENCH   the program, where it isn't the one beside this tool or the one that is built
   JOBS           how many runs go at once, where it isn't one for each core
@@ -19,7 +20,7 @@ import shlex
 import subprocess
 import sys
 
-from gossip_tools import folders, running, scenario
+from gossip_tools import files, folders, running, scenario
 from gossip_tools.commands import Refused, folder_of, the_program, workers
 from gossip_tools.progress import Progress
 
@@ -54,6 +55,14 @@ def spread(text, choices, name=""):
     return runs
 
 
+def given_scenario():
+    """The scenario that comes by standard input."""
+    if sys.stdin.isatty():
+        print("gossip_sweep: the scenario is read from here, as none comes by < SCENARIO.", file=sys.stderr)
+    with files.named("standard input"):
+        return scenario.read(sys.stdin.buffer)
+
+
 def check(runs, program):
     """Refuses, as the program does, where it accepts one of the scenarios not."""
     for name, text in runs.items():
@@ -68,27 +77,33 @@ def check(runs, program):
             raise Refused(f"{program} doesn't answer as gossip_bench does: what does GOSSIP_BENCH name?")
 
 
+def make(folder, program, progress, hosts, what):
+    """Makes the reports that the folder lacks."""
+    if folder.is_of_before():
+        print(f"{what}: {folder.path} has reports from before check sums of reports and programs were kept: they are "
+              "taken as they are.", file=sys.stderr)
+    lacking = {name: lacks for name in folder.runs if (lacks := folder.lacks(name))}
+    for name, lacks in lacking.items():
+        if (folder.path / f"{name}.csv").exists():
+            print(f"{what}: {name} is run again, as its report isn't whole: {lacks}.", file=sys.stderr)
+    progress.begin(folder.path.name, list(lacking), folder.runs.keys() - lacking.keys(), 1 if hosts else workers())
+    try:
+        if lacking and hosts:
+            running.start(program, hosts)
+            jobs = workers() if os.environ.get("JOBS") else None
+            running.far(folder, list(lacking), program, hosts, jobs, progress.done)
+        elif lacking:
+            running.here(folder, list(lacking), program, workers(), progress.done)
+    finally:
+        progress.end()
+
+
 def carry_out(path, text, runs, program, progress, hosts=None, what="gossip_sweep"):
-    """Makes the reports of the runs that have none in the folder."""
-    folder = folders.Folder(path, text, runs)
+    """Makes the reports of the runs that have none in the folder, or says what stands where that ends early."""
+    folder = folders.Folder(path, text, runs, files.check_sum(program))
     try:
         with folder.held():
-            lacking = {name: lacks for name in runs if (lacks := folder.lacks(name))}
-            for name, lacks in lacking.items():
-                if (path / f"{name}.csv").exists():
-                    print(f"{what}: {name} is run again, as its report isn't whole: {lacks}.", file=sys.stderr)
-            progress.begin(path.name, list(lacking), runs.keys() - lacking.keys(), 1 if hosts else workers())
-            try:
-                if not lacking:
-                    return
-                if hosts:
-                    running.start(program, hosts)
-                    jobs = workers() if os.environ.get("JOBS") else None
-                    running.far(folder, list(lacking), program, hosts, jobs, progress.done)
-                else:
-                    running.here(folder, list(lacking), program, workers(), progress.done)
-            finally:
-                progress.end()
+            make(folder, program, progress, hosts, what)
     except running.Stopped as stopped:
         why, status = f"stopped by {stopped}, which loses the runs under way", stopped.status
     except running.Failed as failed:
@@ -109,18 +124,11 @@ def main(words):
     if not words:
         raise Refused("usage: gossip_sweep [-o FOLDER] FIELD=VALUE,VALUE.. .. < SCENARIO")
     choices = choices_of(words)
-    hosts = os.environ.get("HOSTS")
-    if hosts and not running.is_gnu_parallel():
-        raise Refused("other machines need GNU parallel, which isn't there.")
+    hosts = running.hosts()
     workers()
     program = the_program()
     running.Signals.listen()
-    try:
-        if sys.stdin.isatty():
-            print("gossip_sweep: the scenario is read from here, as none comes by < SCENARIO.", file=sys.stderr)
-        text = sys.stdin.buffer.read().decode()
-    except UnicodeDecodeError:
-        raise Refused("the scenario isn't UTF-8.") from None
+    text = given_scenario()
     runs = spread(text, choices)
     check(runs, program)
     carry_out(path, text, runs, program, Progress({f"{path.name}/{name}": 1 for name in runs}), hosts)

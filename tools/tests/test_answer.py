@@ -45,9 +45,9 @@ class Decided(unittest.TestCase):
         self.assertEqual("scuttle-depth with room for 600 entries in a delta, 24000 bytes (nodes * writes); "
                          "packet=24000", found.takes())
         self.assertIn("scuttle-depth with a budget from 450 entries on, 8 to 9 rounds with that; below nodes * writes, "
-                      "where staleness rises steeply, none is taken for that", answer.too_close(found))
-        self.assertEqual("With the 1000 entries that fit it is 7 to 8 rounds: not better under all seeds by more than "
-                         "they differ. So packet=24000 is enough, and what is above that is a reserve", found.reserve())
+                      "where staleness rises steeply, none is taken for that", found.too_close())
+        self.assertEqual("With the 1000 entries that fit it is 7 to 8 rounds: no better, as the bands of the seeds "
+                         "touch. So packet=24000 is enough, and what is above that is a reserve", found.reserve())
         self.assertIn(f"  a reserve           {found.reserve()}", answer.in_words(found, None))
 
     def test_what_fits_is_better(self):
@@ -57,28 +57,46 @@ class Decided(unittest.TestCase):
         self.assertEqual(("scuttle-depth", 1000, None), (found.mode, found.budget, found.smaller()))
         self.assertEqual("scuttle-depth with room for 1000 entries in a delta, 40000 bytes (what fits; 1.7 times nodes "
                          "* writes); packet=40000", found.takes())
-        self.assertEqual("With nodes * writes = 600 entries it is 8 to 9 rounds: worse under all seeds by more than "
-                         "they differ", found.why_not_knee())
-        self.assertEqual(["", f"{found.why_not_knee()}.", "The last answer has 900 entries too, and takes them if "
-                          "nothing is better than that."], [found.reserve(), *answer.first_words(found)[2:4]])
+        self.assertEqual("With nodes * writes = 600 entries it is 8 to 9 rounds: worse, as the bands of the seeds "
+                         "don't touch", found.why_not_knee())
+        self.assertEqual(["", f"{found.why_not_knee()}."], [found.reserve(), answer.first_words(found)[2]])
 
     def test_between(self):
-        """With 900, one and a half times 600, no seed of the 1000 is better by more than they differ: 900 are taken,
-        which are 36000 bytes. 600 aren't worse than these, but than the 1000."""
+        """The band of 900, one and a half times 600, touches that of the 1000: 900 are taken, which are 36000 bytes.
+        600 aren't worse than these, but than the 1000."""
         depth = {1000: [9, 9], 900: [9, 10], 600: [10, 12], 450: [13, 14]}
         found = decided({(budget, "scuttle-depth"): worst for budget, worst in depth.items()})
-        self.assertEqual(("scuttle-depth", 900, None, ""),
-                         (found.mode, found.budget, found.smaller(), found.still_to_run()))
-        self.assertEqual(["With the 1000 entries that fit it is 9 rounds: not better under all seeds by more than they "
-                          "differ. So packet=36000 is enough, and what is above that is a reserve",
+        self.assertEqual(("scuttle-depth", 900, None), (found.mode, found.budget, found.smaller()))
+        self.assertEqual(["With the 1000 entries that fit it is 9 rounds: no better, as the bands of the seeds "
+                          "touch. So packet=36000 is enough, and what is above that is a reserve",
                           "With nodes * writes = 600 entries it is 10 to 12 rounds: worse than the 1000 entries that "
-                          "fit under all seeds by more than they differ"], [found.reserve(), found.why_not_knee()])
+                          "fit, as the bands of the seeds don't touch"], [found.reserve(), found.why_not_knee()])
         lines = answer.in_words(found, None)
         self.assertIn(f"  a reserve           {found.reserve()}", lines)
         self.assertIn(f"  nodes * writes      {found.why_not_knee()}", lines)
 
+    def test_budgets_to_look_closer_at(self):
+        """Where the bands of 600 and 1000 have three rounds in common, few rounds can choose; where they have two or
+        fewer, they can't, and 900 may be taken too. With 600 that fit there is no choice."""
+        all_of_them = {(budget, "scuttle-depth") for budget in (600, 900, 1000)}
+        for at_600, at_1000, wanted in (([7, 9], [7, 9], set()), ([8, 9], [7, 9], all_of_them),
+                                        ([8, 9], [7, 8], all_of_them), ([9, 9], [7, 8], all_of_them)):
+            found = decided({(600, "scuttle-depth"): at_600, (1000, "scuttle-depth"): at_1000}, stage=FEW)
+            self.assertEqual(wanted, found.to_look_closer())
+        it = of("nodes=300 keys=4 writes=2 entry=40 packet=24000")
+        self.assertEqual(set(), answer.Decision(it, Figures({(600, mode): [8, 8] for mode in it.fits}),
+                                                FEW).to_look_closer())
+
+    def test_first_answer_from_more_rounds(self):
+        depth = {(1000, "scuttle-depth"): [8, 8], (900, "scuttle-depth"): [8, 8], (600, "scuttle-depth"): [9, 10]}
+        it = of("nodes=300 keys=4 writes=2 entry=40 packet=40000")
+        said = answer.first_words(answer.Decision(it, Figures(depth), MANY))
+        self.assertEqual(["First answer, from 60 rounds, and 200 for the budgets between which those can't choose: "
+                          "scuttle-depth with room for 900 entries", "Worst staleness 8 rounds"],
+                         [said[0].partition(" in a delta")[0], said[1].partition(",")[0]])
+
     def test_between_is_worse_or_rises(self):
-        """900 are worse than the 1000 under both seeds, or `greatest` still rises with them: then 1000 are taken. Where
+        """900 are worse than the 1000 under both seeds, or `greatest` isn't level with them: then 1000 are taken. Where
         600 are no worse than the 1000, 900 that are worse by accident change nothing."""
         cases = {((10, 10), (10, 12), ()): 1000, ((9, 10), (10, 12), ((900, "scuttle-depth"),)): 1000,
                  ((10, 10), (9, 10), ()): 600}
@@ -92,7 +110,7 @@ class Decided(unittest.TestCase):
         depth = {1000: [7, 7], 600: [7, 8], 450: [8, 9]}
         found = decided({(budget, "scuttle-depth"): worst for budget, worst in depth.items()})
         self.assertEqual((600, None), (found.budget, found.smaller()))
-        self.assertNotIn("450", " ".join(answer.too_close(found)))
+        self.assertNotIn("450", " ".join(found.too_close()))
 
     def test_another_mode_with_what_fits_is_better(self):
         """precise-newest isn't better than scuttle-depth, each with 1000, but than it with 600. So 1000 are taken."""
@@ -104,7 +122,7 @@ class Decided(unittest.TestCase):
     def test_nodes_times_writes_still_rise(self):
         depth = {(1000, "scuttle-depth"): [7, 9], (600, "scuttle-depth"): [8, 9]}
         found = decided(depth, [(600, "scuttle-depth")])
-        self.assertEqual((1000, "With nodes * writes = 600 entries `greatest` still rises"),
+        self.assertEqual((1000, "With nodes * writes = 600 entries `greatest` isn't level"),
                          (found.budget, found.why_not_knee()))
 
     def test_another_mode_is_better(self):
@@ -116,14 +134,14 @@ class Decided(unittest.TestCase):
         it = of("nodes=300 keys=4 writes=2 entry=40 packet=24000 digest=10 mode=precise-newest")
         figures = {(300, "precise-newest"): [12, 13], (600, "precise-newest"): [7, 8]}
         for rises, first in (([], "Take precise-newest with room for 300 entries"),
-                             ([(300, "precise-newest")], "No budget that fits is enough: still rising after 200 "
+                             ([(300, "precise-newest")], "No budget that fits is enough: none is level within 200 "
                               "rounds. The most that fits: room for 300 entries")):
             lines = answer.in_words(answer.Decision(it, Figures(figures, rises), MANY), None)
             self.assertTrue(lines[0].startswith(first), lines[0])
             self.assertFalse([line for line in lines if "scuttle" in line or "other mode" in line])
 
     def test_one_mode_is_enough(self):
-        """Where scuttle-depth still rises and scuttle-breadth doesn't, the figures of the former say nothing."""
+        """Where scuttle-breadth is level and scuttle-depth isn't, the figures of the former say nothing."""
         found = decided({(1000, "scuttle-depth"): [5, 6]}, [(1000, "scuttle-depth")])
         self.assertEqual(("scuttle-breadth", True), (found.mode, found.suffices))
 
@@ -140,11 +158,45 @@ class Decided(unittest.TestCase):
             self.assertEqual(("scuttle-depth", False, f"packet={delta}, worst staleness 7 to 8 rounds with that"),
                              (found.mode, found.suffices, found.to_knee()))
             lines = answer.in_words(found, None)
-            self.assertIn("No budget that fits is enough: still rising after 200 rounds. The most that fits: room for "
-                          "28 entries in a delta, 1120 bytes", lines[0])
-            self.assertTrue(lines[0].endswith("No mode can be preferred with that by its `greatest`, which still rises "
-                                              "in each that was run."))
-            self.assertIn("  worst staleness     not known: still rising after 200 rounds", lines)
+            self.assertIn("No budget that fits is enough: none is level within 200 rounds. The most that fits: room "
+                          "for 28 entries in a delta, 1120 bytes", lines[0])
+            self.assertTrue(lines[0].endswith(f"No mode can be preferred with that: of {answer.listed(list(modes))} "
+                                              "none is ahead, as the bands of the seeds touch."))
+            self.assertIn("  worst staleness     not known: not level within 200 rounds; by a sum at least 19", lines)
+
+    def test_a_mode_is_ahead(self):
+        """None is level with the 28 entries that fit. One whose band is below the others is named, and the others
+        aren't run on; but not where all are about the number of the last round, 200."""
+        it = of("nodes=300 keys=4 writes=2 entry=40 packet=1120")
+        rest = {"precise-oldest": [199, 200], "precise-newest": [185, 196]}
+        cases = (
+            ({"scuttle-depth": [150, 170], "scuttle-breadth": [171, 190]}, "scuttle-depth", {"scuttle-depth"},
+             "Of the modes scuttle-depth is ahead with that, though it isn't level yet: its `greatest` was at most 150 "
+             "to 170 rounds up to round 200, and the others' higher, as the bands of the seeds don't touch."),
+            ({"scuttle-depth": [150, 171], "scuttle-breadth": [171, 179]}, "scuttle-depth",
+             {"scuttle-breadth", "scuttle-depth"}, "of scuttle-breadth and scuttle-depth none is ahead, as the bands"),
+            ({"scuttle-depth": [190, 191], "scuttle-breadth": [200, 200]}, "scuttle-depth", set(it.fits),
+             "in each `greatest` is about the number of the round, which it can't exceed."),
+        )
+        for figures, mode, kept, said in cases:
+            worst = {(28, name): band for name, band in (figures | rest).items()}
+            found = answer.Decision(it, Figures(worst, worst), MANY)
+            self.assertEqual((mode, kept), (found.mode, set(found.contenders())))
+            self.assertIn(said, found.most_that_fits())
+        worst = {(28, name): band for name, band in (cases[0][0] | rest).items()}
+        said = answer.Decision(it, Figures(worst, worst), MANY).why_dropped()
+        self.assertEqual(["Up to round 200 these modes were behind scuttle-depth with 150 to 170 rounds, and weren't "
+                          "run on, as the bands of the seeds don't touch: scuttle-breadth with 171 to 190 rounds, "
+                          "precise-oldest with 199 to 200 rounds, precise-newest with 185 to 196 rounds."], said)
+        # (in the longer runs it is the only one, and is told as ahead until it is level)
+        worst = {(28, "scuttle-depth"): [210, 230], (600, "scuttle-depth"): [7, 8]}
+        for rising, begins in ((worst, "No budget that fits is enough: none is level within 400 rounds. The most that "
+                                "fits: room for 28 entries in a delta, 1120 bytes (what fits; 0.047 times nodes * "
+                                "writes). Of the modes scuttle-depth is ahead"),
+                               ((), "Take scuttle-depth with room for 28 entries")):
+            found = answer.Decision(it, Figures(worst, rising), "longer", said)
+            self.assertTrue(answer.in_words(found, None)[0].startswith(begins), answer.in_words(found, None)[0])
+            self.assertEqual(said, [it for it in answer.warnings(found) if "weren't run on" in it])
 
     def test_nothing_is_run_that_heals(self):
         """28 entries fit of 600, for which the delta is 24000 bytes. The call has the words that aren't the usual ones,
@@ -230,11 +282,11 @@ class Decided(unittest.TestCase):
         it = of("nodes=10000 keys=4 writes=1 entry=40 packet=400000 digest=10 fanout=3")
         figures = {(it.most("scuttle-depth"), "scuttle-depth"): [8, 9], (it.knee, "scuttle-depth"): [9, 11]}
         found = answer.Decision(it, Figures(figures), FEW)
-        self.assertEqual((333, 666, 3330), (found.budget, found.most, found.whole_budget()))
+        self.assertEqual((333, 666, 3333), (found.budget, found.most, found.whole_budget()))
         self.assertEqual("up to 17 rounds, 5.7 intervals, 5.7 s, for 10000 nodes: the 1000 that were run had 9 to 11 "
                          "rounds, 3.0 to 3.7 intervals, 3.0 to 3.7 s", found.staleness())
-        self.assertIn("With the 6660 entries (2 times nodes * writes / 3) it is 8 to 9 rounds, 2.7 to 3.0 "
-                      "intervals, 2.7 to 3.0 s: not better", found.reserve())
+        self.assertIn("With the 6666 entries (2 times nodes * writes / 3) it is 8 to 9 rounds, 2.7 to 3.0 "
+                      "intervals, 2.7 to 3.0 s: no better", found.reserve())
 
     def test_a_tenth(self):
         """1000 of 10000 nodes are run, with a tenth of the 11000 entries that fit. Budgets are told for all."""
@@ -244,7 +296,15 @@ class Decided(unittest.TestCase):
         self.assertEqual("scuttle-depth with room for 11000 entries in a delta, 440000 bytes (what fits; 1.1 times "
                          "nodes * writes); with the digest packet=640000", found.takes())
         self.assertEqual(["scuttle-depth with a budget from 7500 entries on, 8 to 9 rounds with that; below nodes * "
-                          "writes, where staleness rises steeply, none is taken for that"], answer.too_close(found))
+                          "writes, where staleness rises steeply, none is taken for that"], found.too_close())
+
+    def test_nodes_times_keys(self):
+        """Each product once: 100 nodes with 2 keys that write 3 times."""
+        for words, why in (("keys=2 writes=3", "nodes * keys, above which nothing changes"),
+                           ("keys=2 writes=2", "nodes * keys, above which nothing changes; nodes * writes")):
+            it = of(f"nodes=100 entry=40 packet=40000 {words}")
+            found = answer.Decision(it, Figures({(200, mode): [7, 8] for mode in it.fits}), MANY)
+            self.assertEqual(f"room for 200 entries in a delta, 8000 bytes ({why})", found.room())
 
     def test_what_to_reckon_with(self):
         """1000 of 10000 nodes had 8 rounds, to which six are added."""
@@ -281,15 +341,16 @@ class Decided(unittest.TestCase):
 
 
 class Taken:
-    """A stage whose rounds until it is healed are given."""
+    """A stage whose rounds until it is healed are given, and those until what was forgotten is gone."""
 
-    def __init__(self, taken, *pairs):
-        self.taken, self.rows = taken, pairs
+    def __init__(self, taken, *pairs, forgotten=None):
+        self.taken, self.rows, self.forgotten = taken, pairs, forgotten or taken
 
     def healed_after(self, *_):
         return self.taken
 
-    forgotten_after = healed_after
+    def forgotten_after(self, *_):
+        return self.forgotten
 
 
 def healing(more="", **taken):
@@ -333,19 +394,19 @@ class Healed(unittest.TestCase):
         it = of("nodes=200 keys=4 writes=1 entry=40 packet=10000 forget=yes")
         figures = {(250, mode): [7, 8] for mode in it.fits} | {(200, "scuttle-depth"): [7, 8]}
         found = answer.Decision(it, Figures(figures), MANY)
-        taken = {"split": [8, 9], "restart": [3, 4], "forgotten": [5, 4]}
         both = (200, found.mode), (250, found.mode)
-        heals = answer.Healing(it, found.mode, {stage: Taken(rounds, *both) for stage, rounds in taken.items()})
+        heals = answer.Healing(it, found.mode, {"split": Taken([8, 9], *both),
+                                                "forgotten": Taken([3, 4], *both, forgotten=[5, 4])})
         self.assertIn("  with the reserve    if your program fills the packet anyway, a split is healed after 8 to 9 "
                       "rounds; a restart is healed after 3 to 4 rounds; a forgotten state is gone from all copies "
                       "after 4 to 5 rounds; wait 7 rounds between groups", answer.in_words(found, heals))
         # (for the first answer it isn't run, so that says where to read it)
-        heals = answer.Healing(it, found.mode, {stage: Taken(rounds, both[0]) for stage, rounds in taken.items()})
+        heals = answer.Healing(it, found.mode, {"split": Taken([8, 9], both[0])})
         self.assertFalse(heals.has_reserve(found))
         said = " ".join(answer.last_of_first_words(found, pathlib.Path("mine")))
         self.assertIn("All these times are for packet=8000. If your program fills a larger one anyway, copies heal",
                       said)
-        self.assertIn("a round or so higher, and by that another budget be taken. Until then mine/answer.txt", said)
+        self.assertIn("and a worst staleness at most a round higher. Until then mine/answer.txt", said)
 
     def test_all_keys_at_the_start(self):
         """200 nodes and 5 that restart with 4 keys make 200 + 5 * 4 = 220 entries, 8800 bytes, and with the digest of
@@ -403,19 +464,28 @@ class Healed(unittest.TestCase):
                          "budget", healing(restart=[6, None], forgotten=[7, 8]).wait(200))
 
     def test_wait_at_once(self):
-        """Where nodes forget, the restart alone tells the least wait; where they don't, the wait."""
-        def waits(stage, more, **taken):
+        """The wait is told with the restart; where nodes forget, both that and the forgotten state are of runs in which
+        they do."""
+        def told(stage, more, **taken):
             lines = healing(f"restarts=5 {more}", **taken).lines_now(stage, 200)
-            return [it.partition(", ")[0] for it in lines
-                    if it.startswith((f"  {answer.ROLLING} ", f"  {answer.AT_LEAST} "))]
+            return [it[2:].partition(" rounds, ")[0] for it in lines if not it.startswith("   ")]
 
-        at_least, known = "  wait at least       9 rounds", "  a rolling restart   wait 9 rounds"
-        restart, forgotten = {"restart": [6, 7]}, {"restart": [6, 7], "forgotten": [8, 6]}
-        self.assertEqual([at_least], waits("restart", "forget=yes", **restart))
-        self.assertEqual([known.replace("9", "10")], waits("forgotten", "forget=yes", **forgotten))
-        self.assertEqual([known], waits("restart", "", **restart))
-        self.assertEqual([], waits("forgotten", "", **forgotten))
-        self.assertEqual([], waits("restart", "forget=yes", restart=[6, None]))
+        restart, heals = "a restart           of 5 nodes in each of 10", "healed after 6 to 7"
+        self.assertEqual([restart, "a rolling restart   wait 9"], told("restart", "split=0", restart=[6, 7]))
+        self.assertEqual([restart, "a forgotten state   of 5 nodes in each of 10", "a rolling restart   wait 10"],
+                         told("forgotten", "split=0 forget=yes", forgotten=[6, 8]))
+        line = healing("restarts=5 forget=yes", forgotten=[6, 7]).lines("restart", 200)[0]
+        self.assertTrue(line.endswith(", each down for one, and then without its own state, a harder test than one "
+                                      f"group: {heals} rounds, 3.0 to 3.5 s"), line)
+
+    def test_smaller_groups(self):
+        """80 of 200 nodes restart at once, 150 don't: of those 100 do, as half of them stay up. Both answers say so."""
+        lines = {restarts: healing(f"restarts={restarts}", restart=[6, 7]).lines_now("restart", 200)
+                 for restarts in (80, 150)}
+        self.assertIn(" of 80 nodes in each of 2 rounds, each down for one, a", lines[80][0])
+        self.assertIn(" of 100 nodes in each of 2 rounds, in place of 150, as half of the nodes stay up, each down for "
+                      "one, a", lines[150][0])
+        self.assertIn("after a group of 100 nodes is up again", lines[150][-1])
 
     def test_groups(self):
         """Ten groups are a harder test than the one node that is looked at otherwise."""

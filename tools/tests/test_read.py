@@ -1,4 +1,7 @@
 """Reports, with figures worked out by hand."""
+import hashlib
+import pathlib
+import tempfile
 import unittest
 
 from gossip_tools import read
@@ -29,6 +32,35 @@ class Reports(unittest.TestCase):
             except read.NotWhole as why:
                 found[text] = str(why)
         self.assertEqual(cases, found)
+
+
+class Kept(unittest.TestCase):
+    """What is read of a folder, by what stands there."""
+    SUM = f"{len(TEXT)} {hashlib.sha256(TEXT.encode()).hexdigest()}\n"
+
+    def lacks(self, **files):
+        with tempfile.TemporaryDirectory() as folder:
+            for ending, text in files.items():
+                name = ending if ending == "program" else f"seed-1.{ending}"
+                (pathlib.Path(folder) / name).write_text(text)
+            try:
+                return len(read.report(pathlib.Path(folder) / "seed-1.csv", 1, 3))
+            except read.NotWhole as why:
+                return str(why)
+
+    def test_sums(self):
+        other = "its length and check sum aren't those of seed-1.sum"
+        cases = ((3, TEXT, self.SUM), (other, TEXT.replace(",9,2\n", ",9,3\n"), self.SUM), (other, TEXT, ""),
+                 (other, TEXT, self.SUM[:-2]), (other, TEXT, self.SUM.replace(str(len(TEXT)), "1", 1)),
+                 ("it is empty", "", self.SUM))
+        self.assertEqual([it[0] for it in cases], [self.lacks(csv=csv, sum=sum) for _, csv, sum in cases])
+
+    def test_without_sums(self):
+        """Folders of earlier versions have none, neither of reports nor of the program."""
+        self.assertEqual(3, self.lacks(csv=TEXT))
+        self.assertEqual("seed-1.sum, which has its length and check sum, isn't there",
+                         self.lacks(csv=TEXT, program="0123\n"))
+        self.assertEqual("it isn't there", self.lacks(sum=self.SUM))
 
 
 class Figures(unittest.TestCase):

@@ -11,7 +11,7 @@ DEPTH_AT_100, OLDEST_AT_100 = [8, 7, 7, 7, 8], [9, 7, 8, 8, 9]
 
 class Better(unittest.TestCase):
     def test_five_seeds(self):
-        """With 50 depth is ahead under every seed by more than they differ, with 100 it is no reason to choose."""
+        """With 50 depth is ahead, as the bands don't touch, with 100 it is no reason to choose."""
         self.assertTrue(rules.is_better(DEPTH_AT_50, OLDEST_AT_50))
         self.assertFalse(rules.is_better(OLDEST_AT_50, DEPTH_AT_50))
         self.assertTrue(rules.are_close(DEPTH_AT_100, OLDEST_AT_100))
@@ -30,16 +30,51 @@ class Better(unittest.TestCase):
         self.assertEqual([wanted for _, wanted in cases], [rules.mode_of(figures) for figures, _ in cases])
 
 
+class NoneIsLevel(unittest.TestCase):
+    """Up to round 200 `greatest` is at most 200, and 180 is nine tenths of that."""
+    depth, breadth, oldest = "scuttle-depth", "scuttle-breadth", "precise-oldest"
+
+    def test_diagonal(self):
+        cases = {(150, 180): True, (150, 181): False, (200, 200): False}
+        self.assertEqual(cases, {it: rules.has_left_the_diagonal(it, 200) for it in cases})
+
+    def test_ahead(self):
+        """One that may yet get as high as it likes isn't ahead, be its band below the others or not."""
+        depth, breadth, oldest = self.depth, self.breadth, self.oldest
+        cases = (
+            ({depth: [150, 170], breadth: [171, 196], oldest: [200, 200]}, depth),
+            ({depth: [150, 170], breadth: [170, 196], oldest: [200, 200]}, None),
+            ({depth: [190, 195], breadth: [200, 200], oldest: [200, 200]}, None), ({depth: [150, 170]}, None),
+        )
+        self.assertEqual([wanted for _, wanted in cases], [rules.ahead(figures, 200) for figures, _ in cases])
+
+    def test_contenders(self):
+        depth, breadth, oldest = self.depth, self.breadth, self.oldest
+        cases = (
+            ({depth: [150, 170], breadth: [171, 196], oldest: [200, 200]}, {depth}),
+            ({depth: [150, 170], breadth: [170, 196], oldest: [200, 200]}, {depth, breadth}),
+            ({depth: [190, 195], breadth: [200, 200]}, {depth, breadth}),
+        )
+        self.assertEqual([wanted for _, wanted in cases],
+                         [set(rules.contenders(figures, 200)) for figures, _ in cases])
+
+
 class Enough(unittest.TestCase):
     def test_halves(self):
         cases = {(31, 60): ((31, 45), (46, 60)), (101, 200): ((101, 150), (151, 200)), (1, 3): ((1, 1), (2, 3))}
         self.assertEqual(cases, {it: rules.halves(it) for it in cases})
 
     def test_suffices(self):
-        """Where some write of round 1 is missing throughout, the halves end with 150 and 200."""
+        """Where some write of round 1 is missing throughout, the halves end with 150 and 200. A seed with more than 150
+        can't be told from one that rises."""
         cases = {((150, 150), (200, 200)): False, ((8, 7), (7, 8)): True, ((7, 7), (8, 8)): False,
-                 ((7, 8), (8, 9)): True}
-        self.assertEqual(cases, {it: rules.suffices(*it) for it in cases})
+                 ((7, 8), (8, 9)): True, ((140, 148), (139, 150)): True, ((140, 148), (139, 151)): False}
+        self.assertEqual(cases, {it: rules.suffices(*it, (101, 200)) for it in cases})
+
+    def test_what_can_be_level(self):
+        """Up to round 150, where the first half ends, `greatest` is at most 150. So a level of 151 looks as if it rose
+        from there in any case."""
+        self.assertEqual([True, False], [rules.can_be_level(it, (101, 200)) for it in (150, 151)])
 
     def test_what_a_sum_says(self):
         """1999 * 6 copies at two times 28 in a round take 214 rounds, less the 6 in which a key isn't written; at two

@@ -1,4 +1,5 @@
 """Scenarios and numbers of a cluster, with figures worked out by hand."""
+import io
 import unittest
 from fractions import Fraction
 
@@ -37,6 +38,24 @@ class Advice(unittest.TestCase):
         }
         self.assertEqual(cases, {it: cluster.instead(*it) for it in cases})
 
+    def test_no_numbers(self):
+        cases = {
+            ("nodes", "-5"): "nodes is a whole number from 0 on, which '-5' isn't.",
+            ("loss", "-0.5"): "loss is a number from 0 on, which '-0.5' isn't.",
+            ("packet", "9K"): "packet is a whole number of bytes from 0 on, which '9K' isn't: write packet=9000, or "
+                              "packet=9216 where K is 1024.",
+            ("seed", "1" * 20): f"seed has too many digits in '{'1' * 20}': 19 are the most.",
+            ("loss", "0.1234567890"): "loss has too many digits in '0.1234567890': 18 are the most, and 9 behind the "
+                                      "point.",
+        }
+        found = {}
+        for it in cases:
+            try:
+                cluster.number_of(*it)
+            except Refused as why:
+                found[it] = str(why)
+        self.assertEqual(cases, found)
+
     def test_sizes(self):
         """4096 * 4096 * 16 are 268435456, the most that a scenario takes."""
         cases = {(4096, 16): False, (4096, 17): True, (4097, 1): True, (2000, 64): False, (2049, 64): True}
@@ -44,6 +63,14 @@ class Advice(unittest.TestCase):
 
 
 class Texts(unittest.TestCase):
+    def test_read(self):
+        """A scenario has at most 1048576 bytes, and no more than one byte behind them is read."""
+        longest, longer = io.BytesIO(b"#" * 1048576), io.BytesIO(b"#" * 2000000)
+        self.assertEqual(1048576, len(scenario.read(longest)))
+        with self.assertRaises(Refused):
+            scenario.read(longer)
+        self.assertEqual(1048577, longer.tell())
+
     def test_set_field(self):
         cases = {
             ("a = 1\nb = 'x' # of b\n", "b", "y"): 'a = 1\nb = "y"\n',

@@ -32,6 +32,34 @@ class Numbers(unittest.TestCase):
                  ROOMY + " digest=0 shared=no fanout=3": (200, 400), SHARED + " fanout=16": (6, 12)}
         self.assertEqual(cases, {words: (of(words).knee, of(words).most(DEPTH)) for words in cases})
 
+    def test_more_nodes_than_a_scenario_takes(self):
+        """A tenth of 4109 nodes are 410, and a third of 12005 writes 4001: told are the whole cluster's. With room for
+        4108 entries, one fewer than 4109, what is run is below nodes * writes too."""
+        large = "nodes=4109 keys=4 writes=1 entry=40"
+        cases = {f"{large} packet=200000": (410, 4109, 5000), f"{large} packet=164360": (410, 4109, 4109),
+                 f"{large} packet=164320": (410, 4109, 4108),
+                 "nodes=12005 keys=4 writes=1 entry=40 packet=400000 fanout=3": (400, 4001, 10000)}
+        for words, wanted in cases.items():
+            it = of(words)
+            self.assertEqual(wanted, (it.knee, it.whole(it.knee), it.whole(it.fits[DEPTH])))
+        self.assertEqual(409, of(f"{large} packet=164320").fits[DEPTH])
+        it = of(f"{large} packet=4000000")
+        self.assertEqual([1027, 3081, 8218, 16436], [it.whole(budget) for budget in (102, 307, 820, 1640)])
+
+    def test_more_writes_than_keys(self):
+        """100 nodes with 2 keys never send more than 200 entries, be it that they write 3 times."""
+        cases = {"keys=2 writes=3": (200, "nodes * keys"), "keys=2 writes=2": (200, "nodes * writes"),
+                 "keys=2 writes=3 fanout=3": (66, "nodes * keys / 3")}
+        found = {more: of(f"nodes=100 entry=40 packet=40000 {more}") for more in cases}
+        self.assertEqual(cases, {more: (it.knee, it.knee_name) for more, it in found.items()})
+
+    def test_all_keys_at_the_start(self):
+        """100 * 2 + 20 * 4 entries; but of 100 nodes with 2 keys never more than 200, which is another product."""
+        cases = {"keys=4 writes=2": (280, "nodes * writes + restarts * keys"), "keys=2 writes=2": (200, "nodes * keys"),
+                 "keys=2 writes=2 fanout=2": (100, "nodes * keys / 2")}
+        self.assertEqual(cases, {more: of(f"nodes=100 entry=40 packet=40000 restarts=20 forget=yes {more}").tells_all()
+                                 for more in cases})
+
     def test_what_decides(self):
         """Each mode with what it may take, and the chosen one with nodes * writes, be that less or more."""
         cases = {
@@ -97,6 +125,16 @@ class Numbers(unittest.TestCase):
         with self.assertRaisesRegex(cluster.Refused, "30 bytes have no room .* 8 of them takes packet=320"):
             of("nodes=8 keys=2 writes=1 entry=40 packet=30")
 
+    def test_stages_that_can_show_a_level(self):
+        """39 * 6 copies at two times 2 entries in a round take 58 rounds, less 6; 60 rounds show no more than 45. With
+        3 entries they take 39, less 6. 199 * 8 copies at two times 5 take 159, less 8, and 200 rounds show 150."""
+        cases = {"nodes=40 keys=6 packet=80": (52, ["many", "longer", "longest"]),
+                 "nodes=40 keys=6 packet=120": (33, ["few", "many", "longer", "longest"]),
+                 "nodes=200 keys=8 packet=200": (151, ["longer", "longest"]),
+                 "nodes=40 keys=6 packet=1600": (0, ["few", "many", "longer", "longest"])}
+        found = {words: of(f"{words} writes=1 entry=40") for words in cases}
+        self.assertEqual(cases, {words: (it.least_rounds(), it.steady_stages()) for words, it in found.items()})
+
     def test_budget_that_a_sum_refuses(self):
         """Room for 28 entries, where 2000 of 50 bytes take 100000, and with the digest of 2000 numbers 120000. Where a
         node calls two others, an interval has twice the deltas: with room for 14 it takes 208 of two rounds each."""
@@ -125,6 +163,13 @@ class Calls(unittest.TestCase):
         """In the first round of an interval alone: 60 times the two others have none."""
         text = it = self.it.scene("few")
         self.assertEqual((60, True), (text.count("[[load]]"), scenario.load(179, 180, 0) in it))
+
+    def test_writes_that_stop(self):
+        """After 200 intervals, which are 600 rounds, none for the 7 rounds of a target of 70 s, so for 3 intervals."""
+        it = of(f"{SHARED} fanout=3 interval=30 target=70")
+        text = it.scene("many-stop")
+        self.assertEqual((7, 609, 201, True), (it.target, it.rounds("many-stop"), text.count("[[load]]"),
+                                               text.endswith(scenario.load(601, 609, 0))))
 
     def test_healing(self):
         """After 50 intervals, so in round 151. A split of 40 of them ends with round 270; ten groups are down for an
@@ -159,6 +204,8 @@ class Healing(unittest.TestCase):
         cases = {"": ("split", "restart"), "forget=yes": ("split", "restart", "forgotten"), "split=0": ("restart",),
                  "split=0 restarts=0 forget=yes": (), "restarts=0": ("split",)}
         self.assertEqual(cases, {more: of(f"{ROOMY} {more}").heals() for more in cases})
+        self.assertEqual({"split": ("split",), "forgotten": ("restart", "forgotten")},
+                         of(f"{ROOMY} forget=yes").healing_stages())
 
     def test_who_restarts(self):
         """One node, or a tenth of 50 in each of ten rounds; of 10 nodes 4 in each of two."""
@@ -190,7 +237,8 @@ class Reading(unittest.TestCase):
         self.assertEqual(cases, {ends: self.found.healed_after(9, DEPTH, ends) for ends in cases})
 
     def test_level(self):
-        """The first half of the rounds 1 to 4 has 3 and 4, the second 9 and 7; that of 3 to 6 has 9 and 7, then 5 and
-        6."""
-        cases = {(1, 4): False, (3, 6): True}
+        """The first half of the rounds 7 to 10 has 2 and 3, the second 5 and 4; that of 9 to 12 has 5 and 4, then 3 and
+        4."""
+        self.found.rows = {(9, DEPTH): [rows(*[0] * 6, 2, 2, 4, 5, 3, 1), rows(*[0] * 6, 3, 2, 4, 4, 4, 2)]}
+        cases = {(7, 10): False, (9, 12): True}
         self.assertEqual(cases, {it: self.found.suffices(9, DEPTH, it) for it in cases})

@@ -1,0 +1,275 @@
+"""Trials of gossip_live: its nodes follow traces of the bench, and small clusters agree, however busy a machine is."""
+import csv
+import io
+import os
+import pathlib
+import signal
+import statistics
+import sys
+from concurrent.futures import ThreadPoolExecutor
+
+from tried.calls import TOOLS, fails, is_running, program_that, refuses, run, started, waits_for
+from trials import PROGRAM, holds
+
+sys.path.insert(0, str(TOOLS))
+from gossip_tools import live
+from gossip_tools.live_figures import Figures
+from gossip_tools.live_node import Node, decoded
+from gossip_tools.live_worker import Told, marks_of
+from gossip_tools.scenario import MODES
+
+CLUSTER = """format = 1
+nodes = 16
+keys = 4
+rounds = 30
+seed = 1
+mode = "scuttle-depth"
+budget = 16
+peers = "random"
+rotation = "random"
+choice = "cycle"
+loss_ppm = 0
+writes = 1
+"""
+WRITES_STOP = "[[load]]\nfrom = 16\nto = 100000\nwrites = 0\n"
+RESTARTED = "[[restart]]\nnode = 3\nround = 8\ndown = 4\n"
+HEADER = "round,entries,cut,stale,greatest\n"
+WORTHLESS = 4
+# A budget that cuts, all kinds of mishaps, and no chance but who meets whom and what is lost, which the trace has.
+MISHAPS = """nodes = 12
+keys = 3
+rounds = 24
+seed = 5
+peers = "random"
+rotation = "none"
+choice = "cycle"
+loss_ppm = 100000
+writes = 2
+[[partition]]
+from = 6
+to = 9
+apart = [0, 1, 2, 3, 4]
+[[restart]]
+node = 2
+round = 5
+down = 2
+[[restart]]
+node = 7
+round = 12
+down = 0
+[[load]]
+from = 20
+to = 22
+writes = 0
+"""
+FORGETS = "[[restart]]\nnode = 9\nround = 14\ndown = 1\nforget = true\n"
+
+
+def columns(entry):
+    """As replay.py writes an entry."""
+    return entry.owner, entry.key, entry.mark >> 32, entry.mark % 2**32, entry.value, entry.born
+
+
+def rows_of(file):
+    """The rows of a file, numbers as such."""
+    _, *rows = csv.reader(io.StringIO(file.read_text()))
+    return [[int(it) if it.isdigit() else it for it in row] for row in rows]
+
+
+class Follower:
+    """Nodes that do what a trace says, without a network: what they send and hold, as replay.py tells it, and the rows
+    of the report, as gossip_live counts them."""
+
+    def __init__(self, plan):
+        self.plan, self.sent, self.tables, self.rows, self.put = plan, [], [], [], []
+        self.nodes = [Node(it, plan, lambda *what: self.put.append(what)) for it in range(plan.nodes)]
+        self.figures = Figures(plan)
+
+    def follow(self, trace):
+        for round in range(1, self.plan.rounds + 1):
+            writes = [it for node in self.nodes for it in self.begin(node, round)]
+            for row in trace:
+                if int(row["round"]) == round:
+                    self.exchange(row)
+            self.tables += [[round, node.number, *columns(it)] for node in self.nodes
+                            for part in node.table.values() for it in part.values()]
+            self.rows.append(self.figures.row(round, [self.told(writes)]))
+
+    def begin(self, node, round):
+        """A node's round begins: it restarts and writes, as the scenario says."""
+        if restarts := self.plan.restarts_in(node.number, round):
+            node.restart(any(it.get("forget") for it in restarts))
+        return [] if self.plan.is_down(node.number, round) else \
+            [node.write(round) for _ in range(self.plan.writes_in(round))]
+
+    def told(self, writes):
+        entries, cut = sum(it.entries for it in self.nodes), sum(it.cut for it in self.nodes)
+        generations = {it.number: it.generation for it in self.nodes}
+        marks = {it.number: marks_of(it, self.plan) for it in self.nodes}
+        return Told(entries, cut, timers=0, late=0, lag=0, writes=writes, generations=generations, marks=marks)
+
+    def exchange(self, row):
+        self.nodes[int(row["initiator"])].begin(int(row["responder"]))
+        for message in (1, 2, 3):
+            is_lost = row["fate"] == f"lost{message}"
+            (receiver, datagram), = self.put
+            self.put.clear()
+            came, direction = decoded(datagram), "back" if message == 2 else "forth"
+            arrived = "no" if is_lost else "yes"
+            self.sent += [[int(row["round"]), int(row["index"]), direction, came.sender, receiver, arrived,
+                           *columns(it)] for it in came.delta]
+            if is_lost:
+                return
+            self.nodes[receiver].receive(datagram)
+
+
+def try_following_traces(room):
+    """A live node sends and holds what replay.py does, entry by entry, where both meet the same and lose the same, and
+    the figures are those of the report."""
+    for mode in MODES:
+        for form, budget, more in ((1, "budget = 5", ""), (2, "budget_bytes = 1023", FORGETS)):
+            text = f"format = {form}\nmode = '{mode}'\n{budget}\n{MISHAPS}{more}"
+            replayed = run(room, TOOLS / "replay.py", "run", "--trace", "trace.csv", "--sent", "sent.csv", "--tables",
+                           "tables.csv", text=text)
+            follower = Follower(live.plan_of(text, live.told([])))
+            follower.follow(list(csv.DictReader(io.StringIO((room / "trace.csv").read_text()))))
+            for name, found in (("sent", follower.sent), ("tables", sorted(follower.tables))):
+                rows = rows_of(room / f"{name}.csv")
+                holds(f"{name} of {mode} in format {form}", (0, rows), (replayed[0], found))
+                holds(f"there is much in {name} of {mode} in format {form}", True, len(rows) > 1000)
+            report = list(csv.DictReader(io.StringIO(replayed[1])))
+            found = [{name: str(row[name]) for name in report[0] if name in row} for row in follower.rows]
+            wanted = [{name: row[name] for name in it} for row, it in zip(report, found)]
+            holds(f"the report of {mode} in format {form}", (24, wanted), (len(report), found))
+
+
+def children(pid):
+    return [int(it) for it in pathlib.Path(f"/proc/{pid}/task/{pid}/children").read_text().split()]
+
+
+def try_words(room):
+    for word, why in (("seed=1", "isn't one of interval"), ("latency=0.2,0.1", "the least first"),
+                      ("interval=0", "at least 0.01"), ("fanout=16", "15 others"), ("beside=0", "from 1 to 100")):
+        refuses(room, why, "gossip_live", word, text=CLUSTER)
+    large = CLUSTER.replace("nodes = 16", "nodes = 4000")
+    # (19 bytes, 4000 numbers of 12, 16 entries of 24)
+    refuses(room, "may take 72019 bytes", "gossip_live", text=large.replace("budget = 16", "budget = 1000"))
+    status, out, err = run(room, TOOLS / "gossip_live", text=CLUSTER.replace("keys = 4", "keys = 0"))
+    holds("a scenario that the program refuses", (1, "", True), (status, out, err.startswith("fault 6: field keys")))
+
+
+def agreed(room, text):
+    """The report of a cluster whose writes stop, its rows and its status. A busy machine is given more intervals until
+    the copies agree, as long as a minute in all."""
+    for rounds in (30, 120, 400):
+        status, out, err = run(room, TOOLS / "gossip_live", "interval=0.1",
+                               text=text.replace("rounds = 30", f"rounds = {rounds}") + WRITES_STOP)
+        rows = [[int(it) for it in line.split(",")] for line in out.splitlines()[1:]]
+        if rows and not any(rows[-1][3:]):
+            break
+    return status, out, err, rows
+
+
+def try_clusters(room):
+    """Copies agree some intervals after writes stop, in each kind of mode, with loss, and after restarts."""
+    in_bytes = CLUSTER.replace("format = 1", "format = 2").replace("budget = 16", "budget_bytes = 9000")
+    cases = {
+        "depth": CLUSTER, "breadth": CLUSTER.replace("depth", "breadth"),
+        "newest": CLUSTER.replace("scuttle-depth", "precise-newest"),
+        "loss": CLUSTER.replace("loss_ppm = 0", "loss_ppm = 100000") + RESTARTED,
+        "a node that forgets": in_bytes.replace("cycle", "random") + RESTARTED + "forget = true\n",
+    }
+    with ThreadPoolExecutor() as at_once:
+        outcomes = at_once.map(lambda text: agreed(room, text), cases.values())
+    for (name, text), (status, out, err, rows) in zip(cases.items(), outcomes):
+        header = HEADER if "format = 1" in text else HEADER.replace("\n", ",leftover\n")
+        holds(f"a report of {name}", (True, list(range(1, len(rows) + 1))),
+              (out.startswith(header), [it[0] for it in rows]))
+        last = rows[-1][3:] if rows else [out]
+        holds(f"copies agree: {name}", [0] * len(last), last)
+        says_how_fast = err.startswith("gossip_live: ") and " timers were late" in err
+        holds(f"it says how fast it was: {name}", (True, True), (status in (0, WORTHLESS), says_how_fast))
+        are_judged = status != WORTHLESS
+        holds(f"figures of {name}", True, not are_judged or are_plausible(rows[5:15], 15 if RESTARTED in text else 8))
+
+
+def are_plausible(rows, oldest):
+    """Whether the figures are within wide bounds while nodes write. 16 writes make 240 entries to be sent in a round.
+    What a restarted node lacks may be as old as the first one."""
+    return all(60 <= it[1] <= 480 and 0 < it[3] <= 960 and 1 <= it[4] <= oldest for it in rows) or rows
+
+
+def try_beside(room):
+    """Beside the live cluster stand the means of the bench, and the most of `greatest`, under its seeds."""
+    text = CLUSTER.replace("rounds = 30", "rounds = 8")
+    status, out, _ = run(room, TOOLS / "gossip_live", "interval=0.1", "beside=3", "window=5", text=text)
+    header, *rows = csv.reader(io.StringIO(out))
+    holds("windows", (True, [["1", "5"], ["6", "8"]]), (status in (0, WORTHLESS), [it[:2] for it in rows]))
+    reports = [run(room, PROGRAM, "run", text=text.replace("seed = 1", f"seed = {seed}"))[1] for seed in (1, 2, 3)]
+    reports = [list(csv.DictReader(io.StringIO(it))) for it in reports]
+    for row, (first, last) in zip(rows, ((1, 5), (6, 8))):
+        found = dict(zip(header, row))
+        for name, form in (("entries", ".0f"), ("cut", ".0f"), ("stale", ".0f"), ("greatest", ".1f")):
+            means = [statistics.fmean(int(it[name]) for it in report[first - 1:last]) for report in reports]
+            wanted = [f"{it:{form}}" for it in sorted(means)]
+            wanted = wanted[0] if wanted[0] == wanted[-1] else f"{wanted[0]} to {wanted[-1]}"
+            holds(f"{name} of the bench in {first} to {last}", wanted, found[f"bench_{name}"])
+
+
+def try_slow_machines(room):
+    """No machine is fast enough for 1560 exchanges in a hundredth of a second."""
+    text = CLUSTER.replace("nodes = 16", "nodes = 40").replace("rounds = 30", "rounds = 3")
+    status, out, err = run(room, TOOLS / "gossip_live", "interval=0.01", "fanout=39", text=text)
+    holds("a machine that is too slow", (WORTHLESS, 4, True), (status, out.count("\n"), "figures are worthless" in err))
+
+
+def wait_for_a_row(process):
+    """The header of a report of which one row is there."""
+    header, _ = process.stdout.readline(), process.stdout.readline()
+    return header
+
+
+def try_stopping(room):
+    """A cluster that is stopped leaves no process, and says so in a sentence."""
+    text = CLUSTER.replace("rounds = 30", "rounds = 1000").replace("nodes = 16", "nodes = 40")
+    for ends in (signal.SIGINT, signal.SIGTERM, signal.SIGHUP):
+        with started(room, TOOLS / "gossip_live", "interval=0.2", text=text) as process:
+            header = wait_for_a_row(process)
+            processes = children(process.pid)
+            process.send_signal(ends)
+            _, err = process.communicate(timeout=60)
+        holds(f"{ends.name}", (128 + ends, HEADER, 2, f"gossip_live: stopped by {ends.name}.\n", []),
+              (process.returncode, header, len(processes), err, [it for it in processes if is_running(it)]))
+    with started(room, TOOLS / "gossip_live", "interval=0.2", text=text) as process:
+        wait_for_a_row(process)
+        processes = children(process.pid)
+        process.kill()
+        process.communicate(timeout=60)
+    holds("what a cluster that was killed leaves", True, waits_for(lambda: not any(map(is_running, processes))))
+    with started(room, TOOLS / "gossip_live", "interval=0.2", text=text) as process:
+        wait_for_a_row(process)
+        os.kill(children(process.pid)[0], signal.SIGKILL)
+        _, err = process.communicate(timeout=60)
+    holds("a process with nodes that was killed", (1, True),
+          (process.returncode, "a process with nodes has ended" in err))
+
+
+def try_faults(room):
+    """What can't be written, or isn't printed by the program, is told in a sentence."""
+    with open("/dev/full", "w") as full:
+        fails(room, "No space left on device", 1, "gossip_live", "interval=0.1", text=CLUSTER, out=full)
+    with started(room, TOOLS / "gossip_live", "interval=0.1", text=CLUSTER) as process:
+        process.stdout.readline()
+        process.stdout.close()
+        holds("a reader that has ended", (1, ""), (process.wait(timeout=60), process.stderr.read()))
+    with open(os.devnull, "w") as nowhere:
+        for closed, why in ((0, "standard input: it is closed"), (1, "the output: it is closed")):
+            fails(room, why, 1, "gossip_live", "interval=0.1", text=CLUSTER, out=nowhere,
+                  before=lambda: os.close(closed))
+    half = program_that(room, "half", "echo half")
+    fails(room, "printed no whole report", 1, "gossip_live", "beside=1", text=CLUSTER, GOSSIP_BENCH=half)
+    faulty = program_that(room, "faulty", "echo fault 1: out of memory >&2; exit 1")
+    fails(room, "status 1: fault 1: out of memory", 1, "gossip_live", "beside=1", text=CLUSTER, GOSSIP_BENCH=faulty)
+
+
+TRIALS = (try_words, try_following_traces, try_clusters, try_beside, try_slow_machines, try_stopping, try_faults)

@@ -1,0 +1,138 @@
+"""gossip_live [NAME=VALUE ..] < SCENARIO
+
+Runs a scenario as a live cluster on this machine: each node has a UDP socket on 127.0.0.1, a clock of its own that
+isn't in step with the others, and knows of others only what datagrams told it. Prints a row at the end of each
+interval, or beside the bench one for each window of them.
+
+  interval   the seconds of an interval, which is a round of the scenario; 1 where it isn't given
+  latency    how long a datagram is under way, in intervals, as latency=0.1, or between two bounds, as latency=0.05,0.2;
+             0 where it isn't given, which leaves what this machine takes
+  fanout     how many peers a node calls in an interval, all at once; 1 where it isn't given
+  beside     runs the bench too, under so many seeds, as beside=5, and prints what both have, with the least and the
+             most of the seeds. It imitates a fanout by so many rounds in an interval, the first of them with writes
+  window     of how many intervals each row beside the bench has the mean, 10 where it isn't given
+
+The columns are those of the bench that a live cluster has: round, which is the number of the interval, entries, cut,
+stale, greatest, and in format 2 leftover. An age is in intervals begun. What is random is drawn anew in each run, so
+`seed` has no effect, and figures differ from run to run. A node that is down for N rounds is down for N of its
+intervals. The bench writes a round's entries at its beginning, a node when its own interval begins.
+
+A message is one datagram, so of at most 65507 bytes. What may be larger is refused. An entry takes 24 bytes, in format
+2 `value mod 1000` more, as in the bench; a number of the digest takes 12.
+
+At the end standard error has how late the timers of the nodes went off. Where more than one in 20 was late by more than
+a tenth of an interval, or this machine lost more than one datagram in 1000, the figures are worthless, as it says, and
+the status is 4: take fewer nodes, or a longer interval.
+
+  GOSSIP_BENCH   the program, where it isn't the one beside this tool or the one that is built
+  JOBS           in how many processes the nodes are, where they aren't as many as there are cores
+"""
+import itertools
+import re
+import sys
+
+from gossip_tools import files, live_beside, live_cluster, read, running, scenario, sweep
+from gossip_tools.commands import Refused, number, the_program
+from gossip_tools.live_figures import Figures
+from gossip_tools.live_plan import LARGEST, Plan
+
+USUAL = {"interval": "1", "latency": "0", "fanout": "1", "beside": None, "window": "10"}
+MOST = {"interval": 3600, "latency": 100, "fanout": 4095, "beside": 100, "window": 100000}
+LEAST_INTERVAL = 0.01
+WORTHLESS = 4  # the status
+
+
+def decimal(name, text):
+    if not re.fullmatch(r"[0-9]{1,6}(\.[0-9]{1,6})?", text) or float(text) > MOST[name]:
+        raise Refused(f"{name} is a number up to {MOST[name]}, which '{text}' isn't.")
+    return float(text)
+
+
+def whole(name, text):
+    found = number(text, name)
+    if not 1 <= found <= MOST[name]:
+        raise Refused(f"{name} is a number from 1 to {MOST[name]}, and not {found}.")
+    return found
+
+
+def told(words):
+    """The values of the words by their names."""
+    values = {}
+    for word in words:
+        name, given, text = word.partition("=")
+        if not given or name not in USUAL:
+            raise Refused(f"'{word}' isn't one of {', '.join(USUAL)}, each once with = and its value. See --help.")
+        if name in values:
+            raise Refused(f"{name} comes twice, as {name}={values[name]} and as '{word}'.")
+        values[name] = text
+    values = {**USUAL, **values}
+    for name in ("fanout", "beside", "window"):
+        values[name] = values[name] and whole(name, values[name])
+    values["interval"] = decimal("interval", values["interval"])
+    if values["interval"] < LEAST_INTERVAL:
+        raise Refused(f"an interval has at least {LEAST_INTERVAL} seconds.")
+    bounds = [decimal("latency", it) for it in values["latency"].split(",")]
+    if len(bounds) > 2 or bounds != sorted(bounds):
+        raise Refused("latency is one number, or two with a comma, the least first.")
+    return {**values, "latency": (bounds[0], bounds[-1])}
+
+
+def scenario_given():
+    if sys.stdin.isatty():
+        print("gossip_live: the scenario is read from here, as none comes by < SCENARIO.", file=sys.stderr)
+    with files.named("standard input"):
+        return scenario.read(sys.stdin.buffer)
+
+
+def plan_of(text, asked):
+    top = {"partition": [], "restart": [], "load": [], **read.settings(text)}
+    top["budget"] = top.pop("budget_bytes", top.get("budget"))
+    del top["seed"]
+    plan = Plan(**top, **{name: asked[name] for name in ("interval", "latency", "fanout")})
+    if plan.fanout >= plan.nodes:
+        raise Refused(f"a node has {plan.nodes - 1} others to call, and fanout is {plan.fanout}.")
+    if (largest := plan.largest_message()) > LARGEST:
+        raise Refused(f"a digest and a delta may take {largest} bytes, and a datagram takes {LARGEST}: take fewer "
+                      "nodes or keys, a smaller budget, or a scuttle mode.")
+    return plan
+
+
+def put(*values):
+    print(*values, sep=",", flush=True)
+
+
+def print_report(columns, rows):
+    put("round", *columns)
+    for row in rows:
+        put(row["round"], *(row[name] for name in columns))
+
+
+def print_beside(columns, rows, benches, length):
+    """A row for each window of the intervals, beside what the bench has."""
+    put("from", "to", *(name for it in [*columns, "greatest_most"] for name in (it, f"bench_{it}")))
+    while live := list(itertools.islice(rows, length)):
+        put(*live_beside.side_by_side(columns, live, benches))
+
+
+def main(words):
+    asked = told(words)
+    program = the_program()
+    running.Signals.listen()
+    text = scenario_given()
+    sweep.check({"the scenario": text}, program)
+    plan = plan_of(text, asked)
+    columns = ["entries", "cut", "stale", "greatest", *(["leftover"] if plan.format == 2 else [])]
+    figures, benches = Figures(plan), []
+    if asked["beside"]:
+        runs = live_beside.scenarios(text, plan.fanout, asked["beside"])
+        sweep.check(runs, program)
+        benches = live_beside.reports(runs, program, plan.fanout)
+    with live_cluster.processes(plan) as pipes:
+        rows = (figures.row(round, live_cluster.heard(pipes)) for round in range(1, plan.rounds + 1))
+        if benches:
+            print_beside(columns, rows, benches, asked["window"])
+        else:
+            print_report(columns, rows)
+        figures.end(live_cluster.heard(pipes))
+    print(f"gossip_live: {figures.how_fast()}", file=sys.stderr)
+    return WORTHLESS if figures.is_worthless() else 0

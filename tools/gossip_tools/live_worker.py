@@ -1,0 +1,181 @@
+"""A process with some nodes of a live cluster, each with a socket and a clock of its own.
+
+By a pipe, which has no part in gossip, it tells the process that supervises it on which addresses its nodes are, at the
+end of each interval what they hold, and at last how many datagrams they sent and received.
+"""
+import asyncio
+import contextlib
+import os
+import queue
+import random
+import resource
+import threading
+from array import array
+from dataclasses import dataclass
+
+from gossip_tools.live_figures import LATE
+from gossip_tools.live_node import Node
+
+MESSAGES = 3  # of an exchange
+TIME_TO_END = 0.2  # seconds, in which what is under way comes
+
+
+@dataclass
+class Told:
+    """What a process tells at the end of an interval. Counts are of all intervals so far."""
+    entries: int
+    cut: int
+    timers: int
+    late: int
+    lag: float  # the greatest since the last time, in intervals
+    writes: list  # since the last time
+    generations: dict
+    marks: dict  # of each node, what it holds
+
+
+def marks_of(node, plan):
+    """The mark of each key of each owner, or 0 where the node holds nothing."""
+    marks = array("Q", bytes(8 * plan.nodes * plan.keys))
+    for owner, part in node.table.items():
+        for key, entry in part.items():
+            marks[owner * plan.keys + key] = entry.mark
+    return marks
+
+
+class Socket(asyncio.DatagramProtocol):
+    """Where the datagrams of a node come in."""
+
+    def __init__(self, host, number):
+        self.host, self.number = host, number
+
+    def datagram_received(self, data, address):
+        self.host.receive(self.number, data, address)
+
+
+class Host:
+    """The nodes of a process, and the network as they meet it."""
+
+    def __init__(self, plan, numbers, loop):
+        self.plan, self.loop = plan, loop
+        self.nodes = {it: Node(it, plan, lambda *what, it=it: self.send(it, *what)) for it in numbers}
+        self.phases = {it: random.random() for it in numbers}
+        self.down = set()
+        self.sockets, self.addresses, self.known, self.begin = {}, [], set(), 0.0
+        self.timers = self.late = 0
+        self.sent = self.received = 0  # datagrams, but for those that the scenario loses
+        self.lag, self.writes = 0.0, []
+
+    async def bind(self):
+        """Gives each node a socket, and answers with their addresses."""
+        for number in self.nodes:
+            self.sockets[number], _ = await self.loop.create_datagram_endpoint(
+                lambda number=number: Socket(self, number), local_addr=("127.0.0.1", 0))
+        return {number: it.get_extra_info("sockname") for number, it in self.sockets.items()}
+
+    def start(self, addresses, begin):
+        self.addresses, self.known = [addresses[it] for it in sorted(addresses)], set(addresses.values())
+        self.begin = begin
+        for number, phase in self.phases.items():
+            self.at(phase, self.tick, number, 1)
+
+    def at(self, intervals, what, *words):
+        """Has something done so many intervals after the beginning, and notes how late it is."""
+        planned = self.begin + intervals * self.plan.interval
+
+        def go_off():
+            lag = (self.loop.time() - planned) / self.plan.interval
+            self.timers += 1
+            self.late += lag > LATE
+            self.lag = max(self.lag, lag)
+            what(*words)
+
+        self.loop.call_at(planned, go_off)
+
+    def tick(self, number, round):
+        """An interval of a node's own clock begins: it restarts, writes, and calls its peers."""
+        node, plan = self.nodes[number], self.plan
+        if restarts := plan.restarts_in(number, round):
+            node.restart(any(it.get("forget") for it in restarts))
+        if plan.is_down(number, round):
+            self.down.add(number)
+        else:
+            self.down.discard(number)
+            self.writes += [node.write(round) for _ in range(plan.writes_in(round))]
+            for peer in plan.peers_of(number, round):
+                node.begin(peer)
+        if round < plan.rounds:
+            self.at(round + self.phases[number], self.tick, number, round + 1)
+
+    def send(self, sender, receiver, datagram):
+        """The network loses a datagram, or carries it after the latency."""
+        round = 1 + int((self.loop.time() - self.begin) / self.plan.interval)
+        if random.random() * 1000000 < self.plan.loss_ppm or self.plan.are_separated(sender, receiver, round):
+            return
+        if delay := random.uniform(*self.plan.latency) * self.plan.interval:
+            self.loop.call_later(delay, self.carry, sender, receiver, datagram)
+        else:
+            self.carry(sender, receiver, datagram)
+
+    def carry(self, sender, receiver, datagram):
+        self.sent += 1
+        self.sockets[sender].sendto(datagram, self.addresses[receiver])
+
+    def receive(self, number, datagram, address):
+        # (what another program of this machine sends is passed over)
+        if address in self.known:
+            self.received += 1
+            if number not in self.down:
+                self.nodes[number].receive(datagram)
+
+    def told(self):
+        nodes = self.nodes
+        told = Told(sum(it.entries for it in nodes.values()), sum(it.cut for it in nodes.values()), self.timers,
+                    self.late, self.lag, self.writes, {number: it.generation for number, it in nodes.items()},
+                    {number: marks_of(it, self.plan) for number, it in nodes.items()})
+        self.lag, self.writes = 0.0, []
+        return told
+
+
+async def play(plan, numbers, pipe):
+    """All intervals from the beginning to the end."""
+    host = Host(plan, numbers, asyncio.get_running_loop())
+    pipe.send(await host.bind())
+    host.start(*pipe.recv())
+    supervisor, outbox, ended = os.getppid(), queue.SimpleQueue(), asyncio.Event()
+
+    def tell(round):
+        outbox.put(host.told())
+        if round == plan.rounds or os.getppid() != supervisor:
+            ended.set()
+
+    def send():
+        # (the supervisor may be gone)
+        with contextlib.suppress(OSError):
+            for told in iter(outbox.get, None):
+                pipe.send(told)
+
+    # (a thread of its own, so that no node waits for the other side of the pipe)
+    sending = threading.Thread(target=send)
+    sending.start()
+    for round in range(1, plan.rounds + 1):
+        host.at(round, tell, round)
+    await ended.wait()
+    # (until the exchanges that are under way are over)
+    await asyncio.sleep(MESSAGES * plan.latency[1] * plan.interval + TIME_TO_END)
+    outbox.put((host.sent, host.received))
+    outbox.put(None)
+    sending.join()
+
+
+def main(plan, numbers, pipe, others):
+    for it in others:
+        it.close()
+    # (each node has an open file)
+    _, most = resource.getrlimit(resource.RLIMIT_NOFILE)
+    resource.setrlimit(resource.RLIMIT_NOFILE, (most, most))
+    try:
+        asyncio.run(play(plan, numbers, pipe))
+    except (OSError, MemoryError) as error:
+        pipe.send(getattr(error, "strerror", None) or "out of memory")
+    except EOFError:
+        pass

@@ -1,0 +1,64 @@
+"""How a tool starts, whichever of its streams are closed, and ends, whenever Ctrl-C comes.
+
+While Python itself starts, Ctrl-C comes as a traceback. So the first line of a tool has -S, which leaves out site, the
+longest part of that, and signal.py isn't waited for.
+"""
+import _signal
+import importlib
+import io
+import os
+import sys
+
+INPUT, OUTPUT, ERROR = 0, 1, 2
+
+
+class StandardError(io.TextIOWrapper):
+    """Standard error. What can't be written there is dropped, as the work is worth more than what is said of it."""
+
+    def __init__(self, number=ERROR):
+        super().__init__(open(number, "wb", closefd=False), errors="backslashreplace", line_buffering=True)
+
+    def write(self, text):
+        try:
+            return super().write(text)
+        except OSError:
+            return len(text)
+
+    def flush(self):
+        try:
+            super().flush()
+        except OSError:
+            pass
+
+
+def fill_closed_streams():
+    """Opens /dev/null for each stream that is closed, so that no file of the tool gets its number. Input is opened for
+    writing, output for reading, so that they fail where they are used."""
+    for number, way in ((INPUT, os.O_WRONLY), (OUTPUT, os.O_RDONLY), (ERROR, os.O_RDONLY)):
+        try:
+            os.fstat(number)
+        except OSError:
+            os.set_inheritable(os.open(os.devnull, way), True)
+    sys.stdin = sys.stdin or open(INPUT, closefd=False)
+    sys.stdout = sys.stdout or open(OUTPUT, "w", closefd=False)
+    sys.stderr = StandardError()
+
+
+def end_at_signals():
+    """From here on a signal ends the process without a word, where the caller doesn't ignore it."""
+    for number in (_signal.SIGINT, _signal.SIGTERM, _signal.SIGHUP):
+        if callable(_signal.getsignal(number)):
+            _signal.signal(number, _signal.SIG_DFL)
+
+
+def start(name, module, main="main", text="__doc__"):
+    """Ends the process with the status of a tool, of which a module has the function and the text of its help."""
+    interrupt = _signal.getsignal(_signal.SIGINT)
+    end_at_signals()
+    fill_closed_streams()
+    commands = importlib.import_module("gossip_tools.commands")
+    tool = importlib.import_module(f"gossip_tools.{module}")
+    _signal.signal(_signal.SIGINT, interrupt)
+    status = commands.run(name, getattr(tool, main), getattr(tool, text))
+    end_at_signals()
+    sys.exit(status)

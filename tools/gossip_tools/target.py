@@ -1,0 +1,243 @@
+"""A target for the worst staleness: the smallest packet that keeps to it, by halving, or whether a decision does.
+
+Beside the worst staleness stand the share of copies that are stale and how old a typical stale copy is, so that the
+target isn't taken for what is usual.
+"""
+import math
+
+from gossip_tools import answer, rules, study
+from gossip_tools.answer import row
+
+# Budgets aren't halved any further where the next smaller one that was run is an entry or less than a hundredth below.
+FINE = 100
+
+
+def keeps_to(it, figure):
+    """Whether a worst staleness is within the target under all seeds, for the whole cluster."""
+    return (rules.reckoned(figure) if it.parts > 1 else max(figure)) <= it.target
+
+
+def in_time(it):
+    """The target, in seconds and in rounds."""
+    return f"{float(it.told['target']):g} s, or {answer.in_rounds([it.target])}"
+
+
+def judged(decision):
+    """Whether what was decided for a packet keeps to the target, as a name and words."""
+    it = decision.study
+    if not decision.suffices:
+        said = f"not met: no budget that fits is enough, where the worst staleness is to be within {in_time(it)}"
+    elif keeps_to(it, decision.worst):
+        said = f"met: the worst staleness is within {in_time(it)}"
+    elif keeps_to(it, decision.figures[decision.mode]):
+        said = (f"met with all that fits alone: with {decision.all_that_fits()} the worst staleness is within "
+                f"{in_time(it)}")
+    else:
+        said = (f"not met: the worst staleness is above {in_time(it)}. Without packet= the smallest that keeps to it "
+                "is looked for")
+    return "target", said
+
+
+class Ages:
+    """How many copies are stale with a budget, and how old a typical stale one is: figures of runs, and of such in
+    which the writes stop."""
+
+    def __init__(self, it, stage, found, stopped):
+        self.study, self.found, self.stopped = it, found, stopped
+        self.window, self.last = it.window(stage), it.rounds(stage)
+
+    def shares(self, budget, mode):
+        """The copies that are stale on average, in per cent of all, for each seed."""
+        it = self.study
+        copies = it.nodes * (it.nodes - 1) * it.keys
+        return [100 * stale / copies for stale in self.found.stale(budget, mode, self.window)]
+
+    def typical(self, budget, mode):
+        """The rounds after which half of the stale copies lack nothing that was written before, for each seed; None
+        where the runs are too short for that."""
+        it = self.study
+        intervals = self.stopped.half_of_stale_after(budget, mode, self.last, it.fanout)
+        return None if None in intervals else [at * it.fanout for at in intervals]
+
+    def at_most(self, budget, mode):
+        """How old a typical stale copy is, in words."""
+        it, rounds = self.study, self.typical(budget, mode)
+        return f"more than {answer.in_rounds([it.target])}" if rounds is None else answer.lasting(it, rounds)
+
+    def told(self, budget, mode):
+        """Both, as names and words."""
+        first, last = self.window
+        share, age = answer.span(self.shares(budget, mode)), self.at_most(budget, mode)
+        why = "half of the stale copies lack only writes that are no older"
+        if self.typical(budget, mode) is None:
+            why = "so long after the last write fewer than half of the stale copies have caught up"
+        return [("stale copies", f"{share} %: so many of all copies lack some write, on average over rounds {first} to "
+                                 f"{last}"),
+                ("a typical one", f"{age}: {why}")]
+
+
+def aged(stages, stage, found, pairs):
+    """The ages of copies, once these budgets and modes were run with writes that stop."""
+    return Ages(stages.study, stage, found, stages.carry_out(f"{stage}-stop", pairs))
+
+
+class Search:
+    """The smallest budget of each mode that keeps to the target, by halving over the budgets."""
+
+    def __init__(self, it, stages):
+        self.study, self.stages = it, stages
+        self.stage = next(stage for stage in it.steady_stages()
+                          if stage != "few" and rules.can_be_level(it.target, it.window(stage)))
+        least, self.top = self.bounds()
+        self.pairs, self.found = set(), None
+        # (those that can keep to the target)
+        self.modes = list(it.fits)
+        # by mode, the least budget that keeps to the target, and the largest below it that doesn't
+        self.least = dict.fromkeys(it.fits, self.top)
+        self.below = dict.fromkeys(it.fits, least - 1)
+
+    def bounds(self):
+        """The least and the largest budget that are looked at: of a tenth those with which it was seen to hold."""
+        it = self.study
+        top = min(it.nodes * it.keys, *it.fits.values())
+        return (study.LEAST, top) if it.parts == 1 else (it.knee, min(top, rules.TENTH_HOLDS[1] * it.knee))
+
+    def run(self, pairs):
+        self.stages.plan(self.stage, pairs, max(map(self.halvings, self.modes)))
+        self.pairs |= pairs
+        self.found = self.stages.carry_out(self.stage, self.pairs)
+
+    def run_of(self, mode):
+        """The budget and mode whose runs tell what the least budget of a mode brings: where that is the largest, with
+        which nothing is cut, those of the usual mode."""
+        pair = self.least[mode], mode
+        return pair if pair in self.pairs else (self.least[mode], self.study.usual)
+
+    def keeps(self, budget, mode):
+        window = self.study.window(self.stage)
+        return (self.found.suffices(budget, mode, window)
+                and keeps_to(self.study, self.found.worst(budget, mode, window)))
+
+    def next(self, mode):
+        """The budget to be run next with a mode; None where the least is known."""
+        below, least, knee = self.below[mode], self.least[mode], self.study.knee
+        if least - below <= max(1, least // FINE):
+            return None
+        return knee if below < knee < least else (below + least) // 2
+
+    def halvings(self, mode):
+        """How many are left, about."""
+        below, least = self.below[mode], self.least[mode]
+        return max(0, math.ceil(math.log2(FINE * (least - below) / least)))
+
+    def carry_out(self):
+        """Whether the largest budget keeps to the target in some mode, and then the least of each mode that does. Where
+        nothing can be cut, all modes do the same."""
+        it = self.study
+        cuts = self.top < (it.nodes - 1) * it.keys
+        self.run({(self.top, mode) for mode in (it.fits if cuts else [it.usual])})
+        self.modes = [mode for mode in it.fits if self.keeps(*self.run_of(mode))]
+        while steps := {mode: budget for mode in self.modes if (budget := self.next(mode))}:
+            self.run({(budget, mode) for mode, budget in steps.items()})
+            for mode, budget in steps.items():
+                bounds = self.least if self.keeps(budget, mode) else self.below
+                bounds[mode] = budget
+        return bool(self.modes)
+
+    def packet(self, mode):
+        return self.study.packet(mode, self.study.whole(self.least[mode]))
+
+    def best(self):
+        """The mode that keeps to the target with the smallest packet."""
+        return min(self.modes, key=lambda mode: (self.packet(mode), rules.CHEAPEST_FIRST.index(mode)))
+
+
+class Met(answer.Decision):
+    """The smallest packet that keeps to the target; or, where none does, what is the best that can be had."""
+
+    def __init__(self, search, is_met, ages):
+        self.study, self.found, self.stage, self.window = search.study, search.found, search.stage, ages.window
+        self.search, self.is_met, self.ages = search, is_met, ages
+        self.dropped, self.ahead = [], None
+        self.mode = search.best() if is_met else self.study.usual
+        self.suffices = is_met or self.is_enough(search.top, self.mode)
+        self.budget = self.most = search.least[self.mode]
+        self.figures = {mode: self.worst_with(*search.run_of(mode)) for mode in search.modes or [self.mode]}
+        self.worst = self.figures[self.mode]
+        self.cut = self.found.cut(*search.run_of(self.mode), self.window)
+
+    def run_of(self, mode):
+        return self.search.run_of(mode)
+
+    def is_taken(self):
+        return self.is_met
+
+    def headline(self):
+        if not self.is_met:
+            return f"no budget keeps the worst staleness within {float(self.study.told['target']):g} s"
+        return f"{super().headline()} keeps the worst staleness within {float(self.study.told['target']):g} s"
+
+    def why_empty(self):
+        return "in each mode budgets are halved until the smallest that keeps to the target is known"
+
+    def heals(self):
+        return False
+
+    def own_warnings(self):
+        it = self.study
+        if it.in_bytes or it.told["count"] or not rules.counts_bytes(self.whole_budget()):
+            return []
+        return [f"{self.whole_budget()} entries are few, and a large one holds up smaller ones behind it: count=bytes "
+                "counts that."]
+
+    def why_not_knee(self):
+        return ""
+
+    def too_close(self):
+        return []
+
+    def of_target(self):
+        """Whether the target is met, and what the next smaller budget has, as names and words."""
+        it = self.study
+        if not self.is_met:
+            return [("target", f"not met: the largest budget that was run has more than {in_time(it)}")]
+        said = [("target", f"met: the worst staleness is within {in_time(it)}")]
+        below = self.search.below[self.mode]
+        if (below, self.mode) in self.found.rows:
+            worst = self.worst_with(below, self.mode)
+            level = "" if self.is_enough(below, self.mode) else ", not level"
+            said.append(("a smaller one", f"{it.whole(below)} entries: the next smaller budget that was run has "
+                                 f"{answer.briefly(it, worst)}{level}"))
+        elif it.parts > 1:
+            said.append(("a smaller one", f"not known: below {it.knee_name} a tenth of the nodes says too little"))
+        return said
+
+    def more(self):
+        """What stands beside the worst staleness, as names and words."""
+        return self.of_target() + self.ages.told(*self.run_of(self.mode))
+
+    def of_mode_in_words(self, mode):
+        """What a mode needs, and what it then has."""
+        it, budget, pair = self.study, self.search.least[mode], self.run_of(mode)
+        age = self.ages.at_most(*pair)
+        half = age if self.ages.typical(*pair) is None else f"at most {age}"
+        return (f"{it.whole(budget)} entries, packet={self.search.packet(mode)}: worst staleness "
+                f"{answer.in_rounds(self.figures[mode])}; {answer.span(self.ages.shares(*pair))} % of the copies are "
+                f"stale, half of them by {half}")
+
+    def in_words(self, call):
+        """The answer, line by line."""
+        it = self.study
+        if not self.is_met:
+            lines = [f"No budget keeps the worst staleness within {in_time(it)}. The best that can be had, with "
+                     f"{self.room()}: {self.staleness()}. A shorter interval, more calls in it or less loss would "
+                     "help."]
+        else:
+            lines = [f"To keep the worst staleness within {in_time(it)}, each mode takes, by halving over budgets:",
+                     *(row(mode, self.of_mode_in_words(mode)) for mode in self.figures), "", f"Take {self.takes()}."]
+        in_window = self.in_window() if self.suffices else ""
+        lines += ["", row("worst staleness", f"{self.staleness()}{in_window}"),
+                  *(row(*more) for more in self.more())]
+        if self.is_met:
+            lines += ["", "What heals, and what else speaks for a mode, is told with that packet:", f"  {call}"]
+        return lines + answer.heads(self)

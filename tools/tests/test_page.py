@@ -1,0 +1,61 @@
+"""The page: its themes and how it is printed."""
+import re
+import unittest
+
+from gossip_tools import page
+
+# By the guidelines for accessible pages, WCAG 2: at least this contrast between a text and what is behind it.
+CONTRAST = 4.5
+
+
+def themes():
+    """The colours of the light theme and of the dark one, by name."""
+    blocks = re.findall(r":root {(.*?)}", page.STYLE, re.S)
+    return [dict(re.findall("--([a-z]+): (#[0-9a-f]+)", block)) for block in blocks]
+
+
+def luminance(colour):
+    digits = colour[1:] if len(colour) == 7 else "".join(2 * it for it in colour[1:])
+    parts = [int(digits[at:at + 2], 16) / 255 for at in (0, 2, 4)]
+    red, green, blue = (it / 12.92 if it <= 0.03928 else ((it + 0.055) / 1.055)**2.4 for it in parts)
+    return 0.2126 * red + 0.7152 * green + 0.0722 * blue
+
+
+def contrast(one, other):
+    less, more = sorted(map(luminance, (one, other)))
+    return (more + 0.05) / (less + 0.05)
+
+
+class Themes(unittest.TestCase):
+    def test_the_sum(self):
+        """Black on white is 21 by the guidelines, and grey of #777 on white 4.48."""
+        self.assertEqual(["21.00", "4.48"], [f"{contrast(it, '#fff'):.2f}" for it in ("#000", "#777")])
+
+    def test_texts_are_readable(self):
+        """The text and the small one, on the page and where it is marked, and white on the cards."""
+        pairs = (("text", "page"), ("soft", "page"), ("text", "code"), ("text", "mark"))
+        for theme in themes():
+            colours = [(theme[text], theme[behind]) for text, behind in pairs]
+            colours += [("#fff", theme[card]) for card in ("first", "none")]
+            self.assertEqual([], [it for it in colours if contrast(*it) < CONTRAST])
+
+    def test_all_colours_are_of_the_theme(self):
+        light, dark = themes()
+        self.assertEqual(light.keys(), dark.keys())
+        rules = re.sub(r":root {.*?}", "", page.STYLE, flags=re.S)
+        self.assertEqual({"#fff"}, set(re.findall("#[0-9a-f]+", rules)))
+        self.assertEqual(2, rules.count("color: #fff"))
+
+    def test_dark_on_screens_alone(self):
+        self.assertEqual(["screen and (prefers-color-scheme: dark)", "print"], re.findall("@media (.*?) {", page.STYLE))
+        dark, printed = page.STYLE.partition("@media screen")[2].partition("@media print")[::2]
+        self.assertIn("figure img { filter: invert(", dark)
+        self.assertNotIn("color", printed)
+
+
+class Printed(unittest.TestCase):
+    def test_tables_keep_their_head(self):
+        printed = page.STYLE.partition("@media print")[2]
+        for rule in ("table, tr { break-inside: avoid; }", "thead { display: table-header-group; }",
+                     ".before-table { break-after: avoid; }"):
+            self.assertIn(rule, printed)

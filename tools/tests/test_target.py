@@ -1,0 +1,198 @@
+"""The smallest packet for a target, with figures that are given."""
+import unittest
+
+from gossip_tools import advise, answer, cluster, study, target
+
+DEPTH, BREADTH, OLDEST, NEWEST = "scuttle-depth", "scuttle-breadth", "precise-oldest", "precise-newest"
+# What a budget is divided into: so many rounds the worst staleness then has, rounded up.
+ROUNDS = {DEPTH: 800, BREADTH: 1200, OLDEST: 900, NEWEST: 1000}
+
+
+def of(words):
+    return study.Study(cluster.told(words.split(), advise.USUAL, advise.CALL, {"packet": "target"}))
+
+
+class Figures:
+    """Worst staleness that falls with the budget, down to 7 rounds: the best that can be had."""
+
+    def __init__(self, pairs, rounds):
+        self.rows, self.rounds = dict.fromkeys(pairs), rounds
+
+    def worst(self, budget, mode, _):
+        return [max(7, -(-self.rounds[mode] // budget))] * 2
+
+    def suffices(self, *_):
+        return True
+
+    def cut(self, *_):
+        return [1.0, 2.0]
+
+    def stale(self, *_):
+        return [15840, 19800]
+
+    def half_of_stale_after(self, *_):
+        return [2, 3]
+
+
+class Made:
+    """The stages, of which nothing is run."""
+
+    def __init__(self, it, rounds):
+        self.study, self.rounds, self.asked = it, rounds, set()
+
+    def plan(self, *_):
+        pass
+
+    def carry_out(self, stage, pairs):
+        self.asked.add(stage)
+        return Figures(pairs, self.rounds)
+
+
+def searched(words, rounds=ROUNDS):
+    it = of(f"nodes=100 keys=4 writes=1 entry=40 {words}")
+    search = target.Search(it, Made(it, rounds))
+    return search, search.carry_out()
+
+
+class Searched(unittest.TestCase):
+    def test_least_budgets(self):
+        """800 divided by 80 are 10 rounds, and by 79 more; so for the others."""
+        search, is_met = searched("target=10")
+        self.assertEqual((True, {BREADTH: 120, DEPTH: 80, OLDEST: 90, NEWEST: 100},
+                          {BREADTH: 119, DEPTH: 79, OLDEST: 89, NEWEST: 99}), (is_met, search.least, search.below))
+
+    def test_smallest_packet(self):
+        """100 numbers of 10 bytes are 1000 for a scuttle mode and 4000 for a precise one: with 50 entries of 40 bytes
+        in precise-newest, 6000 against the 4200 of 80 in scuttle-depth."""
+        cases = {"digest=10": (DEPTH, 4200), "digest=10 shared=no": (NEWEST, 2000), "": (NEWEST, 2000)}
+        found = {more: searched(f"target=10 {more}", ROUNDS | {NEWEST: 500})[0] for more in cases}
+        self.assertEqual(cases, {more: (it.best(), it.packet(it.best())) for more, it in found.items()})
+
+    def test_large_budgets_are_known_to_a_hundredth(self):
+        it = of("nodes=2000 keys=4 writes=1 entry=40 target=10 mode=scuttle-depth")
+        search = target.Search(it, Made(it, {DEPTH: 12345}))
+        search.carry_out()
+        least, below = search.least[DEPTH], search.below[DEPTH]
+        self.assertEqual((True, True, True),
+                         (below < 1235 <= least, least - below <= least // 100, len(search.pairs) < 12))
+
+    def test_the_largest_budget(self):
+        """None has less than 7 rounds. Where all that is told is 7, the modes may need all 400, which cut nothing."""
+        search, is_met = searched("target=6")
+        self.assertEqual((False, {(400, DEPTH)}), (is_met, search.pairs))
+        search, is_met = searched("target=7", dict.fromkeys(ROUNDS, 2796) | {DEPTH: 2800})
+        self.assertEqual((400, (400, DEPTH), True), (search.least[OLDEST], search.run_of(OLDEST), is_met))
+
+    def test_a_largest_budget_that_may_cut(self):
+        """1999 * 64 entries may be lacking, and a scenario takes a budget of 65535 at most. So all modes are run with
+        that, and one that has 11 rounds then isn't looked at any more."""
+        it = of("nodes=2000 keys=64 writes=1 entry=40 target=10")
+        search = target.Search(it, Made(it, ROUNDS | {NEWEST: 11 * 65535}))
+        self.assertEqual((True, [BREADTH, DEPTH, OLDEST]), (search.carry_out(), search.modes))
+        self.assertEqual({(65535, mode) for mode in ROUNDS}, {pair for pair in search.pairs if pair[0] == 65535})
+
+    def test_a_tenth(self):
+        """1000 of 10000 nodes are run, to whose rounds six are added, with budgets from 1000 to 2000: 10 rounds, which
+        1000 entries have, are 16 for all."""
+        cases = {"target=16": (True, 1000), "target=13": (True, 1429), "target=12": (False, 2000)}
+        for words, wanted in cases.items():
+            it = of(f"nodes=10000 keys=4 writes=1 entry=40 {words}")
+            search = target.Search(it, Made(it, {DEPTH: 10000}))
+            is_met = search.carry_out()
+            self.assertEqual(wanted[0], is_met)
+            self.assertTrue(wanted[1] <= search.least[DEPTH] <= wanted[1] * 1.02, search.least)
+
+    def test_runs_that_can_show_it(self):
+        """200 rounds show a level of up to 150, 400 of 300, and 800 of 600; above that none does."""
+        cases = {150: "many", 151: "longer", 300: "longer", 600: "longest"}
+        found = {}
+        for rounds in cases:
+            it = of(f"nodes=100 keys=4 writes=1 entry=40 target={rounds}")
+            found[rounds] = target.Search(it, Made(it, ROUNDS)).stage
+        self.assertEqual(cases, found)
+        for seconds, why in ((601, "601 rounds of 1 s, and has to be from 1 to 600"), ("0.9", "0 rounds of 1 s")):
+            with self.assertRaisesRegex(cluster.Refused, why):
+                of(f"nodes=100 keys=4 writes=1 entry=40 target={seconds}")
+
+
+class Told(unittest.TestCase):
+    def test_answer(self):
+        """15840 and 19800 of 100 * 99 * 4 copies are 40 and 50 %."""
+        search, is_met = searched("target=5 interval=0.5 digest=10")
+        pairs = {search.run_of(mode) for mode in search.modes}
+        met = target.Met(search, is_met, target.aged(search.stages, search.stage, search.found, pairs))
+        lines = met.in_words("CALL")
+        self.assertEqual({"many", "many-stop"}, search.stages.asked)
+        for line in (
+                "To keep the worst staleness within 5 s, or 10 rounds, each mode takes, by halving over budgets:",
+                "  scuttle-breadth     120 entries, packet=5800: worst staleness 10 rounds; 40 to 50 % of the copies "
+                "are stale, half of them by at most 2 to 3 rounds, 1.0 to 1.5 s",
+                "Take scuttle-depth with room for 80 entries in a delta, 3200 bytes (0.8 times nodes * writes); with "
+                "the digest packet=4200.",
+                "  target              met: the worst staleness is within 5 s, or 10 rounds",
+                "  a smaller one       79 entries: the next smaller budget that was run has 11 rounds",
+                "  stale copies        40 to 50 %: so many of all copies lack some write, on average over rounds 101 "
+                "to 200",
+                "  a typical one       2 to 3 rounds, 1.0 to 1.5 s: half of the stale copies lack only writes that are "
+                "no older", "  CALL"):
+            self.assertIn(line, lines)
+        # (nothing was run that heals)
+        of_healing = ("Groups:", "down for longer", "reserve")
+        self.assertFalse([line for line in lines if any(it in line for it in of_healing)])
+
+    def test_none_keeps_to_it(self):
+        search, is_met = searched("target=6")
+        met = target.Met(search, is_met, target.aged(search.stages, search.stage, search.found, {(400, DEPTH)}))
+        lines = met.in_words("CALL")
+        self.assertEqual("No budget keeps the worst staleness within 6 s, or 6 rounds. The best that can be "
+                         "had, with room for 400 entries in a delta, 16000 bytes (nodes * keys, above which nothing "
+                         "changes; 4 times nodes * writes): 7 rounds, 7 s. A shorter interval, more calls in it or "
+                         "less loss would help.", lines[0])
+        self.assertEqual("no budget keeps the worst staleness within 6 s", met.headline())
+        self.assertNotIn("  CALL", lines)
+        search.found.suffices = lambda *_: False
+        met = target.Met(search, is_met, target.aged(search.stages, search.stage, search.found, {(400, DEPTH)}))
+        self.assertIn("  worst staleness     not known: not level within 200 rounds", met.in_words("CALL"))
+
+    def test_older_than_the_target(self):
+        search, is_met = searched("target=8 mode=scuttle-depth")
+        pairs = {search.run_of(DEPTH)}
+        ages = target.aged(search.stages, search.stage, search.found, pairs)
+        ages.stopped.half_of_stale_after = lambda *_: [3, None]
+        self.assertEqual(("a typical one", "more than 8 rounds: so long after the last write fewer than half of the "
+                          "stale copies have caught up"), ages.told(100, DEPTH)[1])
+        self.assertTrue(target.Met(search, is_met, ages).of_mode_in_words(DEPTH).endswith("half of them by more than 8 "
+                                                                                          "rounds"))
+
+    def test_a_packet(self):
+        """400 entries fit, of which 100 are taken: 9 to 10 rounds, and with all of them 8 to 9."""
+        figures = {(200, mode): [9, 9] for mode in ROUNDS} | {(200, DEPTH): [8, 9], (100, DEPTH): [9, 10]}
+        cases = {10: "met: the worst staleness is within 10 s, or 10 rounds",
+                 9: "met with all that fits alone: with the 200 entries (2 times nodes * writes) the worst staleness "
+                    "is within 9 s, or 9 rounds",
+                 8: "not met: the worst staleness is above 8 s, or 8 rounds. Without packet= the smallest that "
+                    "keeps to it is looked for"}
+        for seconds, said in cases.items():
+            it = of(f"nodes=100 keys=4 writes=1 entry=40 packet=16000 target={seconds}")
+            found = Figures(figures, None)
+            found.worst = lambda budget, mode, _: figures[(budget, mode)]
+            self.assertEqual(("target", said), target.judged(answer.Decision(it, found, "many")))
+
+
+class Aged(unittest.TestCase):
+    def test_half_of_the_stale_copies(self):
+        """Of docs/study.md, the rounds from 40 on, the last with writes: 22670 copies are stale there, and two rounds
+        later fewer than half of them. Where an interval has two rounds, it's at the second of its intervals."""
+        found = study.Found.__new__(study.Found)
+        stale = [22670, 13201, 5504, 1049, 67, 0]
+        found.rows = {(9, DEPTH): [[{"stale": it} for it in [0] * 39 + stale], [{"stale": 0}] * 45,
+                                   [{"stale": it} for it in [0] * 39 + [9] * 6]],
+                      (5, DEPTH): [[{"stale": it} for it in [0] * 39 + [30, 30, 20, 10, 15, 9]]]}
+        self.assertEqual([2, 0, None], found.half_of_stale_after(9, DEPTH, 40, 1))
+        self.assertEqual([2], found.half_of_stale_after(5, DEPTH, 40, 2))
+
+    def test_stale_on_average(self):
+        """30, 30, 20 and 10 copies in the rounds 40 to 43 are 22.5."""
+        found = study.Found.__new__(study.Found)
+        found.rows = {(5, DEPTH): [[{"stale": it} for it in [0] * 39 + [30, 30, 20, 10, 15, 9]]]}
+        self.assertEqual([22.5], found.stale(5, DEPTH, (40, 43)))

@@ -65,6 +65,17 @@ module _ (changed : ℕ → ℕ → ℕ → Type 0) (old : List ℕ) where
   written_next number new bound x is lt now =
       subst (λ xs. AreChangedUpto changed old xs (bound + 1)) (sym (map-set number new bound x)) (changed_next (map number new) bound (number x) is lt now)
 
+  -- a loop over a part writes from where the part begins
+  pub part-begun : (new : List ℕ) (from : ℕ) → AreChangedUpto changed old new from → AreChangedUpto changed old new (from + 0)
+  part-begun new from = subst (AreChangedUpto changed old new) {x = from} {y = from + 0} (omega arith)
+
+  pub part-written : {N : Type 0} (number : N → ℕ) (new : List N) (from i : ℕ) (x : N) → AreChangedUpto changed old (map number new) (from + i) → from + i < length old → changed (from + i) (get_or old (from + i) 0) (number x)
+      → AreChangedUpto changed old (map number (set new (from + i) x)) (from + (i + 1))
+  part-written number new from i x is lt now = subst (AreChangedUpto changed old (map number (set new (from + i) x))) {x = from + i + 1} {y = from + (i + 1)} (omega arith) (written_next number new (from + i) x is lt now)
+
+  pub part-whole : (new : List ℕ) (from i size : ℕ) → AreChangedUpto changed old new (from + i) → size ≤ i → i ≤ size → AreChangedUpto changed old new (from + size)
+  part-whole new from i size is le ge = subst (AreChangedUpto changed old new) {x = from + i} {y = from + size} (omega (arith, le, ge)) is
+
 -- a change that says less
 pub changed-other : (changed other : ℕ → ℕ → ℕ → Type 0) (old new : List ℕ) → ((r x y : ℕ) → changed r x y → other r x y) → AreChanged changed old new → AreChanged other old new
 changed-other changed other old new step is = record { size = is.size; each = λ r lt. step r _ _ (is.each r lt) }

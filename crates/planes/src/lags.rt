@@ -1,11 +1,11 @@
 //! Loops over all planes of a table that compare its numbers with the last ones.
 
-ghost use Rattle.std.specs.Prelude.{◌≡◌, ◌<◌, ◌≤◌, length, map, min, nat_lt, slice_index, IfOk, IsOkUnless};
+ghost use Rattle.std.specs.Prelude.{◌≡◌, ℕ, ◌+◌, ◌<◌, ◌≤◌, List, length, map, min, nat_lt, slice_index, IfOk, IsOkUnless};
 ghost use Rattle.bench_types.specs.declared.faults.Fault.TheVariants.{OutOfMemory};
 ghost use Rattle.bench_types.specs.declared.limits.TheConstants.{MOST_NODES};
-ghost use Rattle.planes.specs.Elementwise.{AreChanged};
+ghost use Rattle.planes.specs.Elementwise.{AreChanged, AreChangedUpto};
 ghost use Rattle.planes.specs.Lags.{next_behind, IsLeastBehind};
-ghost use Rattle.planes.specs.inner.Counting.{count_less};
+ghost use Rattle.planes.specs.inner.Counting.{count_less, IsPartDone};
 ghost use Rattle.planes.specs.Planes.{cell, total_of, ArePlanesChanged, HasEach, IsGrid, IsLowered};
 
 use crate::grids::{all_of, plane_of};
@@ -33,8 +33,40 @@ fn lower_counting<N: Number>(least: &mut [N], plane: &[N], last: &[N]) -> u32
     ensures least { AreChanged (λ r x y. y ≡ min x (slice_index (map N.number plane.now) r))
         (map N.number least.old) (map N.number least.new) }
 {
+    let size = N::at_a_time();
+    let mut count = 0;
+    let mut from = 0;
+    while least.len() - from >= size {
+        count += lower_some_counting(least, plane, last, from, size);
+        from += size;
+    }
+    let rest = least.len() - from;
+    count + lower_some_counting(least, plane, last, from, rest)
+}
+
+// So many of them from one on.
+fn lower_some_counting<N: Number>(
+    least: &mut [N],
+    plane: &[N],
+    last: &[N],
+    from: usize,
+    size: usize,
+) -> u32
+    requires plane { length plane.now ≡ length least.old }
+    requires last { length last.now ≡ length least.old }
+    requires within { from + size ≤ length least.old }
+    requires few { size ≤ N.most }
+    ensures upto { result ≤ size }
+    ensures done { (old : List ℕ)
+        → AreChangedUpto (λ r x y. y ≡ min x (slice_index (map N.number plane.now) r)) old
+        (map N.number least.old) from
+        → IsPartDone (λ r x y. y ≡ min x (slice_index (map N.number plane.now) r))
+        (λ r. nat_lt (slice_index (map N.number plane.now) r) (slice_index (map N.number last.now) r)) old
+        (map N.number least.new) from (from + size) result }
+{
     let mut count = N::zero();
-    for r in 0..least.len() {
+    for i in 0..size {
+        let r = from + i;
         let number = plane[r];
         count = count.plus(last[r].is_above(number));
         least[r] = least[r].min_with(number);

@@ -1,10 +1,10 @@
 //! Two tables that take of each other all that is above their marks, both ways in one pass.
 
-ghost use Rattle.std.specs.Prelude.{◌≡◌, ◌-◌, ◌≤◌, length, map, max, min, slice_index};
+ghost use Rattle.std.specs.Prelude.{◌≡◌, ℕ, ◌+◌, ◌-◌, ◌≤◌, List, length, map, max, min, nat_lt, slice_index};
 ghost use Rattle.bench_types.specs.declared.limits.TheConstants.{MOST_NODES, MOST_KEYS};
-ghost use Rattle.planes.specs.Elementwise.{AreChanged};
+ghost use Rattle.planes.specs.Elementwise.{AreChanged, AreChangedUpto};
 ghost use Rattle.planes.specs.Planes.{most_ahead, number_raised, AreBothCovered, AreBothRaised};
-ghost use Rattle.planes.specs.inner.Counting.{count_less};
+ghost use Rattle.planes.specs.inner.Counting.{count_less, IsPartDone};
 
 use crate::numbers::Number;
 use crate::owners::FEW_TO_CHANGE;
@@ -78,9 +78,58 @@ fn merge_planes<N: Number>(
     ensures second_count { result.second ≡ count_less (length first.old)
         (map N.number second_low.now) (map N.number first.old) }
 {
+    let size = N::at_a_time();
+    let mut to_first = 0;
+    let mut to_second = 0;
+    let mut from = 0;
+    while first.len() - from >= size {
+        let both = merge_some(first, second, first_low, second_low, from, size);
+        to_first += both.first;
+        to_second += both.second;
+        from += size;
+    }
+    let rest = first.len() - from;
+    let both = merge_some(first, second, first_low, second_low, from, rest);
+    BothCounts {
+        first: to_first + both.first,
+        second: to_second + both.second,
+    }
+}
+
+// So many of their numbers from one on.
+fn merge_some<N: Number>(
+    first: &mut [N],
+    second: &mut [N],
+    first_low: &[N],
+    second_low: &[N],
+    from: usize,
+    size: usize,
+) -> BothCounts
+    requires second { length second.old ≡ length first.old }
+    requires first_low { length first_low.now ≡ length first.old }
+    requires second_low { length second_low.now ≡ length first.old }
+    requires within { from + size ≤ length first.old }
+    requires few { size ≤ N.most }
+    ensures first_upto { result.first ≤ size }
+    ensures second_upto { result.second ≤ size }
+    ensures done { (one other : List ℕ)
+        → AreChangedUpto (λ r x y. y ≡ number_raised x (slice_index other r)
+        (slice_index (map N.number first_low.now) r)) one (map N.number first.old) from
+        → AreChangedUpto (λ r x y. y ≡ number_raised x (slice_index one r)
+        (slice_index (map N.number second_low.now) r)) other (map N.number second.old) from
+        → IsPartDone (λ r x y. y ≡ number_raised x (slice_index other r)
+        (slice_index (map N.number first_low.now) r))
+        (λ r. nat_lt (slice_index (map N.number first_low.now) r) (slice_index other r)) one
+        (map N.number first.new) from (from + size) result.first
+        × IsPartDone (λ r x y. y ≡ number_raised x (slice_index one r)
+        (slice_index (map N.number second_low.now) r))
+        (λ r. nat_lt (slice_index (map N.number second_low.now) r) (slice_index one r)) other
+        (map N.number second.new) from (from + size) result.second }
+{
     let mut to_first = N::zero();
     let mut to_second = N::zero();
-    for r in 0..first.len() {
+    for i in 0..size {
+        let r = from + i;
         let number = first[r];
         let other = second[r];
         let comes = other.is_above(first_low[r]);

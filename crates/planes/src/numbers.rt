@@ -1,11 +1,12 @@
 //! Numbers of writes, in as many bits as a scenario needs.
 
+use bench_types::limits::MOST_NODES;
 use std::marker::Model;
 
 /// The number of a write: its place, from 1, among all writes of its owner; 0 for none.
-pub trait Number: Copy + Send + Sync {
+pub trait Number: Copy {
     ghost use Rattle.std.specs.Prelude.{◌≡◌, ℕ, ◌+◌, ◌-◌, ◌<◌, ◌≤◌, nat_lt, nat_le, max, min, if◌then◌else◌};
-    ghost use Rattle.bench_types.specs.declared.limits.TheConstants.{MOST_NODES, MOST_KEYS};
+    ghost use Rattle.bench_types.specs.declared.limits.TheConstants.{MOST_KEYS};
 
     // The number that it is.
     ghost number: { Self → ℕ };
@@ -44,10 +45,64 @@ pub trait Number: Copy + Send + Sync {
         requires { number self < most }
         ensures { number result ≡ number self + (if more then 1 else 0) };
 
-    // An owner's keys can be counted, and so can nodes.
-    ghost counts_keys: { MOST_KEYS ≤ most };
+    /// So many numbers are counted at a time, which a number can count.
+    fn at_a_time() -> usize
+        ensures some { 1 ≤ result }
+        ensures counts { result ≤ most };
 
-    ghost counts_nodes: { MOST_NODES ≤ most };
+    // An owner's keys can be counted.
+    ghost counts_keys: { MOST_KEYS ≤ most };
+}
+
+impl Number for u8 {
+    ghost use Rattle.std.specs.Prelude.{ℕ};
+    ghost use Rattle.std.proofs.Common.{rules};
+
+    ghost number = { λ n. n };
+
+    ghost most = { 255 };
+
+    ghost counts_keys = { Prim.search rules };
+
+    fn zero() -> u8 {
+        0
+    }
+
+    fn greatest() -> u8 {
+        u8::MAX
+    }
+
+    fn widen(self) -> u32 {
+        u32::from(self)
+    }
+
+    fn narrow(wide: u32) -> u8 {
+        wide as u8
+    }
+
+    fn is_above(self, other: u8) -> bool {
+        self > other
+    }
+
+    fn is_upto(self, other: u8) -> bool {
+        self <= other
+    }
+
+    fn max_with(self, other: u8) -> u8 {
+        self.max(other)
+    }
+
+    fn min_with(self, other: u8) -> u8 {
+        self.min(other)
+    }
+
+    fn plus(self, more: bool) -> u8 {
+        self + u8::from(more)
+    }
+
+    fn at_a_time() -> usize {
+        64
+    }
 }
 
 /// A number below 32768, in 16 bits with a sign: a processor compares many such numbers in one instruction, and those
@@ -80,8 +135,6 @@ impl Number for Short {
     ghost most = { 32767 };
 
     ghost counts_keys = { Prim.search rules };
-
-    ghost counts_nodes = { Prim.search rules };
 
     fn zero() -> Short {
         Short { number: 0 }
@@ -126,6 +179,10 @@ impl Number for Short {
             number: self.number + i16::from(more),
         }
     }
+
+    fn at_a_time() -> usize {
+        MOST_NODES as usize
+    }
 }
 
 impl Number for u32 {
@@ -137,8 +194,6 @@ impl Number for u32 {
     ghost most = { 4294967295 };
 
     ghost counts_keys = { Prim.search rules };
-
-    ghost counts_nodes = { Prim.search rules };
 
     fn zero() -> u32 {
         0
@@ -174,5 +229,9 @@ impl Number for u32 {
 
     fn plus(self, more: bool) -> u32 {
         self + u32::from(more)
+    }
+
+    fn at_a_time() -> usize {
+        MOST_NODES as usize
     }
 }

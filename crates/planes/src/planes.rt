@@ -1,10 +1,10 @@
 //! Loops over planes: for each owner one number.
 
-ghost use Rattle.std.specs.Prelude.{◌≡◌, ℕ, ◌+◌, ◌<◌, ◌≤◌, ◌&&◌, Bool, length, map, max, nat_le, nat_lt, slice_index, if◌then◌else◌};
+ghost use Rattle.std.specs.Prelude.{◌≡◌, ℕ, ◌+◌, ◌<◌, ◌≤◌, ◌&&◌, Bool, List, length, map, max, nat_le, nat_lt, slice_index, if◌then◌else◌};
 ghost use Rattle.bench_types.specs.declared.limits.TheConstants.{MOST_NODES};
-ghost use Rattle.planes.specs.Elementwise.{AreChanged};
+ghost use Rattle.planes.specs.Elementwise.{AreChanged, AreChangedUpto};
 ghost use Rattle.planes.specs.inner.Answering.{AnswersAs};
-ghost use Rattle.planes.specs.inner.Counting.{count_less, count_passing};
+ghost use Rattle.planes.specs.inner.Counting.{count_less, count_passing, IsPassed, IsPartDone};
 ghost use Rattle.planes.specs.Planes.{next_above, IsLowered, number_ahead, number_taken};
 
 use crate::numbers::Number;
@@ -84,8 +84,41 @@ pub fn keep_ahead<N: Number>(numbers: &mut [N], peer: &[N], low: &[N]) -> u32
         (max (slice_index (map N.number peer.now) r) (slice_index (map N.number low.now) r))
         (slice_index (map N.number numbers.old) r)) }
 {
+    let size = N::at_a_time();
+    let mut count = 0;
+    let mut from = 0;
+    while numbers.len() - from >= size {
+        count += keep_some_ahead(numbers, peer, low, from, size);
+        from += size;
+    }
+    let rest = numbers.len() - from;
+    count + keep_some_ahead(numbers, peer, low, from, rest)
+}
+
+// So many of them from one on.
+fn keep_some_ahead<N: Number>(
+    numbers: &mut [N],
+    peer: &[N],
+    low: &[N],
+    from: usize,
+    size: usize,
+) -> u32
+    requires peer { length peer.now ≡ length numbers.old }
+    requires low { length low.now ≡ length numbers.old }
+    requires within { from + size ≤ length numbers.old }
+    requires few { size ≤ N.most }
+    ensures upto { result ≤ size }
+    ensures done { (old : List ℕ)
+        → AreChangedUpto (λ r x y. y ≡ number_ahead x (slice_index (map N.number peer.now) r)
+        (slice_index (map N.number low.now) r)) old (map N.number numbers.old) from
+        → IsPartDone (λ r x y. y ≡ number_ahead x (slice_index (map N.number peer.now) r)
+        (slice_index (map N.number low.now) r))
+        (λ r. nat_lt (max (slice_index (map N.number peer.now) r) (slice_index (map N.number low.now) r))
+        (slice_index old r)) old (map N.number numbers.new) from (from + size) result }
+{
     let mut count = N::zero();
-    for r in 0..numbers.len() {
+    for i in 0..size {
+        let r = from + i;
         let is_ahead = numbers[r].is_above(peer[r].max_with(low[r]));
         numbers[r] = pick(is_ahead, numbers[r], N::zero());
         count = count.plus(is_ahead);
@@ -128,8 +161,34 @@ pub fn how_many<N: Number, F: Fn(usize, N) -> bool>(plane: &[N], passes: F) -> u
         → result ≡ count_passing (length plane.now)
         (λ r. test r (slice_index (map N.number plane.now) r)) }
 {
+    let size = N::at_a_time();
+    let mut count = 0;
+    let mut from = 0;
+    while plane.len() - from >= size {
+        count += how_many_of(plane, from, size, &passes);
+        from += size;
+    }
+    let rest = plane.len() - from;
+    count + how_many_of(plane, from, rest, &passes)
+}
+
+// How many of so many from one on.
+fn how_many_of<N: Number, F: Fn(usize, N) -> bool>(
+    plane: &[N],
+    from: usize,
+    size: usize,
+    passes: F,
+) -> u32
+    requires within { from + size ≤ length plane.now }
+    requires few { size ≤ N.most }
+    requires passes { (r : ℕ) (n : N) → r < length plane.now → F.pre passes r n }
+    ensures upto { result ≤ size }
+    ensures count { (test : ℕ → ℕ → Bool) → AnswersAs N.number (F.post passes) (length plane.now) test
+        → IsPassed (λ r. test r (slice_index (map N.number plane.now) r)) from (from + size) result }
+{
     let mut count = N::zero();
-    for r in 0..plane.len() {
+    for i in 0..size {
+        let r = from + i;
         count = count.plus(passes(r, plane[r]));
     }
     count.widen()

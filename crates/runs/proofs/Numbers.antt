@@ -1,15 +1,19 @@
 -- What the owners of a scenario write may stand under numbers below a bound.
--- Serves `begin` and `tests_of_runs`.
-use Rattle.std.proofs.Common.{◌≡◌, ℕ, zero, suc, ◌*◌, ◌<◌, ◌≤◌, Bool, true, false, cond, List, [], ◌∷◌, length, sym, ap, ◌∙◌, arith, length-append}
+-- Serves `begin`, `most_in_a_round` and `tests_of_runs`.
+use Rattle.std.proofs.Common.{◌≡◌, ℕ, zero, suc, ◌-◌, ◌*◌, ◌<◌, ◌≤◌, Bool, true, false, cond, All, List, [], ◌∷◌, find, length, option_map, reverse, unwrap_or, sym, subst, ap, ◌∙◌, arith, length-append}
 use Rattle.std.specs.Prelude.{Some, Contains}
+use Rattle.std.proofs.lemmas.Bool.{cond_both}
+use Rattle.std.proofs.lemmas.List.{length-reverse, get_or-reverse}
+use Rattle.std.proofs.lemmas.List.Elements.{All-tail}
 use Rattle.std.proofs.lemmas.Option.{same_Some}
 use Rattle.bench_types.specs.declared.entries.Entry.{Entry}
 use Rattle.bench_types.specs.declared.limits.TheConstants.{MOST_WRITES}
 use Rattle.model.specs.Numbers.{write_from, write_numbered}
 use Rattle.round_plan.specs.Outages.{is_up}
-use Rattle.round_plan.specs.Writes.{writes_in, count_before, own_writes, written_upto}
+use Rattle.round_plan.specs.Writes.{covers, writes_in, count_before, own_writes, written_upto}
 use Rattle.round_plan.proofs.Growth.{length-own_writes, writes_in_le}
 use Rattle.round_plan.proofs.Written.{apart-written_upto}
+use Rattle.scenario.specs.declared.elements.Load.{Load}
 use Rattle.scenario.specs.Settings.{Settings, IsLawfulScenario}
 use Rattle.simulation.specs.Simulation.{MayWriteAll}
 use Rattle.version_tables.specs.inner.Histories.{IsWriteUnder}
@@ -20,17 +24,40 @@ up_to true n most le = le
 up_to false n most le = omega arith
 
 -- a round adds at most so many
-length-written_upto_le : (s : Settings) (owner round : ℕ) → IsLawfulScenario s → length (written_upto s owner round) ≤ MOST_WRITES * round
-length-written_upto_le s owner zero lawful = omega arith
-length-written_upto_le s owner (suc round) lawful =
+length-written_upto_le : (s : Settings) (owner most round : ℕ) → ((t : ℕ) → writes_in s t ≤ most) → length (written_upto s owner round) ≤ most * round
+length-written_upto_le s owner most zero limit = omega arith
+length-written_upto_le s owner most (suc round) limit =
     let before = count_before s owner (suc round) in
     omega (
       arith,
       length-append (written_upto s owner round) (own_writes s owner (suc round) before),
-      length-written_upto_le s owner round lawful,
+      length-written_upto_le s owner most round limit,
       length-own_writes s owner (suc round) before,
-      up_to (is_up s owner (suc round)) (writes_in s (suc round)) MOST_WRITES (writes_in_le s lawful (suc round)),
+      up_to (is_up s owner (suc round)) (writes_in s (suc round)) most (limit (suc round)),
     )
+
+-- the loads say how many a round adds
+found_at_most : (p : Load → Bool) (usual most : ℕ) (ls : List Load) → usual ≤ most → All (λ l. l.writes ≤ most) ls → unwrap_or (option_map (λ (l : Load). l.writes) (find p ls)) usual ≤ most
+found_at_most p usual most [] low all = low
+found_at_most p usual most (l ∷ ls) low all =
+    cond_both (p l) (Some l) (find p ls) (λ o. unwrap_or (option_map (λ (l : Load). l.writes) o) usual ≤ most)
+    (λ _. all 0 l (omega arith))
+    (λ _. found_at_most p usual most ls low (All-tail (λ (l : Load). l.writes ≤ most) l ls all))
+
+pub writes_in_at_most : (s : Settings) (most : ℕ) → s.writes ≤ most → All (λ l. l.writes ≤ most) s.loads → (round : ℕ) → writes_in s round ≤ most
+unfolding writes_in
+writes_in_at_most s most usual all round =
+    found_at_most (covers round) s.writes most (reverse s.loads) usual (λ k d lt.
+    let within : k < length s.loads = omega (arith, lt, length-reverse s.loads) in
+    subst (λ (l : Load). l.writes ≤ most) (sym (get_or-reverse s.loads k d within)) (all (length s.loads - 1 - k) d (omega (arith, within))))
+
+-- fewer than a bound are fewer than a greater one
+pub below_more : (s : Settings) (most more : ℕ) → HasWritesBelow most s → most ≤ more → HasWritesBelow more s
+below_more s most more below le = record { lawful = below.lawful; in_round = below.in_round; limit = below.limit; few = omega (arith, below.few, le) }
+
+-- the limits of a scenario tell how many they are
+pub below_limits : (s : Settings) (most : ℕ) → IsLawfulScenario s → MOST_WRITES * s.rounds < most → HasWritesBelow most s
+below_limits s most lawful few = record { lawful = lawful; in_round = MOST_WRITES; limit = writes_in_le s lawful; few = few }
 
 -- what stands under a number is one of so many
 placed : (es : List Entry) (place : ℕ) (e : Entry) → write_from es place ≡ Some e → (place < length es) × Contains es e
@@ -51,7 +78,7 @@ pub may_write_all : (s : Settings) (most : ℕ) (lists : ℕ → List Entry) →
     → MayWriteAll (IsWriteUnder lists most) s
 may_write_all s most lists are below owner number e in_nodes is = record {
   is = under number e is;
-  below = omega (arith, (numbered (written_upto s owner s.rounds) number e is).0, length-written_upto_le s owner s.rounds below.lawful, below.few);
+  below = omega (arith, (numbered (written_upto s owner s.rounds) number e is).0, length-written_upto_le s owner below.in_round s.rounds below.limit, below.few);
   apart = λ m n d c one other same.
       apart-written_upto s owner s.rounds d c (numbered (written_upto s owner s.rounds) m d (among m d one)).1
       (numbered (written_upto s owner s.rounds) n c (among n c other)).1 same;

@@ -95,6 +95,7 @@ fn write_all_rounds<L: Written + Send + Sync, H: Threads + Wait + Sync, W: Sink>
 {
     let mode = scenario.mode();
     match begin::<L>(alloc, scenario)? {
+        Opened::Byte(sim) => write_rows(rt, alloc, sim, mode, writer, workers),
         Opened::Narrow(sim) => write_rows(rt, alloc, sim, mode, writer, workers),
         Opened::Wide(sim) => write_rows(rt, alloc, sim, mode, writer, workers),
     }

@@ -1,6 +1,8 @@
 //! A whole run, from bytes to bytes.
 
-ghost use Rattle.std.specs.Prelude.{◌≡◌, Ok, IfOk, OnOk, IfErr, IsOkUnless, if◌then◌else◌};
+ghost use Rattle.std.specs.Prelude.{◌≡◌, ℕ, ◌+◌, ◌*◌, ◌≤◌, Ok, IfOk, OnOk, IfErr, IsOkUnless};
+ghost use Rattle.bench_types.specs.declared.limits.TheConstants.{MOST_ROUNDS, MOST_WRITES};
+ghost use Rattle.round_plan.specs.Writes.{writes_in};
 ghost use Rattle.simulation.specs.Simulation.{MayWriteAll};
 ghost use Rattle.runs.specs.Inputs.{IsRead, IsInputFault};
 ghost use Rattle.scenario.specs.Settings.{IsLawfulScenario};
@@ -11,7 +13,6 @@ ghost use Rattle.runs.specs.Runs.{AreWritten, IsWritingFault, IsReported, IsRunF
 ghost use Rattle.model.specs.Runs.{AreWorkers};
 
 use crate::inputs::read_all;
-use bench_types::limits::MOST_WRITES;
 use bench_types::{Fault, Sink, Source};
 use model::MemoryTable;
 use report::{report_header, trace_header, write_report_row, write_trace_rows};
@@ -68,21 +69,36 @@ pub fn check_input<R: Source>(alloc: Global, reader: &mut R) -> Result<Scenario,
     read(alloc, &bytes)
 }
 
-// Whether all that an owner writes in a run has numbers of 16 bits.
-fn has_few_writes(scenario: &Scenario) -> bool
-    ensures { HasWritesBelow (if result then 32767 else u32.MAX) scenario.now }
+// No owner makes more writes in a round than this.
+fn most_in_a_round(scenario: &Scenario) -> u32
+    ensures limit { (round : ℕ) → writes_in scenario.now round ≤ result }
+    ensures within { result ≤ MOST_WRITES }
 {
-    MOST_WRITES * scenario.rounds() < i16::MAX as u32
+    let loads = scenario.loads();
+    let mut most = scenario.writes();
+    for place in 0..loads.len() {
+        most = most.max(loads[place].writes);
+    }
+    most
 }
 
-/// A simulation by tables that keep versions alone, in numbers of 16 bits or of 32.
+// No owner makes more writes in a run than this.
+fn most_in_a_run(scenario: &Scenario) -> u32
+    ensures below { HasWritesBelow (result + 1) scenario.now }
+    ensures within { result ≤ MOST_WRITES * MOST_ROUNDS }
+{
+    most_in_a_round(scenario) * scenario.rounds()
+}
+
+/// A simulation by tables that keep versions alone, in numbers of 8 bits, of 16 or of 32.
 #[derive(Drop)]
 pub(crate) enum Opened<L: Written + Send + Sync> {
+    Byte(Sim<VersionTable<u8, L>, Histories<u8, L>>),
     Narrow(Sim<VersionTable<Short, L>, Histories<Short, L>>),
     Wide(Sim<VersionTable<u32, L>, Histories<u32, L>>),
 }
 
-/// A simulation of the scenario, before its first round, in numbers of 16 bits where these are enough.
+/// A simulation of the scenario, before its first round, in numbers of as few bits as are enough.
 pub(crate) fn begin<L: Written + Send + Sync>(
     alloc: Global,
     scenario: Scenario,
@@ -92,7 +108,10 @@ pub(crate) fn begin<L: Written + Send + Sync>(
     ensures lawful { IsLawfulScenario scenario }
     ensures only { IsOkUnless result Fault.OutOfMemory }
 {
-    if has_few_writes(&scenario) {
+    let most = most_in_a_run(&scenario);
+    if most < u8::MAX as u32 {
+        Ok(Opened::Byte(open(alloc, scenario)?))
+    } else if most < i16::MAX as u32 {
         Ok(Opened::Narrow(open(alloc, scenario)?))
     } else {
         Ok(Opened::Wide(open(alloc, scenario)?))
@@ -131,6 +150,7 @@ fn write_run<L: Written + Send + Sync, H: Threads + Wait + Sync, W: Sink, X: Sin
         (IsWritingFault W.Sink writer.old writer.new X.Sink trace.old trace.new scenario workers) }
 {
     match begin::<L>(alloc, scenario)? {
+        Opened::Byte(mut sim) => write_texts(rt, alloc, &mut sim, writer, trace, workers),
         Opened::Narrow(mut sim) => write_texts(rt, alloc, &mut sim, writer, trace, workers),
         Opened::Wide(mut sim) => write_texts(rt, alloc, &mut sim, writer, trace, workers),
     }

@@ -1,6 +1,5 @@
 -- Tables that stand in a round fit the histories that its exchanges read.
--- Serves `HistoriesShortRoundHistoriesVersionTableShort::stand_ready` and
--- `HistoriesU32RoundHistoriesVersionTableU32::stand_ready`.
+-- Serves `HistoriesRoundHistoriesVersionTable::stand_ready`.
 use Rattle.std.proofs.Common.{◌≡◌, ℕ, zero, suc, ◌≤◌, All, List, [], ◌∷◌, Some, sym, subst, arith}
 use Rattle.std.proofs.lemmas.Option.{same_Some}
 use Rattle.bench_types.specs.declared.entries.Entry.{Entry}

@@ -1,20 +1,16 @@
 -- Nodes' numbers changed one after another, of which some are counted.
 -- Serves `next_runs` and `one_more`.
-use Rattle.std.proofs.Common.{◌≡◌, ℕ, ◌+◌, ◌<◌, ◌≤◌, Bool, true, false, cond, List, length, get_or, set, map, refl, arith}
+use Rattle.std.proofs.Common.{◌≡◌, ℕ, ◌+◌, ◌<◌, ◌≤◌, Bool, cond, List, length, get_or, set, map, refl, arith}
 use Rattle.std.proofs.Common.{Fits, w32}
 use Rattle.std.proofs.lemmas.List.{length-map}
 use Rattle.bench_types.specs.declared.limits.TheConstants.{MOST_NODES}
 use Rattle.bench_types.specs.Sums.{sum_below}
 use Rattle.planes.specs.Elementwise.{AreChanged, AreChangedUpto}
-use Rattle.planes.proofs.Counts.{count_below, sum_next, sum_whole}
+use Rattle.planes.proofs.Counts.{one_le, count_le, sum_next, sum_whole}
 use Rattle.planes.proofs.Elementwise.{changed_none, changed_all, written_next}
 
-one_le : (b : Bool) → cond b 1 0 ≤ 1
-one_le true = omega arith
-one_le false = omega arith
-
 pub count_fits : (test : ℕ → Bool) (r n count x : ℕ) (b : Bool) → count ≡ sum_below r (λ k. cond (test k) 1 0) → x ≡ cond b 1 0 → r < n → n ≤ MOST_NODES → Fits w32 (count + x)
-count_fits test r n count x b is now lt most = omega (arith, now, one_le b, count_below test r n count MOST_NODES is lt most (omega arith))
+count_fits test r n count x b is now lt most = omega (arith, is, now, one_le b, count_le r test, lt, most)
 
 pub record AreCountedUpto (changed : ℕ → ℕ → ℕ → Type 0) (test : ℕ → Bool) (old new : List ℕ) (bound count : ℕ) : Type 0 where
   pub written : AreChangedUpto changed old new bound

@@ -49,73 +49,80 @@ fn write<N: Number, H: Written>(
     Ok(())
 }
 
-impl<H: Written + Send + Sync> RoundHistories<VersionTable<Short, H>> for Histories<Short, H> {
-    ghost use Rattle.std.specs.Prelude.{◌≡◌};
-    ghost use Rattle.version_tables.specs.inner.Histories.{IsWriteUnder};
+/// Numbers that threads may share. What starts threads is written for each type of them, since no proof is had of what
+/// sends a parameter's values to a thread in a generic `impl` of a trait.
+pub trait SharedNumber: Number {
+    ghost use Rattle.std.specs.Prelude.{◌≡◌, ◌≤◌, length, IfOk, IsOkUnless};
+    ghost use denote.Param.Send.{IsSync};
+    ghost use Rattle.bench_types.specs.declared.faults.Fault.TheVariants.{OutOfMemory};
+    ghost use Rattle.bench_types.specs.declared.limits.TheConstants.{MOST_ROUNDS};
+    ghost use Rattle.model.specs.Figures.{figures_of};
+    ghost use Rattle.model.specs.OwnerListView.{lists_in};
+    ghost use Rattle.model.specs.Tables.{IsCluster, HoldsOfEach};
+    ghost use Rattle.round_tables.specs.Histories.{AreWrittenBy, StandsAmong};
+    ghost use Rattle.version_tables.specs.inner.Pieces.{tables_of_views};
 
-    ghost lists = { λ h. h.lists };
-
-    ghost has_ended = { λ h round. h.rounds ≡ round };
-
-    ghost may_write = { IsWriteUnder H.lists 32767 };
-
-    fn new(alloc: Global, nodes: u32) -> Result<Histories<Short, H>, Fault> {
-        Histories::new(alloc, nodes)
-    }
-
-    fn empty_table(
-        alloc: Global,
-        node: u32,
-        nodes: u32,
-        keys: u32,
-    ) -> Result<VersionTable<Short, H>, Fault> {
-        VersionTable::new(alloc, node, nodes, keys)
-    }
-
-    fn restart(table: &mut VersionTable<Short, H>) {
-        table.forget_others();
-    }
-
-    fn forget(&mut self, table: &mut VersionTable<Short, H>) {
-        self.begin_generation(table.node());
-        table.forget_all();
-    }
-
-    fn count(&self, owner: u32) -> u32 {
-        self.lists()[owner as usize].len()
-    }
-
-    fn write(
-        &mut self,
-        table: &mut VersionTable<Short, H>,
-        key: u32,
-        value: u32,
-        born: u32,
-    ) -> Result<(), Fault> {
-        write(table, self, key, value, born)
-    }
-
-    fn end_writes(&mut self, _round: u32) -> Result<(), Fault> {
-        self.end_round()
-    }
-
-    fn stand_ready(&self, _round: u32) {
-        let _lists = self.lists();
-    }
-
-    fn figures<R: Threads + Sync>(
-        &self,
+    /// The figures at the end of a round, as `figures` has them.
+    fn figures<H: Written, R: Threads + Sync>(
         rt: &R,
         alloc: Global,
-        tables: &[VersionTable<Short, H>],
+        tables: &[VersionTable<Self, H>],
+        histories: &Histories<Self, H>,
+        round: u32,
+        workers: u32,
+    ) -> Result<Figures, Fault>
+        requires sync { IsSync R.row }
+        requires cluster { IsCluster (length tables.now) (tables_of_views H.lists tables.now) }
+        requires one_list_each { length histories.now.lists ≡ length tables.now }
+        requires round { round ≤ MOST_ROUNDS }
+        requires written { AreWrittenBy round histories.now.lists }
+        requires standing { HoldsOfEach (StandsAmong histories.now.lists) (tables_of_views H.lists tables.now) }
+        ensures figures { IfOk result
+            (λ f. f ≡ figures_of round (tables_of_views H.lists tables.now) (lists_in histories.now.lists)) }
+        ensures only { IsOkUnless result OutOfMemory };
+}
+
+impl SharedNumber for u8 {
+    fn figures<H: Written, R: Threads + Sync>(
+        rt: &R,
+        alloc: Global,
+        tables: &[VersionTable<u8, H>],
+        histories: &Histories<u8, H>,
         round: u32,
         workers: u32,
     ) -> Result<Figures, Fault> {
-        figures(rt, alloc, tables, self, round, workers)
+        figures(rt, alloc, tables, histories, round, workers)
     }
 }
 
-impl<H: Written + Send + Sync> RoundHistories<VersionTable<u32, H>> for Histories<u32, H> {
+impl SharedNumber for Short {
+    fn figures<H: Written, R: Threads + Sync>(
+        rt: &R,
+        alloc: Global,
+        tables: &[VersionTable<Short, H>],
+        histories: &Histories<Short, H>,
+        round: u32,
+        workers: u32,
+    ) -> Result<Figures, Fault> {
+        figures(rt, alloc, tables, histories, round, workers)
+    }
+}
+
+impl SharedNumber for u32 {
+    fn figures<H: Written, R: Threads + Sync>(
+        rt: &R,
+        alloc: Global,
+        tables: &[VersionTable<u32, H>],
+        histories: &Histories<u32, H>,
+        round: u32,
+        workers: u32,
+    ) -> Result<Figures, Fault> {
+        figures(rt, alloc, tables, histories, round, workers)
+    }
+}
+
+impl<N: SharedNumber + Send + Sync, H: Written + Send + Sync> RoundHistories<VersionTable<N, H>>
+    for Histories<N, H> {
     ghost use Rattle.std.specs.Prelude.{◌≡◌};
     ghost use Rattle.version_tables.specs.inner.Histories.{IsWriteUnder};
 
@@ -123,9 +130,9 @@ impl<H: Written + Send + Sync> RoundHistories<VersionTable<u32, H>> for Historie
 
     ghost has_ended = { λ h round. h.rounds ≡ round };
 
-    ghost may_write = { IsWriteUnder H.lists 4294967295 };
+    ghost may_write = { IsWriteUnder H.lists N.most };
 
-    fn new(alloc: Global, nodes: u32) -> Result<Histories<u32, H>, Fault> {
+    fn new(alloc: Global, nodes: u32) -> Result<Histories<N, H>, Fault> {
         Histories::new(alloc, nodes)
     }
 
@@ -134,15 +141,15 @@ impl<H: Written + Send + Sync> RoundHistories<VersionTable<u32, H>> for Historie
         node: u32,
         nodes: u32,
         keys: u32,
-    ) -> Result<VersionTable<u32, H>, Fault> {
+    ) -> Result<VersionTable<N, H>, Fault> {
         VersionTable::new(alloc, node, nodes, keys)
     }
 
-    fn restart(table: &mut VersionTable<u32, H>) {
+    fn restart(table: &mut VersionTable<N, H>) {
         table.forget_others();
     }
 
-    fn forget(&mut self, table: &mut VersionTable<u32, H>) {
+    fn forget(&mut self, table: &mut VersionTable<N, H>) {
         self.begin_generation(table.node());
         table.forget_all();
     }
@@ -153,7 +160,7 @@ impl<H: Written + Send + Sync> RoundHistories<VersionTable<u32, H>> for Historie
 
     fn write(
         &mut self,
-        table: &mut VersionTable<u32, H>,
+        table: &mut VersionTable<N, H>,
         key: u32,
         value: u32,
         born: u32,
@@ -173,10 +180,10 @@ impl<H: Written + Send + Sync> RoundHistories<VersionTable<u32, H>> for Historie
         &self,
         rt: &R,
         alloc: Global,
-        tables: &[VersionTable<u32, H>],
+        tables: &[VersionTable<N, H>],
         round: u32,
         workers: u32,
     ) -> Result<Figures, Fault> {
-        figures(rt, alloc, tables, self, round, workers)
+        N::figures(rt, alloc, tables, self, round, workers)
     }
 }

@@ -5,7 +5,7 @@ use crate::histories::Histories;
 use crate::tables::{VersionTable, Written};
 use bench_types::{Exchange, Fault, Record, Rules};
 use model::{Exchanging, MemoryTable};
-use planes::{Number, Short};
+use planes::Number;
 use std::alloc::Global;
 
 impl<N: Number, H: Written> MemoryTable for VersionTable<N, H> {
@@ -14,7 +14,8 @@ impl<N: Number, H: Written> MemoryTable for VersionTable<N, H> {
     ghost table = { table_in H.lists };
 }
 
-impl<H: Written + Send + Sync> Exchanging<VersionTable<Short, H>> for Histories<Short, H> {
+impl<N: Number + Send + Sync, H: Written + Send + Sync> Exchanging<VersionTable<N, H>>
+    for Histories<N, H> {
     ghost use Rattle.version_tables.specs.inner.Histories.{FitsHistories};
     ghost use Rattle.version_tables.specs.inner.FitsKept.{fits_stays};
 
@@ -25,28 +26,8 @@ impl<H: Written + Send + Sync> Exchanging<VersionTable<Short, H>> for Histories<
     fn exchange(
         &self,
         alloc: Global,
-        initiator: &mut VersionTable<Short, H>,
-        responder: &mut VersionTable<Short, H>,
-        plan: &Exchange,
-        rules: &Rules,
-    ) -> Result<Record, Fault> {
-        exchange(alloc, self, initiator, responder, plan, rules)
-    }
-}
-
-impl<H: Written + Send + Sync> Exchanging<VersionTable<u32, H>> for Histories<u32, H> {
-    ghost use Rattle.version_tables.specs.inner.Histories.{FitsHistories};
-    ghost use Rattle.version_tables.specs.inner.FitsKept.{fits_stays};
-
-    ghost fits = { FitsHistories };
-
-    ghost stays_fit = { fits_stays };
-
-    fn exchange(
-        &self,
-        alloc: Global,
-        initiator: &mut VersionTable<u32, H>,
-        responder: &mut VersionTable<u32, H>,
+        initiator: &mut VersionTable<N, H>,
+        responder: &mut VersionTable<N, H>,
         plan: &Exchange,
         rules: &Rules,
     ) -> Result<Record, Fault> {

@@ -101,7 +101,7 @@ struct Numbers<'a, N: Number> {
     forgot: bool,
 }
 
-impl<'a, N: Number> Numbers<'a, N> {
+impl<'a, N: Number + Send + Sync> Numbers<'a, N> {
     // What so many tables from one on say.
     fn piece_of(&self, alloc: Global, from: usize, count: usize) -> Result<Piece<N>, Fault>
         requires numbers { AreCountedGrids N.number self.now }
@@ -282,7 +282,7 @@ fn tables_of_a_thread(rt: &impl Threads, tables: usize, keys: usize, workers: u3
 }
 
 // What all tables say.
-fn counted<N: Number, H: Written>(
+fn counted<N: Number + Send + Sync, H: Written>(
     rt: &(impl Threads + Sync),
     alloc: Global,
     tables: &[VersionTable<N, H>],
@@ -326,7 +326,7 @@ fn counted<N: Number, H: Written>(
 /// the tables. Then an owner's list is walked over from the first write that some copy misses, if any, to the next
 /// one, where that may be older than what was found so far. It takes memory for the numbers of a table for each
 /// part of the tables. An error is lack of that memory (`OutOfMemory`).
-pub fn figures<N: Number, H: Written>(
+pub fn figures<N: Number + Send + Sync, H: Written>(
     rt: &(impl Threads + Sync),
     alloc: Global,
     tables: &[VersionTable<N, H>],

@@ -2,7 +2,7 @@
 use Rattle.std.specs.Prelude.{◌≡◌, true, false}
 use Rattle.bench_types.specs.declared.sinks.Sink.{Ghosts as Sink}
 use Rattle.runs.specs.declared.runs.Opened.{Opened}
-use Rattle.runs.specs.declared.runs.Opened.TheVariants.{Narrow, Wide}
+use Rattle.runs.specs.declared.runs.Opened.TheVariants.{Byte, Narrow, Wide}
 use Rattle.scenario.specs.Settings.{Settings}
 use Rattle.simulation.specs.Simulation.{SimView}
 
@@ -17,5 +17,6 @@ pub record IsReady {W : Type 0} (sink : Sink W) (now : W) : Type 0 where
 
 -- the simulation of these settings, before its first round
 abbrev pub IsOpened : {L : Type 0} → Opened L → Settings → Type 0
+IsOpened (Byte sim) s = IsAtStart sim × (sim.settings ≡ s)
 IsOpened (Narrow sim) s = IsAtStart sim × (sim.settings ≡ s)
 IsOpened (Wide sim) s = IsAtStart sim × (sim.settings ≡ s)

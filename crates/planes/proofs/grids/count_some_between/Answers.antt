@@ -6,7 +6,7 @@ use Rattle.planes.proofs.Places.{each-next, window-at}
 use Rattle.planes.proofs.grids.count_some_between.Goals as goal
 
 pub count_plane_between-requires-clause-room : goal.count_plane_between-requires-clause-room
-count_plane_between-requires-clause-room g c κs out r lt =
+count_plane_between-requires-clause-room g c r lt =
     let low = slice_index (map g.N.Number.number c.args.low.now) in
     let high = slice_index (map g.N.Number.number c.args.high.now) in
     let cells = cell (map g.N.Number.number c.args.cells.now) c.args.nodes in
@@ -16,7 +16,7 @@ count_plane_between-requires-clause-room g c κs out r lt =
       count_le c.loop-key.key (λ k. nat_lt (low (c.args.first + r)) (cells (c.args.first + r) k) && nat_le (cells (c.args.first + r) k) (high (c.args.first + r))),
       c.loop-key-test.true,
       c.requires.grid.few_keys,
-      (g.met.N.Number g.world.𝓛 g.world.𝓜 g.world.𝓡 ((λ s x. x), (λ x. x), (λ x. x), λ x. x)).counts_keys,
+      g.met.N.Number.counts_keys,
     )
 
 pub loop-key-preserved : goal.loop-key-preserved

@@ -15,9 +15,9 @@ loop-key-init g c =
     }
 
 pub count-requires-clause-room : goal.count-requires-clause-room
-count-requires-clause-room g c _ _ r lt =
+count-requires-clause-room g c r lt =
     let upto = c.loop-key.invariant.upto in
-    omega (arith, upto.each r (omega (arith, lt, upto.size, length-map c.loop-key.all g.N.Number.number)), c.loop-key-test.true, c.requires.grid.few_keys, (g.met.N.Number g.world.𝓛 g.world.𝓜 g.world.𝓡 ((λ s x. x), (λ x. x), (λ x. x), λ x. x)).counts_keys)
+    omega (arith, upto.each r (omega (arith, lt, upto.size, length-map c.loop-key.all g.N.Number.number)), c.loop-key-test.true, c.requires.grid.few_keys, g.met.N.Number.counts_keys)
 
 pub loop-key-preserved : goal.loop-key-preserved
 loop-key-preserved g c =

@@ -62,16 +62,16 @@ loop-owner-init g c =
     }
 
 pub take_owner-requires-clause-grid : goal.take_owner-requires-clause-grid
-take_owner-requires-clause-grid g c κs out = subst (IsGrid c.args.sent.nodes c.args.sent.keys) (sym c.loop-owner.auto.cells) c.requires.may.grid
+take_owner-requires-clause-grid g c = subst (IsGrid c.args.sent.nodes c.args.sent.keys) (sym c.loop-owner.auto.cells) c.requires.may.grid
 
 pub take_owner-requires-clause-owner : goal.take_owner-requires-clause-owner
-take_owner-requires-clause-owner g c κs out = c.loop-owner-test.true
+take_owner-requires-clause-owner g c = c.loop-owner-test.true
 
 pub take_owner-requires-clause-sent : goal.take_owner-requires-clause-sent
-take_owner-requires-clause-sent g c κs out = c.requires.may.sent_count ∙ sym c.loop-owner.auto.cells
+take_owner-requires-clause-sent g c = c.requires.may.sent_count ∙ sym c.loop-owner.auto.cells
 
 pub take_owner-requires-clause-covered : goal.take_owner-requires-clause-covered
-take_owner-requires-clause-covered g c κs out k lt =
+take_owner-requires-clause-covered g c k lt =
     let number = g.N.Number.number in
     let owner = c.loop-owner.owner in
     let old = map number c.args.cells.now in

@@ -1,11 +1,15 @@
-use Rattle.std.proofs.Common.{◌≡◌, ℕ, ◌≤◌, Bool, length, slice_index, map, if◌then◌else◌}
-use Rattle.bench_types.specs.Sums.{sum_below}
+use Rattle.std.proofs.Common.{◌≡◌, ℕ, ◌-◌, ◌≤◌, Bool, length, slice_index, map}
 use Rattle.planes.specs.inner.Answering.{AnswersAs}
+use Rattle.planes.specs.inner.Counting.{count_passing}
 use Rattle.planes.proofs.planes.how_many.Given as goal
 
-abbrev pub invariant-loop-r : goal.invariant-loop-r
-invariant-loop-r g l = record {
-  upto : g.N.Number.number l.count ≤ l.r;
+abbrev pub invariant-loop-from : goal.invariant-loop-from
+invariant-loop-from g l = record {
+  within : l.from ≤ length l.plane;
+  upto : l.count ≤ l.from;
   count : (test : ℕ → ℕ → Bool) → AnswersAs g.N.Number.number (goal.F-post g l.passes) (length l.plane) test
-      → g.N.Number.number l.count ≡ sum_below l.r (λ r. if test r (slice_index (map g.N.Number.number l.plane) r) then 1 else 0);
+      → l.count ≡ count_passing l.from (λ r. test r (slice_index (map g.N.Number.number l.plane) r));
 }
+
+abbrev pub decreases-loop-from : goal.decreases-loop-from
+decreases-loop-from g l = length l.plane - l.from

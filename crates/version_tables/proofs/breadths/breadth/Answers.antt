@@ -31,7 +31,7 @@ overflow_add-whole g c =
     )
 
 pub fits-requires-clause-count : goal.fits-requires-clause-count
-fits-requires-clause-count g c κs within =
+fits-requires-clause-count g c =
     let number = g.N.Number.number in
     subst (λ xs. c.loop-alloc.whole + c.loop-alloc.more ≡ count_in number c.args.offer.now (marks number c.args.offer.now.low.now) (marks number xs)) (sym c.deref-in-loop-alloc.ensures.value)
     (layers-count number g.N.Number.most c.args.offer.now c.requires.offer.is_offer (marks number c.loop-alloc.near.items) (marks number c.loop-alloc.far.items) c.loop-alloc.whole c.loop-alloc.more c.loop-alloc.invariant.so_far)
@@ -70,13 +70,13 @@ loop-alloc-preserved g c =
     }
 
 pub fits-requires-clause-high : goal.fits-requires-clause-high
-fits-requires-clause-high g c κs out = ap length c.deref-in-loop-alloc.ensures.value ∙ c.loop-alloc.invariant.far
+fits-requires-clause-high g c = ap length c.deref-in-loop-alloc.ensures.value ∙ c.loop-alloc.invariant.far
 
 pub one_more-requires-clause-near : goal.one_more-requires-clause-near
-one_more-requires-clause-near g c κs out = ap length c.deref.ensures.value ∙ ap length c.in_ok-near.ensures.items ∙ c.requires.offer.is_offer.low
+one_more-requires-clause-near g c = ap length c.deref.ensures.value ∙ ap length c.in_ok-near.ensures.items ∙ c.requires.offer.is_offer.low
 
 pub one_more-requires-in-loop-alloc-clause-near : goal.one_more-requires-in-loop-alloc-clause-near
-one_more-requires-in-loop-alloc-clause-near g c κs out = ap length c.deref-in-loop-alloc-2.ensures.value ∙ c.loop-alloc.invariant.far
+one_more-requires-in-loop-alloc-clause-near g c = ap length c.deref-in-loop-alloc-2.ensures.value ∙ c.loop-alloc.invariant.far
 
 pub returns-clause-level : goal.returns-clause-level
 returns-clause-level g c =

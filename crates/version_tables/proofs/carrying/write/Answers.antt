@@ -6,7 +6,7 @@ use Rattle.version_tables.proofs.NextWrites.{next-write}
 use Rattle.version_tables.proofs.carrying.write.Goals as goal
 
 pub write_own-requires-clause-next : goal.write_own-requires-clause-next
-write_own-requires-clause-next g c lives within =
+write_own-requires-clause-next g c =
     let table = c.args.table.now in
     let lists = c.args.histories.now.lists in
     let list = list_of_owner lists table.node in

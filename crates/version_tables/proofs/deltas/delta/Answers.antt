@@ -12,31 +12,31 @@ use Rattle.version_tables.specs.inner.Taken.{AreSent}
 use Rattle.version_tables.proofs.deltas.delta.Goals as goal
 
 pub ahead_of-requires-clause-low : goal.ahead_of-requires-clause-low
-ahead_of-requires-clause-low g c κs out =
+ahead_of-requires-clause-low g c =
     ap length c.deref.ensures.value
     ∙ sym (length-map c.in_ok-low.low.items g.N.Number.number) ∙ c.in_ok-low.ensures.told.size ∙ sym c.requires.may.sender.nodes
 
 pub either-offered-requires-clause-low : goal.either-offered-requires-clause-low
-either-offered-requires-clause-low g c κs out =
+either-offered-requires-clause-low g c =
     ap length c.deref-2.ensures.value
     ∙ sym (length-map c.in_ok-low.low.items g.N.Number.number) ∙ c.in_ok-low.ensures.told.size ∙ sym c.requires.may.sender.nodes
 
 pub either-offered-requires-clause-ahead : goal.either-offered-requires-clause-ahead
-either-offered-requires-clause-ahead g c κs out precise =
+either-offered-requires-clause-ahead g c precise =
     subst (λ low. AreAhead g.N.Number.number c.args.sender.now c.args.receiver.now low c.in_ok-ahead.ahead)
     (c.deref.ensures.value ∙ sym c.deref-2.ensures.value) (c.in_ok-ahead.ensures.ahead precise)
 
 pub marks_sent-requires-clause-kept : goal.marks_sent-requires-clause-kept
-marks_sent-requires-clause-kept g c κs out = c.in_ok-low.ensures.kept
+marks_sent-requires-clause-kept g c = c.in_ok-low.ensures.kept
 
 pub marks_sent-requires-clause-low : goal.marks_sent-requires-clause-low
-marks_sent-requires-clause-low g c κs out =
+marks_sent-requires-clause-low g c =
     let told = AreTold g.N.Number.number g.N.Number.most in
     subst (λ low. told (digest_kind c.args.rules.now.mode) c.args.receiver.now c.args.histories.now low) (sym (c.either-offered.ensures.low ∙ c.deref-2.ensures.value))
     (subst (λ kind. told kind c.args.receiver.now c.args.histories.now c.in_ok-low.low.items) c.digest_kind-kind.ensures c.in_ok-low.ensures.told)
 
 pub marks_sent-requires-clause-offered : goal.marks_sent-requires-clause-offered
-marks_sent-requires-clause-offered g c κs out =
+marks_sent-requires-clause-offered g c =
     subst (λ kind. IsOffered g.N.Number.number kind c.args.sender.now c.args.receiver.now c.either-offered.result) c.digest_kind-kind.ensures c.either-offered.ensures.offered
 
 -- the marks of a delta, by other names

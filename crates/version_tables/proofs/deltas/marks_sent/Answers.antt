@@ -10,7 +10,7 @@ use Rattle.version_tables.proofs.Delivered.{offer-is, delta-marks}
 use Rattle.version_tables.proofs.deltas.marks_sent.Goals as goal
 
 pub planned-requires-clause-offer : goal.planned-requires-clause-offer
-planned-requires-clause-offer g c κs within =
+planned-requires-clause-offer g c =
     offer-is g.N.Number.number g.N.Number.most g.H.Written.lists c.args.sender.now c.args.receiver.now c.nodes.ensures.kept c.requires.kept c.args.histories.now c.lists.ensures.so_far
     c.requires.may.sender c.requires.may.receiver c.requires.may.nodes c.requires.may.keys c.args.rules.now.mode
     (record { cells = c.args.offered.cells; nodes = c.nodes.result; keys = c.keys.result; low = c.args.offered.low; high = c.greatest.result; lists = c.lists.result; budget = c.args.rules.now.budget })
@@ -18,12 +18,12 @@ planned-requires-clause-offer g c κs within =
     (λ owner key in_nodes in_keys. ap (λ n. cell (map g.N.Number.number c.args.offered.cells.now) n owner key) c.nodes.ensures.value ∙ c.requires.offered.cells.each owner key in_nodes in_keys)
 
 pub planned-requires-clause-found : goal.planned-requires-clause-found
-planned-requires-clause-found g c κs within =
+planned-requires-clause-found g c =
     c.requires.offered.found
     ∙ (λ i. total_above (sym c.nodes.ensures.value i) (sym c.keys.ensures.value i) (map g.N.Number.number c.args.offered.cells.now) (map g.N.Number.number c.args.offered.low.now))
     ∙ count-newest g.N.Number.number g.N.Number.most
     (record { cells = c.args.offered.cells; nodes = c.nodes.result; keys = c.keys.result; low = c.args.offered.low; high = c.greatest.result; lists = c.lists.result; budget = c.args.rules.now.budget })
-    (planned-requires-clause-offer g c κs within) (marks g.N.Number.number c.args.offered.low.now)
+    (planned-requires-clause-offer g c) (marks g.N.Number.number c.args.offered.low.now)
 
 pub returns-clause-marks : goal.returns-clause-marks
 returns-clause-marks g c =

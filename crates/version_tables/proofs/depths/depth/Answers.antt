@@ -9,14 +9,11 @@ use Rattle.version_tables.proofs.RunSteps.{runs-start, runs-next, runs-some, run
 use Rattle.version_tables.proofs.depths.depth.Goals as goal
 
 pub greatest_of-size-requires : goal.greatest_of-size-requires
-greatest_of-size-requires g c = (
-  c.type_bounds.send-N,
-  (
-    c.type_bounds.sync-N,
-    subst (λ xs. (r : ℕ) → r < length xs → get_or (map g.N.Number.number xs) r 0 ≤ MOST_KEYS) (sym c.deref.ensures.value)
-        (counts-few g.N.Number.number g.N.Number.most c.args.offer.now c.requires.offer.is_offer c.in_ok-counts.counts.items c.in_ok-counts.ensures.counts),
-  ),
-)
+greatest_of-size-requires g c = record {
+  few =
+      subst (λ xs. (r : ℕ) → r < length xs → get_or (map g.N.Number.number xs) r 0 ≤ MOST_KEYS) (sym c.deref.ensures.value)
+      (counts-few g.N.Number.number g.N.Number.most c.args.offer.now c.requires.offer.is_offer c.in_ok-counts.counts.items c.in_ok-counts.ensures.counts);
+}
 
 pub loop-alloc-init : goal.loop-alloc-init
 loop-alloc-init g c =
@@ -50,7 +47,7 @@ overflow_add-whole g c =
     omega (arith, c.loop-alloc.invariant.so_far.more, offer-few number g.N.Number.most c.args.offer.now c.requires.offer.is_offer (marks number c.args.offer.now.low.now) (marks number c.loop-alloc.far.items))
 
 pub fits-requires-clause-count : goal.fits-requires-clause-count
-fits-requires-clause-count g c κs within =
+fits-requires-clause-count g c =
     let number = g.N.Number.number in
     subst (λ xs. c.loop-alloc.whole + c.loop-alloc.more ≡ count_in number c.args.offer.now (marks number c.args.offer.now.low.now) (marks number xs)) (sym c.deref-in-loop-alloc.ensures.value) c.loop-alloc.invariant.so_far.more
 
@@ -100,24 +97,24 @@ returns-clause-level g c =
     }
 
 pub fits-requires-clause-high : goal.fits-requires-clause-high
-fits-requires-clause-high g c κs out = ap length c.deref-in-loop-alloc.ensures.value ∙ c.loop-alloc.invariant.far
+fits-requires-clause-high g c = ap length c.deref-in-loop-alloc.ensures.value ∙ c.loop-alloc.invariant.far
 
 pub next_runs-requires-clause-few : goal.next_runs-requires-clause-few
-next_runs-requires-clause-few g c κs out = c.greatest_of-size.ensures.few
+next_runs-requires-clause-few g c = c.greatest_of-size.ensures.few
 
 pub next_runs-requires-clause-near : goal.next_runs-requires-clause-near
-next_runs-requires-clause-near g c κs out = ap length c.deref-3.ensures.value ∙ ap length c.in_ok-near.ensures.items ∙ c.requires.offer.is_offer.low
+next_runs-requires-clause-near g c = ap length c.deref-3.ensures.value ∙ ap length c.in_ok-near.ensures.items ∙ c.requires.offer.is_offer.low
 
 pub next_runs-requires-clause-counts : goal.next_runs-requires-clause-counts
-next_runs-requires-clause-counts g c κs out =
+next_runs-requires-clause-counts g c =
     subst (λ xs. HasEach c.args.offer.now.nodes (λ r n. n ≡ owner_count_in g.N.Number.number c.args.offer.now r) (map g.N.Number.number xs)) (sym c.deref-2.ensures.value) c.in_ok-counts.ensures.counts
 
 pub next_runs-requires-in-loop-alloc-clause-few : goal.next_runs-requires-in-loop-alloc-clause-few
-next_runs-requires-in-loop-alloc-clause-few g c κs out = omega (arith, c.loop-alloc.invariant.few)
+next_runs-requires-in-loop-alloc-clause-few g c = omega (arith, c.loop-alloc.invariant.few)
 
 pub next_runs-requires-in-loop-alloc-clause-near : goal.next_runs-requires-in-loop-alloc-clause-near
-next_runs-requires-in-loop-alloc-clause-near g c κs out = ap length c.deref-in-loop-alloc-3.ensures.value ∙ c.loop-alloc.invariant.far
+next_runs-requires-in-loop-alloc-clause-near g c = ap length c.deref-in-loop-alloc-3.ensures.value ∙ c.loop-alloc.invariant.far
 
 pub next_runs-requires-in-loop-alloc-clause-counts : goal.next_runs-requires-in-loop-alloc-clause-counts
-next_runs-requires-in-loop-alloc-clause-counts g c κs out =
+next_runs-requires-in-loop-alloc-clause-counts g c =
     subst (λ xs. HasEach c.args.offer.now.nodes (λ r n. n ≡ owner_count_in g.N.Number.number c.args.offer.now r) (map g.N.Number.number xs)) (sym c.deref-in-loop-alloc-2.ensures.value) c.in_ok-counts.ensures.counts

@@ -22,27 +22,19 @@ returns-in-Precise-clause-size g c =
     ∙ (λ i. digest_size ((sym c.in-Precise.is ∙ c.digest_kind.ensures) i) (table_in g.H.Written.lists (c.table.view_is i)))
 
 pub total_held-requires : goal.total_held-requires
-total_held-requires g c = (
-  c.type_bounds.send-N,
-  (
-    c.type_bounds.sync-N,
-    record {
-      whole = ap length c.deref.ensures.value ∙ sym (length-map c.table.inside.greatest.items g.N.Number.number) ∙ c.table.invariant.greatest_count ∙ omega arith;
-      few_nodes = c.table.invariant.proper.nodes_limit;
-      few_keys = omega arith;
-    },
-  ),
-)
+total_held-requires g c = record {
+  grid = record {
+    whole = ap length c.deref.ensures.value ∙ sym (length-map c.table.inside.greatest.items g.N.Number.number) ∙ c.table.invariant.greatest_count ∙ omega arith;
+    few_nodes = c.table.invariant.proper.nodes_limit;
+    few_keys = omega arith;
+  };
+}
 
 pub total_held-requires-in-Precise : goal.total_held-requires-in-Precise
-total_held-requires-in-Precise g c = (
-  c.type_bounds.send-N,
-  (
-    c.type_bounds.sync-N,
-    record {
-      whole = ap length c.deref-in-Precise.ensures.value ∙ sym (length-map c.table.inside.cells.items g.N.Number.number) ∙ c.table.invariant.cell_count;
-      few_nodes = c.table.invariant.proper.nodes_limit;
-      few_keys = c.table.invariant.proper.keys_limit;
-    },
-  ),
-)
+total_held-requires-in-Precise g c = record {
+  grid = record {
+    whole = ap length c.deref-in-Precise.ensures.value ∙ sym (length-map c.table.inside.cells.items g.N.Number.number) ∙ c.table.invariant.cell_count;
+    few_nodes = c.table.invariant.proper.nodes_limit;
+    few_keys = c.table.invariant.proper.keys_limit;
+  };
+}

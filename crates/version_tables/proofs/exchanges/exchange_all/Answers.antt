@@ -3,12 +3,12 @@ use Rattle.version_tables.proofs.Merged.{stays-back, stays-forth, merged-whole}
 use Rattle.version_tables.proofs.exchanges.exchange_all.Goals as goal
 
 pub merge-came-requires-clause-initiator : goal.merge-came-requires-clause-initiator
-merge-came-requires-clause-initiator g c κs out =
+merge-came-requires-clause-initiator g c =
     stays-back g.H.Written.lists c.args.rules.now c.args.plan.now g.N.Number.most c.args.histories.now c.lists-lists.ensures.so_far c.lists-lists.ensures.writes c.args.initiator.now c.args.responder.now c.requires.kept c.digest_size-digest2.ensures.kept
     c.requires.may.initiator_fits c.requires.may.responder_fits c.requires.may.tables.nodes c.requires.may.tables.keys c.requires.may.tables.rotation c.requires.merge
 
 pub merge-came-requires-clause-responder : goal.merge-came-requires-clause-responder
-merge-came-requires-clause-responder g c κs out =
+merge-came-requires-clause-responder g c =
     stays-forth g.H.Written.lists c.args.rules.now c.args.plan.now g.N.Number.most c.args.histories.now c.lists-lists.ensures.so_far c.lists-lists.ensures.writes c.args.initiator.now c.args.responder.now c.requires.kept c.digest_size-digest2.ensures.kept
     c.requires.may.initiator_fits c.requires.may.responder_fits c.requires.may.tables.nodes c.requires.may.tables.keys c.requires.may.tables.rotation c.requires.merge
 

@@ -33,43 +33,45 @@ as_many : (nothing : Bool) (lists : ℕ → List Entry) (bases : ℕ → ℕ) (t
 as_many true lists bases to new sent low high is = ap (λ (v : VersionTableView). length v.cells) is
 as_many false lists bases to new sent low high has = has.taken.cell_count
 
-pub take_both-requires-clause-may : goal.take_both-requires-clause-may
-take_both-requires-clause-may g c κs out =
-    let number = g.N.Number.number in
-    let h = c.args.histories.now in
-    let initiator = c.args.initiator.now in
-    let responder = c.args.responder.now in
-    let nodes = c.requires.may.tables.nodes in
-    let back = c.in_ok-back.ensures.delta in
-    let forth = c.in_ok-forth.ensures.delta in
-    let low_back = c.in_ok-back.back.low.items in
-    let high_back = c.in_ok-back.back.high.items in
-    let low_forth = c.in_ok-forth.forth.low.items in
-    let high_forth = c.in_ok-forth.forth.high.items in
-    let numbered = λ (owner : ℕ). (c.lists.ensures.so_far owner).numbered in
-    let cells : length responder.cells ≡ length initiator.cells =
-    c.digest_size-digest2.ensures.kept.cell_count ∙ (λ i. sym c.requires.may.tables.keys i * sym nodes i) ∙ sym c.requires.kept.cell_count
-    in
-    record {
-      first = record {
-        cells = cells;
-        low_count = sym (length-map low_back number) ∙ back.low_count ∙ sym nodes;
-        high_count = sym (length-map high_back number) ∙ back.high_count ∙ sym nodes;
-        known = owners-are number h _ initiator.nodes c.requires.may.initiator_fits.nodes c.lists.ensures.value c.bases.ensures.value numbered;
-        stays =
-            stays_back g.H.Written.lists c.args.rules.now c.args.plan.now g.N.Number.most h c.lists.ensures.so_far c.bases.ensures.writes initiator responder c.requires.kept c.digest_size-digest2.ensures.kept
-            c.requires.may.initiator_fits c.requires.may.responder_fits nodes c.requires.may.tables.keys _ _ _ _ _ _ _ _ back forth c.lists.result.now c.lists.ensures.value;
+pub take_both-requires : goal.take_both-requires
+take_both-requires g c = record {
+  may =
+      let number = g.N.Number.number in
+      let h = c.args.histories.now in
+      let initiator = c.args.initiator.now in
+      let responder = c.args.responder.now in
+      let nodes = c.requires.may.tables.nodes in
+      let back = c.in_ok-back.ensures.delta in
+      let forth = c.in_ok-forth.ensures.delta in
+      let low_back = c.in_ok-back.back.low.items in
+      let high_back = c.in_ok-back.back.high.items in
+      let low_forth = c.in_ok-forth.forth.low.items in
+      let high_forth = c.in_ok-forth.forth.high.items in
+      let numbered = λ (owner : ℕ). (c.lists.ensures.so_far owner).numbered in
+      let cells : length responder.cells ≡ length initiator.cells =
+      c.digest_size-digest2.ensures.kept.cell_count ∙ (λ i. sym c.requires.may.tables.keys i * sym nodes i) ∙ sym c.requires.kept.cell_count
+      in
+      record {
+        first = record {
+          cells = cells;
+          low_count = sym (length-map low_back number) ∙ back.low_count ∙ sym nodes;
+          high_count = sym (length-map high_back number) ∙ back.high_count ∙ sym nodes;
+          known = owners-are number h _ initiator.nodes c.requires.may.initiator_fits.nodes c.lists.ensures.value c.bases.ensures.value numbered;
+          stays =
+              stays_back g.H.Written.lists c.args.rules.now c.args.plan.now g.N.Number.most h c.lists.ensures.so_far c.bases.ensures.writes initiator responder c.requires.kept c.digest_size-digest2.ensures.kept
+              c.requires.may.initiator_fits c.requires.may.responder_fits nodes c.requires.may.tables.keys _ _ _ _ _ _ _ _ back forth c.lists.result.now c.lists.ensures.value;
+        };
+        second = λ after took. record {
+          cells = as_many c.is_nothing.result _ _ initiator after _ _ _ took ∙ sym cells;
+          low_count = sym (length-map low_forth number) ∙ forth.low_count ∙ nodes;
+          high_count = sym (length-map high_forth number) ∙ forth.high_count ∙ nodes;
+          known = owners-are number h _ responder.nodes c.requires.may.responder_fits.nodes c.lists.ensures.value c.bases.ensures.value numbered;
+          stays =
+              stays_forth g.H.Written.lists c.args.rules.now c.args.plan.now g.N.Number.most h c.lists.ensures.so_far c.bases.ensures.writes initiator responder c.requires.kept c.digest_size-digest2.ensures.kept
+              c.requires.may.initiator_fits c.requires.may.responder_fits nodes c.requires.may.tables.keys _ _ _ _ _ _ _ _ back forth c.lists.result.now c.lists.ensures.value c.is_nothing.result after took;
+        };
       };
-      second = λ after took. record {
-        cells = as_many c.is_nothing.result _ _ initiator after _ _ _ took ∙ sym cells;
-        low_count = sym (length-map low_forth number) ∙ forth.low_count ∙ nodes;
-        high_count = sym (length-map high_forth number) ∙ forth.high_count ∙ nodes;
-        known = owners-are number h _ responder.nodes c.requires.may.responder_fits.nodes c.lists.ensures.value c.bases.ensures.value numbered;
-        stays =
-            stays_forth g.H.Written.lists c.args.rules.now c.args.plan.now g.N.Number.most h c.lists.ensures.so_far c.bases.ensures.writes initiator responder c.requires.kept c.digest_size-digest2.ensures.kept
-            c.requires.may.initiator_fits c.requires.may.responder_fits nodes c.requires.may.tables.keys _ _ _ _ _ _ _ _ back forth c.lists.result.now c.lists.ensures.value c.is_nothing.result after took;
-      };
-    }
+}
 
 pub returns-clause-ok : goal.returns-clause-ok
 returns-clause-ok g c =
@@ -78,19 +80,23 @@ returns-clause-ok g c =
     c.args.digest1 c.digest_size-digest2.result c.requires.digest1 c.digest_size-digest2.ensures.size c.requires.came c.if-plan.false _ _ c.is_nothing.ensures (ap (λ b. c.args.plan.now.lost3 || b) c.is_nothing-2.ensures)
     c.take_both.new.initiator c.take_both.new.responder c.in_ok-take_both.ensures.ok.first c.in_ok-take_both.ensures.ok.second c.sent_both.result c.sent_both.ensures
 
-pub delta-requires-clause-may : goal.delta-requires-clause-may
-delta-requires-clause-may g c κs out =
-    let may = c.requires.may in
-    record {
-      budget = may.budget;
-      nodes = sym may.tables.nodes;
-      keys = sym may.tables.keys;
-      rotation = subst (λ n. c.args.plan.now.rotation < n) may.tables.nodes may.tables.rotation;
-      sender = may.responder_fits;
-      receiver = may.initiator_fits;
-    }
+pub delta-requires : goal.delta-requires
+delta-requires g c = record {
+  may =
+      let may = c.requires.may in
+      record {
+        budget = may.budget;
+        nodes = sym may.tables.nodes;
+        keys = sym may.tables.keys;
+        rotation = subst (λ n. c.args.plan.now.rotation < n) may.tables.nodes may.tables.rotation;
+        sender = may.responder_fits;
+        receiver = may.initiator_fits;
+      };
+}
 
-pub delta-requires-2-clause-may : goal.delta-requires-2-clause-may
-delta-requires-2-clause-may g c κs out =
-    let may = c.requires.may in
-    record { budget = may.budget; nodes = may.tables.nodes; keys = may.tables.keys; rotation = may.tables.rotation; sender = may.initiator_fits; receiver = may.responder_fits }
+pub delta-requires-2 : goal.delta-requires-2
+delta-requires-2 g c = record {
+  may =
+      let may = c.requires.may in
+      record { budget = may.budget; nodes = may.tables.nodes; keys = may.tables.keys; rotation = may.tables.rotation; sender = may.initiator_fits; receiver = may.responder_fits };
+}

@@ -7,10 +7,12 @@ use Rattle.version_tables.specs.inner.Pieces.{MayWalk, most_lag}
 use Rattle.version_tables.proofs.Whole.{laid-is, lasts-are, may-walk, figures-are}
 use Rattle.version_tables.proofs.lags.figures.Goals as goal
 
-pub lasts-last-requires-clause-keys : goal.lasts-last-requires-clause-keys
-lasts-last-requires-clause-keys g c κs within =
-    let laid = laid-is g.H.Written.lists c.args.tables.now c.args.histories.now.lists g.N.Number.most c.args.histories.now.rounds c.requires.cluster c.requires.one_list_each c.requires.standing c.lists-lists.ensures.writes c.lists-lists.ensures.so_far in
-    omega (arith, laid.together.few_keys, c.keys_of-keys.ensures)
+pub lasts-last-requires : goal.lasts-last-requires
+lasts-last-requires g c = record {
+  keys =
+      let laid = laid-is g.H.Written.lists c.args.tables.now c.args.histories.now.lists g.N.Number.most c.args.histories.now.rounds c.requires.cluster c.requires.one_list_each c.requires.standing c.lists-lists.ensures.writes c.lists-lists.ensures.so_far in
+      omega (arith, laid.together.few_keys, c.keys_of-keys.ensures);
+}
 
 pub counted-requires-clause-laid : goal.counted-requires-clause-laid
 counted-requires-clause-laid g c κs within =
@@ -24,7 +26,7 @@ counted-requires-clause-last g c κs within =
     lasts-are g.H.Written.lists views lists laid c.keys_of-keys.result c.keys_of-keys.ensures (map g.N.Number.number c.lasts-last.result.now) c.lasts-last.ensures
 
 pub greatest_lag-requires-clause-walk : goal.greatest_lag-requires-clause-walk
-greatest_lag-requires-clause-walk g c κs within =
+greatest_lag-requires-clause-walk g c =
     let views = c.args.tables.now in
     let lists = c.args.histories.now.lists in
     let whole = c.in_ok-whole.whole in
@@ -35,7 +37,7 @@ greatest_lag-requires-clause-walk g c κs within =
     g.N.Number.most (λ r. (c.lists-lists.ensures.so_far r).few)))
 
 pub greatest_lag-requires-clause-last : goal.greatest_lag-requires-clause-last
-greatest_lag-requires-clause-last g c κs within =
+greatest_lag-requires-clause-last g c =
     subst (λ ls. HasEachPlace (length ls) c.keys_of-keys.result (λ r k y. IsLastNumber (list_of_owner ls r) k y) (map g.N.Number.number c.lasts-last.result.now)) (sym c.lists-lists.ensures.value) c.lasts-last.ensures
 
 pub returns-clause-figures : goal.returns-clause-figures

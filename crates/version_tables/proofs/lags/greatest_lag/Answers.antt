@@ -7,8 +7,8 @@ use Rattle.version_tables.specs.inner.Pieces.{most_lag}
 use Rattle.version_tables.proofs.Walks.{walks-from, lag-since, most-next, most-stays}
 use Rattle.version_tables.proofs.lags.greatest_lag.Goals as goal
 
-pub lag_of_owner-lag-requires-after_bounds : goal.lag_of_owner-lag-requires-after_bounds
-lag_of_owner-lag-requires-after_bounds g c κs within =
+pub lag_of_owner-lag-requires : goal.lag_of_owner-lag-requires
+lag_of_owner-lag-requires g c =
     let lists = c.args.lists.now in
     let r = c.loop-owner.owner in
     let lt = c.loop-owner-test.true in

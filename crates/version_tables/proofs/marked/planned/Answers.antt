@@ -36,7 +36,7 @@ returns-clause-marked g c =
     (subst (λ first. AreShared first c.args.rotation g.N.Number.number c.args.offer.now (marks g.N.Number.number c.in_ok-level.level.near.items) (marks g.N.Number.number c.in_ok-level.level.far.items) (marks g.N.Number.number c.in_ok-share.share.mark.items) c.in_ok-share.share.sent) c.first-first.ensures c.in_ok-share.ensures.shared)
 
 pub level_of-requires-clause-offer : goal.level_of-requires-clause-offer
-level_of-requires-clause-offer g c κs out = record {
+level_of-requires-clause-offer g c = record {
   is_offer = c.requires.offer;
   beyond =
       elim (cases_lt (amount_of c.args.offer.now.budget) (weight_in g.N.Number.number c.args.offer.now (marks g.N.Number.number c.args.offer.now.low.now) (marks g.N.Number.number c.args.offer.now.high.now))) [
@@ -46,7 +46,7 @@ level_of-requires-clause-offer g c κs out = record {
 }
 
 pub share-requires-clause-level : goal.share-requires-clause-level
-share-requires-clause-level g c κs out = subst (λ first. IsLevel first g.N.Number.number c.args.offer.now c.in_ok-level.level) (sym c.first-first.ensures) c.in_ok-level.ensures.level
+share-requires-clause-level g c = subst (λ first. IsLevel first g.N.Number.number c.args.offer.now c.in_ok-level.level) (sym c.first-first.ensures) c.in_ok-level.ensures.level
 
 pub returns-clause-size : goal.returns-clause-size
 returns-clause-size g c = c.in_ok-share.ensures.size

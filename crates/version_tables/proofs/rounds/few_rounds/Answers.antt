@@ -48,17 +48,17 @@ loop-few-preserved g c =
     ]
 
 pub mark_after-requires-clause-ends : goal.mark_after-requires-clause-ends
-mark_after-requires-clause-ends g c κs out = sym (length-map c.args.ends.numbers.now g.N.Number.number) ∙ c.requires.ends.are_ends.size
+mark_after-requires-clause-ends g c = sym (length-map c.args.ends.numbers.now g.N.Number.number) ∙ c.requires.ends.are_ends.size
 
 pub mark_after-requires-clause-count : goal.mark_after-requires-clause-count
-mark_after-requires-clause-count g c κs out = omega (arith, c.min-by.ensures, c.loop-few-test.true, c.loop-few.invariant.found.bound)
+mark_after-requires-clause-count g c = omega (arith, c.min-by.ensures, c.loop-few-test.true, c.loop-few.invariant.found.bound)
 
 pub look-found_there-requires-clause-mark : goal.look-found_there-requires-clause-mark
-look-found_there-requires-clause-mark g c κs out =
+look-found_there-requires-clause-mark g c =
     ap length c.deref.ensures.value ∙ sym (length-map c.in_ok-mark.mark.items g.N.Number.number) ∙ c.in_ok-mark.ensures.marks.size
 
 pub look-found_there-requires-clause-above : goal.look-found_there-requires-clause-above
-look-found_there-requires-clause-above g c κs out = λ r lt.
+look-found_there-requires-clause-above g c = λ r lt.
     omega (arith, ap (λ xs. get_or (map g.N.Number.number xs) r 0) c.deref.ensures.value ∙ c.in_ok-mark.ensures.marks.each r lt)
 
 pub overflow_add-few : goal.overflow_add-few

@@ -11,11 +11,11 @@ overflow_sub-count g c =
     omega (arith, c.requires.found, c.total_above-above.ensures, count-oldest g.N.Number.number g.N.Number.most c.args.offer.now c.requires.offer (marks g.N.Number.number c.args.mark.now) c.requires.above)
 
 pub fits-fits-requires-clause-count : goal.fits-fits-requires-clause-count
-fits-fits-requires-clause-count g c κs within =
+fits-fits-requires-clause-count g c =
     omega (arith, c.requires.found, c.total_above-above.ensures, count-oldest g.N.Number.number g.N.Number.most c.args.offer.now c.requires.offer (marks g.N.Number.number c.args.mark.now) c.requires.above)
 
 pub fits-fits-requires-in-Newest-clause-count : goal.fits-fits-requires-in-Newest-clause-count
-fits-fits-requires-in-Newest-clause-count g c κs within =
+fits-fits-requires-in-Newest-clause-count g c =
     c.total_above-above.ensures ∙ count-newest g.N.Number.number g.N.Number.most c.args.offer.now c.requires.offer (marks g.N.Number.number c.args.mark.now)
 
 pub returns-in-Newest-clause-count : goal.returns-in-Newest-clause-count

@@ -16,16 +16,16 @@ returns-clause-rounds g c =
     c.in_ok-near.ensures.marks c.in_ok-far.ensures.marks
 
 pub mark_after-requires-clause-ends : goal.mark_after-requires-clause-ends
-mark_after-requires-clause-ends g c κs out = sym (length-map c.args.ends.numbers.now g.N.Number.number) ∙ c.requires.ends.are_ends.size
+mark_after-requires-clause-ends g c = sym (length-map c.args.ends.numbers.now g.N.Number.number) ∙ c.requires.ends.are_ends.size
 
 pub mark_after-requires-clause-count : goal.mark_after-requires-clause-count
-mark_after-requires-clause-count g c κs out = omega (arith, c.in_ok-few.ensures.few.below, c.in_ok-few.ensures.few.bound)
+mark_after-requires-clause-count g c = omega (arith, c.in_ok-few.ensures.few.below, c.in_ok-few.ensures.few.bound)
 
 pub mark_after-requires-2-clause-ends : goal.mark_after-requires-2-clause-ends
-mark_after-requires-2-clause-ends g c κs out = sym (length-map c.args.ends.numbers.now g.N.Number.number) ∙ c.requires.ends.are_ends.size
+mark_after-requires-2-clause-ends g c = sym (length-map c.args.ends.numbers.now g.N.Number.number) ∙ c.requires.ends.are_ends.size
 
 pub mark_after-requires-2-clause-count : goal.mark_after-requires-2-clause-count
-mark_after-requires-2-clause-count g c κs out = c.in_ok-few.ensures.few.bound
+mark_after-requires-2-clause-count g c = c.in_ok-few.ensures.few.bound
 
 pub overflow_add-few : goal.overflow_add-few
 overflow_add-few g c = omega (arith, c.in_ok-few.ensures.few.bound)

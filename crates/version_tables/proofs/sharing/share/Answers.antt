@@ -6,19 +6,19 @@ use Rattle.version_tables.specs.inner.Turns.{AreKnownCounts}
 use Rattle.version_tables.proofs.sharing.share.Goals as goal
 
 pub share_into-sent-requires-clause-turns : goal.share_into-sent-requires-clause-turns
-share_into-sent-requires-clause-turns g c κs out = record {
+share_into-sent-requires-clause-turns g c = record {
   rotation = c.requires.rotation;
   level = c.requires.level;
 }
 
 pub share_into-sent-requires-clause-counts : goal.share_into-sent-requires-clause-counts
-share_into-sent-requires-clause-counts g c κs out =
+share_into-sent-requires-clause-counts g c =
     let numbers = c.in_ok-counts.ensures.numbers in
     subst (λ xs. AreKnownCounts c.args.first g.N.Number.number g.N.Number.most c.args.offer.now c.args.level.now (map g.N.Number.number xs)) (sym c.deref_mut.ensures.value)
     (record { size = numbers.size; each = λ r lt. inl (numbers.each r lt ∙ c.greatest.ensures) })
 
 pub share_into-sent-requires-clause-mark : goal.share_into-sent-requires-clause-mark
-share_into-sent-requires-clause-mark g c κs out = c.deref_mut-2.ensures.value ∙ c.in_ok-mark.ensures.items ∙ c.deref.ensures.value
+share_into-sent-requires-clause-mark g c = c.deref_mut-2.ensures.value ∙ c.in_ok-mark.ensures.items ∙ c.deref.ensures.value
 
 pub returns-clause-size : goal.returns-clause-size
 returns-clause-size g c =

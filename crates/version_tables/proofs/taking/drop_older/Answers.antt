@@ -33,9 +33,9 @@ starts g c =
     (number-at g.N.Number.number c.args.owners.bases.now c.loop-owner.owner c.index-bases-owner.result (omega (arith, c.requires.owners.bases.size, length-map c.args.owners.bases.now g.N.Number.number, c.loop-owner-test.true)) c.index-bases-owner.is i)
     (number-at g.N.Number.number c.args.greatest.now c.loop-owner.owner c.index-greatest-owner.result (omega (arith, c.requires.greatest, c.loop-owner-test.true)) c.index-greatest-owner.is i))
 
-pub drop_from-start-requires-after_bounds : goal.drop_from-start-requires-after_bounds
-drop_from-start-requires-after_bounds g c =
-    λ κs out. subst IsNumberedHistory (all_writes-here c.args.owners.lists.now c.loop-owner.owner c.index-lists-owner.result (omega (arith, c.requires.owners.count, c.loop-owner-test.true)) c.index-lists-owner.is) (c.requires.owners.numbered c.loop-owner.owner)
+pub drop_from-start-requires : goal.drop_from-start-requires
+drop_from-start-requires g c =
+    subst IsNumberedHistory (all_writes-here c.args.owners.lists.now c.loop-owner.owner c.index-lists-owner.result (omega (arith, c.requires.owners.count, c.loop-owner-test.true)) c.index-lists-owner.is) (c.requires.owners.numbered c.loop-owner.owner)
 
 pub loop-owner-init : goal.loop-owner-init
 loop-owner-init g c = owners-none _ c.args.nodes c.args.keys (map g.N.Number.number c.args.cells.now)

@@ -45,28 +45,30 @@ returns g c =
     has-taken (all_writes c.args.owners.lists.now) (bases_in c.args.owners.lists.now) (map g.N.Number.number c.args.cells.now) (map g.N.Number.number c.args.arrival.marks.now.low.items) (map g.N.Number.number c.args.arrival.marks.now.high.items)
     (old g c) c.args.table.now c.table.view_is _ _ (taken g c) c.args.arrival.nothing c.if-arrival.false
 
-pub take-requires-clause-may : goal.take-requires-clause-may
-take-requires-clause-may g c κs out =
-    let number = g.N.Number.number in
-    let inside = c.table.inside in
-    let nodes = sym (ap (λ (v : VersionTableView). v.nodes) c.table.view_is) in
-    record {
-      grid = record {
-        whole = ap length c.deref_mut.ensures.value ∙ sym (length-map inside.cells.items number) ∙ c.table.invariant.cell_count;
-        few_nodes = c.table.invariant.proper.nodes_limit;
-        few_keys = c.table.invariant.proper.keys_limit;
+pub take-requires : goal.take-requires
+take-requires g c = record {
+  may =
+      let number = g.N.Number.number in
+      let inside = c.table.inside in
+      let nodes = sym (ap (λ (v : VersionTableView). v.nodes) c.table.view_is) in
+      record {
+        grid = record {
+          whole = ap length c.deref_mut.ensures.value ∙ sym (length-map inside.cells.items number) ∙ c.table.invariant.cell_count;
+          few_nodes = c.table.invariant.proper.nodes_limit;
+          few_keys = c.table.invariant.proper.keys_limit;
+        };
+        greatest_count = ap length c.deref_mut-2.ensures.value ∙ sym (length-map inside.greatest.items number) ∙ c.table.invariant.greatest_count;
+        sent_count = sym (length-map c.args.cells.now number) ∙ c.requires.may.cells ∙ sym (ap (λ (v : VersionTableView). length v.cells) c.table.view_is) ∙ length-map inside.cells.items number ∙ sym (ap length c.deref_mut.ensures.value);
+        low_count = ap length c.deref.ensures.value ∙ c.requires.may.low_count ∙ nodes;
+        high_count = ap length c.deref-2.ensures.value ∙ c.requires.may.high_count ∙ nodes;
+        covered =
+            subst (λ xs. AreCovered inside.nodes inside.keys (map number xs) (map number c.deref_mut-2.result.now)) (sym c.deref_mut.ensures.value)
+            (subst (λ xs. AreCovered inside.nodes inside.keys (map number inside.cells.items) (map number xs)) (sym c.deref_mut-2.ensures.value) (λ owner lt. (c.table.invariant.most owner lt).upto));
       };
-      greatest_count = ap length c.deref_mut-2.ensures.value ∙ sym (length-map inside.greatest.items number) ∙ c.table.invariant.greatest_count;
-      sent_count = sym (length-map c.args.cells.now number) ∙ c.requires.may.cells ∙ sym (ap (λ (v : VersionTableView). length v.cells) c.table.view_is) ∙ length-map inside.cells.items number ∙ sym (ap length c.deref_mut.ensures.value);
-      low_count = ap length c.deref.ensures.value ∙ c.requires.may.low_count ∙ nodes;
-      high_count = ap length c.deref-2.ensures.value ∙ c.requires.may.high_count ∙ nodes;
-      covered =
-          subst (λ xs. AreCovered inside.nodes inside.keys (map number xs) (map number c.deref_mut-2.result.now)) (sym c.deref_mut.ensures.value)
-          (subst (λ xs. AreCovered inside.nodes inside.keys (map number inside.cells.items) (map number xs)) (sym c.deref_mut-2.ensures.value) (λ owner lt. (c.table.invariant.most owner lt).upto));
-    }
+}
 
 pub drop_older-requires-clause-grid : goal.drop_older-requires-clause-grid
-drop_older-requires-clause-grid g c κs out =
+drop_older-requires-clause-grid g c =
     let number = g.N.Number.number in
     let inside = c.table.inside in
     record {
@@ -76,13 +78,13 @@ drop_older-requires-clause-grid g c κs out =
     }
 
 pub drop_older-requires-clause-before : goal.drop_older-requires-clause-before
-drop_older-requires-clause-before g c κs out =
+drop_older-requires-clause-before g c =
     sym (length-map c.args.before.now g.N.Number.number) ∙ ap length c.requires.before ∙ sym (ap (λ (v : VersionTableView). length v.greatest) c.table.view_is) ∙ c.table.invariant.greatest_count
 
 pub drop_older-requires-clause-greatest : goal.drop_older-requires-clause-greatest
-drop_older-requires-clause-greatest g c κs out =
+drop_older-requires-clause-greatest g c =
     ap length (c.deref-3.ensures.value ∙ with_items_is c.table.inside.greatest c.take.new.greatest (c.take.auto.greatest ∙ c.deref_mut-2.ensures.len)) ∙ sym (length-map c.take.new.greatest g.N.Number.number) ∙ c.take.ensures.greatest.size
 
 pub drop_older-requires-clause-owners : goal.drop_older-requires-clause-owners
-drop_older-requires-clause-owners g c κs out =
+drop_older-requires-clause-owners g c =
     subst (λ nodes. AreOwners g.N.Number.number nodes c.args.owners) (sym (ap (λ (v : VersionTableView). v.nodes) c.table.view_is)) c.requires.may.known

@@ -8,12 +8,12 @@ use Rattle.version_tables.proofs.Starts.{all_writes-here}
 use Rattle.version_tables.proofs.told_marks.put_each_start.Goals as goal
 
 pub earlier_start-requires-clause-numbered : goal.earlier_start-requires-clause-numbered
-earlier_start-requires-clause-numbered g c κs within =
+earlier_start-requires-clause-numbered g c =
     let lt : c.loop-r.r < length c.args.owners.lists.now = omega (arith, c.loop-r-test.true, c.requires.count, length-map c.args.numbers.now g.N.Number.number) in
     subst IsNumberedHistory (all_writes-here c.args.owners.lists.now c.loop-r.r c.index-lists-r.result lt c.index-lists-r.is) (c.requires.numbered c.loop-r.r)
 
 pub earlier_start-requires-clause-fits : goal.earlier_start-requires-clause-fits
-earlier_start-requires-clause-fits g c κs within =
+earlier_start-requires-clause-fits g c =
     let lt : c.loop-r.r < length c.args.owners.lists.now = omega (arith, c.loop-r-test.true, c.requires.count, length-map c.args.numbers.now g.N.Number.number) in
     let number = number-at g.N.Number.number c.loop-r.numbers c.loop-r.r c.index-numbers-r.result (omega (arith, c.loop-r-test.true, c.loop-r.auto.numbers)) c.index-numbers-r.is
     ∙ c.loop-r.invariant.from c.loop-r.r (omega arith) in

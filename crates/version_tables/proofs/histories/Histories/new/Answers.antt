@@ -5,7 +5,7 @@ use Rattle.version_tables.proofs.histories.Histories.new.Goals as goal
 pub invariant_of-result : goal.invariant_of-result
 invariant_of-result g c =
     let n = g.N.Number.number in
-    histories-empty g.H.Written.lists g.N.Number.most c.args.nodes c.in_ok-no_lists.field-0.items (omega (arith, (g.met.N.Number g.world.𝓛 g.world.𝓜 g.world.𝓡 ((λ s x. x), (λ x. x), (λ x. x), λ x. x)).counts_keys)) c.requires
+    histories-empty g.H.Written.lists g.N.Number.most c.args.nodes c.in_ok-no_lists.field-0.items (omega (arith, g.met.N.Number.counts_keys)) c.requires
     c.in_ok-no_lists.ensures.count c.in_ok-no_lists.ensures.empty
     (map n c.in_ok-zeros.field-0.items) (map n c.in_ok-zeros-2.field-0.items) (map n c.in_ok-zeros-3.field-0.items) (map n c.in_ok-zeros-4.field-0.items)
     c.in_ok-zeros.ensures.zeros c.in_ok-zeros-2.ensures.zeros c.in_ok-zeros-3.ensures.zeros c.in_ok-zeros-4.ensures.zeros

@@ -14,7 +14,7 @@ loop-at-init g c =
     subst (λ xs. CountsPiece c.args.self.now.nodes c.args.self.now.keys cells bases last c.args.from 0 0 0 (map number xs)) (sym c.in_ok-least.ensures.items) (counts-none c.args.self.now.nodes c.args.self.now.keys cells bases last c.args.from)
 
 pub count_behind-behind-requires-clause-cells : goal.count_behind-behind-requires-clause-cells
-count_behind-behind-requires-clause-cells g c κs within =
+count_behind-behind-requires-clause-cells g c =
     let number = g.N.Number.number in
     let cells = numbers_in number c.args.self.now.cells.now in
     let p = c.args.from + c.loop-at.at in
@@ -24,7 +24,7 @@ count_behind-behind-requires-clause-cells g c κs within =
     omega (arith, length-map here.now number, ap length read, c.requires.numbers.grids.alike p lt, length-map c.loop-at.least.items number, c.loop-at.invariant.size, ap length c.deref_mut.ensures.value)
 
 pub left_over-requires-clause-grid : goal.left_over-requires-clause-grid
-left_over-requires-clause-grid g c κs within =
+left_over-requires-clause-grid g c =
     let number = g.N.Number.number in
     let p = c.args.from + c.loop-at.at in
     let here = c.index-cells-from.result in
@@ -53,15 +53,15 @@ loop-at-preserved g c =
     (c.from-stale.ensures ∙ c.count_behind-behind.ensures.count) (c.from-leftover.ensures ∙ c.left_over.ensures) changed c.loop-at.invariant)
 
 pub count_behind-behind-requires-clause-grid : goal.count_behind-behind-requires-clause-grid
-count_behind-behind-requires-clause-grid g c κs out =
+count_behind-behind-requires-clause-grid g c =
     subst (IsGrid c.args.self.now.nodes c.args.self.now.keys) (sym (ap length c.deref_mut.ensures.value ∙ sym (length-map c.loop-at.least.items g.N.Number.number) ∙ c.loop-at.invariant.size)) c.requires.numbers.grids.grid
 
 pub count_behind-behind-requires-clause-last : goal.count_behind-behind-requires-clause-last
-count_behind-behind-requires-clause-last g c κs out =
+count_behind-behind-requires-clause-last g c =
     sym (length-map c.args.self.now.last.now g.N.Number.number) ∙ sym (ap length c.deref_mut.ensures.value ∙ sym (length-map c.loop-at.least.items g.N.Number.number) ∙ c.loop-at.invariant.size)
 
 pub left_over-requires-clause-bases : goal.left_over-requires-clause-bases
-left_over-requires-clause-bases g c κs out = sym (length-map c.args.self.now.bases.now g.N.Number.number) ∙ c.requires.numbers.grids.based
+left_over-requires-clause-bases g c = sym (length-map c.args.self.now.bases.now g.N.Number.number) ∙ c.requires.numbers.grids.based
 
 pub returns-clause-piece : goal.returns-clause-piece
 returns-clause-piece g c =

@@ -24,13 +24,13 @@ size-of Oldest near far n one other = one
 size-of Newest near far n one other = other
 
 pub count_some_between-requires-clause-low : goal.count_some_between-requires-clause-low
-count_some_between-requires-clause-low g c κs within =
+count_some_between-requires-clause-low g c =
     let turns = c.args.turns.now in
     ap length (c.by_first-low.ensures ∙ (λ i. by_first turns.first (c.deref.ensures.value i) (c.deref-2.ensures.value i)))
     ∙ size-of turns.first turns.level.now.near.items turns.level.now.far.items c.args.self.now.nodes c.requires.turns.level.near c.requires.turns.level.far
 
 pub count_some_between-requires-clause-high : goal.count_some_between-requires-clause-high
-count_some_between-requires-clause-high g c κs within =
+count_some_between-requires-clause-high g c =
     let turns = c.args.turns.now in
     ap length (c.by_first-high.ensures ∙ (λ i. by_first turns.first (c.deref-3.ensures.value i) (c.deref-4.ensures.value i)))
     ∙ size-of turns.first turns.level.now.far.items turns.level.now.near.items c.args.self.now.nodes c.requires.turns.level.far c.requires.turns.level.near

@@ -20,7 +20,7 @@ loop-turn-init g c =
     }
 
 pub weight_of_part-weight-requires-clause-count : goal.weight_of_part-weight-requires-clause-count
-weight_of_part-weight-requires-clause-count g c κs within =
+weight_of_part-weight-requires-clause-count g c =
     let number = g.N.Number.number in
     let owner = c.owner_of_turn-owner.result in
     let near = c.number_at-near.ensures ∙ ap (λ xs. marks number xs owner) c.deref.ensures.value in
@@ -93,19 +93,13 @@ unreachable-requires g c =
     (marks number c.loop-turn.mark) c.loop-turn.turn c.loop-turn.left c.loop-turn.sent c.loop-turn.invariant.so_far c.requires.turns.level.beyond c.loop-turn-test.false
 
 pub number_at-near-requires : goal.number_at-near-requires
-number_at-near-requires g c = (
-  c.type_bounds.send-N,
-  (c.type_bounds.sync-N, subst (λ n. c.owner_of_turn-owner.result < n) (sym (ap length c.deref.ensures.value ∙ c.requires.turns.level.near)) c.owner_of_turn-owner.ensures.below),
-)
+number_at-near-requires g c = subst (λ n. c.owner_of_turn-owner.result < n) (sym (ap length c.deref.ensures.value ∙ c.requires.turns.level.near)) c.owner_of_turn-owner.ensures.below
 
 pub number_at-far-requires : goal.number_at-far-requires
-number_at-far-requires g c = (
-  c.type_bounds.send-N,
-  (c.type_bounds.sync-N, subst (λ n. c.owner_of_turn-owner.result < n) (sym (ap length c.deref-in-loop-turn.ensures.value ∙ c.requires.turns.level.far)) c.owner_of_turn-owner.ensures.below),
-)
+number_at-far-requires g c = subst (λ n. c.owner_of_turn-owner.result < n) (sym (ap length c.deref-in-loop-turn.ensures.value ∙ c.requires.turns.level.far)) c.owner_of_turn-owner.ensures.below
 
 pub weight_of_part-weight-requires-clause-owner : goal.weight_of_part-weight-requires-clause-owner
-weight_of_part-weight-requires-clause-owner g c κs out = c.owner_of_turn-owner.ensures.below
+weight_of_part-weight-requires-clause-owner g c = c.owner_of_turn-owner.ensures.below
 
 pub loop-turn-smaller : goal.loop-turn-smaller
 loop-turn-smaller g c = omega (arith, c.loop-turn-test.true)

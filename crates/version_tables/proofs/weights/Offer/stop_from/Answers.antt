@@ -4,7 +4,7 @@ use Rattle.version_tables.proofs.StopSteps.{past-rest, some-next, few-from, next
 use Rattle.version_tables.proofs.weights.Offer.stop_from.Goals as goal
 
 pub next-next-requires-clause-some : goal.next-next-requires-clause-some
-next-next-requires-clause-some g c κs within =
+next-next-requires-clause-some g c =
     some-next (cells_in g.N.Number.number c.args.self.now) c.args.self.now.keys c.args.owner c.args.first (weights_in c.args.self.now c.args.owner) (g.N.Number.number c.args.near) (g.N.Number.number c.args.far) (omega (arith, c.requires.beyond))
 
 pub loop-weight-init : goal.loop-weight-init
@@ -13,16 +13,16 @@ loop-weight-init g c =
     (g.N.Number.number c.next-next.result) c.weight_of_number-weight.result c.next-next.ensures c.weight_of_number-weight.ensures.weight c.requires.beyond
 
 pub mark_past-mark-requires-clause-some : goal.mark_past-mark-requires-clause-some
-mark_past-mark-requires-clause-some g c κs within =
+mark_past-mark-requires-clause-some g c =
     (next-held (cells_in g.N.Number.number c.args.self.now) c.args.self.now.keys c.args.owner c.args.first (g.N.Number.number c.loop-weight.mark) (g.N.Number.number c.args.far) (g.N.Number.number c.loop-weight.next) c.loop-weight.invariant.next).3
 
 pub mark_past-mark-requires-clause-fits : goal.mark_past-mark-requires-clause-fits
-mark_past-mark-requires-clause-fits g c κs within =
+mark_past-mark-requires-clause-fits g c =
     let held = next-held (cells_in g.N.Number.number c.args.self.now) c.args.self.now.keys c.args.owner c.args.first (g.N.Number.number c.loop-weight.mark) (g.N.Number.number c.args.far) (g.N.Number.number c.loop-weight.next) c.loop-weight.invariant.next in
     omega (arith, held.2, c.requires.offer.below c.args.owner held.0 c.requires.owner held.1)
 
 pub next-next-requires-in-loop-weight-clause-some : goal.next-next-requires-in-loop-weight-clause-some
-next-next-requires-in-loop-weight-clause-some g c κs within =
+next-next-requires-in-loop-weight-clause-some g c =
     stop-more c.args.first (weights_in c.args.self.now c.args.owner) (cells_in g.N.Number.number c.args.self.now) c.args.self.now.keys c.args.owner (g.N.Number.number c.args.near) (g.N.Number.number c.args.far) c.args.room
     (g.N.Number.number c.loop-weight.mark) (g.N.Number.number c.loop-weight.next) c.loop-weight.weight c.loop-weight.left c.loop-weight.sent c.loop-weight.invariant
     (c.requires.offer.differ c.args.owner c.requires.owner) (g.N.Number.number c.mark_past-mark.result) c.mark_past-mark.ensures (omega (arith, c.loop-weight-test.true))

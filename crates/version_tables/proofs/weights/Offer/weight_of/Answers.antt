@@ -42,7 +42,7 @@ loop-key-preserved g c =
     ]
 
 pub cell_of-cell-requires-clause-key : goal.cell_of-cell-requires-clause-key
-cell_of-cell-requires-clause-key g c κs out = c.loop-key-test.true
+cell_of-cell-requires-clause-key g c = c.loop-key-test.true
 
-pub weight_of_number-weight-requires-clause-owner : goal.weight_of_number-weight-requires-clause-owner
-weight_of_number-weight-requires-clause-owner g c κs out = subst (λ n. c.args.owner < n) (sym c.requires.offer.lists) c.requires.owner
+pub weight_of_number-weight-requires : goal.weight_of_number-weight-requires
+weight_of_number-weight-requires g c = record { owner = subst (λ n. c.args.owner < n) (sym c.requires.offer.lists) c.requires.owner }

@@ -362,7 +362,8 @@ class Healing:
 
     def taken(self, stage, budget):
         found, ends = self.stages[stage], self.study.ends(stage)
-        return (found.forgotten_after if stage == "forgotten" else found.healed_after)(budget, self.mode, ends)
+        after = {"split": found.split_healed_after, "restart": found.healed_after, "forgotten": found.forgotten_after}
+        return after[stage](budget, self.mode, ends)
 
     def in_words(self, stage, budget):
         """How long it takes, in words: the rounds, or that they weren't enough, and the time."""

@@ -167,8 +167,9 @@ def counts_bytes(room):
 
 # When a split and a restart count as healed. What they heal from ends with a last round, the one that counts as 0.
 HEALED = ("the age of the oldest missing write was for the first time at most one round above its highest value in "
-          "rounds {} to {} of the run, when all was well. It may rise above that again for some rounds. Copies are "
-          "then as stale as usual, not equal.")
+          "rounds {} to {} of the run, when all was well; after a split not before the first writes that it held up "
+          "would be older than that. It may rise above that again for some rounds. Copies are then as stale as usual, "
+          "not equal.")
 # What counts where nodes forget and a budget is below `nodes * writes`.
 FORGETFUL = ("old state goes sooner in `scuttle-breadth`, but a restart heals later there than old state goes in "
              "`scuttle-depth`, and copies are staler. Take `scuttle-breadth` only where old state does more harm than "
@@ -188,3 +189,9 @@ DOWN_FOR_LONGER = ("Nodes that are down for longer take up to two rounds more, w
 def healed_level(most_before):
     """Where `greatest` has to come down to, by `HEALED`."""
     return most_before + 1
+
+
+def shows_split(begins, level):
+    """The first round whose `greatest` shows what a split left, by `HEALED`: a write of its first round, missed since,
+    is above the level from there on."""
+    return begins + level

@@ -314,19 +314,26 @@ class Found:
     def suffices(self, budget, mode, window):
         return rules.suffices(*(self.worst(budget, mode, half) for half in rules.halves(window)), window)
 
+    def levels(self, budget, mode):
+        """Where `greatest` has to be back at, for each seed."""
+        return [rules.healed_level(it) for it in self.worst(budget, mode, self.before)]
+
     def healed_after(self, budget, mode, ends):
         """The rounds after `ends` until `greatest` was back at its level, for each seed; None where it never was."""
-        taken = []
-        for rows in self.rows[(budget, mode)]:
-            level = rules.healed_level(max(row["greatest"] for row in read.between(rows, *self.before)))
-            taken.append(rounds_until("greatest", rows, ends, level))
-        return taken
+        return [rounds_until("greatest", rows, ends, level)
+                for rows, level in zip(self.rows[(budget, mode)], self.levels(budget, mode))]
+
+    def split_healed_after(self, budget, mode, ends):
+        """The same after a split, which begins behind the rounds that tell the level, once `greatest` shows it."""
+        begins = self.before[1] + 1
+        return [rounds_until("greatest", rows, ends, level, rules.shows_split(begins, level))
+                for rows, level in zip(self.rows[(budget, mode)], self.levels(budget, mode))]
 
     def forgotten_after(self, budget, mode, ends):
         """The rounds after `ends` until nothing was left over, for each seed."""
         return [rounds_until("leftover", rows, ends, 0) for rows in self.rows[(budget, mode)]]
 
 
-def rounds_until(name, rows, ends, level):
-    found = read.first_at_most(name, rows, ends + 1, level)
+def rounds_until(name, rows, ends, level, earliest=0):
+    found = read.first_at_most(name, rows, max(ends + 1, earliest), level)
     return found - ends if found else None

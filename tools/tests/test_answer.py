@@ -349,6 +349,8 @@ class Taken:
     def healed_after(self, *_):
         return self.taken
 
+    split_healed_after = healed_after
+
     def forgotten_after(self, *_):
         return self.forgotten
 

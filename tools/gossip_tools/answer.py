@@ -91,6 +91,12 @@ class Decision:
         """What speaks against this decision alone."""
         return self.dropped
 
+    def meets_target(self):
+        """Whether a target was told that is kept to, with the budget that is taken or with all that fits."""
+        it = self.study
+        return it.target is not None and self.suffices and any(
+            it.keeps_to_target(figure) for figure in (self.worst, self.figures[self.mode]))
+
     def usual(self):
         """The mode to begin with, of those that were run."""
         return next(it for it in (self.study.usual, *rules.CHEAPEST_FIRST) if it in self.figures)
@@ -566,6 +572,7 @@ def warnings(decision):
                     f"lag more than they have to. {decision.to_knee()}. Else "
                     f"{own}a shorter entry or fewer writes would help.")
     said += [decision.forgetful()] if decision.forgetful() else []
+    said += [rules.OTHER_SEEDS] if decision.meets_target() else []
     said += decision.own_warnings() + limits(decision)
     if it.in_bytes:
         said.append("With room for so few entries a large one holds up smaller ones behind it: give the delta room for "

@@ -180,6 +180,9 @@ DATAGRAM = 65507
 # more: of 95 that waited so two hadn't caught up, and of 95 that forget none, where without it 19 and 3 hadn't.
 WAIT_MORE, MORE_IN_WORDS = 2, "two rounds"
 NO_GUARANTEE = "no guarantee: in a test, of 200 nodes with 6 keys, two of 95 groups that waited so weren't healed"
+# How far a met target holds beyond the seeds: of 150 nodes with 5 keys and a target of 12 rounds, in docs/study.md.
+OTHER_SEEDS = (f"A target is met under the {len(SEEDS)} seeds that were run, which is no guarantee: in a test, of 150 "
+               "nodes with 5 keys, 10 of 25 other seeds had up to three rounds more, and none with 15 % more entries.")
 # What a restart takes where nodes are down for longer than the one round of the test.
 DOWN_FOR_LONGER = ("Nodes that are down for longer take up to two rounds more, which no time above has: one group of 5 "
                    "of 200 nodes with 6 keys took 4 to 7 rounds to heal where it was down for one, and 6 to 8 where it "

@@ -168,6 +168,10 @@ class Study:
         """The largest budget that a mode may take."""
         return rules.most_of(self.fits[mode], self.nodes, self.keys, self.knee)
 
+    def keeps_to_target(self, figure):
+        """Whether a worst staleness is within the target under all seeds, for the whole cluster."""
+        return (rules.reckoned(figure) if self.parts > 1 else max(figure)) <= self.target
+
     def split_of(self, intervals):
         """How long a split is run: no longer than it takes until each key was written four times, which leaves no more
         to catch up with, or a hundred intervals."""

@@ -85,7 +85,8 @@ class Study:
         """The rounds of a target, which the longest runs have to be able to show."""
         rounds, (_, most) = int(seconds / self.seconds), rules.halves(self.window("longest"))[0]
         if not 1 <= rounds <= most:
-            raise cluster.Refused(f"target={float(seconds):g} would be {rounds} rounds of {float(self.seconds):g} s, "
+            raise cluster.Refused(f"target={cluster.plain(seconds)} would be {rounds} rounds of "
+                                  f"{cluster.plain(self.seconds)} s, "
                                   f"and has to be from 1 to {most} of them.")
         return rounds
 

@@ -5,16 +5,21 @@ target isn't taken for what is usual.
 """
 import math
 
-from gossip_tools import answer, rules, study
+from gossip_tools import answer, cluster, rules, study
 from gossip_tools.answer import row
 
 # Budgets aren't halved any further where the next smaller one that was run is an entry or less than a hundredth below.
 FINE = 100
 
 
+def seconds(it):
+    """The target, in seconds."""
+    return f"{cluster.plain(it.told['target'])} s"
+
+
 def in_time(it):
     """The target, in seconds and in rounds."""
-    return f"{float(it.told['target']):g} s, or {answer.in_rounds([it.target])}"
+    return f"{seconds(it)}, or {answer.in_rounds([it.target])}"
 
 
 # What a met target rests on.
@@ -178,8 +183,8 @@ class Met(answer.Decision):
 
     def headline(self):
         if not self.is_met:
-            return f"no budget keeps the worst staleness within {float(self.study.told['target']):g} s"
-        return f"{super().headline()} keeps the worst staleness within {float(self.study.told['target']):g} s"
+            return f"no budget keeps the worst staleness within {seconds(self.study)}"
+        return f"{super().headline()} keeps the worst staleness within {seconds(self.study)}"
 
     def why_empty(self):
         return "in each mode budgets are halved until the smallest that keeps to the target is known"

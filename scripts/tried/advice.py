@@ -90,6 +90,7 @@ def try_advice(room):
     for word, why in (("writes=0", "heartbeat"), ("writes=1.5", "[[load]]"), ("interval=0", "has seconds"),
                       ("split=100001", "up to 100000"), ("packet=30", "have no room"),
                       ("fanout=17", "1 to 16 peers"), ("delta=30", "have no room"),
+                      ("loss=100", "with loss=100 no message ever arrives"),
                       ("nodes=50000", "still too large"), ("forget=1", "forget is one of yes, no"),
                       ("digest=600", "the digest still fits no packet of 4000; room for the digest and "
                        "nodes * writes = 8 entries takes packet=5120"),
@@ -104,6 +105,10 @@ def try_advice(room):
             "packet=100000", "gossip_advise", "-o", "refused", "nodes=2000", "keys=6", "writes=1", "entry=50",
             "packet=1400", "digest=10", "shared=no")
     holds("nothing is left of what was refused", False, (room / "refused").exists())
+    for name, how in ((b"\xff", {}), ("é2", {"LC_ALL": "C", "PYTHONUTF8": "0"})):
+        status, out, err = run(room, TOOLS / "gossip_advise", "-o", name, *cluster, **how)
+        holds(f"a folder {name} that no answer can name", (2, "", True, False),
+              (status, out, "isn't UTF-8, or not as this locale reads it" in err, "Traceback" in err))
 
 
 def try_reserve(room):
@@ -190,7 +195,9 @@ def try_target(room):
     for word, why in (("target=0", "target is in seconds, and above 0."), ("target=-4", "which '-4' isn't"),
                       ("target=4s", "write target=4"),
                       ("target=0.4", "would be 0 rounds of 0.5 s, and has to be from 1 to 600"),
-                      ("target=301", "would be 602 rounds of 0.5 s, and has to be from 1 to 600")):
+                      ("target=301", "would be 602 rounds of 0.5 s, and has to be from 1 to 600"),
+                      ("target=1000000", "target=1000000 would be 2000000 rounds"),
+                      ("target=0.00001", "target=0.00001 would be 0 rounds")):
         refuses(room, why, "gossip_advise", "-o", "refused", word, *words)
     refuses(room, "packet= is missing", "gossip_advise", "-o", "refused", *words)
     holds("nothing is left of refused targets", False, (room / "refused").exists())

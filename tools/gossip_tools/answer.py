@@ -1,7 +1,7 @@
 """From the figures of a study to a mode and a budget, and to words for them."""
 import textwrap
 
-from gossip_tools import rules, scenario
+from gossip_tools import cluster, rules, scenario
 
 
 def span(figure, places=0):
@@ -642,15 +642,20 @@ def of_datagrams(decision):
             f"or TCP{fits}."]
 
 
+# How to see what latency adds.
+BY_LATENCY = "by how much `gossip_live latency=.. beside=5` shows"
+
+
 def of_calls(it):
     """Which way the numbers err by how many others a node calls in an interval."""
     if it.fanout == 1:
         return ["Latency: right where an exchange takes much less than the interval of "
-                f"{float(it.seconds):g} s; else the cluster is slower.",
+                f"{cluster.plain(it.seconds)} s; else the cluster is slower, {BY_LATENCY}.",
                 "More than one peer in an interval: such a cluster is faster. fanout=3 looks at three."]
-    return [f"Latency: right where an exchange takes much less than the {float(it.seconds):.2g} s between two of the "
-            f"{it.fanout} calls of an interval, which come one after another here; else, and where a node makes them "
-            "all at once, the cluster is slower than these figures."]
+    seconds = cluster.plain(float(f"{float(it.seconds):.2g}"))
+    return [f"Latency: right where an exchange takes much less than the {seconds} s between two of the {it.fanout} "
+            "calls of an interval, which come one after another here; else, and where a node makes them all at once, "
+            f"the cluster is slower than these figures, {BY_LATENCY}."]
 
 
 def left_out(decision):

@@ -164,7 +164,7 @@ def try_target(room):
     line = next((it for it in out.splitlines() if it.startswith("Take ")), "")
     holds("the smallest packet", (0, True, True), (status, line.startswith(said[0]), line.endswith(said[1])))
     holds("the target", (True, True),
-          ("  target              met: the worst staleness is within 4 s, or 8 rounds under the 5 seeds; no "
+          ("  target              met: the worst staleness is within 4 s, or 8 rounds, under the 5 seeds; no "
            "guarantee\n" in out,
            f"  a smaller one       {below} entries: the next smaller budget that was run has " in out))
     shares = [100 * sum(it[100:200]) / 100 / 3312 for it in column(many, least, "stale")]

@@ -23,8 +23,8 @@ comes before them is run once.
   loss      how many messages of a hundred are lost, 0 where it isn't given
   interval  its seconds, 1 where it isn't given
   target    the seconds that the worst copy may be behind. Without a packet the smallest budget and packet that keep to
-            it under all seeds are looked for, in each mode; with one it is told whether that does. Beside it stand the
-            share of copies that are stale and how old a typical one is
+            it under all five seeds are looked for, in each mode; with one it is told whether that does. Beside it
+            stand the share of copies that are stale and how old a typical one is
   restarts  how many nodes restart at once, the size of a group, for the time to wait between groups: such a group
             restarts in each of ten intervals, and is down for one. Where it isn't given, one node restarts, and with 0
             none

@@ -23,12 +23,12 @@ def in_time(it):
 
 
 # What a met target rests on.
-UNDER_SEEDS = f"under the {len(rules.SEEDS)} seeds; no guarantee"
+UNDER_SEEDS = f", under the {len(rules.SEEDS)} seeds; no guarantee"
 
 
 def met(it):
     """That a target is met, in words."""
-    return f"met: the worst staleness is within {in_time(it)} {UNDER_SEEDS}"
+    return f"met: the worst staleness is within {in_time(it)}{UNDER_SEEDS}"
 
 
 def judged(decision):
@@ -40,7 +40,7 @@ def judged(decision):
         said = met(it)
     elif decision.meets_target():
         said = (f"met with all that fits alone: with {decision.all_that_fits()} the worst staleness is within "
-                f"{in_time(it)} {UNDER_SEEDS}")
+                f"{in_time(it)}{UNDER_SEEDS}")
     else:
         said = (f"not met: the worst staleness is above {in_time(it)}. Without packet= the smallest that keeps to it "
                 "is looked for")

@@ -105,10 +105,8 @@ def try_advice(room):
             "packet=100000", "gossip_advise", "-o", "refused", "nodes=2000", "keys=6", "writes=1", "entry=50",
             "packet=1400", "digest=10", "shared=no")
     holds("nothing is left of what was refused", False, (room / "refused").exists())
-    for name, how in ((b"\xff", {}), ("é2", {"LC_ALL": "C", "PYTHONUTF8": "0"})):
-        status, out, err = run(room, TOOLS / "gossip_advise", "-o", name, *cluster, **how)
-        holds(f"a folder {name} that no answer can name", (2, "", True, False),
-              (status, out, "isn't UTF-8, or not as this locale reads it" in err, "Traceback" in err))
+    refuses(room, "isn't UTF-8, or not as this locale reads it", "gossip_advise", "-o", "é2", *cluster, LC_ALL="C",
+            PYTHONUTF8="0")
 
 
 def try_reserve(room):

@@ -362,6 +362,13 @@ def healing(more="", **taken):
     return answer.Healing(it, "scuttle-depth", {stage: Taken(found) for stage, found in taken.items()})
 
 
+class Folder(unittest.TestCase):
+    def test_a_name_that_no_answer_can_have(self):
+        """A byte of a name that isn't UTF-8 comes as half of a pair."""
+        with self.assertRaisesRegex(cluster.Refused, r"the folder's name '\\udcff' isn't UTF-8"):
+            advise.look(pathlib.Path("\udcff"))
+
+
 class Plain(unittest.TestCase):
     def test_numbers(self):
         cases = {"1000000": "1000000", "0.00001": "0.00001", "1234567.5": "1234567.5", "4": "4", "0.50": "0.5"}

@@ -90,6 +90,7 @@ def try_advice(room):
     for word, why in (("writes=0", "heartbeat"), ("writes=1.5", "[[load]]"), ("interval=0", "has seconds"),
                       ("split=100001", "up to 100000"), ("packet=30", "have no room"),
                       ("fanout=17", "1 to 16 peers"), ("delta=30", "have no room"),
+                      ("loss=100", "with loss=100 no message ever arrives"),
                       ("nodes=50000", "still too large"), ("forget=1", "forget is one of yes, no"),
                       ("digest=600", "the digest still fits no packet of 4000; room for the digest and "
                        "nodes * writes = 8 entries takes packet=5120"),
@@ -104,6 +105,8 @@ def try_advice(room):
             "packet=100000", "gossip_advise", "-o", "refused", "nodes=2000", "keys=6", "writes=1", "entry=50",
             "packet=1400", "digest=10", "shared=no")
     holds("nothing is left of what was refused", False, (room / "refused").exists())
+    refuses(room, "isn't UTF-8, or not as this locale reads it", "gossip_advise", "-o", "é2", *cluster, LC_ALL="C",
+            PYTHONUTF8="0")
 
 
 def try_reserve(room):
@@ -159,7 +162,8 @@ def try_target(room):
     line = next((it for it in out.splitlines() if it.startswith("Take ")), "")
     holds("the smallest packet", (0, True, True), (status, line.startswith(said[0]), line.endswith(said[1])))
     holds("the target", (True, True),
-          ("  target              met: the worst staleness is within 4 s, or 8 rounds\n" in out,
+          ("  target              met: the worst staleness is within 4 s, or 8 rounds, under the 5 seeds; no "
+           "guarantee\n" in out,
            f"  a smaller one       {below} entries: the next smaller budget that was run has " in out))
     shares = [100 * sum(it[100:200]) / 100 / 3312 for it in column(many, least, "stale")]
     half = [next(at for at in range(1, 9) if 2 * it[199 + at] <= it[199]) for it in column(stop, least, "stale")]
@@ -189,7 +193,9 @@ def try_target(room):
     for word, why in (("target=0", "target is in seconds, and above 0."), ("target=-4", "which '-4' isn't"),
                       ("target=4s", "write target=4"),
                       ("target=0.4", "would be 0 rounds of 0.5 s, and has to be from 1 to 600"),
-                      ("target=301", "would be 602 rounds of 0.5 s, and has to be from 1 to 600")):
+                      ("target=301", "would be 602 rounds of 0.5 s, and has to be from 1 to 600"),
+                      ("target=1000000", "target=1000000 would be 2000000 rounds"),
+                      ("target=0.00001", "target=0.00001 would be 0 rounds")):
         refuses(room, why, "gossip_advise", "-o", "refused", word, *words)
     refuses(room, "packet= is missing", "gossip_advise", "-o", "refused", *words)
     holds("nothing is left of refused targets", False, (room / "refused").exists())

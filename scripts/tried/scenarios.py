@@ -70,6 +70,8 @@ def try_scenarios(room):
     refuses(room, "rounds would be 0", "gossip_scenario", *shared, "rounds=0")
     refuses(room, "mode is one of", "gossip_scenario", *shared, "mode=depth")
     refuses(room, "leaves no entry", "gossip_scenario", *shared, "mode=precise-oldest")
+    for words in (("entry=41", "packet=40"), ("entry=40", "packet=0", "digest=10")):
+        refuses(room, f"fewer than the {words[0][6:]} of an entry", "gossip_scenario", *cluster[:3], *words)
     refuses(room, "has bytes", "gossip_scenario", "nodes=2", "keys=1", "writes=1", "entry=0", "packet=9")
     # (one entry of 523.5 bytes)
     refuses(room, "budget_bytes would be 523", "gossip_scenario", *cluster, "packet=40")

@@ -23,8 +23,8 @@ comes before them is run once.
   loss      how many messages of a hundred are lost, 0 where it isn't given
   interval  its seconds, 1 where it isn't given
   target    the seconds that the worst copy may be behind. Without a packet the smallest budget and packet that keep to
-            it under all seeds are looked for, in each mode; with one it is told whether that does. Beside it stand the
-            share of copies that are stale and how old a typical one is
+            it under all five seeds are looked for, in each mode; with one it is told whether that does. Beside it
+            stand the share of copies that are stale and how old a typical one is
   restarts  how many nodes restart at once, the size of a group, for the time to wait between groups: such a group
             restarts in each of ten intervals, and is down for one. Where it isn't given, one node restarts, and with 0
             none
@@ -73,6 +73,9 @@ def numbers_of(words, file):
     if not told["writes"]:
         raise Refused("writes would be 0, and then nothing has to be sent: count what changes in each interval alone, "
                       "a heartbeat for one as keys=1 and writes=1.")
+    if told["loss"] == 100:
+        raise Refused("with loss=100 no message ever arrives, and no budget is enough: give the loss that your network "
+                      "has, as loss=1.")
     if not told["interval"]:
         raise Refused("an interval has seconds.")
     if told["target"] == 0:
@@ -89,7 +92,7 @@ def as_text(value):
     """A number or a name as it stands in cluster.toml."""
     if not isinstance(value, Fraction):
         return value
-    return int(value) if value.denominator == 1 else f"{float(value):.9f}".rstrip("0")
+    return int(value) if value.denominator == 1 else cluster.plain(value)
 
 
 def keep(folder, told, kept, program):
@@ -201,7 +204,12 @@ class Stages:
 
 
 def look(folder):
-    """Refuses a folder with other things in it, and what is no folder."""
+    """Refuses a folder with other things in it, what is no folder, and a name that an answer can't have in UTF-8."""
+    try:
+        str(folder).encode()
+    except UnicodeEncodeError:
+        raise Refused(f"the folder's name {ascii(str(folder))} isn't UTF-8, or not as this locale reads it, and an "
+                      "answer names it: name another one by -o.") from None
     if folder.exists() and not folder.is_dir():
         raise Refused(f"{folder} isn't a folder: name another one.")
     if folder.exists() and not (folder / "cluster.toml").exists() and {it.name for it in folder.iterdir()} - {"lock"}:

@@ -1,7 +1,7 @@
 """From the figures of a study to a mode and a budget, and to words for them."""
 import textwrap
 
-from gossip_tools import rules, scenario
+from gossip_tools import cluster, rules, scenario
 
 
 def span(figure, places=0):
@@ -90,6 +90,12 @@ class Decision:
     def own_warnings(self):
         """What speaks against this decision alone."""
         return self.dropped
+
+    def meets_target(self):
+        """Whether a target was told that is kept to, with the budget that is taken or with all that fits."""
+        it = self.study
+        return it.target is not None and self.suffices and any(
+            it.keeps_to_target(figure) for figure in (self.worst, self.figures[self.mode]))
 
     def usual(self):
         """The mode to begin with, of those that were run."""
@@ -362,7 +368,8 @@ class Healing:
 
     def taken(self, stage, budget):
         found, ends = self.stages[stage], self.study.ends(stage)
-        return (found.forgotten_after if stage == "forgotten" else found.healed_after)(budget, self.mode, ends)
+        after = {"split": found.split_healed_after, "restart": found.healed_after, "forgotten": found.forgotten_after}
+        return after[stage](budget, self.mode, ends)
 
     def in_words(self, stage, budget):
         """How long it takes, in words: the rounds, or that they weren't enough, and the time."""
@@ -565,6 +572,7 @@ def warnings(decision):
                     f"lag more than they have to. {decision.to_knee()}. Else "
                     f"{own}a shorter entry or fewer writes would help.")
     said += [decision.forgetful()] if decision.forgetful() else []
+    said += [rules.OTHER_SEEDS] if decision.meets_target() else []
     said += decision.own_warnings() + limits(decision)
     if it.in_bytes:
         said.append("With room for so few entries a large one holds up smaller ones behind it: give the delta room for "
@@ -634,15 +642,20 @@ def of_datagrams(decision):
             f"or TCP{fits}."]
 
 
+# How to see what latency adds.
+BY_LATENCY = "by how much `gossip_live latency=.. beside=5` shows"
+
+
 def of_calls(it):
     """Which way the numbers err by how many others a node calls in an interval."""
     if it.fanout == 1:
         return ["Latency: right where an exchange takes much less than the interval of "
-                f"{float(it.seconds):g} s; else the cluster is slower.",
+                f"{cluster.plain(it.seconds)} s; else the cluster is slower, {BY_LATENCY}.",
                 "More than one peer in an interval: such a cluster is faster. fanout=3 looks at three."]
-    return [f"Latency: right where an exchange takes much less than the {float(it.seconds):.2g} s between two of the "
-            f"{it.fanout} calls of an interval, which come one after another here; else, and where a node makes them "
-            "all at once, the cluster is slower than these figures."]
+    seconds = cluster.plain(float(f"{float(it.seconds):.2g}"))
+    return [f"Latency: right where an exchange takes much less than the {seconds} s between two of the {it.fanout} "
+            "calls of an interval, which come one after another here; else, and where a node makes them all at once, "
+            f"the cluster is slower than these figures, {BY_LATENCY}."]
 
 
 def left_out(decision):

@@ -47,6 +47,11 @@ WHOLE = "[0-9]+", "[0-9]{1,19}", "19 are the most"
 DECIMAL = r"[0-9]+(\.[0-9]+)?", r"[0-9]{1,18}(\.[0-9]{1,9})?", "18 are the most, and 9 behind the point"
 
 
+def plain(number):
+    """A number as it is written by hand, with up to nine decimals."""
+    return str(int(number)) if number == int(number) else f"{float(number):.9f}".rstrip("0")
+
+
 def parts_of_writes(writes):
     """What to do where a node doesn't write a whole number of times in an interval."""
     whole = int(writes)
@@ -70,7 +75,7 @@ def instead(name, text):
         return f"it is in per cent already, so write {name}={text[:-1]}"
     if name in ("interval", "target") and (time := re.fullmatch(r"([0-9]+) ?(ms|s|sec|m|min)", text)):
         seconds = int(time[1]) * {"ms": Fraction(1, 1000), "m": 60, "min": 60}.get(time[2], 1)
-        return f"it is in seconds, so write {name}={float(seconds):g}"
+        return f"it is in seconds, so write {name}={plain(seconds)}"
     if name == "split" and re.fullmatch(r"[0-9.]+ ?[a-z]+", text):
         return "it is in intervals, so divide the time by the seconds of an interval"
     if re.fullmatch("[0-9]{1,3}([,_' ][0-9]{3})+", text):
@@ -121,7 +126,7 @@ def told(words, usual, call, instead_of=None):
 def check_limits(it):
     """Refuses numbers of which no scenario can be made, and says what to do instead. The size is no part of it."""
     if it["loss"] > 100:
-        raise Refused(f"loss is in per cent, so from 0 to 100, and not {float(it['loss']):g}.")
+        raise Refused(f"loss is in per cent, so from 0 to 100, and not {plain(it['loss'])}.")
     if (it["loss"] * 10000).denominator != 1:
         raise Refused("loss has at most four decimals.")
     if not it["entry"]:
@@ -179,6 +184,9 @@ def main(words):
     seed, loads = limited("seed", it["seed"]), without_writes(rounds, fanout)
     room = room_for_delta(it, it["mode"])
     taken = it["packet"] - room
+    if it["packet"] < it["entry"]:
+        raise Refused(f"the packet has {it['packet']} bytes, fewer than the {it['entry']} of an entry: give a larger "
+                      "packet, or a shorter entry.")
     if room < it["entry"]:
         raise Refused(f"the digest takes {taken} of the {it['packet']} bytes, which leaves no entry.")
     count = it["count"] or ("bytes" if rules.counts_bytes(room / it["entry"]) else "entries")

@@ -3,7 +3,7 @@ import base64
 import html
 import re
 
-from gossip_tools import answer, files, plots, read, rules
+from gossip_tools import answer, cluster, files, plots, read, rules
 
 # (on paper the page is light, whatever the screen is; pictures, which are drawn on white, are turned dark, and their
 # colours stay what they are)
@@ -68,7 +68,7 @@ def cards(decision, healing, more):
                 ("worst staleness", "not known", f"not level within {decision.window[1]} rounds", "none")]
         if decision.to_knee():
             rows.append(("enough", f"{it.packet(decision.mode)} bytes", decision.to_knee(), "first"))
-    rows += [(name, *said.partition(": ")[::2], "") for name, said in more]
+    rows += [(name, *said.partition(": ")[::2], "none" if said.startswith("not met") else "") for name, said in more]
     rows.append(("share cut", f"{answer.span(decision.cut, 2)}\u00a0%", "of what was lacking", ""))
     for stage in it.heals() if healing else ():
         name = f"{answer.HEALED[stage]} is {answer.ENDS[stage]} after"
@@ -167,6 +167,13 @@ def table(decision):
     return f'<div class="wide"><table><thead>{head}</thead><tbody>{text}</tbody></table></div>'
 
 
+def not_level(decision):
+    """What the table means by `not level`; empty where it doesn't say so."""
+    level = all(decision.found.suffices(*pair, decision.window) for pair in decision.found.rows
+                if pair[1] in decision.figures)
+    return "" if level else " Not level: this budget isn't enough."
+
+
 def made_of(folder, study, made, check_sum):
     """The scenarios and the commands that make everything again."""
     text = ""
@@ -196,15 +203,16 @@ def make(folder, decision, healing, made, check_sum, missing=(), more=(), head="
 <title>{told(title)}</title><style>{STYLE}</style></head><body>
 <h1>{told(title)}</h1>
 <p>{it.told['nodes']} nodes{tenth}. Keys of each: {it.keys}; writes in an interval of
-{float(it.told['interval']):g} s: {it.writes}; calls in an interval, each of which is a round: {it.fanout};
-messages lost: {float(it.told['loss']):g} %. All figures go from the least to the most of {len(rules.SEEDS)} seeds.</p>
+{cluster.plain(it.told['interval'])} s: {it.writes}; calls in an interval, each of which is a round: {it.fanout};
+messages lost: {cluster.plain(it.told['loss'])} %. All figures go from the least to the most of {len(rules.SEEDS)}
+seeds.</p>
 <div class="cards">{cards(decision, healing, more)}</div>
 {below_the_cards(decision, healing)}{paragraphs(missing)}
 {listed("Mind", answer.warnings(decision), "mind")}
 {pictures(folder, decision, healing)}
 <h2>Worst staleness and share cut</h2>
-<p class="before-table">In rounds {first} to {last}, by budget in entries and mode. Not level: this budget isn't
-enough. A field is empty where its runs could change nothing: {decision.why_empty()}.</p>
+<p class="before-table">In rounds {first} to {last}, by budget in entries and mode.{not_level(decision)} A field is
+empty where its runs could change nothing: {decision.why_empty()}.</p>
 {table(decision)}
 {listed("Too close to call", decision.too_close())}
 {listed("Left out for this cluster", answer.left_out(decision))}

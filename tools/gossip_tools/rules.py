@@ -167,8 +167,9 @@ def counts_bytes(room):
 
 # When a split and a restart count as healed. What they heal from ends with a last round, the one that counts as 0.
 HEALED = ("the age of the oldest missing write was for the first time at most one round above its highest value in "
-          "rounds {} to {} of the run, when all was well. It may rise above that again for some rounds. Copies are "
-          "then as stale as usual, not equal.")
+          "rounds {} to {} of the run, when all was well; after a split not before the first writes that it held up "
+          "would be older than that. It may rise above that again for some rounds. Copies are then as stale as usual, "
+          "not equal.")
 # What counts where nodes forget and a budget is below `nodes * writes`.
 FORGETFUL = ("old state goes sooner in `scuttle-breadth`, but a restart heals later there than old state goes in "
              "`scuttle-depth`, and copies are staler. Take `scuttle-breadth` only where old state does more harm than "
@@ -179,6 +180,9 @@ DATAGRAM = 65507
 # more: of 95 that waited so two hadn't caught up, and of 95 that forget none, where without it 19 and 3 hadn't.
 WAIT_MORE, MORE_IN_WORDS = 2, "two rounds"
 NO_GUARANTEE = "no guarantee: in a test, of 200 nodes with 6 keys, two of 95 groups that waited so weren't healed"
+# How far a met target holds beyond the seeds: of 150 nodes with 5 keys and a target of 12 rounds, in docs/study.md.
+OTHER_SEEDS = (f"A target is met under the {len(SEEDS)} seeds that were run, which is no guarantee: in a test, of 150 "
+               "nodes with 5 keys, 10 of 25 other seeds had up to three rounds more, and none with 15 % more entries.")
 # What a restart takes where nodes are down for longer than the one round of the test.
 DOWN_FOR_LONGER = ("Nodes that are down for longer take up to two rounds more, which no time above has: one group of 5 "
                    "of 200 nodes with 6 keys took 4 to 7 rounds to heal where it was down for one, and 6 to 8 where it "
@@ -188,3 +192,9 @@ DOWN_FOR_LONGER = ("Nodes that are down for longer take up to two rounds more, w
 def healed_level(most_before):
     """Where `greatest` has to come down to, by `HEALED`."""
     return most_before + 1
+
+
+def shows_split(begins, level):
+    """The first round whose `greatest` shows what a split left, by `HEALED`: a write of its first round, missed since,
+    is above the level from there on."""
+    return begins + level

@@ -85,7 +85,8 @@ class Study:
         """The rounds of a target, which the longest runs have to be able to show."""
         rounds, (_, most) = int(seconds / self.seconds), rules.halves(self.window("longest"))[0]
         if not 1 <= rounds <= most:
-            raise cluster.Refused(f"target={float(seconds):g} would be {rounds} rounds of {float(self.seconds):g} s, "
+            raise cluster.Refused(f"target={cluster.plain(seconds)} would be {rounds} rounds of "
+                                  f"{cluster.plain(self.seconds)} s, "
                                   f"and has to be from 1 to {most} of them.")
         return rounds
 
@@ -167,6 +168,10 @@ class Study:
     def most(self, mode):
         """The largest budget that a mode may take."""
         return rules.most_of(self.fits[mode], self.nodes, self.keys, self.knee)
+
+    def keeps_to_target(self, figure):
+        """Whether a worst staleness is within the target under all seeds, for the whole cluster."""
+        return (rules.reckoned(figure) if self.parts > 1 else max(figure)) <= self.target
 
     def split_of(self, intervals):
         """How long a split is run: no longer than it takes until each key was written four times, which leaves no more
@@ -314,19 +319,26 @@ class Found:
     def suffices(self, budget, mode, window):
         return rules.suffices(*(self.worst(budget, mode, half) for half in rules.halves(window)), window)
 
+    def levels(self, budget, mode):
+        """Where `greatest` has to be back at, for each seed."""
+        return [rules.healed_level(it) for it in self.worst(budget, mode, self.before)]
+
     def healed_after(self, budget, mode, ends):
         """The rounds after `ends` until `greatest` was back at its level, for each seed; None where it never was."""
-        taken = []
-        for rows in self.rows[(budget, mode)]:
-            level = rules.healed_level(max(row["greatest"] for row in read.between(rows, *self.before)))
-            taken.append(rounds_until("greatest", rows, ends, level))
-        return taken
+        return [rounds_until("greatest", rows, ends, level)
+                for rows, level in zip(self.rows[(budget, mode)], self.levels(budget, mode))]
+
+    def split_healed_after(self, budget, mode, ends):
+        """The same after a split, which begins behind the rounds that tell the level, once `greatest` shows it."""
+        begins = self.before[1] + 1
+        return [rounds_until("greatest", rows, ends, level, rules.shows_split(begins, level))
+                for rows, level in zip(self.rows[(budget, mode)], self.levels(budget, mode))]
 
     def forgotten_after(self, budget, mode, ends):
         """The rounds after `ends` until nothing was left over, for each seed."""
         return [rounds_until("leftover", rows, ends, 0) for rows in self.rows[(budget, mode)]]
 
 
-def rounds_until(name, rows, ends, level):
-    found = read.first_at_most(name, rows, ends + 1, level)
+def rounds_until(name, rows, ends, level, earliest=0):
+    found = read.first_at_most(name, rows, max(ends + 1, earliest), level)
     return found - ends if found else None

@@ -5,21 +5,30 @@ target isn't taken for what is usual.
 """
 import math
 
-from gossip_tools import answer, rules, study
+from gossip_tools import answer, cluster, rules, study
 from gossip_tools.answer import row
 
 # Budgets aren't halved any further where the next smaller one that was run is an entry or less than a hundredth below.
 FINE = 100
 
 
-def keeps_to(it, figure):
-    """Whether a worst staleness is within the target under all seeds, for the whole cluster."""
-    return (rules.reckoned(figure) if it.parts > 1 else max(figure)) <= it.target
+def seconds(it):
+    """The target, in seconds."""
+    return f"{cluster.plain(it.told['target'])} s"
 
 
 def in_time(it):
     """The target, in seconds and in rounds."""
-    return f"{float(it.told['target']):g} s, or {answer.in_rounds([it.target])}"
+    return f"{seconds(it)}, or {answer.in_rounds([it.target])}"
+
+
+# What a met target rests on.
+UNDER_SEEDS = f", under the {len(rules.SEEDS)} seeds; no guarantee"
+
+
+def met(it):
+    """That a target is met, in words."""
+    return f"met: the worst staleness is within {in_time(it)}{UNDER_SEEDS}"
 
 
 def judged(decision):
@@ -27,11 +36,11 @@ def judged(decision):
     it = decision.study
     if not decision.suffices:
         said = f"not met: no budget that fits is enough, where the worst staleness is to be within {in_time(it)}"
-    elif keeps_to(it, decision.worst):
-        said = f"met: the worst staleness is within {in_time(it)}"
-    elif keeps_to(it, decision.figures[decision.mode]):
+    elif it.keeps_to_target(decision.worst):
+        said = met(it)
+    elif decision.meets_target():
         said = (f"met with all that fits alone: with {decision.all_that_fits()} the worst staleness is within "
-                f"{in_time(it)}")
+                f"{in_time(it)}{UNDER_SEEDS}")
     else:
         said = (f"not met: the worst staleness is above {in_time(it)}. Without packet= the smallest that keeps to it "
                 "is looked for")
@@ -116,7 +125,7 @@ class Search:
     def keeps(self, budget, mode):
         window = self.study.window(self.stage)
         return (self.found.suffices(budget, mode, window)
-                and keeps_to(self.study, self.found.worst(budget, mode, window)))
+                and self.study.keeps_to_target(self.found.worst(budget, mode, window)))
 
     def next(self, mode):
         """The budget to be run next with a mode; None where the least is known."""
@@ -174,8 +183,8 @@ class Met(answer.Decision):
 
     def headline(self):
         if not self.is_met:
-            return f"no budget keeps the worst staleness within {float(self.study.told['target']):g} s"
-        return f"{super().headline()} keeps the worst staleness within {float(self.study.told['target']):g} s"
+            return f"no budget keeps the worst staleness within {seconds(self.study)}"
+        return f"{super().headline()} keeps the worst staleness within {seconds(self.study)}"
 
     def why_empty(self):
         return "in each mode budgets are halved until the smallest that keeps to the target is known"
@@ -201,7 +210,7 @@ class Met(answer.Decision):
         it = self.study
         if not self.is_met:
             return [("target", f"not met: the largest budget that was run has more than {in_time(it)}")]
-        said = [("target", f"met: the worst staleness is within {in_time(it)}")]
+        said = [("target", met(it))]
         below = self.search.below[self.mode]
         if (below, self.mode) in self.found.rows:
             worst = self.worst_with(below, self.mode)

@@ -1,6 +1,7 @@
 """From figures to a decision and its words, by hand."""
 import pathlib
 import unittest
+from fractions import Fraction
 
 from gossip_tools import advise, answer, cluster, rules, study
 from gossip_tools.progress import Progress, in_words
@@ -349,6 +350,8 @@ class Taken:
     def healed_after(self, *_):
         return self.taken
 
+    split_healed_after = healed_after
+
     def forgotten_after(self, *_):
         return self.forgotten
 
@@ -357,6 +360,31 @@ def healing(more="", **taken):
     """What heals of 200 nodes with an interval of half a second, by the rounds that the seeds took."""
     it = of(f"nodes=200 keys=4 writes=1 entry=40 packet=8000 interval=0.5 {more}")
     return answer.Healing(it, "scuttle-depth", {stage: Taken(found) for stage, found in taken.items()})
+
+
+class Folder(unittest.TestCase):
+    def test_a_name_that_no_answer_can_have(self):
+        """A byte of a name that isn't UTF-8 comes as half of a pair."""
+        with self.assertRaisesRegex(cluster.Refused, r"the folder's name '\\udcff' isn't UTF-8"):
+            advise.look(pathlib.Path("\udcff"))
+
+
+class Plain(unittest.TestCase):
+    def test_numbers(self):
+        cases = {"1000000": "1000000", "0.00001": "0.00001", "1234567.5": "1234567.5", "4": "4", "0.50": "0.5"}
+        self.assertEqual(cases, {text: cluster.plain(Fraction(text)) for text in cases})
+
+    def test_latency(self):
+        """Three calls in 300 s are 100 s apart. What latency adds isn't known, but how to see it is."""
+        cases = {"interval=1000000": "than the interval of 1000000 s; else the cluster is slower, by how much "
+                                     "`gossip_live latency=.. beside=5` shows.",
+                 "interval=300 fanout=3": "than the 100 s between two of the 3 calls of an interval, which come one "
+                                          "after another here; else, and where a node makes them all at once, the "
+                                          "cluster is slower than these figures, by how much `gossip_live latency=.. "
+                                          "beside=5` shows."}
+        for more, said in cases.items():
+            it = of(f"nodes=200 keys=4 writes=1 entry=40 packet=8000 {more}")
+            self.assertEqual(f"Latency: right where an exchange takes much less {said}", answer.of_calls(it)[0])
 
 
 class Healed(unittest.TestCase):

@@ -2,7 +2,7 @@
 import re
 import unittest
 
-from gossip_tools import page
+from gossip_tools import advise, answer, cluster, page, study
 
 # By the guidelines for accessible pages, WCAG 2: at least this contrast between a text and what is behind it.
 CONTRAST = 4.5
@@ -51,6 +51,47 @@ class Themes(unittest.TestCase):
         dark, printed = page.STYLE.partition("@media screen")[2].partition("@media print")[::2]
         self.assertIn("figure img { filter: invert(", dark)
         self.assertNotIn("color", printed)
+
+
+class Figures:
+    """Figures that are given, by budget and mode; those of `rising` aren't level."""
+
+    def __init__(self, rows, rising=()):
+        self.rows, self.rising = rows, rising
+
+    def worst(self, budget, mode, _):
+        return self.rows[(budget, mode)]
+
+    def cut(self, *_):
+        return [1.0, 2.0]
+
+    def suffices(self, budget, mode, _):
+        return (budget, mode) not in self.rising
+
+
+def decided(rising=()):
+    """100 nodes that write one of 4 keys, of whose 100 entries 50 are looked at too."""
+    words = "nodes=100 keys=4 writes=1 entry=40 packet=4000 mode=scuttle-depth"
+    it = study.Study(cluster.told(words.split(), advise.USUAL, advise.CALL))
+    rows = {(100, "scuttle-depth"): [7, 8], (50, "scuttle-depth"): [19, 21]}
+    return answer.Decision(it, Figures(rows, rising), "many")
+
+
+class Cards(unittest.TestCase):
+    def test_a_missed_target(self):
+        """It is a card of the kind of a refusal, and one that is met isn't."""
+        cases = {"not met: the worst": '<div class="none">target<b>not met</b>the worst</div>',
+                 "met: the worst": '<div class="">target<b>met</b>the worst</div>'}
+        for said, card in cases.items():
+            self.assertIn(card, page.cards(decided(), None, [("target", said)]))
+
+
+class Table(unittest.TestCase):
+    def test_not_level_is_told_where_it_stands(self):
+        for rising, wanted in (((), ""), ({(50, "scuttle-depth")}, " Not level: this budget isn't enough.")):
+            decision = decided(rising)
+            self.assertEqual(wanted, page.not_level(decision))
+            self.assertEqual(bool(wanted), " not level" in page.table(decision))
 
 
 class Printed(unittest.TestCase):

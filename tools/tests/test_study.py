@@ -236,6 +236,13 @@ class Reading(unittest.TestCase):
         cases = {3: [3, 1], 4: [2, None], 5: [1, None]}
         self.assertEqual(cases, {ends: self.found.healed_after(9, DEPTH, ends) for ends in cases})
 
+    def test_a_split_shorter_than_the_level(self):
+        """A split is in round 3 alone, where the levels are 4 and 6. A write of that round that is missing since is 5
+        rounds old in round 7, and 7 in round 9: before, `greatest` at the level says nothing of it. So the first seed
+        is back in round 8, which is 5 after the split, and the other in round 9."""
+        self.found.rows = {(9, DEPTH): [rows(2, 3, 3, 4, 4, 4, 5, 4, 4), rows(4, 5, 5, 6, 5, 6, 5, 6, 6)]}
+        self.assertEqual([5, 6], self.found.split_healed_after(9, DEPTH, 3))
+
     def test_level(self):
         """The first half of the rounds 7 to 10 has 2 and 3, the second 5 and 4; that of 9 to 12 has 5 and 4, then 3 and
         4."""

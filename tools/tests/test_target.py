@@ -1,11 +1,13 @@
 """The smallest packet for a target, with figures that are given."""
 import unittest
 
-from gossip_tools import advise, answer, cluster, study, target
+from gossip_tools import advise, answer, cluster, rules, study, target
 
 DEPTH, BREADTH, OLDEST, NEWEST = "scuttle-depth", "scuttle-breadth", "precise-oldest", "precise-newest"
 # What a budget is divided into: so many rounds the worst staleness then has, rounded up.
 ROUNDS = {DEPTH: 800, BREADTH: 1200, OLDEST: 900, NEWEST: 1000}
+# What a met target rests on.
+SEEDS = ", under the 5 seeds; no guarantee"
 
 
 def of(words):
@@ -129,7 +131,8 @@ class Told(unittest.TestCase):
                 "are stale, half of them by at most 2 to 3 rounds, 1.0 to 1.5 s",
                 "Take scuttle-depth with room for 80 entries in a delta, 3200 bytes (0.8 times nodes * writes); with "
                 "the digest packet=4200.",
-                "  target              met: the worst staleness is within 5 s, or 10 rounds",
+                f"  target              met: the worst staleness is within 5 s, or 10 rounds{SEEDS}",
+                f"  - {rules.OTHER_SEEDS}",
                 "  a smaller one       79 entries: the next smaller budget that was run has 11 rounds",
                 "  stale copies        40 to 50 %: so many of all copies lack some write, on average over rounds 101 "
                 "to 200",
@@ -150,6 +153,7 @@ class Told(unittest.TestCase):
                          "less loss would help.", lines[0])
         self.assertEqual("no budget keeps the worst staleness within 6 s", met.headline())
         self.assertNotIn("  CALL", lines)
+        self.assertNotIn(f"  - {rules.OTHER_SEEDS}", lines)
         search.found.suffices = lambda *_: False
         met = target.Met(search, is_met, target.aged(search.stages, search.stage, search.found, {(400, DEPTH)}))
         self.assertIn("  worst staleness     not known: not level within 200 rounds", met.in_words("CALL"))
@@ -167,16 +171,18 @@ class Told(unittest.TestCase):
     def test_a_packet(self):
         """400 entries fit, of which 100 are taken: 9 to 10 rounds, and with all of them 8 to 9."""
         figures = {(200, mode): [9, 9] for mode in ROUNDS} | {(200, DEPTH): [8, 9], (100, DEPTH): [9, 10]}
-        cases = {10: "met: the worst staleness is within 10 s, or 10 rounds",
+        cases = {10: f"met: the worst staleness is within 10 s, or 10 rounds{SEEDS}",
                  9: "met with all that fits alone: with the 200 entries (2 times nodes * writes) the worst staleness "
-                    "is within 9 s, or 9 rounds",
+                    f"is within 9 s, or 9 rounds{SEEDS}",
                  8: "not met: the worst staleness is above 8 s, or 8 rounds. Without packet= the smallest that "
                     "keeps to it is looked for"}
         for seconds, said in cases.items():
             it = of(f"nodes=100 keys=4 writes=1 entry=40 packet=16000 target={seconds}")
             found = Figures(figures, None)
             found.worst = lambda budget, mode, _: figures[(budget, mode)]
-            self.assertEqual(("target", said), target.judged(answer.Decision(it, found, "many")))
+            decision = answer.Decision(it, found, "many")
+            self.assertEqual(("target", said), target.judged(decision))
+            self.assertEqual(seconds > 8, rules.OTHER_SEEDS in answer.warnings(decision))
 
 
 class Aged(unittest.TestCase):

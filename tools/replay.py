@@ -463,7 +463,21 @@ def words_told(name):
     asked, others = words.parse_known_args()
     if others:
         words.error(f"{' '.join(others)} isn't taken: the scenario comes by < FILE, and only run has options")
+    named = {}
+    for option in ("trace", "sent", "tables"):
+        if path := vars(asked).get(option):
+            first = named.setdefault(file_of(path), option)
+            if first != option:
+                words.error(f"--{first} and --{option} name one file, {path}: name two")
     return vars(asked)
+
+
+def file_of(path):
+    """What all names of a file have in common, also where it isn't there yet."""
+    with suppress(OSError):
+        found = os.stat(path)
+        return found.st_dev, found.st_ino
+    return os.path.realpath(path)
 
 
 def carry_out(asked):

@@ -535,8 +535,11 @@ def main():
     except Fault as fault:
         status, why = 1, str(fault)
     except OSError as error:
+        place = error.filename or "the output"
         reason = "it is closed" if error.errno == errno.EBADF else error.strerror
-        status, why = 1, f"{name}: {error.filename or 'the output'}: {reason}."
+        status, why = 1, f"{name}: {place}: {reason}."
+        if isinstance(error, BrokenPipeError):
+            why = f"{name}: nobody reads {place} any more."
     except SystemExit as ended:
         status = ended.code
     end(status, why)

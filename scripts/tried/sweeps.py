@@ -23,6 +23,9 @@ def try_words_of_sweeps(room):
     refuses(room, "2 lines of the scenario above all sections set the field seed", "gossip_sweep", "seed=1",
             text="seed = 2\n" + COMPARED)
     refuses(room, "the scenario is empty", "gossip_sweep", "seed=1")
+    for word, why in (("x" * 5000, f"as < {'x' * 60}.."), (f"{'x' * 5000}=1", f"the field {'x' * 60}.., where"),
+                      (f"-{'x' * 5000}", f"'-{'x' * 59}..' isn't FIELD=VALUE")):
+        refuses(room, why, "gossip_sweep", word, text=COMPARED)
     for jobs in ("0", "-2", "two", "99999"):
         refuses(room, f"JOBS is a whole number from 1 to 9999, which '{jobs}' isn't.", "gossip_sweep", "seed=1",
                 text=COMPARED, JOBS=jobs)

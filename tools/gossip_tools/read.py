@@ -19,7 +19,7 @@ import sys
 import tomllib
 
 from gossip_tools import files, scenario
-from gossip_tools.commands import Refused, folder_of, number
+from gossip_tools.commands import Refused, folder_of, number, shown
 
 COLUMNS = ["round", "exchanges", "unreached", "lost", "entries", "cut", "stale", "greatest"]
 OF_FORMAT_2 = [*COLUMNS, "leftover"]
@@ -177,11 +177,15 @@ def main(words):
     words = [word for word in words if word not in ("--partial", "--seeds")]
     is_named = "-o" in words
     folder, words = folder_of(words, "runs")
+    for word in words:
+        if re.match("-[^0-9]", word):
+            raise Refused(f"'{shown(word)}' is no option: there are -o FOLDER, --seeds and --partial.")
     if len(words) == 4 and not is_named:
         folder, words = pathlib.Path(words[3]), words[:3]
     if len(words) != 3 or words[0] not in ("window", "level", "leftover"):
         raise Refused("usage: gossip_read window FROM TO [FOLDER], or level FROM LEVEL [FOLDER], or leftover likewise")
-    first, second = number(words[1], "FROM"), number(words[2], "TO" if words[0] == "window" else "LEVEL")
+    first = number(words[1], "FROM", 1)
+    second = number(words[2], "TO", 1) if words[0] == "window" else number(words[2], "LEVEL")
     last = second if words[0] == "window" else first
     runs = Runs(folder)
     if seeds and "seed" not in runs.fields:

@@ -21,7 +21,7 @@ import subprocess
 import sys
 
 from gossip_tools import files, folders, running, scenario
-from gossip_tools.commands import Refused, folder_of, the_program, workers
+from gossip_tools.commands import Refused, folder_of, shown, the_program, workers
 from gossip_tools.progress import Progress
 
 
@@ -30,13 +30,13 @@ def choices_of(words):
     choices = {}
     for word in words:
         if not re.fullmatch("[a-z_]+=[A-Za-z0-9_-]+(,[A-Za-z0-9_-]+)*", word):
-            more = "" if "=" in word else f" A scenario comes by standard input, as < {shlex.quote(word)}."
+            more = "" if "=" in word else f" A scenario comes by standard input, as < {shlex.quote(shown(word))}."
             if word.startswith("-"):
                 more = " The options are -o FOLDER and --help; how many runs go at once is said in front, as JOBS=2."
-            raise Refused(f"'{word}' isn't FIELD=VALUE,VALUE.., with letters, digits, - and _ in the values.{more}")
+            raise Refused(f"'{shown(word)}' isn't FIELD=VALUE,VALUE.., with letters, digits, - and _ in the values.{more}")
         field, _, values = word.partition("=")
         if field in choices:
-            raise Refused(f"the field {field} comes twice.")
+            raise Refused(f"the field {shown(field)} comes twice.")
         choices[field] = values.split(",")
     return choices if "mode" in choices else {**choices, "mode": list(scenario.MODES)}
 
@@ -50,7 +50,7 @@ def spread(text, choices, name=""):
     for value in values:
         more = spread(scenario.set_field(text, field, value), dict(rest), f"{name}{'.' if name else ''}{field}-{value}")
         if twice := runs.keys() & more.keys():
-            raise Refused(f"{min(twice)} comes twice.")
+            raise Refused(f"{shown(min(twice))} comes twice.")
         runs |= more
     return runs
 

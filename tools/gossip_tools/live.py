@@ -58,7 +58,8 @@ def told(words):
     for word in words:
         name, given, text = word.partition("=")
         if not given or name not in USUAL:
-            raise Refused(f"'{shown(word)}' isn't one of {', '.join(USUAL)}, each once with = and its value. See --help.")
+            raise Refused(f"'{shown(word)}' isn't one of {', '.join(USUAL)}, each once with = and its value. "
+                          "See --help.")
         if name in values:
             raise Refused(f"{name} comes twice, as {name}={shown(values[name])} and as '{shown(word)}'.")
         values[name] = text

@@ -33,7 +33,8 @@ def choices_of(words):
             more = "" if "=" in word else f" A scenario comes by standard input, as < {shlex.quote(shown(word))}."
             if word.startswith("-"):
                 more = " The options are -o FOLDER and --help; how many runs go at once is said in front, as JOBS=2."
-            raise Refused(f"'{shown(word)}' isn't FIELD=VALUE,VALUE.., with letters, digits, - and _ in the values.{more}")
+            raise Refused(f"'{shown(word)}' isn't FIELD=VALUE,VALUE.., with letters, digits, - and _ in the values."
+                          f"{more}")
         field, _, values = word.partition("=")
         if field in choices:
             raise Refused(f"the field {shown(field)} comes twice.")
@@ -79,9 +80,8 @@ def check(runs, program):
 
 def make(folder, program, progress, hosts, what):
     """Makes the reports that the folder lacks."""
-    if folder.is_of_before():
-        print(f"{what}: {folder.path} has reports from before check sums of reports and programs were kept: they are "
-              "taken as they are.", file=sys.stderr)
+    for sentence in folder.unknown():
+        print(f"{what}: {sentence}", file=sys.stderr)
     lacking = {name: lacks for name in folder.runs if (lacks := folder.lacks(name))}
     for name, lacks in lacking.items():
         if (folder.path / f"{name}.csv").exists():

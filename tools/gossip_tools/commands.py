@@ -30,7 +30,8 @@ class Stopped(Exception):
 
 
 def shown(word):
-    """A word of the caller as it is told, the first letters of a long one."""
+    """A word of the caller as it is told in a line, the first letters of a long one."""
+    word = word if word.isprintable() else repr(word)[1:-1]
     return word if len(word) <= MOST_LETTERS else f"{word[:MOST_LETTERS]}.."
 
 

@@ -69,7 +69,8 @@ class Folder:
         if not self.has_reports() or (self.path / "program").exists():
             return []
         without = sum(read.is_without_sum(it) for it in self.path.glob("*.csv"))
-        sentence = f"{self.path} lacks the file program, which says what made its reports: they are taken as of this one."
+        sentence = f"{self.path} lacks the file program, which says what made its reports: they are taken as of this " \
+                   "one."
         return [sentence, read.told_without_sum(without, self.path)] if without else [sentence]
 
     def fill(self):

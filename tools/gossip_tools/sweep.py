@@ -14,6 +14,7 @@ can read them, by one program, and one sweep at a time.
                  on one of them
 """
 import contextlib
+import errno
 import os
 import re
 import shlex
@@ -21,8 +22,12 @@ import subprocess
 import sys
 
 from gossip_tools import files, folders, running, scenario
-from gossip_tools.commands import Refused, folder_of, shown, the_program, workers
+from gossip_tools.commands import Refused, fault_of, folder_of, shown, the_program, workers
 from gossip_tools.progress import Progress
+
+# Faults of files that are there again where the same command is given: something else has to be done first.
+LASTING = {errno.EACCES, errno.EPERM, errno.EROFS, errno.EISDIR, errno.ENOTDIR, errno.ENOENT, errno.ELOOP,
+           errno.ENAMETOOLONG}
 
 
 def choices_of(words):
@@ -71,11 +76,14 @@ def check(runs, program):
             answer = subprocess.run([program, "check"], input=text.encode(), capture_output=True)
         except OSError as error:
             raise Refused(f"{program} can't be started: {error.strerror}.") from None
-        if answer.returncode:
-            sys.stderr.write(answer.stderr.decode(errors="replace"))
-            raise Refused(f"that is the program's answer to {name}, so nothing was run.", max(answer.returncode, 1))
-        if answer.stdout != b"ok\n":
-            raise Refused(f"{program} doesn't answer as gossip_bench does: what does GOSSIP_BENCH name?")
+        if (answer.returncode, answer.stdout) == (0, b"ok\n"):
+            continue
+        told = answer.stderr.decode(errors="replace")
+        if answer.returncode != 1 or not told.startswith("fault "):
+            ended = f" ({shown(running.reason(answer.returncode, told))})" if answer.returncode else ""
+            raise Refused(f"{program} doesn't answer as gossip_bench does{ended}: what does GOSSIP_BENCH name?")
+        sys.stderr.write(told)
+        raise Refused(f"that is the program's answer to {name}, so nothing was run.", 1)
 
 
 def make(folder, program, progress, hosts, what):
@@ -98,6 +106,16 @@ def make(folder, program, progress, hosts, what):
         progress.end()
 
 
+def what_stands(folder):
+    """How many runs of the folder have their report, in words."""
+    count = 0
+    for name in folder.runs:
+        # (a report that can't be read doesn't stand)
+        with contextlib.suppress(OSError):
+            count += not folder.lacks(name)
+    return f"{count} of {len(folder.runs)} runs stand in {folder.path}"
+
+
 def carry_out(path, text, runs, program, progress, hosts=None, what="gossip_sweep"):
     """Makes the reports of the runs that have none in the folder, or says what stands where that ends early."""
     folder = folders.Folder(path, text, runs, files.check_sum(program))
@@ -109,14 +127,13 @@ def carry_out(path, text, runs, program, progress, hosts=None, what="gossip_swee
     except running.Failed as failed:
         why, status = f"a run failed: {failed}", 1
     except OSError as error:
-        why, status = f"{error.filename or path}: {error.strerror}", 1
+        error.filename = error.filename or path
+        why, status = fault_of(error), 1
+        if error.errno in LASTING:
+            raise Refused(f"{why} {what_stands(folder)}." if os.path.isdir(path) else why, status) from None
     else:
         return
-    stand = 0
-    with contextlib.suppress(OSError):
-        stand = sum(not folder.lacks(name) for name in runs)
-    why = f"{why.rstrip('.')}. {stand} of {len(runs)} runs stand in {path}; the same command goes on from there."
-    raise Refused(why, status)
+    raise Refused(f"{why.rstrip('.')}. {what_stands(folder)}; the same command goes on from there.", status)
 
 
 def main(words):

@@ -442,7 +442,15 @@ def compare(scenario, columns):
             put(sys.stdout, scenario.mode, *row)
 
 
+def shown(word):
+    """A word of the caller as it is told, the first letters of a long one."""
+    return word if len(word) <= 60 else f"{word[:60]}.."
+
+
 class Words(argparse.ArgumentParser):
+    def error(self, message):
+        super().error(" ".join(map(shown, message.split(" "))))
+
     def print_help(self, file=None):
         """(argparse drops it where it can't be written)"""
         print(self.format_help(), end="", file=file)
@@ -536,6 +544,7 @@ def main():
         status, why = 1, str(fault)
     except OSError as error:
         place = error.filename or "the output"
+        place = shown(place) if error.errno == errno.ENAMETOOLONG else place
         reason = "it is closed" if error.errno == errno.EBADF else error.strerror
         status, why = 1, f"{name}: {place}: {reason}."
         if isinstance(error, BrokenPipeError):

@@ -26,6 +26,8 @@ def try_words_of_sweeps(room):
     for word, why in (("x" * 5000, f"as < {'x' * 60}.."), (f"{'x' * 5000}=1", f"the field {'x' * 60}.., where"),
                       (f"-{'x' * 5000}", f"'-{'x' * 59}..' isn't FIELD=VALUE")):
         refuses(room, why, "gossip_sweep", word, text=COMPARED)
+    fails(room, f"answer to mode-{'x' * 55}.., so nothing was run.", 1, "gossip_sweep", f"mode={'x' * 5000}",
+          text=COMPARED)
     for jobs in ("0", "-2", "two", "99999"):
         refuses(room, f"JOBS is a whole number from 1 to 9999, which '{jobs}' isn't.", "gossip_sweep", "seed=1",
                 text=COMPARED, JOBS=jobs)

@@ -193,7 +193,7 @@ def start(program, hosts):
             lines += told
         if process.returncode:
             line = next(filter(None, map(str.strip, lines)), "it says nothing")
-            raise Refused(f"not each of HOSTS runs the program. {host}: {line}")
+            raise Refused(f"not each of HOSTS runs the program. {shown(host)}: {line}")
 
 
 def far(folder, names, program, hosts, jobs, done):

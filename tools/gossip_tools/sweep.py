@@ -83,7 +83,7 @@ def check(runs, program):
             ended = f" ({shown(running.reason(answer.returncode, told))})" if answer.returncode else ""
             raise Refused(f"{program} doesn't answer as gossip_bench does{ended}: what does GOSSIP_BENCH name?")
         sys.stderr.write(told)
-        raise Refused(f"that is the program's answer to {name}, so nothing was run.", 1)
+        raise Refused(f"that is the program's answer to {shown(name)}, so nothing was run.", 1)
 
 
 def make(folder, program, progress, hosts, what):

@@ -9,8 +9,8 @@ APART = COMPARED.replace("rounds = 2", "rounds = 12") + "[[partition]]\nfrom = 1
 LAST = "12,0,2,0,0,0,6,12\n"
 NAME = "budget-1.mode-precise-newest"
 SWEEP = ("-o", "kept", "budget=1", "mode=precise-newest")
-NO_PROGRAM = ("gossip_sweep: kept lacks the file program, which says what made its reports: they are taken as of "
-              "this one.\n")
+NO_PROGRAM = ("gossip_sweep: kept lacks the file program, which says what made its reports: they are taken as made "
+              "by this program.\n")
 NO_SUM = "in kept 1 report has no check sum and is taken as it is.\n"
 OF_BEFORE = f"{NO_PROGRAM}gossip_sweep: {NO_SUM}"
 

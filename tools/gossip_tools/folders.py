@@ -65,12 +65,12 @@ class Folder:
         return any(self.path.glob("*.csv"))
 
     def unknown(self):
-        """Sentences on what shows no longer of the reports: which program made them, and that they are as made."""
+        """Sentences on what doesn't show of the reports: which program made them, and that they are as it made them."""
         if not self.has_reports() or (self.path / "program").exists():
             return []
         without = sum(read.is_without_sum(it) for it in self.path.glob("*.csv"))
-        sentence = f"{self.path} lacks the file program, which says what made its reports: they are taken as of this " \
-                   "one."
+        sentence = f"{self.path} lacks the file program, which says what made its reports: they are taken as made by " \
+                   "this program."
         return [sentence, read.told_without_sum(without, self.path)] if without else [sentence]
 
     def fill(self):

@@ -442,7 +442,15 @@ def compare(scenario, columns):
             put(sys.stdout, scenario.mode, *row)
 
 
+def shown(word):
+    """A word of the caller as it is told, the first letters of a long one."""
+    return word if len(word) <= 60 else f"{word[:60]}.."
+
+
 class Words(argparse.ArgumentParser):
+    def error(self, message):
+        super().error(" ".join(map(shown, message.split(" "))))
+
     def print_help(self, file=None):
         """(argparse drops it where it can't be written)"""
         print(self.format_help(), end="", file=file)
@@ -463,7 +471,21 @@ def words_told(name):
     asked, others = words.parse_known_args()
     if others:
         words.error(f"{' '.join(others)} isn't taken: the scenario comes by < FILE, and only run has options")
+    named = {}
+    for option in ("trace", "sent", "tables"):
+        if path := vars(asked).get(option):
+            first = named.setdefault(file_of(path), option)
+            if first != option:
+                words.error(f"--{first} and --{option} name one file, {path}: name two")
     return vars(asked)
+
+
+def file_of(path):
+    """What all names of a file have in common, also where it isn't there yet."""
+    with suppress(OSError):
+        found = os.stat(path)
+        return found.st_dev, found.st_ino
+    return os.path.realpath(path)
 
 
 def carry_out(asked):
@@ -521,8 +543,12 @@ def main():
     except Fault as fault:
         status, why = 1, str(fault)
     except OSError as error:
+        place = error.filename or "the output"
+        place = shown(place) if error.errno == errno.ENAMETOOLONG else place
         reason = "it is closed" if error.errno == errno.EBADF else error.strerror
-        status, why = 1, f"{name}: {error.filename or 'the output'}: {reason}."
+        status, why = 1, f"{name}: {place}: {reason}."
+        if isinstance(error, BrokenPipeError):
+            why = f"{name}: nobody reads {place} any more."
     except SystemExit as ended:
         status = ended.code
     end(status, why)

@@ -9,8 +9,10 @@ APART = COMPARED.replace("rounds = 2", "rounds = 12") + "[[partition]]\nfrom = 1
 LAST = "12,0,2,0,0,0,6,12\n"
 NAME = "budget-1.mode-precise-newest"
 SWEEP = ("-o", "kept", "budget=1", "mode=precise-newest")
-OF_BEFORE = ("gossip_sweep: kept has reports from before check sums of reports and programs were kept: they are taken "
-             "as they are.\n")
+NO_PROGRAM = ("gossip_sweep: kept lacks the file program, which says what made its reports: they are taken as made "
+              "by this program.\n")
+NO_SUM = "in kept 1 report has no check sum and is taken as it is.\n"
+OF_BEFORE = f"{NO_PROGRAM}gossip_sweep: {NO_SUM}"
 
 
 def times_of(folder):
@@ -56,17 +58,27 @@ def try_other_programs(room):
 
 def try_folders_of_before(room):
     """A folder of earlier versions, which has no check sums, is gone on with, and told."""
-    folder = room / "kept"
-    for it in (*folder.glob("*.sum"), folder / "program"):
+    folder, told = room / "kept", "budget,mode,round,took\n1,precise-newest,never,never\n"
+    (folder / "program").unlink()
+    before = times_of(folder)
+    holds("only its program is unknown", (0, "1 runs in kept\n", NO_PROGRAM, before),
+          (*run(room, TOOLS / "gossip_sweep", *SWEEP, text=APART), times_of(folder)))
+    gives(room, told, "gossip_read", "level", "1", "0", "kept")
+    for it in folder.glob("*.sum"):
         it.unlink()
     before = times_of(folder)
     holds("it is gone on with", (0, "1 runs in kept\n", OF_BEFORE, before),
           (*run(room, TOOLS / "gossip_sweep", *SWEEP, text=APART), times_of(folder)))
-    gives(room, "budget,mode,round,took\n1,precise-newest,never,never\n", "gossip_read", "level", "1", "0", "kept")
+    holds("it is read, and told", (0, told, f"gossip_read: {NO_SUM}"),
+          run(room, TOOLS / "gossip_read", "level", "1", "0", "kept"))
     status, _, err = run(room, TOOLS / "gossip_sweep", "-o", "kept", "budget=1,2", "mode=precise-newest", text=APART)
     sums = [it.name for it in folder.glob("*.sum")]
     holds("runs that are new have theirs", (0, OF_BEFORE, ["budget-2.mode-precise-newest.sum"], False),
           (status, err, sums, (folder / "program").exists()))
+    for it in folder.glob("*.sum"):
+        it.unlink()
+    _, _, err = run(room, TOOLS / "gossip_read", "level", "1", "0", "kept")
+    holds("of two", "gossip_read: in kept 2 reports have no check sum and are taken as they are.\n", err)
 
 
 TRIALS = (try_damaged_reports, try_other_programs, try_folders_of_before)

@@ -261,7 +261,8 @@ def try_faults(room):
     with started(room, TOOLS / "gossip_live", "interval=0.1", text=CLUSTER) as process:
         process.stdout.readline()
         process.stdout.close()
-        holds("a reader that has ended", (1, ""), (process.wait(timeout=60), process.stderr.read()))
+        holds("a reader that has ended", (1, "gossip_live: nobody reads the output any more.\n"),
+              (process.wait(timeout=60), process.stderr.read()))
     with open(os.devnull, "w") as nowhere:
         for closed, why in ((0, "standard input: it is closed"), (1, "the output: it is closed")):
             fails(room, why, 1, "gossip_live", "interval=0.1", text=CLUSTER, out=nowhere,

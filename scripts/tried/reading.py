@@ -8,11 +8,16 @@ def try_reading(room):
     gives(room, "4 runs in read\n", "gossip_sweep", "-o", "read", "budget=1", text=COMPARED)
     for words in ((), ("window", "1"), ("widow", "1", "2"), ("level", "1", "0", "read", "read")):
         refuses(room, "usage", "gossip_read", *words)
-    for words in (("0", "2"), ("2", "1"), ("1", "3"), ("3", "3")):
+    for option in ("--seed", "-s", "--partially"):
+        refuses(room, f"'{option}' is no option: there are -o FOLDER, --seeds and --partial.", "gossip_read", "window",
+                "1", "2", option)
+    for words in (("2", "1"), ("1", "3"), ("3", "3")):
         refuses(room, "aren't in", "gossip_read", "window", *words, "read")
     refuses(room, "aren't in", "gossip_read", "level", "3", "0", "read")
     refuses(room, "no column leftover", "gossip_read", "leftover", "1", "0", "read")
     refuses(room, "'one'", "gossip_read", "window", "one", "2", "read")
+    refuses(room, "FROM is a whole number from 1 on, which '0' isn't.", "gossip_read", "window", "0", "2", "read")
+    refuses(room, f"which '{'x' * 60}..' isn't.\n", "gossip_read", "level", "1", "x" * 5000, "read")
     refuses(room, "LEVEL is a whole number from 0 on, which '-1' isn't.", "gossip_read", "level", "1", "-1", "read")
     refuses(room, "FROM has at most 18 digits", "gossip_read", "window", "1" * 19, "2", "read")
     refuses(room, "there are no runs in nowhere, which isn't there", "gossip_read", "window", "1", "2", "nowhere")

@@ -69,6 +69,18 @@ def try_full_errors(room):
             holds(f"{script} {words}", (status, ""), run(room, place(script), *words, err=full)[:2])
 
 
+def try_readers_that_are_gone(room):
+    """A tool whose output nobody reads any more says so, and ends with status 1."""
+    calls = {it: CALLS[it] for it in CALLS if it != "check_trace.py"} | {"gossip_live": ("interval=0.05",)}
+    for script, words in calls.items():
+        reader, writer = os.pipe()
+        os.close(reader)
+        with open(writer, "w") as gone:
+            status, _, err = run(room, TOOLS / script, *words, text=COMPARED, out=gone)
+        holds(f"{script} without a reader", (1, [f"{script}: nobody reads the output any more."]),
+              (status, err.splitlines()[-1:]))
+
+
 def try_lost_terminals(room):
     """A terminal that goes away while a sweep shows its progress there."""
     waiting = program_that(room, "waiting", f'until [ -e go ]; do sleep 0.05; done\nexec "{PROGRAM}" run')
@@ -103,4 +115,4 @@ def try_interrupts(room):
         holds(f"{tool.name} is interrupted", ("", "", -signal.SIGINT), ended)
 
 
-TRIALS = (try_closed_streams, try_help, try_full_errors, try_lost_terminals, try_interrupts)
+TRIALS = (try_closed_streams, try_help, try_full_errors, try_readers_that_are_gone, try_lost_terminals, try_interrupts)

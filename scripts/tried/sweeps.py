@@ -7,8 +7,8 @@ import subprocess
 import time
 
 from tried.calls import (
-    COMPARED, HEADER, SMALL, TOOLS, fails, gives, is_running, program_that, refuses, run, started, takes_signal,
-    waits_for,
+    COMPARED, HEADER, LACKING, SMALL, TOOLS, fails, gives, is_running, program_that, refuses, run, started,
+    takes_signal, waits_for, written,
 )
 from trials import PROGRAM, TOP, holds
 
@@ -23,9 +23,18 @@ def try_words_of_sweeps(room):
     refuses(room, "2 lines of the scenario above all sections set the field seed", "gossip_sweep", "seed=1",
             text="seed = 2\n" + COMPARED)
     refuses(room, "the scenario is empty", "gossip_sweep", "seed=1")
+    for word, why in (("x" * 5000, f"as < {'x' * 60}.."), (f"{'x' * 5000}=1", f"the field {'x' * 60}.., where"),
+                      (f"-{'x' * 5000}", f"'-{'x' * 59}..' isn't FIELD=VALUE")):
+        refuses(room, why, "gossip_sweep", word, text=COMPARED)
+    fails(room, f"answer to mode-{'x' * 55}.., so nothing was run.", 1, "gossip_sweep", f"mode={'x' * 5000}",
+          text=COMPARED)
     for jobs in ("0", "-2", "two", "99999"):
         refuses(room, f"JOBS is a whole number from 1 to 9999, which '{jobs}' isn't.", "gossip_sweep", "seed=1",
                 text=COMPARED, JOBS=jobs)
+    for host in ("x/alpha", "/", "é", "-oProxyCommand=true", "a b", "8/", "0/alpha", "8/-o", "me@", "me@-o",
+                 "alpha\n"):
+        for hosts in (host, f":,{host}"):
+            refuses(room, "in HOSTS isn't the name of a machine", "gossip_sweep", "seed=1", text=COMPARED, HOSTS=hosts)
     for hosts in (",", "alpha,,beta", ":, "):
         refuses(room, f"HOSTS is '{hosts}', which lacks the name of a machine", "gossip_sweep", "seed=1", text=COMPARED,
                 HOSTS=hosts)
@@ -222,6 +231,12 @@ def try_wrong_programs(room):
     name = "budget-1.mode-scuttle-depth"
     refuses(room, "doesn't answer as gossip_bench does", "gossip_sweep", *sweep, text=COMPARED,
             GOSSIP_BENCH="/bin/true")
+    written(room / "lacking", LACKING)
+    written(room / "killed", "#!/bin/sh\nkill -9 $$\n")
+    for program, why in (("/bin/cat", ""), ("/bin/false", "(status 1)"), ("./killed", "(it was ended by SIGKILL)"),
+                         ("./lacking", "(status 127: this machine lacks a feature)")):
+        refuses(room, f"doesn't answer as gossip_bench does {why}".rstrip(), "gossip_sweep", *sweep, text=COMPARED,
+                GOSSIP_BENCH=program)
     holds("no folder of a wrong program", False, (room / "wrong").exists())
     cases = {
         "silent": ("exit 0", "it is empty"), "half": ("echo half; exit 0", "its header is another"),
@@ -235,5 +250,21 @@ def try_wrong_programs(room):
               list(room.glob("wrong/*.csv")) + list(room.glob("wrong/.*.part")))
 
 
+def try_lasting_faults(room):
+    """A folder in the place of a file ends a sweep, which tells what stands, and promises nothing."""
+    sweep = ("-o", "taken", "budget=1", "mode=scuttle-depth,precise-newest", "seed=1,2")
+    gives(room, "4 runs in taken\n", "gossip_sweep", *sweep, text=COMPARED)
+    for name, stand in (("budget-1.mode-precise-newest.seed-2.csv", 3), ("lock", 4)):
+        kept = (room / "taken" / name).rename(room / "aside")
+        (room / "taken" / name).mkdir()
+        holds(f"a folder in the place of {name}", (1, "", f"gossip_sweep: taken/{name}: Is a directory. {stand} of 4 "
+              "runs stand in taken.\n"), run(room, TOOLS / "gossip_sweep", *sweep, text=COMPARED))
+        (room / "taken" / name).rmdir()
+        kept.rename(room / "taken" / name)
+    name = "x" * 5000
+    holds("a name that is too long", (1, "", f"gossip_sweep: {'x' * 60}..: File name too long.\n"),
+          run(room, TOOLS / "gossip_sweep", "-o", name, "budget=1", text=COMPARED))
+
+
 TRIALS = (try_words_of_sweeps, try_long_scenarios, try_runs, try_missing, try_sweeps_at_once, try_stopping,
-          try_wrong_programs)
+          try_wrong_programs, try_lasting_faults)

@@ -10,6 +10,7 @@ import sys
 from gossip_tools import VERSION
 
 MOST_DIGITS = 18
+MOST_LETTERS = 60  # of a word that are told
 
 
 class Refused(Exception):
@@ -28,12 +29,20 @@ class Stopped(Exception):
         self.status = 128 + number
 
 
-def number(text, what):
-    """The whole number that a word has."""
-    if not re.fullmatch("[0-9]+", text):
-        raise Refused(f"{what} is a whole number from 0 on, which '{text}' isn't.")
-    if len(text) > MOST_DIGITS:
-        raise Refused(f"{what} has at most {MOST_DIGITS} digits, which '{text}' hasn't.")
+def shown(word):
+    """A word of the caller as it is told in a line, the first letters of a long one."""
+    word = word if word.isprintable() else repr(word)[1:-1]
+    return word if len(word) <= MOST_LETTERS else f"{word[:MOST_LETTERS]}.."
+
+
+def number(text, what, least=0, most=None):
+    """The whole number that a word has, from the least to the most, where there is a most."""
+    is_whole = re.fullmatch("[0-9]+", text)
+    if is_whole and len(text) > MOST_DIGITS:
+        raise Refused(f"{what} has at most {MOST_DIGITS} digits, which '{shown(text)}' hasn't.")
+    if not is_whole or int(text) < least or most is not None and int(text) > most:
+        bounds = f"from {least} on" if most is None else f"from {least} to {most}"
+        raise Refused(f"{what} is a whole number {bounds}, which '{shown(text)}' isn't.")
     return int(text)
 
 
@@ -56,7 +65,7 @@ def the_program():
         if found := shutil.which(choice):
             return os.path.abspath(found)
     if named:
-        raise Refused(f"GOSSIP_BENCH names '{named}', which is no program that can be started.")
+        raise Refused(f"GOSSIP_BENCH names '{shown(named)}', which is no program that can be started.")
     if (beside.parent / "crates").is_dir():
         raise Refused(f"the program isn't built: {beside.parent / 'gossip_bench'} --help builds it.")
     raise Refused(f"the program isn't beside this tool, in {beside}: install both again, or name it in GOSSIP_BENCH.")
@@ -66,7 +75,7 @@ def workers():
     """How many runs may go at once: JOBS, else as many as there are cores for this process."""
     told = os.environ.get("JOBS", "")
     if told and not re.fullmatch("[1-9][0-9]{0,3}", told):
-        raise Refused(f"JOBS is a whole number from 1 to 9999, which '{told}' isn't.")
+        raise Refused(f"JOBS is a whole number from 1 to 9999, which '{shown(told)}' isn't.")
     if told:
         return int(told)
     return len(os.sched_getaffinity(0)) if hasattr(os, "sched_getaffinity") else os.cpu_count() or 1
@@ -81,6 +90,12 @@ def drop_output():
 def reason(error):
     """Why a call of the system failed, in words."""
     return "it is closed" if error.errno == errno.EBADF else error.strerror
+
+
+def fault_of(error):
+    """What a call of the system failed on, and why, in a sentence."""
+    place = str(error.filename or "the output")
+    return f"{shown(place) if error.errno == errno.ENAMETOOLONG else place}: {reason(error)}."
 
 
 def answer(name, main, text):
@@ -107,9 +122,9 @@ def run(name, main, text):
         why, status = f"stopped by {stopped}.", stopped.status
     except BrokenPipeError:
         drop_output()
-        return 1
+        why, status = "nobody reads the output any more.", 1
     except OSError as error:
-        why, status = f"{error.filename or 'the output'}: {reason(error)}.", 1
+        why, status = fault_of(error), 1
     except MemoryError:
         why, status = "out of memory.", 1
     try:

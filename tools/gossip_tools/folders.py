@@ -64,9 +64,14 @@ class Folder:
     def has_reports(self):
         return any(self.path.glob("*.csv"))
 
-    def is_of_before(self):
-        """Whether it has reports of an earlier version, which kept no check sums."""
-        return self.has_reports() and not (self.path / "program").exists()
+    def unknown(self):
+        """Sentences on what doesn't show of the reports: which program made them, and that they are as it made them."""
+        if not self.has_reports() or (self.path / "program").exists():
+            return []
+        without = sum(read.is_without_sum(it) for it in self.path.glob("*.csv"))
+        sentence = f"{self.path} lacks the file program, which says what made its reports: they are taken as made by " \
+                   "this program."
+        return [sentence, read.told_without_sum(without, self.path)] if without else [sentence]
 
     def fill(self):
         """Fixes the scenario and those of the runs, and drops what ended sweeps have left half-written."""

@@ -32,7 +32,7 @@ import re
 import sys
 
 from gossip_tools import files, live_beside, live_cluster, read, running, scenario, sweep
-from gossip_tools.commands import Refused, number, the_program
+from gossip_tools.commands import Refused, number, shown, the_program
 from gossip_tools.live_figures import Figures
 from gossip_tools.live_plan import LARGEST, Plan
 
@@ -44,15 +44,12 @@ WORTHLESS = 4  # the status
 
 def decimal(name, text):
     if not re.fullmatch(r"[0-9]{1,6}(\.[0-9]{1,6})?", text) or float(text) > MOST[name]:
-        raise Refused(f"{name} is a number up to {MOST[name]}, which '{text}' isn't.")
+        raise Refused(f"{name} is a number up to {MOST[name]}, which '{shown(text)}' isn't.")
     return float(text)
 
 
 def whole(name, text):
-    found = number(text, name)
-    if not 1 <= found <= MOST[name]:
-        raise Refused(f"{name} is a number from 1 to {MOST[name]}, and not {found}.")
-    return found
+    return number(text, name, 1, MOST[name])
 
 
 def told(words):
@@ -61,9 +58,10 @@ def told(words):
     for word in words:
         name, given, text = word.partition("=")
         if not given or name not in USUAL:
-            raise Refused(f"'{word}' isn't one of {', '.join(USUAL)}, each once with = and its value. See --help.")
+            raise Refused(f"'{shown(word)}' isn't one of {', '.join(USUAL)}, each once with = and its value. "
+                          "See --help.")
         if name in values:
-            raise Refused(f"{name} comes twice, as {name}={values[name]} and as '{word}'.")
+            raise Refused(f"{name} comes twice, as {name}={shown(values[name])} and as '{shown(word)}'.")
         values[name] = text
     values = {**USUAL, **values}
     for name in ("fanout", "beside", "window"):

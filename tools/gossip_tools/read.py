@@ -19,7 +19,7 @@ import sys
 import tomllib
 
 from gossip_tools import files, scenario
-from gossip_tools.commands import Refused, folder_of, number
+from gossip_tools.commands import Refused, folder_of, number, shown
 
 COLUMNS = ["round", "exchanges", "unreached", "lost", "entries", "cut", "stale", "greatest"]
 OF_FORMAT_2 = [*COLUMNS, "leftover"]
@@ -81,11 +81,17 @@ def report(path, form, rounds):
     return rows
 
 
+def is_without_sum(path):
+    """Whether a report is there and nothing beside it that says what it was."""
+    return path.exists() and not path.with_suffix(".sum").exists()
+
+
 class Runs:
-    """The runs of a folder: their fields, the rows of each by the values of its fields, and what others lack."""
+    """The runs of a folder: their fields, the rows of each by the values of its fields, how many have no check sum, and
+    what others lack."""
 
     def __init__(self, folder):
-        self.fields, self.rows, self.missing = None, {}, {}
+        self.fields, self.rows, self.missing, self.without_sum = None, {}, {}, 0
         form = None
         for file in sorted(folder.glob("*-*.toml")):
             names, _, values = zip(*(part.partition("-") for part in file.stem.split(".")))
@@ -100,6 +106,7 @@ class Runs:
                 raise Refused(f"the runs in {folder} are of two formats.")
             try:
                 self.rows[values] = report(file.with_suffix(".csv"), form, top["rounds"])
+                self.without_sum += is_without_sum(file.with_suffix(".csv"))
             except NotWhole as why:
                 self.missing[file.stem] = str(why)
         if not self.fields:
@@ -119,6 +126,12 @@ class Runs:
         more = [f"{len(self.missing) - 5} more"] if len(self.missing) > 5 else []
         runs = len(self.missing) + len(self.rows)
         return f"{len(self.missing)} of {runs} runs are missing: {', '.join(some + more)}."
+
+
+def told_without_sum(count, folder):
+    """A sentence on the reports that nothing shows to be as they were made."""
+    reports = "1 report has no check sum and is" if count == 1 else f"{count} reports have no check sum and are"
+    return f"in {folder} {reports} taken as {'it is' if count == 1 else 'they are'}."
 
 
 def place(values):
@@ -177,11 +190,15 @@ def main(words):
     words = [word for word in words if word not in ("--partial", "--seeds")]
     is_named = "-o" in words
     folder, words = folder_of(words, "runs")
+    for word in words:
+        if re.match("-[^0-9]", word):
+            raise Refused(f"'{shown(word)}' is no option: there are -o FOLDER, --seeds and --partial.")
     if len(words) == 4 and not is_named:
         folder, words = pathlib.Path(words[3]), words[:3]
     if len(words) != 3 or words[0] not in ("window", "level", "leftover"):
         raise Refused("usage: gossip_read window FROM TO [FOLDER], or level FROM LEVEL [FOLDER], or leftover likewise")
-    first, second = number(words[1], "FROM"), number(words[2], "TO" if words[0] == "window" else "LEVEL")
+    first = number(words[1], "FROM", 1)
+    second = number(words[2], "TO", 1) if words[0] == "window" else number(words[2], "LEVEL")
     last = second if words[0] == "window" else first
     runs = Runs(folder)
     if seeds and "seed" not in runs.fields:
@@ -190,6 +207,8 @@ def main(words):
         if not partial or not runs.rows:
             raise Refused(f"{runs.what_is_missing()} The same sweep makes them; --partial goes on without them.")
         print(f"gossip_read: {runs.what_is_missing()}", file=sys.stderr)
+    if runs.without_sum:
+        print(f"gossip_read: {told_without_sum(runs.without_sum, folder)}", file=sys.stderr)
     found = {}
     for values in runs.in_order():
         rows = runs.rows[values]

@@ -1,6 +1,7 @@
 """Carries out the runs of a folder: here, on several cores at once, or on several machines by GNU parallel."""
 import contextlib
 import os
+import re
 import resource
 import shlex
 import shutil
@@ -9,10 +10,15 @@ import subprocess
 import tempfile
 import time
 
-from gossip_tools.commands import Refused, Stopped
+from gossip_tools.commands import Refused, Stopped, shown
 
 # In large pages the C library gives memory faster. What the caller says to it goes before that.
 LARGE_PAGES = {"GLIBC_TUNABLES": "glibc.malloc.hugetlb=1"}
+
+
+# A machine of HOSTS: `:` or its name, with or without a user, and before that how many cores it has.
+NAME = "[A-Za-z0-9_.][A-Za-z0-9_.-]*"
+HOST = f"([1-9][0-9]{{0,3}}/)?(:|({NAME}@)?{NAME})"
 
 
 class Failed(Exception):
@@ -135,8 +141,13 @@ def is_gnu_parallel():
 def hosts():
     """The machines of HOSTS, divided by commas; empty where there are none."""
     told = os.environ.get("HOSTS", "")
-    if told and not all(it.strip() for it in told.split(",")):
-        raise Refused(f"HOSTS is '{told}', which lacks the name of a machine: write them as in HOSTS=:,alpha,8/beta.")
+    for host in told.split(",") if told else []:
+        if not host.strip():
+            raise Refused(f"HOSTS is '{shown(told)}', which lacks the name of a machine: write them as in "
+                          "HOSTS=:,alpha,8/beta.")
+        if not re.fullmatch(HOST, host):
+            raise Refused(f"'{shown(host)}' in HOSTS isn't the name of a machine: write them as in "
+                          "HOSTS=:,alpha,8/beta, or with a user, as 8/me@beta.")
     if told and not is_gnu_parallel():
         raise Refused("other machines need GNU parallel, which isn't there.")
     return told
@@ -182,7 +193,7 @@ def start(program, hosts):
             lines += told
         if process.returncode:
             line = next(filter(None, map(str.strip, lines)), "it says nothing")
-            raise Refused(f"not each of HOSTS runs the program. {host}: {line}")
+            raise Refused(f"not each of HOSTS runs the program. {shown(host)}: {line}")
 
 
 def far(folder, names, program, hosts, jobs, done):

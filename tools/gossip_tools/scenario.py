@@ -2,7 +2,7 @@
 import re
 from fractions import Fraction
 
-from gossip_tools.commands import Refused
+from gossip_tools.commands import Refused, shown
 
 MODES = ("scuttle-breadth", "scuttle-depth", "precise-oldest", "precise-newest")
 USUAL_MODE = "scuttle-depth"
@@ -78,7 +78,7 @@ def set_field(text, field, value):
     if len(found) != 1:
         those = f"{len(found)} lines of the scenario above all sections set" if found else \
             "no line of the scenario above all sections sets"
-        raise Refused(f"{those} the field {field}, where one has to.")
+        raise Refused(f"{those} the field {shown(field)}, where one has to.")
     (at, quote), = found
     lines[at] = f"{field} = {quote}{value}{quote}\n"
     return "".join(lines)

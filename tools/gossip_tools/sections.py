@@ -1,6 +1,7 @@
 """The tools gossip_restarts and gossip_apart, which print sections of a scenario."""
 from gossip_tools import scenario
 from gossip_tools.commands import Refused, number
+from gossip_tools.scenario import LIMITS
 
 RESTARTS = """gossip_restarts NODES EACH FROM TO DOWN [forget] [first=NODE] [every=ROUNDS]
 
@@ -16,20 +17,29 @@ APART = """gossip_apart FIRST LAST FROM TO
 
 Prints a scenario's partition: the nodes FIRST to LAST, the first of all is 0, are apart in the rounds FROM to TO.
 """
+ROUND = LIMITS["rounds"]
+NODE = 0, LIMITS["nodes"][1] - 1
+# Of each number its name, its least and its most.
+OF_RESTARTS = (("NODES", *LIMITS["nodes"]), ("EACH", 1), ("FROM", *ROUND), ("TO", *ROUND), ("DOWN", 0, ROUND[1]))
+OF_APART = (("FIRST", *NODE), ("LAST", *NODE), ("FROM", *ROUND), ("TO", *ROUND))
+NAMED = {"first": 0, "every": 1}
+
+
+def numbers_of(words, limits):
+    return [number(word, *it) for word, it in zip(words, limits)]
 
 
 def restarts(words):
     numbers = [word for word in words if word != "forget" and "=" not in word]
     named = [word.partition("=")[::2] for word in words if "=" in word]
     names = [name for name, _ in named] + [word for word in words if word == "forget"]
-    if len(numbers) != 5 or len(set(names)) != len(names) or set(names) - {"first", "every", "forget"}:
+    if len(numbers) != 5 or len(set(names)) != len(names) or set(names) - {*NAMED, "forget"}:
         raise Refused("usage: " + RESTARTS.partition("\n")[0])
-    placed = {name: number(text, name) for name, text in named}
-    told = [number(*it) for it in zip(numbers, ("NODES", "EACH", "FROM", "TO", "DOWN"))]
-    print(scenario.restarts(*told, forget="forget" in names, **placed), end="")
+    placed = {name: number(text, name, NAMED[name]) for name, text in named}
+    print(scenario.restarts(*numbers_of(numbers, OF_RESTARTS), forget="forget" in names, **placed), end="")
 
 
 def apart(words):
     if len(words) != 4:
         raise Refused("usage: " + APART.partition("\n")[0])
-    print(scenario.partition(*(number(*it) for it in zip(words, ("FIRST", "LAST", "FROM", "TO")))), end="")
+    print(scenario.partition(*numbers_of(words, OF_APART)), end="")

@@ -14,6 +14,7 @@ can read them, by one program, and one sweep at a time.
                  on one of them
 """
 import contextlib
+import errno
 import os
 import re
 import shlex
@@ -21,8 +22,12 @@ import subprocess
 import sys
 
 from gossip_tools import files, folders, running, scenario
-from gossip_tools.commands import Refused, folder_of, the_program, workers
+from gossip_tools.commands import Refused, fault_of, folder_of, shown, the_program, workers
 from gossip_tools.progress import Progress
+
+# Faults of files that are there again where the same command is given: something else has to be done first.
+LASTING = {errno.EACCES, errno.EPERM, errno.EROFS, errno.EISDIR, errno.ENOTDIR, errno.ENOENT, errno.ELOOP,
+           errno.ENAMETOOLONG}
 
 
 def choices_of(words):
@@ -30,13 +35,14 @@ def choices_of(words):
     choices = {}
     for word in words:
         if not re.fullmatch("[a-z_]+=[A-Za-z0-9_-]+(,[A-Za-z0-9_-]+)*", word):
-            more = "" if "=" in word else f" A scenario comes by standard input, as < {shlex.quote(word)}."
+            more = "" if "=" in word else f" A scenario comes by standard input, as < {shlex.quote(shown(word))}."
             if word.startswith("-"):
                 more = " The options are -o FOLDER and --help; how many runs go at once is said in front, as JOBS=2."
-            raise Refused(f"'{word}' isn't FIELD=VALUE,VALUE.., with letters, digits, - and _ in the values.{more}")
+            raise Refused(f"'{shown(word)}' isn't FIELD=VALUE,VALUE.., with letters, digits, - and _ in the values."
+                          f"{more}")
         field, _, values = word.partition("=")
         if field in choices:
-            raise Refused(f"the field {field} comes twice.")
+            raise Refused(f"the field {shown(field)} comes twice.")
         choices[field] = values.split(",")
     return choices if "mode" in choices else {**choices, "mode": list(scenario.MODES)}
 
@@ -50,7 +56,7 @@ def spread(text, choices, name=""):
     for value in values:
         more = spread(scenario.set_field(text, field, value), dict(rest), f"{name}{'.' if name else ''}{field}-{value}")
         if twice := runs.keys() & more.keys():
-            raise Refused(f"{min(twice)} comes twice.")
+            raise Refused(f"{shown(min(twice))} comes twice.")
         runs |= more
     return runs
 
@@ -70,18 +76,20 @@ def check(runs, program):
             answer = subprocess.run([program, "check"], input=text.encode(), capture_output=True)
         except OSError as error:
             raise Refused(f"{program} can't be started: {error.strerror}.") from None
-        if answer.returncode:
-            sys.stderr.write(answer.stderr.decode(errors="replace"))
-            raise Refused(f"that is the program's answer to {name}, so nothing was run.", max(answer.returncode, 1))
-        if answer.stdout != b"ok\n":
-            raise Refused(f"{program} doesn't answer as gossip_bench does: what does GOSSIP_BENCH name?")
+        if (answer.returncode, answer.stdout) == (0, b"ok\n"):
+            continue
+        told = answer.stderr.decode(errors="replace")
+        if answer.returncode != 1 or not told.startswith("fault "):
+            ended = f" ({shown(running.reason(answer.returncode, told))})" if answer.returncode else ""
+            raise Refused(f"{program} doesn't answer as gossip_bench does{ended}: what does GOSSIP_BENCH name?")
+        sys.stderr.write(told)
+        raise Refused(f"that is the program's answer to {shown(name)}, so nothing was run.", 1)
 
 
 def make(folder, program, progress, hosts, what):
     """Makes the reports that the folder lacks."""
-    if folder.is_of_before():
-        print(f"{what}: {folder.path} has reports from before check sums of reports and programs were kept: they are "
-              "taken as they are.", file=sys.stderr)
+    for sentence in folder.unknown():
+        print(f"{what}: {sentence}", file=sys.stderr)
     lacking = {name: lacks for name in folder.runs if (lacks := folder.lacks(name))}
     for name, lacks in lacking.items():
         if (folder.path / f"{name}.csv").exists():
@@ -98,6 +106,16 @@ def make(folder, program, progress, hosts, what):
         progress.end()
 
 
+def what_stands(folder):
+    """How many runs of the folder have their report, in words."""
+    count = 0
+    for name in folder.runs:
+        # (a report that can't be read doesn't stand)
+        with contextlib.suppress(OSError):
+            count += not folder.lacks(name)
+    return f"{count} of {len(folder.runs)} runs stand in {folder.path}"
+
+
 def carry_out(path, text, runs, program, progress, hosts=None, what="gossip_sweep"):
     """Makes the reports of the runs that have none in the folder, or says what stands where that ends early."""
     folder = folders.Folder(path, text, runs, files.check_sum(program))
@@ -109,14 +127,13 @@ def carry_out(path, text, runs, program, progress, hosts=None, what="gossip_swee
     except running.Failed as failed:
         why, status = f"a run failed: {failed}", 1
     except OSError as error:
-        why, status = f"{error.filename or path}: {error.strerror}", 1
+        error.filename = error.filename or path
+        why, status = fault_of(error), 1
+        if error.errno in LASTING:
+            raise Refused(f"{why} {what_stands(folder)}." if os.path.isdir(path) else why, status) from None
     else:
         return
-    stand = 0
-    with contextlib.suppress(OSError):
-        stand = sum(not folder.lacks(name) for name in runs)
-    why = f"{why.rstrip('.')}. {stand} of {len(runs)} runs stand in {path}; the same command goes on from there."
-    raise Refused(why, status)
+    raise Refused(f"{why.rstrip('.')}. {what_stands(folder)}; the same command goes on from there.", status)
 
 
 def main(words):

@@ -32,7 +32,7 @@ trait Versions: MemoryTable + Send + Sync {
     fn numbers(&self, alloc: Global) -> Result<Vec<u32>, AllocError>;
 }
 
-impl<L: Written + Send + Sync> Versions for VersionTable<Short, L> {
+impl<N: Number + Send + Sync, L: Written + Send + Sync> Versions for VersionTable<N, L> {
     fn head(&self) -> [u32; 4] {
         [self.node(), self.nodes(), self.keys(), self.generation()]
     }
@@ -40,18 +40,8 @@ impl<L: Written + Send + Sync> Versions for VersionTable<Short, L> {
     fn numbers(&self, alloc: Global) -> Result<Vec<u32>, AllocError> {
         self.cells()
             .iter()
-            .map(|number: &Short| number.widen())
+            .map(|number: &N| number.widen())
             .collect(alloc)
-    }
-}
-
-impl<L: Written + Send + Sync> Versions for VersionTable<u32, L> {
-    fn head(&self) -> [u32; 4] {
-        [self.node(), self.nodes(), self.keys(), self.generation()]
-    }
-
-    fn numbers(&self, alloc: Global) -> Result<Vec<u32>, AllocError> {
-        Vec::from_slice(alloc, self.cells())
     }
 }
 
@@ -196,6 +186,7 @@ fn expect_same_rounds<T: Versions, H: RoundHistories<T>>(
 // How many bits the numbers of a table have.
 #[derive(Clone, Copy)]
 enum Bits {
+    Eight,
     Sixteen,
     ThirtyTwo,
 }
@@ -208,9 +199,12 @@ fn expect_same_numbers<L: Written + Send + Sync>(
     bits: Bits,
 ) -> Result<(), Fault>
     requires written { AreWrittenIn L.lists scenario }
-    requires below { HasWritesBelow 32767 scenario }
+    requires below { HasWritesBelow 255 scenario }
 {
     match bits {
+        Bits::Eight => expect_same_rounds::<VersionTable<u8, L>, Histories<u8, L>>(
+            rt, scenario, twin,
+        ),
         Bits::Sixteen => expect_same_rounds::<VersionTable<Short, L>, Histories<Short, L>>(
             rt, scenario, twin,
         ),
@@ -228,7 +222,7 @@ fn expect_same(
 ) -> Result<(), Fault> {
     let scenario = scenario_of(rt.alloc(), text, mode)?;
     let twin = scenario_of(rt.alloc(), text, mode)?;
-    assert!(rt; MOST_WRITES * scenario.rounds() < i16::MAX as u32);
+    assert!(rt; MOST_WRITES * scenario.rounds() < u8::MAX as u32);
     expect_same_numbers::<Brand>(rt, scenario, twin, bits)
 }
 
@@ -281,6 +275,7 @@ fn both_kinds_of_tables(rt: HostRuntime) -> Result<(), Fault> {
     for case in CASES {
         let text = text_of(rt.alloc(), case)?;
         for mode in Mode::ALL {
+            expect_same(&rt, text.as_str(), mode, Bits::Eight)?;
             expect_same(&rt, text.as_str(), mode, Bits::Sixteen)?;
             expect_same(&rt, text.as_str(), mode, Bits::ThirtyTwo)?;
         }

@@ -214,7 +214,6 @@ fn expect_same_numbers<L: Written + Send + Sync>(
     }
 }
 
-#[tactic(auto, using(runs::proofs::Numbers::below_limits))]
 fn expect_same(
     rt: &(impl Threads + Wait + Abort + AllocGlobal + Sync),
     text: &str,

@@ -4,8 +4,9 @@ use Rattle.std.proofs.Common.{ℕ, ◌≤◌, All, List, [], ◌∷◌, ◌++◌
 use Rattle.std.proofs.lemmas.List.Elements.{All-tail, All-map}
 use Rattle.bench_types.specs.declared.entries.Entry.{Entry}
 use Rattle.model.specs.declared.writes.Write.{Write}
-use Rattle.model.specs.OwnerListView.{OwnerListView, no_writes, list_of_owner, lists_in}
-use Rattle.model.specs.Writes.{write_of_entry, AreBornBy}
+use Rattle.model.specs.calls.OwnerListView.{OwnerListView, no_writes, list_of_owner, lists_in}
+use Rattle.model.specs.Writes.{write_of_entry}
+use Rattle.model.specs.calls.Writes.{AreBornBy}
 use Rattle.model.proofs.Owners.{length-lists_in, list_read}
 use Rattle.round_tables.specs.Histories.{AreWrittenBy}
 

@@ -19,7 +19,7 @@ pub struct EntryHistories {
 
 impl Model for EntryHistories {
     ghost use Rattle.std.specs.Prelude.{List};
-    ghost use Rattle.model.specs.OwnerListView.{OwnerListView};
+    ghost use Rattle.model.specs.calls.OwnerListView.{OwnerListView};
 
     ghost Value = { List OwnerListView };
 

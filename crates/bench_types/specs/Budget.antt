@@ -1,7 +1,7 @@
 -- What one message may carry, its budget: so many entries, or entries of so many bytes in all. An entry's size is 24
 -- bytes and as many more as its value modulo 1000. Source: this project; the LADIS 2008 paper has a bound of the
 -- message's size alone.
-use Rattle.std.specs.Prelude.{ℕ, ◌+◌, ◌%◌, ◌≤◌}
+use Rattle.std.specs.Prelude.{ℕ, ◌+◌, ◌%◌}
 use Rattle.bench_types.specs.declared.entries.Entry.{Entry}
 use Rattle.bench_types.specs.declared.exchanges.Budget.{Budget}
 use Rattle.bench_types.specs.declared.exchanges.Budget.TheVariants.{Entries, Bytes}
@@ -25,7 +25,3 @@ share_of (Bytes _) e = entry_size e
 abbrev pub largest_share : Budget → ℕ
 largest_share (Entries _) = 1
 largest_share (Bytes _) = MOST_ENTRY_SIZE
-
--- a lawful budget has room for any one entry
-abbrev pub IsLawfulBudget : Budget → Type 0
-IsLawfulBudget budget = largest_share budget ≤ amount_of budget

@@ -2,22 +2,13 @@
 -- and the one that is held where the marks are equal. An owner's n-th write of a generation has version n, from 1.
 -- Source: the LADIS 2008 paper, which has versions alone; the tie is this project's, and so is it that versions leave
 -- no number out.
-use Rattle.std.specs.Prelude.{◌≡◌, ℕ, ◌+◌, ◌<◌, List, length, slice_index_or, Option, None, Some, if◌then◌else◌}
+use Rattle.std.specs.Prelude.{ℕ, ◌+◌, Option, None, Some, if◌then◌else◌}
 use Rattle.bench_types.specs.declared.entries.Entry.{Entry}
 use Rattle.bench_types.specs.Mark.{mark_of, is_before}
 
 -- the version of the write that comes after so many
 abbrev pub next_version : ℕ → ℕ
 next_version count = count + 1
-
--- an entry is the one that an owner writes in a generation after so many of it
-abbrev pub IsNextAfter : ℕ → ℕ → Entry → Type 0
-IsNextAfter generation count e = (e.generation ≡ generation) × (e.version ≡ next_version count)
-
--- the entries are those that an owner writes in a generation after so many of it, one after another
-abbrev pub AreNextAfter : ℕ → ℕ → List Entry → Type 0
-AreNextAfter generation count entries =
-    (i : ℕ) (d : Entry) → i < length entries → IsNextAfter generation (count + i) (slice_index_or entries i d)
 
 -- what is kept of the held entry, if any, and one that comes in
 abbrev pub newer : Option Entry → Entry → Entry

@@ -1,9 +1,8 @@
 pub mod Budget
 pub mod Entry
-pub mod Exchange
-pub mod FaultLine
 pub mod Field
 pub mod Mark
 pub mod Mode
 pub mod Output
 pub mod Sums
+pub mod calls

@@ -6,8 +6,6 @@ use Rattle.bench_types.specs.declared.exchanges.Mode.{Mode}
 use Rattle.bench_types.specs.declared.exchanges.Mode.TheVariants.{ScuttleBreadth, ScuttleDepth, PreciseOldest, PreciseNewest}
 use Rattle.bench_types.specs.declared.exchanges.DigestKind.{DigestKind}
 use Rattle.bench_types.specs.declared.exchanges.DigestKind.TheVariants.{Scuttle, Precise}
-use Rattle.bench_types.specs.declared.exchanges.First.{First}
-use Rattle.bench_types.specs.declared.exchanges.First.TheVariants.{Oldest, Newest}
 
 -- the kind of a mode's digests
 abbrev pub digest_kind : Mode → DigestKind
@@ -15,13 +13,6 @@ digest_kind ScuttleBreadth = Scuttle
 digest_kind ScuttleDepth = Scuttle
 digest_kind PreciseOldest = Precise
 digest_kind PreciseNewest = Precise
-
--- which of an owner's entries of one level a mode sends first
-abbrev pub first_sent : Mode → First
-first_sent ScuttleBreadth = Oldest
-first_sent ScuttleDepth = Oldest
-first_sent PreciseOldest = Oldest
-first_sent PreciseNewest = Newest
 
 abbrev pub mode_name : Mode → List ℕ
 mode_name ScuttleBreadth = codes "scuttle-breadth"

@@ -2,7 +2,8 @@
 
 ghost use Rattle.std.specs.Prelude.{◌≡◌, Some, find, bytes_eq};
 ghost use Rattle.bench_types.specs.Budget.{amount_of, share_of};
-ghost use Rattle.bench_types.specs.Mode.{digest_kind, first_sent, mode_name, mode_named};
+ghost use Rattle.bench_types.specs.Mode.{digest_kind, mode_name, mode_named};
+ghost use Rattle.bench_types.specs.calls.Mode.{first_sent};
 
 use crate::entries::Entry;
 

@@ -1,7 +1,7 @@
 //! Everything that a call of the bench can answer in place of its result.
 
 ghost use Rattle.std.specs.Prelude.{◌≡◌, ◌<◌, length, Some};
-ghost use Rattle.bench_types.specs.FaultLine.{fault_line};
+ghost use Rattle.bench_types.specs.calls.FaultLine.{fault_line};
 ghost use Rattle.bench_types.specs.declared.faults.Fault.TheVariants.{OutOfMemory};
 
 use crate::fields::{Field, TableName};

@@ -1,7 +1,8 @@
 //! The names of a scenario's fields and tables.
 
 ghost use Rattle.std.specs.Prelude.{◌≡◌, Some};
-ghost use Rattle.bench_types.specs.Field.{field_name, field_text, table_name, table_of};
+ghost use Rattle.bench_types.specs.Field.{field_name};
+ghost use Rattle.bench_types.specs.calls.Field.{field_text, table_name, table_of};
 
 use std::fmt;
 

@@ -1,7 +1,7 @@
 //! The line of a fault, which takes no memory.
 
 ghost use Rattle.std.specs.Prelude.{◌≡◌, ◌+◌, ◌<◌, ◌++◌, decimal, length};
-ghost use Rattle.bench_types.specs.Field.{field_text};
+ghost use Rattle.bench_types.specs.calls.Field.{field_text};
 
 use crate::fields::{Field, TableName};
 use arrayvec::ArrayString;

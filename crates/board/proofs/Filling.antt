@@ -9,10 +9,12 @@ use Rattle.std.proofs.lemmas.List.FromFn.{length-map-range_with_len, get_or-map-
 use mathlib.Core.Option.{some, some-injective, some-ne-none}
 use lib.ListN.{get_elem?}
 use Rattle.model.specs.Table.{Table}
-use Rattle.model.specs.RoundLists.{RoundListView, IsRoundPlan}
+use Rattle.model.specs.RoundLists.{RoundListView}
+use Rattle.model.specs.calls.RoundLists.{IsRoundPlan}
 use Rattle.dependencies.specs.Neighbours.{pending_of}
 use Rattle.dependencies.specs.inner.Slots.{in_place}
-use Rattle.model.specs.Tables.{table_of_node, IsCluster}
+use Rattle.model.specs.Tables.{table_of_node}
+use Rattle.model.specs.calls.Tables.{IsCluster}
 use Rattle.model.specs.Folds.{fold_of}
 use Rattle.model.proofs.FoldLaws.{fold_counts_tables}
 use Rattle.board.specs.Plan.{BoardPlan, IsBoardPlan, table_at}

@@ -115,7 +115,7 @@ module _ (plan : BoardPlan) (id : ℕ) (v : SeatView) (some_parts : 0 < v.parts)
     filled : (node : ℕ) → takes_part es node i ≡ true → HasTable homes' node (table_at plan node (i + 1))
     filled node part =
         let planned = planned_at plan o.planned i within in
-        let among = subst (λ n. All (Rattle.bench_types.specs.Exchange.IsPlanned n) es) (sym o.planned.tables) o.planned.list.planned in
+        let among = subst (λ n. All (Rattle.bench_types.specs.calls.Exchange.IsPlanned n) es) (sym o.planned.tables) o.planned.list.planned in
         let there = ends_here (λ n x. x ≡ some (Some (table_at plan n (i + 1)))) plan i s.homes (some (Some a)) (some (Some b)) planned.apart
         (omega (arith, o.tables.size, planned.initiator)) (omega (arith, o.tables.size, planned.responder))
         (ap (λ (t : Table). some (Some t)) (first ∙ sym (initiator_left plan.rules plan.tables es among i within)))

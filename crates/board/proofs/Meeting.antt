@@ -1,7 +1,7 @@
 -- The exchange of a hold may be carried out on its tables.
 -- Serves `every_hold_may_be_exchanged` and `workers`.
 use Rattle.std.proofs.Common.{◌<◌, ◌∙◌, sym, subst}
-use Rattle.bench_types.specs.Exchange.{IsPlanned}
+use Rattle.bench_types.specs.calls.Exchange.{IsPlanned}
 use Rattle.model.specs.Table.{Table}
 use Rattle.model.specs.Tables.{table_of_node, IsTableOf}
 use Rattle.model.proofs.FoldLaws.{before_tables}

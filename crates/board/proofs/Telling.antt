@@ -8,7 +8,7 @@ use mathlib.Core.Option.{some, some-injective}
 use lib.ListN.{get_elem?}
 use Rattle.atomic_table.specs.Table.{State}
 use Rattle.bench_types.specs.declared.exchanges.Exchange.{Exchange}
-use Rattle.bench_types.specs.Exchange.{IsPlanned}
+use Rattle.bench_types.specs.calls.Exchange.{IsPlanned}
 use Rattle.dependencies.specs.Sharing.{no_exchange, exchange_at, takes_part, share_node}
 use Rattle.dependencies.specs.Neighbours.{predecessors, pending_of, as_list, predecessors_of}
 use Rattle.dependencies.proofs.Predecessors.{earlier_from_predecessors, predecessors_earlier, share_from}

@@ -1,7 +1,7 @@
 -- The plan that a board keeps. Source: this project.
 use Rattle.std.specs.Prelude.{◌≡◌, length, map}
 use Rattle.model.specs.Table.{Table}
-use Rattle.model.specs.RoundLists.{IsRoundPlan}
+use Rattle.model.specs.calls.RoundLists.{IsRoundPlan}
 use Rattle.board.specs.Plan.{BoardPlan}
 use Rattle.board.specs.declared.plays.BoardKey.{BoardKey}
 

@@ -5,9 +5,9 @@ use mathlib.Core.Option.{some}
 use lib.ListN.{get_elem?}
 use Rattle.bench_types.specs.declared.exchanges.Record.{Record}
 use Rattle.model.specs.Table.{Table}
-use Rattle.model.specs.RoundLists.{IsRoundPlan}
-use Rattle.model.specs.Exchanging.{MayBeExchanged, MakesOf}
-use Rattle.model.specs.Tables.{IsCluster}
+use Rattle.model.specs.calls.RoundLists.{IsRoundPlan}
+use Rattle.model.specs.calls.Exchanging.{MayBeExchanged, MakesOf}
+use Rattle.model.specs.calls.Tables.{IsCluster}
 use Rattle.dependencies.specs.declared.events.Event.{Event}
 use Rattle.dependencies.specs.Sharing.{exchange_at, takes_part}
 use Rattle.dependencies.specs.Schedules.{is_finished, is_running, IsLawful}

@@ -1,11 +1,11 @@
 //! A board, the seats that use it, and what its calls answer.
 ghost use Rattle.std.specs.Prelude.{List, ◌≡◌, ◌+◌, ◌/◌, ◌<◌, ◌≤◌, None, Some, [], length, map, reverse, IfSome, IfErr, IfOk, IsOkUnless, vec_capacity};
 ghost use Rattle.bench_types.specs.declared.faults.Fault.TheVariants.{OutOfMemory};
-ghost use Rattle.model.specs.RoundLists.{IsRoundPlan};
+ghost use Rattle.model.specs.calls.RoundLists.{IsRoundPlan};
 ghost use Rattle.dependencies.specs.inner.Slots.{in_place};
 ghost use Rattle.std.specs.Mem.Slots.{slots_items, slots_len, IsFull};
 ghost use Rattle.bench_types.specs.declared.faults.Fault.TheVariants.{Unfinished};
-ghost use Rattle.model.specs.Tables.{IsCluster};
+ghost use Rattle.model.specs.calls.Tables.{IsCluster};
 ghost use Rattle.board.specs.SeatView.{IsWhole, first_seat, split_left, split_right, joined, with_held};
 ghost use Rattle.board.specs.Keys.{IsBoardKey};
 ghost use Rattle.board.specs.Seats.{resting, IsApart, IsInformed};

@@ -1,3 +1,4 @@
 pub mod Endings
 pub mod Statuses
 pub mod Jobs
+pub mod inner

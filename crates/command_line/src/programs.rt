@@ -4,7 +4,8 @@ ghost use Rattle.std.specs.Prelude.{◌≡◌, ◌≤◌, map};
 ghost use Rattle.bench_types.specs.declared.faults.Fault.{Fault};
 ghost use Rattle.command_line.specs.Endings.{HaveAnswer, IsAnswerFault, IsDone, IsHelpWritten, IsRefusalTold};
 ghost use Rattle.command_line.specs.Endings.{IsStoppedByFault};
-ghost use Rattle.command_line.specs.Statuses.{IsOutcomeTold, IsTold, status_of, told_of};
+ghost use Rattle.command_line.specs.Statuses.{IsTold, told_of};
+ghost use Rattle.command_line.specs.inner.Statuses.{IsOutcomeTold, status_of};
 
 use crate::jobs::perform;
 use bench_types::{Discard, Fault, Push, Sink, Source, write_text};

@@ -15,7 +15,7 @@ use Rattle.model.specs.Exchanged.{Exchanged, exchanged}
 use Rattle.model.specs.Tables.{table_of_node}
 use Rattle.model.proofs.FoldLaws.{fold_counts_records, fold_counts_tables}
 use Rattle.model.specs.Folds.{Folded, exchange_in, fold_of, tables_before}
-use Rattle.bench_types.specs.Exchange.{IsPlanned}
+use Rattle.bench_types.specs.calls.Exchange.{IsPlanned}
 use Rattle.dependencies.specs.declared.events.Event.{Event}
 use Rattle.dependencies.specs.Sharing.{no_exchange, exchange_at, takes_part}
 use Rattle.dependencies.specs.Schedules.{is_finished}

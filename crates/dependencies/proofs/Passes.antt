@@ -7,7 +7,7 @@ use Rattle.std.proofs.lemmas.Bool.{cases_eq, eq-eqb, ne_eqb}
 use Rattle.std.proofs.lemmas.List.{map-id}
 use Rattle.std.proofs.lemmas.List.FromFn.{map-range_with_len_more, fill_by_all, get_or-map-range_with_len, length-map-range_with_len, filter_of_map_range_with_len_more}
 use Rattle.bench_types.specs.declared.exchanges.Exchange.{Exchange}
-use Rattle.bench_types.specs.Exchange.{IsPlanned}
+use Rattle.bench_types.specs.calls.Exchange.{IsPlanned}
 use Rattle.dependencies.specs.declared.deps.After.{After}
 use Rattle.dependencies.specs.declared.deps.Before.{Before}
 use Rattle.dependencies.specs.Sharing.{exchange_at, takes_part}

@@ -6,7 +6,7 @@ use Rattle.bench_types.specs.declared.exchanges.Rules.{Rules}
 use Rattle.model.specs.Table.{Table}
 use Rattle.model.specs.Tables.{table_of_node}
 use Rattle.model.specs.Folds.{fold_of, tables_before}
-use Rattle.bench_types.specs.Exchange.{IsPlanned}
+use Rattle.bench_types.specs.calls.Exchange.{IsPlanned}
 use Rattle.dependencies.specs.declared.events.Event.{Event}
 use Rattle.dependencies.specs.declared.events.Event.TheVariants.{Start, Finish}
 use Rattle.dependencies.specs.Sharing.{exchange_at, takes_part, share_node}

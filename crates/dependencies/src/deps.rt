@@ -3,8 +3,8 @@
 ghost use Rattle.std.specs.Prelude.{◌≡◌, ◌<◌, ◌≤◌, ◌++◌, All, length, IfOk, IsOkUnless};
 ghost use Rattle.bench_types.specs.declared.exchanges.Exchange.{Exchange};
 ghost use Rattle.bench_types.specs.declared.faults.Fault.TheVariants.{OutOfMemory};
-ghost use Rattle.bench_types.specs.Exchange.{IsPlanned};
-ghost use Rattle.model.specs.RoundLists.{IsRoundPlan};
+ghost use Rattle.bench_types.specs.calls.Exchange.{IsPlanned};
+ghost use Rattle.model.specs.calls.RoundLists.{IsRoundPlan};
 ghost use Rattle.model.specs.declared.lists.TheConstants.{MOST_EXCHANGES};
 ghost use Rattle.dependencies.specs.Sharing.{exchange_at};
 ghost use Rattle.dependencies.specs.inner.Dependencies.{AreFirstReady};

@@ -2,9 +2,9 @@
 
 ghost use Rattle.std.specs.Prelude.{◌≡◌, ◌^◌, ◌<◌, All, IfOk, OnOk, OnErr, IsOkUnless, false, length};
 ghost use Rattle.bench_types.specs.declared.faults.Fault.TheVariants.{OutOfMemory};
-ghost use Rattle.bench_types.specs.Budget.{IsLawfulBudget};
+ghost use Rattle.bench_types.specs.calls.Budget.{IsLawfulBudget};
 ghost use Rattle.bench_types.specs.Mode.{digest_kind};
-ghost use Rattle.model.specs.Table.{IsFor, MayReceive};
+ghost use Rattle.model.specs.calls.Table.{IsFor, MayReceive};
 ghost use Rattle.model.specs.Table.{applied};
 ghost use Rattle.reconcile.specs.Digests.{IsDigestOf, IsOfKind};
 ghost use Rattle.exchange.specs.inner.Messages.{IsAnswer, MayAnswerEachOther, after_message};

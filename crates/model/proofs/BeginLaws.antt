@@ -9,7 +9,8 @@ use Rattle.std.proofs.lemmas.List.{append-nil, get_or_past}
 use Rattle.std.proofs.lemmas.List.Elements.{All-head, All-tail, Contains-append_left, Contains-push, Contains-push_cases}
 use Rattle.bench_types.specs.declared.entries.Entry.{Entry}
 use Rattle.bench_types.specs.declared.entries.Mark.{Mark}
-use Rattle.bench_types.specs.Entry.{next_version, IsNextAfter, AreNextAfter}
+use Rattle.bench_types.specs.Entry.{next_version}
+use Rattle.bench_types.specs.calls.Entry.{IsNextAfter, AreNextAfter}
 use Rattle.bench_types.specs.Mark.{mark_of, mark_held, IsBefore, IsUpTo}
 use Rattle.bench_types.proofs.Marks.{absent-first, before-up_to, not_both, up_to-before, up_to-itself, up_to-then}
 use Rattle.model.specs.Table.{Table, empty_table, entry_at, mark_at, greatest_mark, greatest_version, own_write, with_own_write, with_own_writes, without_others, without_all, IsProper}
@@ -21,7 +22,8 @@ use Rattle.model.specs.Tables.{table_of_node, AreTablesInOrder, AreProper}
 use Rattle.model.specs.ExchangeLaws.{NoMarkFalls}
 use Rattle.model.specs.Copies.{WritesBy, IsCurrentOrOlder, IsLastOf}
 use Rattle.model.proofs.ExchangeLaws.{marks_stay, marks_then}
-use Rattle.model.specs.Clusters.{own_mark, own_parts, generations_of, AreCopiesOf, HaveNoGap}
+use Rattle.model.specs.Clusters.{own_parts, generations_of, AreCopiesOf, HaveNoGap}
+use Rattle.model.specs.calls.Clusters.{own_mark}
 use Rattle.std.proofs.lemmas.Option.{same_Some}
 
 -- the node stays, and so does how many nodes and keys there are

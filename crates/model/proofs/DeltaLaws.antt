@@ -21,7 +21,8 @@ use Rattle.model.specs.Table.{Table, items_of, IsProper}
 use Rattle.model.proofs.Proper.{items_sound}
 use Rattle.model.specs.Candidates.{IsScuttleMode, known_mark, candidates}
 use Rattle.model.specs.Order.{rotated, rank_among, owner_count, sending_order}
-use Rattle.model.specs.Deltas.{item_share, delta_of, AreWithin}
+use Rattle.model.specs.Deltas.{item_share, delta_of}
+use Rattle.model.specs.calls.DeltaLaws.{AreWithin}
 use Rattle.model.specs.Picks.{fits}
 use Rattle.model.specs.inner.Items.{no_item}
 use Rattle.model.proofs.Apart.{sending_total, sending_apart}

@@ -16,8 +16,10 @@ use Rattle.model.specs.Deltas.{DeltaView, delta_between}
 use Rattle.model.specs.Digests.{digest_size}
 use Rattle.model.proofs.DeltaLaws.{cut-none}
 use Rattle.model.specs.Exchanged.{exchanged, fate_of, last_fate, sent_until, initiator_after, responder_after}
-use Rattle.model.specs.ExchangeLaws.{MayMeet, NoMarkFalls, StoodInEither, IsPreciseMode, LosesAndCutsNothing, version_in, newer_generation, HasTheNewer, EnoughBudgetCutsNothing}
-use Rattle.model.specs.Copies.{OwnParts, Generations, WritesBy, AreLastOf, HoldsWrites, HasNoGap}
+use Rattle.model.specs.ExchangeLaws.{NoMarkFalls}
+use Rattle.model.specs.calls.ExchangeLaws.{MayMeet, StoodInEither, IsPreciseMode, LosesAndCutsNothing, version_in, newer_generation, HasTheNewer, EnoughBudgetCutsNothing}
+use Rattle.model.specs.Copies.{OwnParts, Generations, WritesBy, HoldsWrites}
+use Rattle.model.specs.inner.Copies.{AreLastOf, HasNoGap}
 use Rattle.model.proofs.Cases.{initiator_after-either, responder_after-either}
 use Rattle.model.proofs.Received.{received-either, received-writes, received-proper, received-rises, received-generation, received-versions, received-no_gap}
 

@@ -2,7 +2,8 @@
 -- Serves `staleness` and `version_tables`.
 use Rattle.std.proofs.Common.{◌≡◌, ℕ, ◌≤◌, List, length, sym, ap, ◌∙◌, arith, Some}
 use Rattle.model.specs.Table.{Table}
-use Rattle.model.specs.Tables.{table_of_node, IsCluster}
+use Rattle.model.specs.Tables.{table_of_node}
+use Rattle.model.specs.calls.Tables.{IsCluster}
 use Rattle.model.specs.declared.writes.Write.{Write}
 use Rattle.bench_types.specs.Sums.{most_below}
 use Rattle.model.specs.Figures.{staleness_at, stale_count, rounds_behind}

@@ -11,14 +11,16 @@ use Rattle.bench_types.specs.declared.exchanges.Rules.{Rules}
 use Rattle.model.specs.Table.{Table, empty_table, entry_at, IsProper}
 use Rattle.model.specs.Candidates.{IsScuttleMode}
 use Rattle.model.specs.Exchanged.{Exchanged, exchanged}
-use Rattle.model.specs.Exchanging.{MayBeExchanged, IsKeptByExchanges}
+use Rattle.model.specs.calls.Exchanging.{MayBeExchanged, IsKeptByExchanges}
 use Rattle.model.specs.Tables.{table_of_node, AreTablesInOrder, IsTableOf, HoldsOfEach, AreProper}
 use Rattle.model.specs.Folds.{Folded, exchange_in, fold_of, tables_before}
-use Rattle.model.specs.ExchangeLaws.{MayMeet, NoMarkFalls}
-use Rattle.model.specs.Copies.{OwnParts, Generations, WritesBy, IsLastOf, AreLastOf, HoldsWrites, HasNoGap}
-use Rattle.bench_types.specs.Exchange.{IsPlanned}
-use Rattle.model.specs.Clusters.{own_parts, generations_of, AreCopiesOf, HaveNoGap, NoMarksFall, KeepOwnParts}
-use Rattle.model.specs.Owns.{KeepsOwn}
+use Rattle.model.specs.ExchangeLaws.{NoMarkFalls}
+use Rattle.model.specs.calls.ExchangeLaws.{MayMeet}
+use Rattle.model.specs.Copies.{OwnParts, Generations, WritesBy, IsLastOf, HoldsWrites}
+use Rattle.model.specs.inner.Copies.{AreLastOf, HasNoGap}
+use Rattle.bench_types.specs.calls.Exchange.{IsPlanned}
+use Rattle.model.specs.Clusters.{own_parts, generations_of, AreCopiesOf, HaveNoGap, NoMarksFall}
+use Rattle.model.specs.inner.Owns.{KeepOwnParts, KeepsOwn}
 use Rattle.model.proofs.Owns.{keeps_own_same, keeps_own_then, initiator_keeps_own, responder_keeps_own}
 use Rattle.model.proofs.Tables.{still_in_order}
 use Rattle.model.proofs.ExchangeLaws.{marks_stay, marks_then, initiator_rises, responder_rises, initiator_proper, responder_proper, initiator_writes, responder_writes, initiator_no_gap, responder_no_gap}

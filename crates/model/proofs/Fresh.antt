@@ -11,7 +11,7 @@ use Rattle.bench_types.specs.declared.exchanges.DigestKind.TheVariants.{Scuttle,
 use Rattle.bench_types.specs.declared.exchanges.Exchange.{Exchange}
 use Rattle.bench_types.specs.declared.exchanges.Fate.TheVariants as fate
 use Rattle.bench_types.specs.declared.exchanges.Rules.{Rules}
-use Rattle.bench_types.specs.Exchange.{IsPlanned}
+use Rattle.bench_types.specs.calls.Exchange.{IsPlanned}
 use Rattle.bench_types.specs.Mark.{mark_of, mark_held, is_before, IsBefore, IsUpTo}
 use Rattle.bench_types.specs.Mode.{digest_kind}
 use Rattle.bench_types.proofs.Marks.{before-up_to, before-yes, cases_before, not_both, up_to-itself, up_to-then}

@@ -11,8 +11,8 @@ use Rattle.std.proofs.lemmas.List.Elements.{All-head, All-tail}
 use Rattle.std.proofs.lemmas.List.Sums.{sum_by-cons}
 use Rattle.bench_types.specs.declared.entries.Entry.{Entry}
 use Rattle.model.specs.Table.{Place, place_cmp}
-use Rattle.model.specs.Held.{placed, placed_from, held_by_lists}
-use Rattle.model.specs.Held.{entry_in, HaveTwoKeys}
+use Rattle.model.specs.calls.Held.{placed, placed_from, held_by_lists}
+use Rattle.model.specs.inner.Held.{entry_in, HaveTwoKeys}
 use Rattle.model.proofs.Order.{place_total, place_same}
 use Rattle.model.proofs.TableLaws.{tied-stands_at}
 

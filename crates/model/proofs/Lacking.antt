@@ -13,7 +13,7 @@ use Rattle.bench_types.proofs.Marks.{before-true, before-yes}
 use Rattle.model.specs.Table.{Table, entry_at, mark_at, generation_held, items_of, IsProper}
 use Rattle.model.proofs.Items.{entry_at-items_of}
 use Rattle.model.specs.Candidates.{known_mark, candidates}
-use Rattle.model.specs.DeltaLaws.{Lacks}
+use Rattle.model.specs.calls.DeltaLaws.{Lacks}
 use Rattle.model.proofs.Members.{Contains-filter, Contains-kept}
 
 -- above a place's version in the copy's generation is above its mark, and of no older generation than the copy

@@ -10,7 +10,7 @@ use Rattle.bench_types.specs.declared.entries.Mark.{Mark}
 use Rattle.bench_types.specs.Mark.{absent, mark_of, mark_held, IsBefore, IsUpTo, later}
 use Rattle.bench_types.proofs.Marks.{up_to-itself, up_to-then, up_to-both, before-up_to, absent-first, first-later, second-later, later-up_to, later-first, later-second, cases_later, mark_held-newer}
 use Rattle.model.specs.Table.{Table, empty_table, entry_at, mark_at, greatest_mark, generation_held, taken, applied, own_write, with_own_write, without_others, without_all, IsProper}
-use Rattle.model.specs.Table.{IsItemInPlace}
+use Rattle.model.specs.calls.Table.{IsItemInPlace}
 use Rattle.model.specs.inner.GreatestMarks.{greatest_among}
 use Rattle.model.proofs.Greatest.{greatest_mark-unique, greatest_mark-same, greatest_mark-none, greatest_mark-from, mark_at-up_to_greatest}
 use Rattle.model.proofs.TableLaws.{cases_taken, entry_at-taken_other, entry_at-taken_newer, entry_at-taken_same, entry_at-own_write, entry_at-own_write_other, entry_at-without_others_own, entry_at-without_others_other, entry_at-without_all, entry_at-empty_table, frame-taken}

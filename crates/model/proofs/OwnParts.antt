@@ -9,8 +9,10 @@ use Rattle.model.specs.Table.{place_cmp, Table, empty_table, entry_at, greatest_
 use Rattle.model.proofs.Order.{place_total}
 use Rattle.model.proofs.TableLaws.{frame-applied, entry_at-applied_other, entry_at-without_others_own, entry_at-without_all}
 use Rattle.model.specs.declared.writes.Write.{Write}
-use Rattle.model.specs.Writes.{write_of_entry, next_write, is_write_of, AreBornBy}
-use Rattle.model.specs.OwnParts.{OwnPartIsLastWrites}
+use Rattle.model.specs.Writes.{write_of_entry}
+use Rattle.model.specs.inner.Writes.{next_write}
+use Rattle.model.specs.calls.Writes.{is_write_of, AreBornBy}
+use Rattle.model.specs.calls.OwnParts.{OwnPartIsLastWrites}
 use Rattle.bench_types.proofs.Comparing.{nat_cmp-equal}
 use Rattle.model.proofs.LastWrites.{same_key, with_version, last_write-push}
 

@@ -3,8 +3,9 @@
 use Rattle.std.proofs.Common.{◌≡◌, ℕ, ◌+◌, ◌<◌, List, [], ◌∷◌, ◌++◌, length, get_or, sym, ap, ◌∙◌}
 use Rattle.std.proofs.lemmas.List.{length-map, map-append, get_or-map}
 use Rattle.model.specs.declared.writes.Write.{Write}
-use Rattle.model.specs.OwnerListView.{OwnerListView, written, next_entry, with_write, lists_in}
-use Rattle.model.specs.Writes.{write_of_entry, next_write}
+use Rattle.model.specs.calls.OwnerListView.{OwnerListView, written, next_entry, with_write, lists_in}
+use Rattle.model.specs.Writes.{write_of_entry}
+use Rattle.model.specs.inner.Writes.{next_write}
 
 pub length-lists_in : (lists : List OwnerListView) → length (lists_in lists) ≡ length lists
 length-lists_in lists = length-map lists written

@@ -12,7 +12,7 @@ use Rattle.model.specs.Candidates.{candidates, known_mark}
 use Rattle.model.specs.Deltas.{delta_between}
 use Rattle.model.proofs.Sent.{All-delta_between, All-items_above}
 use Rattle.model.specs.Exchanged.{exchanged, fate_of}
-use Rattle.model.specs.Owns.{KeepsOwn}
+use Rattle.model.specs.inner.Owns.{KeepsOwn}
 use Rattle.model.proofs.Cases.{initiator_after-either, responder_after-either}
 use Rattle.std.proofs.lemmas.List.Elements.{All-weaker}
 

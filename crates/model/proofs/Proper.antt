@@ -8,7 +8,7 @@ use Rattle.bench_types.specs.declared.entries.Item.{Item}
 use Rattle.bench_types.specs.declared.limits.TheConstants.{MOST_NODES, MOST_KEYS}
 use Rattle.model.specs.Table.{Place, place_cmp, Table, items_of, IsProper}
 use Rattle.model.specs.inner.Items.{place_of, IsRising, IsSound}
-use Rattle.model.specs.Table.{IsItemInPlace}
+use Rattle.model.specs.calls.Table.{IsItemInPlace}
 use Rattle.model.proofs.Rising.{rising_at}
 use Rattle.model.proofs.Greatest.{place_less}
 use Rattle.model.proofs.Items.{rising-items_of, entry_at-items_of}

@@ -12,8 +12,7 @@ use Rattle.bench_types.specs.declared.limits.TheConstants.{LEAST_KEYS, MOST_NODE
 use Rattle.bench_types.specs.Mark.{mark_of}
 use Rattle.bench_types.proofs.Marks.{cases_later}
 use Rattle.model.specs.Table.{Held, Table, empty_table, entry_at, greatest_mark, generation_held, taken, applied, own_write, with_own_write, without_others, without_all, IsInPlace, IsProper}
-use Rattle.model.specs.Table.{IsItemInPlace}
-use Rattle.model.specs.Table.{MayReceive}
+use Rattle.model.specs.calls.Table.{IsItemInPlace, MayReceive}
 use Rattle.model.proofs.TableLaws.{KeepsFrame, cases_taken, entry_at-taken_other, entry_at-taken_newer, entry_at-taken_from, entry_at-own_write, entry_at-own_write_other, entry_at-without_others_own, entry_at-without_others_other, entry_at-without_all, entry_at-empty_table, frame-taken}
 use Rattle.model.proofs.MarkLaws.{greatest_mark-taken, greatest_mark-taken_other, greatest_mark-own_write, greatest_mark-own_write_other, greatest_mark-without_others_own}
 

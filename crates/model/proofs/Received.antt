@@ -13,12 +13,11 @@ use Rattle.bench_types.specs.Mark.{absent, mark_of, mark_held, is_before, IsBefo
 use Rattle.bench_types.specs.Mode.{digest_kind}
 use Rattle.bench_types.proofs.Marks.{before-yes, cases_before, cases_later, first-later, second-later, later-first, up_to-itself, up_to-then, up_to-both, absent-first, not_both}
 use Rattle.model.specs.Table.{Table, applied, entry_at, mark_at, greatest_mark, generation_held, items_of, IsProper}
-use Rattle.model.specs.Table.{IsItemInPlace}
+use Rattle.model.specs.calls.Table.{IsItemInPlace, MayReceive}
 use Rattle.model.specs.inner.GreatestMarks.{greatest_among}
 use Rattle.model.proofs.Greatest.{greatest_mark-from, mark_at-up_to_greatest}
 use Rattle.model.proofs.Items.{entry_at-items_of, Contains-items_of}
 use Rattle.model.proofs.TableLaws.{entry_at-applied_from}
-use Rattle.model.specs.Table.{MayReceive}
 use Rattle.model.proofs.ProperLaws.{proper-applied}
 use Rattle.model.proofs.MarkLaws.{greatest_mark-applied, greatest_mark-up_to_applied, keeps_up-applied, keeps_up-item, greatest_among-own, greatest_among-other}
 use Rattle.model.specs.Candidates.{IsScuttleMode, known_mark, candidates}
@@ -26,8 +25,10 @@ use Rattle.model.specs.Deltas.{delta_between}
 use Rattle.model.proofs.DeltaLaws.{sent-candidate, sent-no_gap, sent-uncut}
 use Rattle.model.proofs.Members.{Contains-filter, Contains-kept}
 use Rattle.model.proofs.Sent.{All-delta_between, candidates-in_place}
-use Rattle.model.specs.ExchangeLaws.{NoMarkFalls, StoodInEither, IsPreciseMode, version_in, newer_generation}
-use Rattle.model.specs.Copies.{OwnParts, Generations, WritesBy, IsCurrentOrOlder, IsLastOf, AreLastOf, HoldsOf, HoldsWrites, HasNoGap}
+use Rattle.model.specs.ExchangeLaws.{NoMarkFalls}
+use Rattle.model.specs.calls.ExchangeLaws.{StoodInEither, IsPreciseMode, version_in, newer_generation}
+use Rattle.model.specs.Copies.{OwnParts, Generations, WritesBy, IsCurrentOrOlder, IsLastOf, HoldsWrites}
+use Rattle.model.specs.inner.Copies.{AreLastOf, HoldsOf, HasNoGap}
 
 -- an item of one owner with one mark
 abbrev IsOneOf : List Item → ℕ → Mark → Item → Type 0

@@ -13,7 +13,7 @@ use Rattle.bench_types.specs.declared.entries.Mark.{Mark}
 use Rattle.bench_types.specs.Mark.{mark_of, is_before}
 use Rattle.bench_types.specs.declared.exchanges.Mode.{Mode}
 use Rattle.model.specs.Table.{Table, items_of, IsProper}
-use Rattle.model.specs.Table.{IsItemInPlace}
+use Rattle.model.specs.calls.Table.{IsItemInPlace}
 use Rattle.model.proofs.Proper.{items_sound}
 use Rattle.model.specs.Candidates.{items_above, candidates}
 use Rattle.model.specs.Deltas.{item_share, delta_between}

@@ -5,9 +5,9 @@ use Rattle.std.specs.List.{range_with_len}
 use Rattle.std.proofs.lemmas.List.{ext_get_or, get_or-set_same, get_or-set_other}
 use Rattle.std.proofs.lemmas.List.FromFn.{get_or-map-range_with_len}
 use Rattle.model.specs.Table.{Table, empty_table}
-use Rattle.model.specs.Owns.{KeepsOwn}
-use Rattle.model.specs.Tables.{table_of_node, IsTableOf, AreTablesInOrder, IsCluster}
-use Rattle.model.specs.Clusters.{KeepOwnParts}
+use Rattle.model.specs.inner.Owns.{KeepsOwn, KeepOwnParts}
+use Rattle.model.specs.Tables.{table_of_node, IsTableOf, AreTablesInOrder}
+use Rattle.model.specs.calls.Tables.{IsCluster}
 
 pub table_of_node-set_same : (ts : List Table) (n : ℕ) (t : Table) → n < length ts → table_of_node (set ts n t) n ≡ t
 table_of_node-set_same ts n t lt = get_or-set_same ts n t (empty_table 0 0 0) lt

@@ -31,18 +31,10 @@ pub record IsLastOf (generation : ℕ) (writes : List Entry) (own : ℕ → Opti
       → Contains writes e × (e.key ≡ key) × (e.generation ≡ generation)
   pub last : (e : Entry) → Contains writes e → (e.generation < generation) ⊎ IsCurrentOrOlder (own e.key) e
 
--- and so for each of so many owners
-abbrev pub AreLastOf : ℕ → Generations → WritesBy → OwnParts → Type 0
-AreLastOf nodes generations writes own =
-    (owner : ℕ) → owner < nodes → IsLastOf (generations owner) (writes owner) (own owner)
-
--- each entry that the table holds of an owner is among these writes, and stands at its key
-abbrev pub HoldsOf : ℕ → List Entry → Table → Type 0
-HoldsOf owner writes t = (key : ℕ) (e : Entry) → entry_at t owner key ≡ Some e → Contains writes e × (e.key ≡ key)
-
 -- each entry in the table is a write of its owner
 abbrev pub HoldsWrites : WritesBy → Table → Type 0
-HoldsWrites writes t = (owner : ℕ) → HoldsOf owner (writes owner) t
+HoldsWrites writes t =
+    (owner key : ℕ) (e : Entry) → entry_at t owner key ≡ Some e → Contains (writes owner) e × (e.key ≡ key)
 
 -- the table has each entry of the owner's own part up to the greatest mark that it holds of the owner: all where the
 -- copy is of the owner's generation and no more versions were made, and none where it is of an older one
@@ -50,7 +42,3 @@ abbrev pub HasNoGapOf : ℕ → (ℕ → Option Entry) → Table → Type 0
 HasNoGapOf owner own t =
     (key : ℕ) (e : Entry) → own key ≡ Some e → IsUpTo (mark_of e) (greatest_mark t owner)
     → entry_at t owner key ≡ Some e
-
--- and so for each owner
-abbrev pub HasNoGap : OwnParts → Table → Type 0
-HasNoGap own t = (owner : ℕ) → HasNoGapOf owner (own owner) t

@@ -1,7 +1,6 @@
 -- A delta: what is sent of the candidates under a budget, in the sending order of the mode, and how many are cut.
 -- Source: this project; the word is the LADIS 2008 paper's.
-use Rattle.std.specs.Prelude.{ℕ, ◌≤◌, List}
-use Rattle.std.specs.List.{sum_by}
+use Rattle.std.specs.Prelude.{ℕ, List}
 use Rattle.bench_types.specs.declared.entries.Item.{Item}
 use Rattle.bench_types.specs.declared.exchanges.Mode.{Mode}
 use Rattle.bench_types.specs.declared.exchanges.Budget.{Budget}
@@ -19,10 +18,6 @@ pub record DeltaView : Type 0 where
 -- what an item takes of a budget
 abbrev pub item_share : Budget → Item → ℕ
 item_share budget i = share_of budget i.entry
-
--- a budget has room for them all
-abbrev pub AreWithin : Budget → List Item → Type 0
-AreWithin budget items = sum_by (item_share budget) items ≤ amount_of budget
 
 -- the delta of these candidates among so many nodes
 abbrev pub delta_of : Mode → ℕ → ℕ → Budget → List Item → DeltaView

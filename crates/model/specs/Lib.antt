@@ -6,10 +6,8 @@ pub mod Picks
 pub mod Deltas
 pub mod DeltaLaws
 pub mod Exchanged
-pub mod Exchanging
 pub mod ExchangeLaws
 pub mod Copies
-pub mod Owns
 pub mod Tables
 pub mod Folds
 pub mod Clusters
@@ -17,14 +15,11 @@ pub mod Fresh
 pub mod Runs
 pub mod RoundLists
 pub mod Writes
-pub mod OwnerListView
-pub mod Numbers
-pub mod OwnParts
 pub mod Figures
-pub mod Held
+pub mod calls
 pub mod inner
 pub use Rattle.bench_types.specs.Entry
-pub use Rattle.bench_types.specs.Exchange
+pub use Rattle.bench_types.specs.calls.Exchange
 pub use Rattle.bench_types.specs.Mark
 pub use Rattle.bench_types.specs.Mode
 pub use Rattle.bench_types.specs.Sums

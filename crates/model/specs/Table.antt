@@ -4,7 +4,7 @@
 -- owner holds entries of one generation: one that takes a newer generation drops all of the older, and an entry of an
 -- older one changes nothing. What is absent has version 0 of generation 0. Source: the LADIS 2008 paper; `born` and
 -- generations are this project's.
-use Rattle.std.specs.Prelude.{◌≡◌, ◌≢◌, ℕ, zero, suc, ◌+◌, ◌<◌, ◌≤◌, ◌==◌, not, nat_lt, List, Option, Some, map, fold, if◌then◌else◌}
+use Rattle.std.specs.Prelude.{◌≡◌, ℕ, zero, suc, ◌+◌, ◌<◌, ◌≤◌, ◌==◌, not, nat_lt, List, Option, Some, map, fold, if◌then◌else◌}
 use Rattle.std.specs.Ordering.{nat_cmp, ordering_then}
 use Rattle.std.specs.declared.cmp.Ordering.{Ordering}
 use Rattle.std.specs.FinMap.{FinMap, get, insert, retain_keys, entries, empty, len}
@@ -135,13 +135,3 @@ pub record IsProper (t : Table) : Type 0 where
   pub in_place : (owner key : ℕ) (e : Entry) → entry_at t owner key ≡ Some e → IsInPlace t.nodes t.keys owner key e
   pub copies : (owner key : ℕ) (e : Entry) → entry_at t owner key ≡ Some e → e.generation ≡ generation_held t owner
   pub own : (key : ℕ) (e : Entry) → entry_at t t.node key ≡ Some e → e.generation ≡ t.generation
-
-abbrev pub IsItemInPlace : ℕ → ℕ → Item → Type 0
-IsItemInPlace ns ks i = IsInPlace ns ks i.owner i.entry.key i.entry
-
--- an item that a node may receive, of so many nodes with so many keys: another node's, in its place
-abbrev pub IsFor : ℕ → ℕ → ℕ → Item → Type 0
-IsFor node nodes keys i = (i.owner ≢ node) × IsItemInPlace nodes keys i
-
-abbrev pub MayReceive : Table → Item → Type 0
-MayReceive t = IsFor t.node t.nodes t.keys

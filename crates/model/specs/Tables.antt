@@ -18,10 +18,6 @@ pub record AreTablesInOrder (nodes keys : ℕ) (ts : List Table) : Type 0 where
   pub size : length ts ≡ nodes
   pub tables : (n : ℕ) → n < nodes → IsTableOf nodes keys n (table_of_node ts n)
 
--- and so with as many keys as the first of them has
-abbrev pub IsCluster : ℕ → List Table → Type 0
-IsCluster nodes ts = AreTablesInOrder nodes (table_of_node ts 0).keys ts
-
 -- a fact of each of the tables
 abbrev pub HoldsOfEach : (Table → Type 0) → List Table → Type 0
 HoldsOfEach P ts = (n : ℕ) → n < length ts → P (table_of_node ts n)

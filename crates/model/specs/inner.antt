@@ -4,3 +4,7 @@ pub mod Fitting
 pub mod GreatestMarks
 pub mod Items
 pub mod Levels
+pub mod Owns
+pub mod Copies
+pub mod Held
+pub mod Writes

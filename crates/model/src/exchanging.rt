@@ -16,9 +16,9 @@ pub trait MemoryTable: Drop {
 pub trait Exchanging<T: MemoryTable>: Sync {
     ghost use Rattle.std.specs.Prelude.{IfOk, OnErr, IsOkUnless};
     ghost use Rattle.bench_types.specs.declared.faults.Fault.TheVariants.{OutOfMemory};
-    ghost use Rattle.bench_types.specs.Budget.{IsLawfulBudget};
+    ghost use Rattle.bench_types.specs.calls.Budget.{IsLawfulBudget};
     ghost use Rattle.model.specs.Table.{Table};
-    ghost use Rattle.model.specs.Exchanging.{MayBeExchanged, MakesOf, KeepBoth, IsKeptByExchanges};
+    ghost use Rattle.model.specs.calls.Exchanging.{MayBeExchanged, MakesOf, KeepBoth, IsKeptByExchanges};
 
     // What a table owes to what all read. It is said of the model's table, so list order decides it.
     ghost fits: { Self → Table → Type 0 };

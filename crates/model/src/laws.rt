@@ -1,8 +1,9 @@
 //! What holds of every sending order, delta, exchange and list of exchanges. The calls do nothing.
 
-ghost use Rattle.model.specs.DeltaLaws.{SendingOrdersAreTotal, ScuttleDeltasAscend, UncutDeltasSendAll, CandidatesAreLacked};
-ghost use Rattle.model.specs.ExchangeLaws.{EntriesComeFromEither, EnoughBudgetCutsNothing, WholePreciseExchangesGiveTheNewer};
-ghost use Rattle.model.specs.Clusters.{CopiesAreNeverAhead, ListsKeepTablesProper};
+ghost use Rattle.model.specs.DeltaLaws.{UncutDeltasSendAll};
+ghost use Rattle.model.specs.calls.DeltaLaws.{SendingOrdersAreTotal, ScuttleDeltasAscend, CandidatesAreLacked};
+ghost use Rattle.model.specs.calls.ExchangeLaws.{EntriesComeFromEither, EnoughBudgetCutsNothing, WholePreciseExchangesGiveTheNewer};
+ghost use Rattle.model.specs.calls.Clusters.{CopiesAreNeverAhead, ListsKeepTablesProper};
 
 /// The sending order of any items is total, in every mode and with every rotation.
 pub fn sending_orders_are_total()

@@ -1,8 +1,9 @@
 //! The list of exchanges of one round.
 
 ghost use Rattle.std.specs.Prelude.{◌≡◌, ◌==◌, ◌↔◌, length, slice_get, IsSome, IfSome, IsTrue};
-ghost use Rattle.bench_types.specs.Exchange.{IsPlanned};
-ghost use Rattle.model.specs.RoundLists.{RoundListView, round_list_view, IsRoundPlan};
+ghost use Rattle.bench_types.specs.calls.Exchange.{IsPlanned};
+ghost use Rattle.model.specs.RoundLists.{RoundListView, round_list_view};
+ghost use Rattle.model.specs.calls.RoundLists.{IsRoundPlan};
 
 use bench_types::Exchange;
 use bench_types::limits::{LEAST_NODES, MOST_NODES};
@@ -20,7 +21,8 @@ pub struct RoundList {
 }
 
 impl Model for RoundList {
-    ghost use Rattle.model.specs.RoundLists.{RoundListView, round_list_view, IsRoundPlan};
+    ghost use Rattle.model.specs.RoundLists.{RoundListView, round_list_view};
+    ghost use Rattle.model.specs.calls.RoundLists.{IsRoundPlan};
 
     ghost Value = { RoundListView };
 

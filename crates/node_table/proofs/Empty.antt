@@ -12,9 +12,9 @@ use Rattle.node_table.specs.declared.layouts.Row.{Row}
 use Rattle.node_table.specs.declared.layouts.Layout.{Layout}
 use Rattle.model.specs.Table.{place_cmp, Table, entry_at, greatest_mark, IsProper}
 use Rattle.node_table.specs.Entries.{AreGenerations, AreGreatest}
-use Rattle.model.specs.Held.{held_by_lists}
+use Rattle.model.specs.calls.Held.{held_by_lists}
 use Rattle.node_table.specs.inner.Layouts.{entries_in_row, rows_of, row_at, row_len, block_len, table_laid, IsInSlots, AreLaid, IsLayout}
-use Rattle.model.specs.Held.{entry_in}
+use Rattle.model.specs.inner.Held.{entry_in}
 use Rattle.model.proofs.TableLaws.{same_table}
 use Rattle.node_table.proofs.Laid.{row_at-get_or, row_at-past}
 use Rattle.model.proofs.Greatest.{greatest_mark-none}

@@ -13,7 +13,7 @@ use Rattle.node_table.specs.Entries.{AreGreatest}
 use Rattle.model.specs.inner.Items.{no_item}
 use Rattle.node_table.specs.NodeTableView.{blocks_below}
 use Rattle.node_table.specs.inner.Layouts.{row_at, table_laid, IsRow, IsLayout}
-use Rattle.model.specs.Held.{entry_in}
+use Rattle.model.specs.inner.Held.{entry_in}
 use Rattle.node_table.specs.inner.Flags.{ComesWithin, AreFlagged, AreUnflagged}
 use Rattle.node_table.proofs.Room.{blocks-upto, blocks-came_held, blocks-came_new}
 use Rattle.node_table.proofs.Taking.{version-le-greatest}

@@ -12,9 +12,9 @@ use Rattle.node_table.specs.declared.layouts.Layout.{Layout}
 use Rattle.bench_types.specs.declared.entries.Mark.{Mark}
 use Rattle.model.specs.Table.{Table, without_others, entry_at, generation_held, greatest_version}
 use Rattle.node_table.specs.Entries.{AreGenerations, AreGreatest}
-use Rattle.model.specs.Held.{held_by_lists}
+use Rattle.model.specs.calls.Held.{held_by_lists}
 use Rattle.node_table.specs.inner.Layouts.{entries_in_row, rows_of, row_at, row_len, block_len, table_laid, IsRow, IsInSlots, AreApart, AreLaid, AreOthersKept}
-use Rattle.model.specs.Held.{entry_in}
+use Rattle.model.specs.inner.Held.{entry_in}
 use Rattle.model.proofs.TableLaws.{same_table, entry_at-without_others_own, entry_at-without_others_other}
 use Rattle.model.proofs.MarkLaws.{greatest_mark-without_others_own, greatest_mark-without_others_other}
 use Rattle.node_table.proofs.Laid.{row_at-get_or, row_at-past, block_len-some}

@@ -15,9 +15,9 @@ use Rattle.node_table.specs.declared.layouts.Row.{Row}
 use Rattle.node_table.specs.declared.layouts.Layout.{Layout}
 use Rattle.model.specs.Table.{Table, entry_at, greatest_mark, generation_held, greatest_version, count_of, taken}
 use Rattle.node_table.specs.Entries.{StandsBefore, AreAbove}
-use Rattle.model.specs.Held.{held_by_lists}
+use Rattle.model.specs.calls.Held.{held_by_lists}
 use Rattle.node_table.specs.inner.Layouts.{entries_in_row, rows_of, row_at, row_len, table_laid, with_entry, IsRow, IsInSlots, AreLaid, IsLayout, IsIndexOf, IsRankAbove, IsPlaced, IsRenewed}
-use Rattle.model.specs.Held.{entry_in, HaveTwoKeys}
+use Rattle.model.specs.inner.Held.{entry_in, HaveTwoKeys}
 use Rattle.model.proofs.Greatest.{greatest_mark-none, place_less}
 use Rattle.model.proofs.TableLaws.{same_table, entry_at-taken_other, entry_at-taken_newer, frame-taken}
 use Rattle.node_table.proofs.InRow.{rank_place, absent_from_end}

@@ -17,7 +17,7 @@ use Rattle.std.proofs.lemmas.Map.Views.{Contains-from_any}
 use Rattle.bench_types.specs.declared.entries.Entry.{Entry}
 use Rattle.model.specs.Table.{Place}
 use Rattle.node_table.specs.Entries.{entry_cmp, StandsBefore}
-use Rattle.model.specs.Held.{entry_in, HaveTwoKeys}
+use Rattle.model.specs.inner.Held.{entry_in, HaveTwoKeys}
 use Rattle.node_table.specs.inner.Layouts.{IsRow, IsIndexOf, IsRankOf, IsPut}
 use Rattle.bench_types.proofs.Comparing.{nat_cmp-less}
 use Rattle.model.proofs.Order.{place_total, place_same, place_turned}

@@ -10,7 +10,7 @@ use Rattle.std.proofs.lemmas.List.Elements.{All-cons, All-nil, All-tail}
 use Rattle.std.proofs.lemmas.List.Filters.{FiltersInPlace, FiltersInPlace-more_no}
 use Rattle.bench_types.specs.declared.entries.Entry.{Entry}
 use Rattle.node_table.specs.inner.Layouts.{has_other_key, IsRow, IsIndexOf, IsRankOf, IsPut}
-use Rattle.model.specs.Held.{HaveTwoKeys}
+use Rattle.model.specs.inner.Held.{HaveTwoKeys}
 use Rattle.bench_types.proofs.Comparing.{nat_cmp-greater}
 use Rattle.model.proofs.Greatest.{place_less}
 use Rattle.node_table.proofs.InRow.{rank_place, row_fits, room_for_key, all-remove, put_at_rank, row_remove, absent_remove, put_over}

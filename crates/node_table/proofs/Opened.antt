@@ -11,10 +11,11 @@ use Rattle.bench_types.specs.Mark.{absent, mark_of, mark_held, later}
 use Rattle.bench_types.proofs.Marks.{later-second}
 use Rattle.node_table.specs.declared.layouts.Layout.{Layout}
 use Rattle.node_table.specs.declared.layouts.Row.{Row}
-use Rattle.model.specs.Held.{held_by_lists}
-use Rattle.model.specs.Table.{Table, mark_at, greatest_mark, generation_held, greatest_version, taken, IsProper, IsItemInPlace}
+use Rattle.model.specs.calls.Held.{held_by_lists}
+use Rattle.model.specs.Table.{Table, mark_at, greatest_mark, generation_held, greatest_version, taken, IsProper}
+use Rattle.model.specs.calls.Table.{IsItemInPlace}
 use Rattle.node_table.specs.inner.Layouts.{entries_in_row, rows_of, row_at, table_laid, block_len, IsRow, IsInSlots, AreApart, AreLaid, IsPut, IsPlaced, IsRenewed}
-use Rattle.model.specs.Held.{entry_in}
+use Rattle.model.specs.inner.Held.{entry_in}
 use Rattle.node_table.proofs.Blocks.{take-behind, take-new}
 use Rattle.node_table.proofs.InLayout.{entry_at-in, nothing_held, table_placed, table_renewed}
 use Rattle.node_table.proofs.Laid.{laid_after, renewed_after, block_len-some, block_len-none}

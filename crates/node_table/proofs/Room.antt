@@ -7,7 +7,7 @@ use Rattle.std.proofs.lemmas.Nat.{le-div, div-add-mod'}
 use Rattle.bench_types.specs.declared.entries.Item.{Item}
 use Rattle.bench_types.specs.declared.entries.Mark.{Mark}
 use Rattle.model.specs.Table.{Table, greatest_version, taken, IsProper}
-use Rattle.model.specs.Table.{IsItemInPlace}
+use Rattle.model.specs.calls.Table.{IsItemInPlace}
 use Rattle.node_table.specs.NodeTableView.{comes_in, needs_block, blocks_below, blocks_for}
 use Rattle.model.proofs.TableLaws.{frame-taken}
 use Rattle.model.proofs.MarkLaws.{greatest_mark-taken_other}

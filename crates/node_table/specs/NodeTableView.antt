@@ -4,7 +4,8 @@
 use Rattle.std.specs.Prelude.{ℕ, zero, suc, ◌+◌, ◌≤◌, ◌==◌, ◌&&◌, Bool, List, All, if◌then◌else◌, map}
 use Rattle.std.specs.List.{list_any}
 use Rattle.bench_types.specs.declared.entries.Item.{Item}
-use Rattle.model.specs.Table.{Table, greatest_version, MayReceive}
+use Rattle.model.specs.Table.{Table, greatest_version}
+use Rattle.model.specs.calls.Table.{MayReceive}
 
 pub record NodeTableView : Type 0 where
   pub table : Table

@@ -5,7 +5,7 @@
 
 ghost use Rattle.std.specs.Prelude.{◌≡◌, ◌⊎◌, ◌+◌, ◌^◌, ◌<◌, ◌≤◌, IsOk, OnOk, OnErr, length, nat_lt, slice_index, take, vec_len, vec_capacity};
 ghost use Rattle.model.specs.Table.{mark_at, generation_held, greatest_mark, taken, without_others, without_all};
-ghost use Rattle.model.specs.Table.{IsItemInPlace};
+ghost use Rattle.model.specs.calls.Table.{IsItemInPlace};
 ghost use Rattle.node_table.specs.Entries.{AreAbove};
 ghost use Rattle.node_table.specs.NodeTableView.{blocks_below, blocks_for};
 ghost use Rattle.node_table.specs.inner.Flags.{AreFlagged, AreUnflagged};

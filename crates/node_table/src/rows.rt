@@ -4,7 +4,7 @@
 ghost use Rattle.std.specs.Prelude.{◌≡◌, ◌≢◌, ◌+◌, ◌<◌, ◌≤◌, All, filter, length, take};
 ghost use Rattle.std.specs.Ordering.{is_lt};
 ghost use Rattle.node_table.specs.Entries.{entry_cmp};
-ghost use Rattle.model.specs.Held.{entry_in};
+ghost use Rattle.model.specs.inner.Held.{entry_in};
 ghost use Rattle.node_table.specs.inner.Layouts.{has_other_key, HasRow, FitsRow, IsIndexOf, IsRankOf, IsRankAbove, IsPutInBlock};
 
 use bench_types::Entry;

@@ -41,8 +41,7 @@ impl MemoryTable for NodeTable {
 impl NodeTable {
     ghost use Rattle.model.specs.Table.{empty_table, entry_at, greatest_mark, greatest_version, count_of, with_own_write, applied, without_others, without_all, IsProper};
     ghost use Rattle.node_table.specs.NodeTableView.{blocks_for, HasRoom, MayApply};
-    ghost use Rattle.model.specs.Table.{MayReceive};
-    ghost use Rattle.model.specs.Table.{IsItemInPlace};
+    ghost use Rattle.model.specs.calls.Table.{MayReceive, IsItemInPlace};
     ghost use Rattle.node_table.specs.Entries.{AreAbove, AreGenerations, AreGreatest};
     ghost use Rattle.bench_types.specs.Mark.{absent};
 

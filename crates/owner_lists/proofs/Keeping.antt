@@ -4,11 +4,12 @@ use Rattle.std.proofs.Common.{◌≡◌, ℕ, ◌+◌, ◌-◌, ◌<◌, ◌≤�
 use Rattle.std.proofs.lemmas.List.{length-take, length-take-le, drop_at, length-drop, length-map, get_or-map, map-append, append_assoc, append-nil, take_all, drop_all}
 use borrow.Rule.Slice.PartMut.{put_mid}
 use Rattle.bench_types.specs.declared.entries.Entry.{Entry}
-use Rattle.bench_types.specs.Entry.{AreNextAfter}
+use Rattle.bench_types.specs.calls.Entry.{AreNextAfter}
 use Rattle.owner_lists.specs.declared.lists.Link.{Link}
 use Rattle.model.specs.declared.writes.Write.{Write}
-use Rattle.model.specs.OwnerListView.{OwnerListView, written, AreWrites, next_entry, with_write}
-use Rattle.model.specs.Writes.{IsNumbered, write_of_entry}
+use Rattle.model.specs.calls.OwnerListView.{OwnerListView, written, AreWrites, next_entry, with_write}
+use Rattle.model.specs.Writes.{write_of_entry}
+use Rattle.model.specs.calls.Writes.{IsNumbered}
 use Rattle.owner_lists.specs.inner.Linked.{entries_linked, writes_linked, view_of, IsOwnerList, IsKeptList}
 use Rattle.owner_writes.proofs.Keeping.{writes_more, writes_begun, view_begun, view_written}
 use Rattle.owner_lists.proofs.Linking.{written_linked}

@@ -8,7 +8,7 @@ use Rattle.std.proofs.lemmas.List.{reverse-append}
 use Rattle.std.proofs.lemmas.List.Folds.{find-append}
 use Rattle.std.proofs.lemmas.List.Elements.{All-head, All-tail}
 use Rattle.model.specs.declared.writes.Write.{Write}
-use Rattle.model.specs.Writes.{IsNumbered, is_write_of, last_write}
+use Rattle.model.specs.calls.Writes.{IsNumbered, is_write_of, last_write}
 use Rattle.owner_lists.specs.Missed.{is_missed, first_missed}
 
 -- a write at the front is the last of its key where none follows

@@ -14,8 +14,10 @@ use Rattle.std.proofs.lemmas.List.Folds.{find-append}
 use Rattle.bench_types.specs.declared.entries.Entry.{Entry}
 use Rattle.owner_lists.specs.declared.lists.Link.{Link}
 use Rattle.model.specs.declared.writes.Write.{Write}
-use Rattle.bench_types.specs.Entry.{AreNextAfter}
-use Rattle.model.specs.Writes.{write_of_entry, next_write, IsNumbered, is_write_of, last_write}
+use Rattle.bench_types.specs.calls.Entry.{AreNextAfter}
+use Rattle.model.specs.Writes.{write_of_entry}
+use Rattle.model.specs.inner.Writes.{next_write}
+use Rattle.model.specs.calls.Writes.{IsNumbered, is_write_of, last_write}
 use Rattle.owner_lists.specs.Missed.{is_missed, first_missed, born_in_order}
 use Rattle.owner_lists.specs.inner.Linked.{as_write, entries_linked, writes_linked, writes_linked_from, version_or_zero, IsLinked, IsRelinked, IsOwnerList}
 use Rattle.owner_lists.specs.Latest.{keyed, write_of, IsLatest}

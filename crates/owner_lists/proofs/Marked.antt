@@ -9,12 +9,13 @@ use Rattle.std.proofs.lemmas.List.{get_or-map, get_or_append_left, length-map}
 use Rattle.std.proofs.lemmas.List.Folds.{find-append}
 use Rattle.bench_types.specs.declared.entries.Entry.{Entry}
 use Rattle.bench_types.specs.declared.entries.Mark.{Mark}
-use Rattle.bench_types.specs.Entry.{AreNextAfter}
+use Rattle.bench_types.specs.calls.Entry.{AreNextAfter}
 use Rattle.bench_types.specs.Mark.{mark_of, is_before, IsBefore}
 use Rattle.bench_types.proofs.Marks.{before-true, before-false, before-yes, before-up_to, up_to-before}
 use Rattle.owner_lists.specs.declared.lists.Link.{Link}
-use Rattle.model.specs.OwnerListView.{OwnerListView, entries_of, has_mark, entry_of, MarksRise, AreWrites}
-use Rattle.model.specs.Numbers.{write_numbered}
+use Rattle.model.specs.calls.OwnerListView.{OwnerListView, entries_of, MarksRise, AreWrites}
+use Rattle.owner_lists.specs.Marked.{has_mark, entry_of}
+use Rattle.model.specs.calls.Numbers.{write_numbered}
 use Rattle.owner_lists.specs.inner.Linked.{entries_linked}
 use Rattle.owner_writes.proofs.Numbered.{write_from-here, write_from-past}
 

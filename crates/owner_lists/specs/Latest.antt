@@ -4,7 +4,7 @@ use lib.Dec.{T}
 use Rattle.std.specs.Ordering.{nat_cmp}
 use Rattle.std.specs.FinMap.{find, is_sorted}
 use Rattle.model.specs.declared.writes.Write.{Write}
-use Rattle.model.specs.Writes.{last_write}
+use Rattle.model.specs.calls.Writes.{last_write}
 
 abbrev pub with_key : Write → ℕ × Write
 with_key w = (w.key, w)

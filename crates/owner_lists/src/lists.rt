@@ -3,12 +3,13 @@
 ghost use Rattle.std.specs.Prelude.{◌≡◌, ◌+◌, ◌^◌, ◌-◌, ◌<◌, ◌≤◌, ◌==◌, nat_le, None, Some, ◌++◌, ◌∷◌, [], Result, Ok, Err, OnOk, OnErr, IfOk, IfErr, IsOkUnless, length, find, take, drop, slice_index_or, vec_len, vec_capacity};
 ghost use Rattle.std.specs.FinMap.{put as put_entry};
 ghost use Rattle.std.specs.Ordering.{nat_cmp};
-ghost use Rattle.model.specs.OwnerListView.{has_mark, MarksRise};
-ghost use Rattle.model.specs.Writes.{is_write_of, last_write};
+ghost use Rattle.owner_lists.specs.Marked.{has_mark};
+ghost use Rattle.model.specs.calls.OwnerListView.{MarksRise};
+ghost use Rattle.model.specs.calls.Writes.{is_write_of, last_write};
 ghost use Rattle.owner_lists.specs.Missed.{first_missed, last_born};
 ghost use Rattle.owner_lists.specs.Latest.{keyed, write_of, KeysRise};
 ghost use Rattle.owner_lists.specs.inner.Keys.{IsIndexOfKey, IsGapForKey};
-ghost use Rattle.model.specs.Numbers.{write_numbered};
+ghost use Rattle.model.specs.calls.Numbers.{write_numbered};
 ghost use Rattle.owner_lists.specs.inner.Linked.{entries_linked, writes_linked, version_or_zero, IsLinked, IsRelinked, IsWriteOfVersion};
 ghost use Rattle.bench_types.specs.Entry.{next_version};
 ghost use Rattle.bench_types.specs.declared.faults.Fault.TheVariants.{OutOfMemory};
@@ -42,7 +43,7 @@ pub struct OwnerList {
 }
 
 impl Model for OwnerList {
-    ghost use Rattle.model.specs.OwnerListView.{OwnerListView};
+    ghost use Rattle.model.specs.calls.OwnerListView.{OwnerListView};
     ghost use Rattle.owner_writes.specs.inner.Codes.{list_code};
     ghost use Rattle.owner_lists.specs.inner.Linked.{view_of, IsKeptList};
 
@@ -56,9 +57,10 @@ impl Model for OwnerList {
 }
 
 impl OwnerList {
-    ghost use Rattle.model.specs.OwnerListView.{entries_of, written, no_writes, with_write, begun_generation, entry_of, AreWrites};
-    ghost use Rattle.model.specs.Numbers.{write_numbered};
-    ghost use Rattle.model.specs.Writes.{IsNumbered};
+    ghost use Rattle.model.specs.calls.OwnerListView.{entries_of, written, no_writes, with_write, begun_generation, AreWrites};
+    ghost use Rattle.owner_lists.specs.Marked.{entry_of};
+    ghost use Rattle.model.specs.calls.Numbers.{write_numbered};
+    ghost use Rattle.model.specs.calls.Writes.{IsNumbered};
     ghost use Rattle.owner_lists.specs.Missed.{first_missed, born_in_order};
     ghost use Rattle.owner_lists.specs.Latest.{IsLatest};
 

@@ -6,9 +6,9 @@ use Rattle.std.proofs.lemmas.Bool.{cases_lt}
 use Rattle.std.proofs.lemmas.List.{length-drop, length-map, map-append, append_assoc, append-nil, get_or_append_left, get_or-append_right, get_or_push, take-append-drop, take-append-le, drop-append-le, take_all, drop_all}
 use Rattle.std.proofs.lemmas.List.Elements.{All-append}
 use Rattle.bench_types.specs.declared.entries.Entry.{Entry}
-use Rattle.bench_types.specs.Entry.{IsNextAfter, AreNextAfter}
+use Rattle.bench_types.specs.calls.Entry.{IsNextAfter, AreNextAfter}
 use Rattle.bench_types.specs.Mark.{mark_of, IsBefore}
-use Rattle.model.specs.OwnerListView.{OwnerListView, entries_of, MarksRise, AreWrites, next_entry, with_write, begun_generation}
+use Rattle.model.specs.calls.OwnerListView.{OwnerListView, entries_of, MarksRise, AreWrites, next_entry, with_write, begun_generation}
 use Rattle.owner_writes.specs.inner.Views.{view_by, IsKept}
 
 -- marks stay in order where one is added above all

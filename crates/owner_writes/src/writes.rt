@@ -31,7 +31,7 @@ pub struct OwnerWrites {
 }
 
 impl Model for OwnerWrites {
-    ghost use Rattle.model.specs.OwnerListView.{OwnerListView};
+    ghost use Rattle.model.specs.calls.OwnerListView.{OwnerListView};
     ghost use Rattle.owner_writes.specs.Kept.{entry_kept};
     ghost use Rattle.owner_writes.specs.inner.Codes.{list_code};
     ghost use Rattle.owner_writes.specs.inner.Views.{view_by, IsKept};
@@ -46,8 +46,8 @@ impl Model for OwnerWrites {
 }
 
 impl OwnerWrites {
-    ghost use Rattle.model.specs.OwnerListView.{entries_of, no_writes, with_write, begun_generation};
-    ghost use Rattle.model.specs.Numbers.{write_numbered};
+    ghost use Rattle.model.specs.calls.OwnerListView.{entries_of, no_writes, with_write, begun_generation};
+    ghost use Rattle.model.specs.calls.Numbers.{write_numbered};
     ghost use Rattle.owner_writes.specs.Kept.{entry_kept};
 
     /// Those of an owner that has written nothing, in generation 0. They take no memory yet.

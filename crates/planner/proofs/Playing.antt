@@ -11,10 +11,12 @@ use Rattle.bench_types.specs.declared.exchanges.Rules.{Rules}
 use Rattle.bench_types.specs.declared.faults.Fault.{Fault}
 use Rattle.model.specs.Table.{Table}
 use Rattle.node_table.specs.NodeTableView.{NodeTableView}
-use Rattle.bench_types.specs.Exchange.{IsPlanned}
-use Rattle.model.specs.RoundLists.{RoundListView, IsRoundPlan}
+use Rattle.bench_types.specs.calls.Exchange.{IsPlanned}
+use Rattle.model.specs.RoundLists.{RoundListView}
+use Rattle.model.specs.calls.RoundLists.{IsRoundPlan}
 use Rattle.node_table.specs.NodeTableView.{tables_in}
-use Rattle.model.specs.Tables.{table_of_node, IsCluster}
+use Rattle.model.specs.Tables.{table_of_node}
+use Rattle.model.specs.calls.Tables.{IsCluster}
 use Rattle.model.specs.Folds.{fold_of}
 use Rattle.node_table.proofs.InOrder.{length-tables_in}
 use Rattle.model.proofs.FoldLaws.{fold_tables, fold_counts_records}

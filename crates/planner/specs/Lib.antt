@@ -12,4 +12,4 @@ pub use Rattle.model.specs.Tables
 pub use Rattle.model.specs.Folds
 pub use Rattle.model.specs.Clusters
 pub use Rattle.model.specs.RoundLists
-pub use Rattle.bench_types.specs.Exchange
+pub use Rattle.bench_types.specs.calls.Exchange

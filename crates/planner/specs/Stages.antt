@@ -1,7 +1,8 @@
 -- How far each exchange of a list is. Source: this project.
 use Rattle.std.specs.Prelude.{◌≡◌, ◌≢◌, ℕ, ◌<◌, Bool, true, false, if◌then◌else◌, List, length, map, slice_index_or, slice_set}
 use Rattle.bench_types.specs.declared.exchanges.Exchange.{Exchange}
-use Rattle.model.specs.RoundLists.{RoundListView, IsRoundPlan}
+use Rattle.model.specs.RoundLists.{RoundListView}
+use Rattle.model.specs.calls.RoundLists.{IsRoundPlan}
 use Rattle.dependencies.specs.declared.events.Event.{Event}
 use Rattle.planner.specs.declared.schedules.Stage.{Stage}
 use Rattle.planner.specs.declared.schedules.Stage.TheVariants.{Waiting, Running, Done}

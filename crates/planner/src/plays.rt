@@ -3,13 +3,13 @@
 ghost use Rattle.std.specs.Prelude.{◌≡◌, ◌<◌, ℕ, length, map, filter_map, IfOk, IfErr, OnOk, IsOkUnless};
 ghost use Rattle.bench_types.specs.declared.exchanges.Rules.{Rules};
 ghost use Rattle.bench_types.specs.declared.faults.Fault.TheVariants.{OutOfMemory};
-ghost use Rattle.bench_types.specs.Budget.{IsLawfulBudget};
+ghost use Rattle.bench_types.specs.calls.Budget.{IsLawfulBudget};
 ghost use Rattle.dependencies.specs.declared.events.Event.TheVariants.{Start, Finish};
 ghost use Rattle.planner.specs.Stages.{not_started};
 ghost use Rattle.dependencies.specs.inner.Slots.{in_place};
 ghost use Rattle.planner.specs.inner.Places.{state_in, AreEmpty, HasPlaces, ShowsEvent, AreInPlace, StandIn, itself, both_or_none};
 ghost use Rattle.node_table.specs.NodeTableView.{tables_in};
-ghost use Rattle.model.specs.Tables.{IsCluster};
+ghost use Rattle.model.specs.calls.Tables.{IsCluster};
 ghost use Rattle.planner.specs.Plays.{ArePlayed, IsRefusal};
 ghost use Rattle.planner.specs.inner.Plays.{Follows, IsEventRefused};
 

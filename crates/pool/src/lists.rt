@@ -1,10 +1,11 @@
 //! Carrying out the exchanges of a list on tables with entries.
 
 ghost use Rattle.std.specs.Prelude.{IfOk, IfErr};
-ghost use Rattle.bench_types.specs.Budget.{IsLawfulBudget};
-ghost use Rattle.model.specs.Tables.{IsCluster};
+ghost use Rattle.bench_types.specs.calls.Budget.{IsLawfulBudget};
+ghost use Rattle.model.specs.calls.Tables.{IsCluster};
 ghost use Rattle.node_table.specs.NodeTableView.{kept_table, tables_in};
-ghost use Rattle.model.specs.Runs.{AreWorkers, AreExchanged, IsFaultOfWorkers};
+ghost use Rattle.model.specs.Runs.{AreWorkers, IsFaultOfWorkers};
+ghost use Rattle.workers.specs.Carrying.{AreExchanged};
 
 use bench_types::{Fault, Record, Rules};
 use exchange::Entries;

@@ -14,7 +14,8 @@ use Rattle.bench_types.specs.Mark.{mark_of, is_before}
 use Rattle.bench_types.specs.Mode.{digest_kind}
 use Rattle.model.specs.Table.{Table, items_of, IsProper}
 use Rattle.model.specs.Candidates.{IsScuttleMode, items_above}
-use Rattle.model.specs.Deltas.{DeltaView, item_share, AreWithin}
+use Rattle.model.specs.Deltas.{DeltaView, item_share}
+use Rattle.model.specs.calls.DeltaLaws.{AreWithin}
 use Rattle.reconcile.specs.Answers.{answer_of}
 use Rattle.reconcile.specs.Digests.{DigestView, told_mark}
 use Rattle.reconcile.specs.inner.Keys.{item_in, items_in, AllSet, AreFirstItems, IsSentOf}

@@ -16,8 +16,7 @@ use Rattle.bench_types.specs.declared.exchanges.DigestKind.{DigestKind}
 use Rattle.bench_types.specs.declared.exchanges.DigestKind.TheVariants as kinds
 use Rattle.bench_types.specs.Mode.{digest_kind}
 use Rattle.model.specs.Table.{Table, items_of, IsProper}
-use Rattle.model.specs.Table.{IsItemInPlace}
-use Rattle.model.specs.Table.{IsFor}
+use Rattle.model.specs.calls.Table.{IsItemInPlace, IsFor}
 use Rattle.model.proofs.Proper.{items_sound}
 use Rattle.model.specs.Candidates.{items_above, candidates, known_mark}
 use Rattle.reconcile.specs.Digests.{DigestView, ToldVersions, Greatest, Each, kind_told, IsDigestOf, greatest_in, each_in, told_up_to, mark_with, told_generation, told_mark}

@@ -2,11 +2,11 @@
 
 ghost use Rattle.std.specs.Prelude.{◌≡◌, ◌^◌, ◌<◌, All, length, IfOk, IsOkUnless};
 ghost use Rattle.bench_types.specs.declared.faults.Fault.TheVariants.{OutOfMemory};
-ghost use Rattle.bench_types.specs.Budget.{IsLawfulBudget};
+ghost use Rattle.bench_types.specs.calls.Budget.{IsLawfulBudget};
 ghost use Rattle.bench_types.specs.Mode.{digest_kind};
-ghost use Rattle.model.specs.Table.{IsFor};
+ghost use Rattle.model.specs.calls.Table.{IsFor};
 ghost use Rattle.reconcile.specs.Answers.{answer_of, IsDeltaToReceiver};
-ghost use Rattle.model.specs.Deltas.{AreWithin};
+ghost use Rattle.model.specs.calls.DeltaLaws.{AreWithin};
 ghost use Rattle.reconcile.specs.Digests.{IsOfKind};
 
 use crate::candidates::precise_delta;

@@ -5,7 +5,7 @@ ghost use Rattle.std.specs.Prelude.{◌≡◌, ◌+◌, ◌^◌, ◌<◌, ◌≤
 ghost use Rattle.std.specs.List.{AllPairs};
 ghost use Rattle.bench_types.specs.declared.faults.Fault.TheVariants.{OutOfMemory};
 ghost use Rattle.node_table.specs.Entries.{StandsBefore};
-ghost use Rattle.model.specs.Deltas.{AreWithin};
+ghost use Rattle.model.specs.calls.DeltaLaws.{AreWithin};
 ghost use Rattle.reconcile.specs.Digests.{IsOfKind};
 ghost use Rattle.reconcile.specs.inner.Newer.{AreCandidates};
 ghost use Rattle.model.specs.Order.{rank_among};

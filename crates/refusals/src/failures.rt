@@ -1,7 +1,7 @@
 //! What ends a program before its end.
 
 ghost use Rattle.std.specs.Prelude.{IsTrue, OnOk};
-ghost use Rattle.bench_types.specs.Budget.{IsLawfulBudget};
+ghost use Rattle.bench_types.specs.calls.Budget.{IsLawfulBudget};
 
 use bench_types::{Budget, Fault};
 use std::alloc::AllocFailed;

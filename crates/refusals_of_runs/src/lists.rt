@@ -2,7 +2,7 @@
 
 ghost use Rattle.std.specs.Prelude.{IfOk};
 ghost use Rattle.node_table.specs.NodeTableView.{tables_in};
-ghost use Rattle.model.specs.Tables.{IsCluster};
+ghost use Rattle.model.specs.calls.Tables.{IsCluster};
 
 use crate::cases::{Case, FirstRound, LoneList};
 use crate::counting::Counter;

@@ -1,8 +1,8 @@
 //! An owner that wrote its one key in three rounds, and a copy that holds the first version.
 
 ghost use Rattle.std.specs.Prelude.{◌≡◌, ◌≤◌, IfOk, OnOk};
-ghost use Rattle.model.specs.OwnerListView.{written};
-ghost use Rattle.model.specs.Writes.{AreBornBy};
+ghost use Rattle.model.specs.calls.OwnerListView.{written};
+ghost use Rattle.model.specs.calls.Writes.{AreBornBy};
 
 use crate::tables::{new_table, take, write};
 use bench_types::{Figures, Item};

@@ -1,7 +1,7 @@
 //! Texts that are read, and the list of a round.
 
 ghost use Rattle.std.specs.Prelude.{◌≡◌, IfOk};
-ghost use Rattle.round_plan.specs.Words.{run_words_of};
+ghost use Rattle.round_plan.specs.calls.Words.{run_words_of};
 
 use bench_types::{Budget, Exchange, Fault, Field, Mode, TableName};
 use fixtures::{between, changed, changed_in_bytes};

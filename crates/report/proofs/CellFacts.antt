@@ -13,8 +13,8 @@ use Rattle.std.proofs.lemmas.List.Folds.{list_any-append}
 use Rattle.csv.specs.Quoting.{needs_byte}
 use Rattle.csv.specs.Writing.{default_writer, needs_quotes, fields_written, has_written, tail_text, writer_setup}
 use Rattle.csv.specs.declared.writer.Writer.{Writer}
-use Rattle.report.specs.Line.{comma, line_of}
-use Rattle.report.specs.inner.Cells.{cell_text, comma_before, is_plain, bytes_written, AddsField}
+use Rattle.report.specs.Line.{line_of}
+use Rattle.report.specs.inner.Cells.{comma, cell_text, comma_before, is_plain, bytes_written, AddsField}
 use Rattle.report.specs.declared.cells.Cell.{Cell}
 
 -- a digit calls for no quotes

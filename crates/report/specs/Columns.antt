@@ -1,6 +1,6 @@
 -- The columns of the report, in one list: its header, its rows and the comparison of the modes go by it. Each format
 -- has the columns that came with it or before. Source: this project.
-use Rattle.std.specs.Prelude.{ℕ, ◌≤◌, List, [], ◌∷◌, codes, nat_le, filter}
+use Rattle.std.specs.Prelude.{ℕ, List, [], ◌∷◌, codes, nat_le, filter}
 use Rattle.bench_types.specs.declared.rows.Row.{Row}
 
 -- the name of a column, its number in a row, and the first format that has it
@@ -25,7 +25,3 @@ all_columns =
 -- the columns of a format, in order
 unfoldable pub columns : ℕ → List Column
 columns format = filter (λ c. nat_le c.since format) all_columns
-
--- a format that there is
-abbrev pub IsFormat : ℕ → Type 0
-IsFormat format = (1 ≤ format) × (format ≤ 2)

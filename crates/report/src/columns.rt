@@ -3,11 +3,12 @@
 ghost use Rattle.std.specs.Prelude.{◌++◌, map, IsTrue, OnOk, IsOkUnless};
 ghost use Rattle.std.specs.List.{list_all, AllZip};
 ghost use Rattle.report.specs.inner.Cells.{cell_text, is_plain_cell, AddsCells};
-ghost use Rattle.report.specs.Columns.{all_columns, IsFormat};
+ghost use Rattle.report.specs.Columns.{all_columns};
+ghost use Rattle.report.specs.calls.Columns.{IsFormat};
 ghost use Rattle.report.specs.inner.Cells.{IsColumn};
 ghost use Rattle.report.specs.Line.{line_of};
 ghost use Rattle.report.specs.Report.{names, numbers};
-ghost use Rattle.report.specs.Writing.{WritesText};
+ghost use Rattle.report.specs.calls.Writing.{WritesText};
 
 use crate::cells::Cell;
 use crate::outputs::write_line;

@@ -1,8 +1,8 @@
 //! The comparison of the modes: a header, and then for each mode a row for each round.
 
-ghost use Rattle.report.specs.Columns.{IsFormat};
+ghost use Rattle.report.specs.calls.Columns.{IsFormat};
 ghost use Rattle.report.specs.Compare.{compare_header_line, compare_line};
-ghost use Rattle.report.specs.Writing.{WritesText};
+ghost use Rattle.report.specs.calls.Writing.{WritesText};
 
 use crate::cells::Cell;
 use crate::columns::{write_names, write_numbers};

@@ -4,7 +4,7 @@ ghost use Rattle.std.specs.Prelude.{◌<◌, length, map, IsTrue};
 ghost use Rattle.std.specs.List.{list_all};
 ghost use Rattle.report.specs.inner.Cells.{cell_text, is_plain_cell};
 ghost use Rattle.report.specs.Line.{line_of};
-ghost use Rattle.report.specs.Writing.{WritesText};
+ghost use Rattle.report.specs.calls.Writing.{WritesText};
 
 use crate::cells::{Cell, make_line};
 use bench_types::{Fault, Sink, write_text};

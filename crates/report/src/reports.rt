@@ -1,7 +1,7 @@
 //! The report: a header, and then a row for each round.
 
-ghost use Rattle.report.specs.Columns.{IsFormat};
-ghost use Rattle.report.specs.Writing.{WritesText};
+ghost use Rattle.report.specs.calls.Columns.{IsFormat};
+ghost use Rattle.report.specs.calls.Writing.{WritesText};
 ghost use Rattle.report.specs.Report.{report_header_line, report_line};
 
 use crate::columns::{write_names, write_numbers};

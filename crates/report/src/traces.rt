@@ -2,7 +2,7 @@
 
 ghost use Rattle.std.specs.Prelude.{◌≡◌, ◌≤◌, ◌++◌, length, IsTrue, IfOk, OnOk, IsOkUnless};
 ghost use Rattle.report.specs.inner.Cells.{is_plain, bytes_written, IsBetweenLines};
-ghost use Rattle.report.specs.Writing.{WritesText};
+ghost use Rattle.report.specs.calls.Writing.{WritesText};
 ghost use Rattle.model.specs.declared.lists.TheConstants.{MOST_EXCHANGES};
 ghost use Rattle.report.specs.Trace.{trace_header_line, fate_name, trace_line, trace_lines};
 

@@ -9,14 +9,15 @@ use Rattle.std.proofs.lemmas.List.{length-map, length-reverse, get_or-reverse, g
 use Rattle.std.proofs.lemmas.List.Elements.{All-nil, All-tail, All-map}
 use Rattle.std.proofs.lemmas.List.FromFn.{length-map-range_with_len, get_or-map-range_with_len}
 use Rattle.bench_types.specs.declared.entries.Entry.{Entry}
-use Rattle.bench_types.specs.Entry.{IsNextAfter, AreNextAfter}
+use Rattle.bench_types.specs.calls.Entry.{IsNextAfter, AreNextAfter}
 use Rattle.bench_types.specs.declared.limits.TheConstants.{MOST_WRITES}
 use Rattle.scenario.specs.declared.elements.Load.{Load}
 use Rattle.scenario.specs.Settings.{Settings, IsLawfulScenario}
 use Rattle.round_plan.specs.declared.owners.OwnWrite.{OwnWrite}
 use Rattle.round_plan.specs.Generations.{generation_upto}
 use Rattle.round_plan.specs.Outages.{is_up, forgets_now}
-use Rattle.round_plan.specs.Writes.{covers, writes_in, count_upto, count_before, own_write_at, own_writes, born_in, writes_upto, writes_before, written_upto}
+use Rattle.round_plan.specs.Writes.{covers, writes_in, count_upto, count_before, own_write_at, own_writes, writes_upto, written_upto}
+use Rattle.round_plan.specs.calls.Writes.{born_in, writes_before}
 
 -- how many writes a node makes in a round
 abbrev now : Settings → ℕ → ℕ → ℕ

@@ -9,7 +9,7 @@ use Rattle.std.proofs.lemmas.List.Sums.{count_by_more_yes, count_by_more_no}
 use Rattle.bench_types.specs.declared.exchanges.Exchange.{Exchange}
 use Rattle.scenario.specs.Settings.{Settings}
 use Rattle.round_plan.specs.Outages.{is_up}
-use Rattle.bench_types.specs.Exchange.{IsPlanned}
+use Rattle.bench_types.specs.calls.Exchange.{IsPlanned}
 use Rattle.round_plan.specs.Plan.{exchange_of, begins, is_unreached, reaches, round_list_of}
 use Rattle.model.specs.RoundLists.{round_list_view}
 use Rattle.round_plan.specs.inner.Rounds.{AreChosen}

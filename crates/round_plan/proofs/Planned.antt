@@ -12,7 +12,7 @@ use Rattle.scenario.specs.declared.choices.Rotation.{Rotation}
 use Rattle.scenario.specs.declared.choices.Rotation.TheVariants as rotation
 use Rattle.scenario.specs.Settings.{Settings}
 use Rattle.round_plan.specs.Peer.{random_peer, ring_peer, peer_by}
-use Rattle.bench_types.specs.Exchange.{IsPlanned}
+use Rattle.bench_types.specs.calls.Exchange.{IsPlanned}
 use Rattle.round_plan.specs.Plan.{begins, exchange_of, rotation_by, round_list_of}
 use Rattle.round_plan.specs.Words.{word_of}
 use Rattle.round_plan.proofs.Others.{other_below, other_above}

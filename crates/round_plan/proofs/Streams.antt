@@ -8,7 +8,8 @@ use Rattle.bench_types.specs.declared.limits.TheConstants.{MOST_ROUNDS}
 use Rattle.rand_chacha.specs.ChaCha.{ChaCha, word_at, key_of}
 use Rattle.round_plan.specs.declared.run_words.NodeWords.{NodeWords}
 use Rattle.round_plan.specs.declared.words.TheConstants.{ROUND_WORDS}
-use Rattle.round_plan.specs.Words.{position, seed_bytes, word_by, AreWordsOf}
+use Rattle.round_plan.specs.Words.{position, seed_bytes, word_by}
+use Rattle.round_plan.specs.calls.Words.{AreWordsOf}
 use Rattle.round_plan.specs.inner.Streams.{stream_of, AreNextWords, HasDrawn, HaveDrawn, IsPartOf, ArePartsOf}
 
 -- the words that come next in a node's stream at the begin of a round are those of the round

@@ -14,7 +14,8 @@ use Rattle.bench_types.specs.Mark.{mark_of, is_before}
 use Rattle.scenario.specs.Settings.{Settings}
 use Rattle.round_plan.specs.Generations.{generation_upto}
 use Rattle.round_plan.specs.Outages.{forgets_now}
-use Rattle.round_plan.specs.Writes.{count_upto, count_before, own_writes, writes_upto, writes_before, written_upto}
+use Rattle.round_plan.specs.Writes.{count_upto, count_before, own_writes, writes_upto, written_upto}
+use Rattle.round_plan.specs.calls.Writes.{writes_before}
 use Rattle.round_plan.proofs.Growth.{length-own_writes, next-own_writes, keys-own_writes, born-own_writes}
 
 -- a write of an earlier generation, or one of this generation's first so many

@@ -4,5 +4,6 @@ pub mod Peer
 pub mod Plan
 pub mod Words
 pub mod Writes
+pub mod calls
 pub mod inner
-pub use Rattle.bench_types.specs.Exchange
+pub use Rattle.bench_types.specs.calls.Exchange

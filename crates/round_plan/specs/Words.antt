@@ -2,11 +2,10 @@
 -- streams have one key: the seed of the scenario as eight bytes, the least first, and then zeros. A round of a
 -- node has the 16 words of one block, round 1 those of block 0. Each word is drawn by its place, so that a word
 -- that nothing uses moves no other. Source: RFC 8439 for the block; streams and places are this project's.
-use Rattle.std.specs.Prelude.{◌≡◌, ℕ, ◌+◌, ◌-◌, ◌*◌, ◌<◌, List, ◌++◌, length, replicate, slice_index}
+use Rattle.std.specs.Prelude.{ℕ, ◌+◌, ◌-◌, ◌*◌, List, ◌++◌, replicate}
 use Rattle.std.specs.Int.{w64, to_le_bytes}
 use Rattle.rand_chacha.specs.ChaCha.{word_at, key_of}
 use Rattle.scenario.specs.Settings.{Settings}
-use Rattle.round_plan.specs.declared.words.TheConstants.{ROUND_WORDS}
 
 -- the 32 bytes of the key
 unfoldable pub seed_bytes : ℕ → List ℕ
@@ -23,18 +22,3 @@ word_by seed node round place = word_at 10 (key_of (seed_bytes seed)) node (posi
 -- and in a scenario
 abbrev pub word_of : Settings → ℕ → ℕ → ℕ → ℕ
 word_of s node round place = word_by s.seed node round place
-
--- all words of a node's round under a seed, by place
-pub record AreWordsOf (seed node round : ℕ) (words : List ℕ) : Type 0 where
-  pub count : length words ≡ ROUND_WORDS
-  pub value : (place : ℕ) → place < ROUND_WORDS → slice_index words place ≡ word_by seed node round place
-
--- what contracts see of the words of all nodes in a round of a run; in round 0 nothing was drawn yet
-pub record RunWordsView : Type 0 where
-  pub seed : ℕ
-  pub nodes : ℕ
-  pub round : ℕ
-
--- those of a scenario's run
-abbrev pub run_words_of : Settings → ℕ → RunWordsView
-run_words_of s round = record { seed = s.seed; nodes = s.nodes; round = round }

@@ -4,7 +4,7 @@
 -- Each write is born in the round in which it is made. Where the node forgets, all that it had written is gone, and
 -- then come the writes of the round. Source: the LADIS 2008 paper for versions that rise; numbers, rounds and
 -- generations are this project's.
-use Rattle.std.specs.Prelude.{◌≡◌, ℕ, zero, suc, ◌+◌, ◌-◌, ◌/◌, ◌%◌, ◌<◌, Bool, if◌then◌else◌, List, [], ◌++◌, length, map, reverse, All, unwrap_or}
+use Rattle.std.specs.Prelude.{ℕ, zero, suc, ◌+◌, ◌-◌, ◌/◌, ◌%◌, Bool, if◌then◌else◌, List, [], ◌++◌, map, reverse, unwrap_or}
 use Rattle.std.specs.Option.{option_map}
 use Rattle.std.specs.List.{range_with_len, find}
 use Rattle.bench_types.specs.declared.entries.Entry.{Entry}
@@ -13,7 +13,6 @@ use Rattle.scenario.specs.declared.choices.Choice.{Choice}
 use Rattle.scenario.specs.declared.choices.Choice.TheVariants.{Random, Cycle}
 use Rattle.scenario.specs.declared.elements.Load.{Load}
 use Rattle.scenario.specs.Settings.{Settings}
-use Rattle.round_plan.specs.declared.owners.OwnWrite.{OwnWrite}
 use Rattle.round_plan.specs.Generations.{generation_upto}
 use Rattle.round_plan.specs.Outages.{is_between, is_up, forgets_now}
 use Rattle.round_plan.specs.Words.{word_of}
@@ -79,27 +78,8 @@ writes_upto s owner (suc round) =
     (if forgets_now s owner (suc round) then [] else writes_upto s owner round)
     ++ own_writes s owner (suc round) (count_before s owner (suc round))
 
--- those of them that it has made before it writes in a round
-abbrev pub writes_before : Settings → ℕ → ℕ → List Entry
-writes_before s owner zero = []
-writes_before s owner (suc round) = if forgets_now s owner (suc round) then [] else writes_upto s owner round
-
 -- all writes of an owner up to a round, those of its earlier generations too
 abbrev pub written_upto : Settings → ℕ → ℕ → List Entry
 written_upto s owner zero = []
 written_upto s owner (suc round) =
     written_upto s owner round ++ own_writes s owner (suc round) (count_before s owner (suc round))
-
--- a write as `writes_of` answers it is one without its round and its generation
-abbrev pub born_in : ℕ → ℕ → OwnWrite → Entry
-born_in round generation w =
-    record { key = w.key; generation = generation; version = w.version; value = w.value; born = round }
-
--- what a node writes in a round, before which it had made so many of its generation: put behind the earlier writes of
--- the generation it makes those up to the round
-pub record AreWritesOf (s : Settings) (node round count_before : ℕ) (writes : List OwnWrite) : Type 0 where
-  pub value : map (born_in round (generation_upto s node round)) writes ≡ own_writes s node round count_before
-  pub keys : All (λ write. write.key < s.keys) writes
-  pub grows : length (writes_before s node round) ≡ count_before
-      → writes_upto s node round
-      ≡ writes_before s node round ++ map (born_in round (generation_upto s node round)) writes

@@ -2,8 +2,9 @@
 
 ghost use Rattle.std.specs.Prelude.{◌≡◌, ℕ, ◌+◌, ◌^◌, ◌<◌, ◌≤◌, ◌==◌, length, slice_get};
 ghost use Rattle.scenario.specs.declared.choices.Choice.TheVariants.{Random};
-ghost use Rattle.round_plan.specs.Words.{AreWordsOf};
-ghost use Rattle.round_plan.specs.Writes.{writes_in, numbered_write, born_in, AreWritesOf};
+ghost use Rattle.round_plan.specs.calls.Words.{AreWordsOf};
+ghost use Rattle.round_plan.specs.Writes.{writes_in, numbered_write};
+ghost use Rattle.round_plan.specs.calls.Writes.{born_in, AreWritesOf};
 ghost use Rattle.round_plan.specs.inner.Rounds.{AreWriteNumbers, IsNodeInRound};
 
 use crate::outages::{is_between, is_up};

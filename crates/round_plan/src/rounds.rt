@@ -1,9 +1,9 @@
 //! Who exchanges with whom in a round.
 
 ghost use Rattle.std.specs.Prelude.{◌≡◌, ◌<◌, ◌≤◌, IfOk, IsOkUnless};
-ghost use Rattle.bench_types.specs.Exchange.{IsPlanned};
+ghost use Rattle.bench_types.specs.calls.Exchange.{IsPlanned};
 ghost use Rattle.round_plan.specs.Plan.{exchange_of, is_lost, reaches, round_list_of};
-ghost use Rattle.round_plan.specs.Words.{run_words_of, AreWordsOf};
+ghost use Rattle.round_plan.specs.calls.Words.{run_words_of, AreWordsOf};
 ghost use Rattle.round_plan.specs.inner.Rounds.{AreChosen, IsNodeInRound};
 ghost use Rattle.bench_types.specs.declared.faults.Fault.TheVariants.{OutOfMemory};
 

@@ -2,7 +2,7 @@
 
 ghost use Rattle.std.specs.Prelude.{◌≡◌, ◌+◌, ◌^◌, ◌<◌, ◌≤◌, All, length, IfOk, IsOkUnless};
 ghost use Rattle.bench_types.specs.declared.faults.Fault.TheVariants.{OutOfMemory};
-ghost use Rattle.round_plan.specs.Words.{run_words_of, AreWordsOf};
+ghost use Rattle.round_plan.specs.calls.Words.{run_words_of, AreWordsOf};
 ghost use Rattle.round_plan.specs.inner.Streams.{ArePartsOf, HaveDrawn};
 
 use crate::words::{ROUND_WORDS, next_words, stream_at};
@@ -32,7 +32,7 @@ struct NodeWords {
 
 impl Model for RunWords {
     ghost use Rattle.std.specs.Prelude.{length};
-    ghost use Rattle.round_plan.specs.Words.{RunWordsView};
+    ghost use Rattle.round_plan.specs.calls.Words.{RunWordsView};
 
     ghost Value = { RunWordsView };
 

@@ -1,7 +1,8 @@
 //! The random words of a node, each drawn by its place.
 
 ghost use Rattle.std.specs.Prelude.{◌≡◌, ◌+◌, ◌^◌, ◌<◌, ◌≤◌};
-ghost use Rattle.round_plan.specs.Words.{word_of, AreWordsOf};
+ghost use Rattle.round_plan.specs.Words.{word_of};
+ghost use Rattle.round_plan.specs.calls.Words.{AreWordsOf};
 ghost use Rattle.round_plan.specs.inner.Streams.{stream_of, AreNextWords};
 ghost use Rattle.round_plan.specs.inner.Rounds.{IsNodeInRound};
 

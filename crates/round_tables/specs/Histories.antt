@@ -3,9 +3,9 @@
 use Rattle.std.specs.Prelude.{◌≡◌, ℕ, ◌+◌, ◌^◌, ◌<◌, ◌≤◌, List, length, slice_index_or, All}
 use Rattle.bench_types.specs.declared.entries.Entry.{Entry}
 use Rattle.model.specs.Table.{Table, greatest_version, IsProper}
-use Rattle.model.specs.OwnerListView.{OwnerListView, all_writes, written, next_entry, with_write, begun_generation, list_of_owner, ListBecomes}
+use Rattle.model.specs.calls.OwnerListView.{OwnerListView, all_writes, written, next_entry, with_write, begun_generation, list_of_owner, ListBecomes}
 use Rattle.model.specs.Copies.{HoldsWrites}
-use Rattle.model.specs.OwnParts.{OwnPartIsLastWrites}
+use Rattle.model.specs.calls.OwnParts.{OwnPartIsLastWrites}
 
 -- the list of a node
 abbrev pub own_list : Table → List OwnerListView → OwnerListView

@@ -15,8 +15,9 @@ pub trait RoundHistories<T: MemoryTable>: Exchanging<T> + Drop {
     ghost use Rattle.bench_types.specs.declared.faults.Fault.TheVariants.{OutOfMemory};
     ghost use Rattle.bench_types.specs.declared.limits.TheConstants.{LEAST_KEYS, MOST_NODES, MOST_KEYS, MOST_ROUNDS};
     ghost use Rattle.model.specs.Table.{Table, empty_table, with_own_write, without_others, without_all};
-    ghost use Rattle.model.specs.OwnerListView.{OwnerListView, no_writes, list_of_owner, lists_in};
-    ghost use Rattle.model.specs.Tables.{IsCluster, HoldsOfEach};
+    ghost use Rattle.model.specs.calls.OwnerListView.{OwnerListView, no_writes, list_of_owner, lists_in};
+    ghost use Rattle.model.specs.Tables.{HoldsOfEach};
+    ghost use Rattle.model.specs.calls.Tables.{IsCluster};
     ghost use Rattle.model.specs.Figures.{figures_of};
     ghost use Rattle.round_tables.specs.Histories.{AreWrittenBy, StandsAmong, MayWrite, MayForget, AddsWrite, BeginsGeneration};
 

@@ -16,10 +16,10 @@ use Rattle.report.specs.Compare.{compare_header_line, compare_line, compare_line
 use Rattle.bench_types.specs.Output.{IsWritten, IsWriteFault}
 use Rattle.scenario.specs.Settings.{Settings, with_mode}
 use Rattle.runs.specs.Comparisons.{lines_upto, lines_under, lines_of_modes, comparison_text, IsFaultInRound, IsFaultInRounds, IsFaultInModes}
-use Rattle.simulation.specs.RoundView.{RoundView}
+use Rattle.simulation.specs.calls.RoundView.{RoundView}
 use Rattle.simulation.specs.Outcomes.{row_in}
 use Rattle.runs.specs.Reports.{rows_upto}
-use Rattle.simulation.specs.Simulation.{SimView, PlaysNext, IsStepFault}
+use Rattle.simulation.specs.calls.Simulation.{SimView, PlaysNext, IsStepFault}
 use Rattle.runs.specs.inner.Starts.{IsReady}
 use Rattle.runs.specs.inner.Rows.{WritesNextRow, IsNextRowFault}
 use Rattle.runs.proofs.Reporting.{written_then, fault_behind, step_fault}

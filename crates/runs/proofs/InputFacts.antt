@@ -8,8 +8,7 @@ use Rattle.std.specs.Io.KnownBytes.{Consumes}
 use Rattle.bench_types.specs.declared.faults.Fault.{Fault}
 use Rattle.bench_types.specs.declared.faults.Fault.TheVariants.{OutOfMemory}
 use Rattle.bench_types.specs.declared.sources.Source.{Ghosts as Source}
-use Rattle.scenario.specs.Checked.{document_of, text_checked}
-use Rattle.scenario.specs.Order.{first_fault, Says}
+use Rattle.scenario.specs.Order.{document_of, first_fault, Says}
 use Rattle.scenario.specs.CheckFault.{IsFaultOfCheck}
 use Rattle.scenario.specs.Settings.{Settings}
 use Rattle.runs.specs.Inputs.{Gave, GaveUpTo, IsReadWhole, IsRead, IsInputFault}
@@ -47,23 +46,20 @@ at_fault (Err handed) fault P is holds = subst P (sym is) holds
 
 -- the check of a text that was read whole accepts it, or comes to its fault
 module _ {R : Type 0} (source : Source R) (old new : R) (text : List ℕ) (whole : IsReadWhole source old new text) where
-  pub accepted : (answer : Result Settings Fault) → IfOk answer (λ s. text_checked text ≡ Ok s)
-      → IfOk answer (λ s. IsSomeAnd (document_of text) (λ table. Says table s)) → OnOk answer (first_fault (document_of text) ≡ None)
+  pub accepted : (answer : Result Settings Fault) → IfOk answer (λ s. IsSomeAnd (document_of text) (λ table. Says table s)) → OnOk answer (first_fault (document_of text) ≡ None)
       → IfOk answer (λ s. IsRead source old new (Ok s))
-  accepted (Ok s) checked says no_fault = record { text = text; whole = whole; checked = checked; says = says; no_fault = no_fault; first = tt }
-  accepted (Err fault) checked says no_fault = tt
+  accepted (Ok s) says no_fault = record { text = text; whole = whole; says = says; no_fault = no_fault; first = tt }
+  accepted (Err fault) says no_fault = tt
 
-  refused : (fault : Fault) → IsFaultOfCheck fault → fault ≢ OutOfMemory → (fault ≢ OutOfMemory → text_checked text ≡ Err fault)
-      → (fault ≢ OutOfMemory → first_fault (document_of text) ≡ Some fault) → IsInputFault source old new fault
-  refused fault of_check other checked first = inr (record {
+  refused : (fault : Fault) → IsFaultOfCheck fault → fault ≢ OutOfMemory → (fault ≢ OutOfMemory → first_fault (document_of text) ≡ Some fault) → IsInputFault source old new fault
+  refused fault of_check other first = inr (record {
     of_check = of_check;
     not_memory = other;
-    read = record { text = text; whole = whole; checked = checked other; says = tt; no_fault = tt; first = first other };
+    read = record { text = text; whole = whole; says = tt; no_fault = tt; first = first other };
   })
 
-  pub fault_of_check : (answer : Result Settings Fault) → IfErr answer IsFaultOfCheck → IfErr answer (λ fault. fault ≢ OutOfMemory → text_checked text ≡ Err fault)
-      → IfErr answer (λ fault. fault ≢ OutOfMemory → first_fault (document_of text) ≡ Some fault) → IfErr answer (IsInputFault source old new)
-  fault_of_check (Ok s) of_check checked first = tt
-  fault_of_check (Err OutOfMemory) of_check checked first =
+  pub fault_of_check : (answer : Result Settings Fault) → IfErr answer IsFaultOfCheck → IfErr answer (λ fault. fault ≢ OutOfMemory → first_fault (document_of text) ≡ Some fault) → IfErr answer (IsInputFault source old new)
+  fault_of_check (Ok s) of_check first = tt
+  fault_of_check (Err OutOfMemory) of_check first =
       inl (record { given = (text, whole.given, whole.within); sound = whole.sound; was_sound = whole.was_sound })
-  fault_of_check (Err fault) of_check checked first = refused fault of_check (λ e. cc e) checked first
+  fault_of_check (Err fault) of_check first = refused fault of_check (λ e. cc e) first

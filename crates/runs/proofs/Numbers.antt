@@ -8,14 +8,14 @@ use Rattle.std.proofs.lemmas.List.Elements.{All-tail}
 use Rattle.std.proofs.lemmas.Option.{same_Some}
 use Rattle.bench_types.specs.declared.entries.Entry.{Entry}
 use Rattle.bench_types.specs.declared.limits.TheConstants.{MOST_WRITES}
-use Rattle.model.specs.Numbers.{write_from, write_numbered}
+use Rattle.model.specs.calls.Numbers.{write_from, write_numbered}
 use Rattle.round_plan.specs.Outages.{is_up}
 use Rattle.round_plan.specs.Writes.{covers, writes_in, count_before, own_writes, written_upto}
 use Rattle.round_plan.proofs.Growth.{length-own_writes, writes_in_le}
 use Rattle.round_plan.proofs.Written.{apart-written_upto}
 use Rattle.scenario.specs.declared.elements.Load.{Load}
 use Rattle.scenario.specs.Settings.{Settings, IsLawfulScenario}
-use Rattle.simulation.specs.Simulation.{MayWriteAll}
+use Rattle.simulation.specs.calls.Simulation.{MayWriteAll}
 use Rattle.version_tables.specs.inner.Histories.{IsWriteUnder}
 use Rattle.runs.specs.inner.Writes.{AreWrittenIn, HasWritesBelow}
 

@@ -15,9 +15,9 @@ use Rattle.bench_types.specs.Output.{IsWritten, IsWriteFault}
 use Rattle.report.specs.Trace.{trace_header_line}
 use Rattle.report.specs.Report.{report_header_line, report_line, report_lines}
 use Rattle.scenario.specs.Settings.{Settings}
-use Rattle.simulation.specs.RoundView.{RoundView}
+use Rattle.simulation.specs.calls.RoundView.{RoundView}
 use Rattle.simulation.specs.Outcomes.{row_in}
-use Rattle.simulation.specs.Simulation.{SimView, PlaysNext, IsStepFault}
+use Rattle.simulation.specs.calls.Simulation.{SimView, PlaysNext, IsStepFault}
 use Rattle.runs.specs.Reports.{rows_upto, trace_in, traces_upto, report_upto, trace_upto, report_text, trace_text}
 use Rattle.runs.specs.Runs.{IsFaultAfter, AreWritten, IsWritingFault, StopsAt, round_after, lines_after, row_after}
 use Rattle.runs.specs.inner.Rows.{lines_of, WritesNextTexts, IsNextTextsFault}

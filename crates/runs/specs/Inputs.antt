@@ -7,8 +7,7 @@ use Rattle.bench_types.specs.declared.faults.Fault.{Fault}
 use Rattle.bench_types.specs.declared.faults.Fault.TheVariants.{OutOfMemory, TooLong, ReadFailed}
 use Rattle.bench_types.specs.declared.limits.TheConstants.{MOST_BYTES}
 use Rattle.bench_types.specs.declared.sources.Source.{Ghosts as Source}
-use Rattle.scenario.specs.Checked.{document_of, text_checked}
-use Rattle.scenario.specs.Order.{first_fault, Says}
+use Rattle.scenario.specs.Order.{document_of, first_fault, Says}
 use Rattle.scenario.specs.CheckFault.{IsFaultOfCheck}
 use Rattle.scenario.specs.Settings.{Settings}
 
@@ -60,7 +59,6 @@ IsReadingFault source old new _ = ⊥
 pub record IsRead {R : Type 0} (source : Source R) (old new : R) (answer : Result Settings Fault) : Type 0 where
   pub text : List ℕ
   pub whole : IsReadWhole source old new text
-  pub checked : text_checked text ≡ answer
   pub says : IfOk answer (λ settings. IsSomeAnd (document_of text) (λ table. Says table settings))
   pub no_fault : OnOk answer (first_fault (document_of text) ≡ None)
   pub first : IfErr answer (λ fault. first_fault (document_of text) ≡ Some fault)

@@ -3,7 +3,7 @@
 ghost use Rattle.std.specs.Prelude.{◌≡◌, ℕ, ◌+◌, ◌*◌, ◌≤◌, Ok, IfOk, OnOk, IfErr, IsOkUnless};
 ghost use Rattle.bench_types.specs.declared.limits.TheConstants.{MOST_ROUNDS, MOST_WRITES};
 ghost use Rattle.round_plan.specs.Writes.{writes_in};
-ghost use Rattle.simulation.specs.Simulation.{MayWriteAll};
+ghost use Rattle.simulation.specs.calls.Simulation.{MayWriteAll};
 ghost use Rattle.runs.specs.Inputs.{IsRead, IsInputFault};
 ghost use Rattle.scenario.specs.Settings.{IsLawfulScenario};
 ghost use Rattle.runs.specs.inner.Writes.{AreWrittenIn, HasWritesBelow};

@@ -7,7 +7,8 @@ use Rattle.std.proofs.lemmas.List.Elements.{All-nil, All-cons, All-weaker}
 use Rattle.toml.specs.Data.{Data, integer, Members}
 use Rattle.bench_types.specs.declared.fields.Field.{Field}
 use Rattle.bench_types.specs.declared.fields.Field.TheVariants as field
-use Rattle.scenario.specs.Elements.{array_of, ascending, apart_at}
+use Rattle.scenario.specs.Elements.{array_of}
+use Rattle.scenario.specs.inner.Elements.{ascending, apart_at}
 use Rattle.scenario.specs.Fields.{◌>>=◌, value_at, number_of}
 use Rattle.scenario.specs.Settings.{IsWithin}
 use Rattle.scenario.proofs.Steps.{passed, same_ok, kept}

@@ -4,3 +4,4 @@ pub mod Lawful
 pub mod Order
 pub mod Sayings
 pub mod OnlyFaultsOfCheck
+pub mod Settled

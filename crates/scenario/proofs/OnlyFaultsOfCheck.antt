@@ -11,15 +11,17 @@ use Rattle.bench_types.specs.declared.fields.TableName.{TableName}
 use Rattle.bench_types.specs.declared.fields.TableName.TheVariants as name
 use Rattle.bench_types.specs.declared.limits.TheConstants.{LEAST_NODES, MOST_NODES, LEAST_KEYS, MOST_KEYS, MOST_ENTRIES, MOST_ROUNDS, MOST_BUDGET, MOST_ENTRY_SIZE, MOST_BUDGET_BYTES, MOST_LOSS, MOST_WRITES, MOST_SEED, MOST_ELEMENTS}
 use Rattle.scenario.specs.Budgets.{is_in_entries, entries_at, is_too_small, bytes_of, bytes_at, budget_at}
-use Rattle.scenario.specs.Checked.{checked, unknown_checked}
-use Rattle.scenario.specs.Elements.{has_generations, array_of, as_table, few, elements_of, elements_at, each, ascending, apart_at, forget_at, array_at, partition_of, restart_of, load_of, partitions_at, restarts_at, loads_at, elements_have_only, only_elements, partition_fields, restart_fields, load_fields}
+use Rattle.scenario.specs.inner.Checked.{checked, unknown_checked, basics_at, conduct_at}
+use Rattle.scenario.specs.Elements.{has_generations, array_of, as_table, few, elements_of, elements_at, forget_at, elements_have_only, only_elements, partition_fields, restart_fields, load_fields}
+use Rattle.scenario.specs.inner.Elements.{each, ascending, apart_at, array_at, partition_of, restart_of, load_of, partitions_at, restarts_at, loads_at}
 use Rattle.bench_types.specs.Field.{field_name}
 use Rattle.scenario.specs.Fields.{◌>>=◌, value_at, number_at, number_of, present, text_of, flag_of, flag_at, no_other_field, only_fields}
-use Rattle.scenario.specs.Parts.{size_checked, basics_at, conduct_at}
+use Rattle.scenario.specs.Order.{size_checked}
 use Rattle.scenario.specs.CheckFault.{IsFaultOfCheck}
 use Rattle.scenario.specs.Settings.{Settings}
 use Rattle.scenario.specs.Top.{format_at, nodes_at, keys_at, rounds_at, seed_at, mode_at, peers_at, rotation_at, choice_at, loss_ppm_at, writes_at, top_fields}
-use Rattle.scenario.specs.Words.{or_out_of_range, word_at, mode_of, peers_of, rotation_of, choice_of}
+use Rattle.scenario.specs.Words.{or_out_of_range, word_at, peers_of, rotation_of, choice_of}
+use Rattle.bench_types.specs.Mode.{mode_named}
 
 abbrev OnlyFaultsOfCheck : {A : Type 0} → Result A Fault → Type 0
 OnlyFaultsOfCheck r = IfErr r IsFaultOfCheck
@@ -170,7 +172,7 @@ of_budget format table = either (is_in_entries format) where
 
 of_conduct : (format : ℕ) (table : Members) → OnlyFaultsOfCheck (conduct_at format table)
 of_conduct format table =
-    next (mode_at table) _ (at_word field.Mode mode_of table) (λ mode.
+    next (mode_at table) _ (at_word field.Mode mode_named table) (λ mode.
     next (budget_at format table) _ (of_budget format table) (λ budget.
     next (peers_at table) _ (at_word field.Peers peers_of table) (λ peers.
     next (rotation_at table) _ (at_word field.Rotation rotation_of table) (λ rotation.

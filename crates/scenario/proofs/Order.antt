@@ -13,11 +13,11 @@ use Rattle.bench_types.specs.declared.fields.TableName.TheVariants as name
 use Rattle.bench_types.specs.declared.limits.TheConstants.{MOST_ROUNDS, MOST_WRITES}
 use Rattle.scenario.specs.declared.parts.Basics.{Basics}
 use Rattle.scenario.specs.Budgets.{budget_at}
-use Rattle.scenario.specs.Checked.{checked, unknown_checked}
-use Rattle.scenario.specs.Elements.{array_of, elements_at, each, ascending, array_at, forget_at, partition_of, restart_of, load_of, partitions_at, restarts_at, loads_at, only_elements, partition_fields, restart_fields, load_fields}
+use Rattle.scenario.specs.inner.Checked.{checked, unknown_checked, basics_at, conduct_at}
+use Rattle.scenario.specs.Elements.{array_of, elements_at, forget_at, only_elements, partition_fields, restart_fields, load_fields}
+use Rattle.scenario.specs.inner.Elements.{each, ascending, array_at, partition_of, restart_of, load_of, partitions_at, restarts_at, loads_at}
 use Rattle.scenario.specs.Fields.{◌>>=◌, value_at, number_of, number_at, only_fields}
-use Rattle.scenario.specs.Order.{faults, basics_faults, conduct_faults, first_of, above, ascending_faults, partition_faults, restart_faults, load_faults, array_faults, unknown_faults, format_in, nodes_in}
-use Rattle.scenario.specs.Parts.{size_checked, basics_at, conduct_at}
+use Rattle.scenario.specs.Order.{faults, basics_faults, conduct_faults, first_of, above, ascending_faults, partition_faults, restart_faults, load_faults, array_faults, unknown_faults, format_in, nodes_in, size_checked}
 use Rattle.scenario.specs.Settings.{Settings}
 use Rattle.scenario.specs.Top.{format_at, nodes_at, keys_at, rounds_at, seed_at, mode_at, peers_at, rotation_at, choice_at, loss_ppm_at, writes_at, top_fields}
 use Rattle.scenario.proofs.Steps.{basics_read, elements_found, array_found, number_found_at}

@@ -17,16 +17,17 @@ use Rattle.scenario.specs.declared.elements.Restart.{Restart}
 use Rattle.scenario.specs.declared.elements.Load.{Load}
 use Rattle.scenario.specs.declared.parts.Basics.{Basics}
 use Rattle.scenario.specs.declared.parts.Conduct.{Conduct}
-use Rattle.scenario.specs.Checked.{checked, unknown_checked}
-use Rattle.scenario.specs.Elements.{list_of, array_of, few, elements_of, each, ascending, apart_at, forget_at, partition_of, restart_of, load_of, partitions_at, restarts_at, loads_at, elements_have_only, only_elements, partition_fields, restart_fields, load_fields}
+use Rattle.scenario.specs.inner.Checked.{checked, unknown_checked, basics_at, conduct_at}
+use Rattle.scenario.specs.Elements.{list_of, array_of, few, elements_of, forget_at, elements_have_only, only_elements, partition_fields, restart_fields, load_fields}
+use Rattle.scenario.specs.inner.Elements.{each, ascending, apart_at, partition_of, restart_of, load_of, partitions_at, restarts_at, loads_at}
 use Rattle.bench_types.specs.Field.{field_name}
 use Rattle.scenario.specs.Fields.{◌>>=◌, value_at, number_of, number_at, present, text_of, flag_of, flag_at, no_other_field, only_fields, has_only}
 use Rattle.scenario.specs.Order.{HasNumber, HasFlag, HasBudget, HasWord, SaysPartition, SaysRestart, SaysLoad, Says}
-use Rattle.scenario.specs.Parts.{basics_at, conduct_at}
 use Rattle.scenario.specs.Budgets.{is_in_entries, entries_at, is_too_small, bytes_of, bytes_at, budget_at}
 use Rattle.scenario.specs.Settings.{Settings}
 use Rattle.scenario.specs.Top.{mode_at, peers_at, rotation_at, choice_at, loss_ppm_at, writes_at, top_fields}
-use Rattle.scenario.specs.Words.{or_out_of_range, mode_of, peers_of, rotation_of, choice_of}
+use Rattle.scenario.specs.Words.{or_out_of_range, peers_of, rotation_of, choice_of}
+use Rattle.bench_types.specs.Mode.{mode_named}
 use Rattle.scenario.proofs.Steps.{passed, same_ok, basics_read, kept, number_found_at}
 
 -- a number that was read stands in the document
@@ -157,7 +158,7 @@ basics_say table b all =
 
 -- and so is what is read of its rules
 record SayConduct (table : Members) (c : Conduct) : Type 0 where
-  mode : HasWord table field.Mode mode_of c.mode
+  mode : HasWord table field.Mode mode_named c.mode
   budget : HasBudget table c.budget
   peers : HasWord table field.Peers peers_of c.peers
   rotation : HasWord table field.Rotation rotation_of c.rotation
@@ -193,7 +194,7 @@ conduct_says format table c all =
     passed (loss_ppm_at table) _ c e (λ loss_ppm is_loss_ppm e.
     passed (writes_at table) _ c e (λ writes is_writes e.
     subst (SayConduct table) (same_ok _ c e) (record {
-      mode = word_found field.Mode mode_of _ _ is_mode;
+      mode = word_found field.Mode mode_named _ _ is_mode;
       budget = budget_found format table _ is_budget;
       peers = word_found field.Peers peers_of _ _ is_peers;
       rotation = word_found field.Rotation rotation_of _ _ is_rotation;

@@ -8,7 +8,8 @@ use Rattle.bench_types.specs.declared.limits.TheConstants.{MOST_ELEMENTS}
 use Rattle.scenario.specs.declared.parts.Basics.{Basics}
 use Rattle.scenario.specs.Elements.{list_of, array_of, elements_of, values_of}
 use Rattle.scenario.specs.Fields.{◌>>=◌, present, number_of}
-use Rattle.scenario.specs.Parts.{size_checked, basics_at}
+use Rattle.scenario.specs.Order.{size_checked}
+use Rattle.scenario.specs.inner.Checked.{basics_at}
 use Rattle.scenario.specs.Top.{format_at, nodes_at, keys_at, rounds_at, seed_at}
 
 -- where all checks pass, each of them does

@@ -5,8 +5,6 @@ pub mod Words
 pub mod Elements
 pub mod Budgets
 pub mod Top
-pub mod Parts
-pub mod Checked
 pub mod Order
 pub mod CheckFault
 pub mod inner

@@ -1,7 +1,7 @@
 -- What the check of a text comes to, said of all checks at once and of the document as it stands:
 -- the answer is the fault of the first check that fails, and where none fails, each field's value is
 -- the one that the document has at its key. Source: this project.
-use Rattle.std.specs.Prelude.{◌≡◌, ℕ, ◌+◌, ◌-◌, ◌⊎◌, pos, Bool, true, false, List, [], ◌∷◌, ◌++◌, map, Option, None, Some, Result, Ok, Err}
+use Rattle.std.specs.Prelude.{◌≡◌, ℕ, ◌+◌, ◌-◌, ◌⊎◌, pos, Bool, true, false, List, [], ◌∷◌, ◌++◌, map, Option, None, Some, Result, Ok, Err, if◌then◌else◌, ◌*◌, nat_le}
 use Rattle.std.specs.List.{AllZip, flat_map}
 use Rattle.std.specs.Result.{result_err, result_unwrap_or}
 use Rattle.toml.specs.Data as toml
@@ -9,22 +9,32 @@ use Rattle.toml.specs.Data.{Data, integer, string, boolean, Items, Members, get_
 use Rattle.bench_types.specs.declared.exchanges.Budget.{Budget}
 use Rattle.bench_types.specs.declared.exchanges.Budget.TheVariants.{Entries, Bytes}
 use Rattle.bench_types.specs.declared.faults.Fault.{Fault}
-use Rattle.bench_types.specs.declared.faults.Fault.TheVariants.{NotToml}
+use Rattle.bench_types.specs.declared.faults.Fault.TheVariants.{NotToml, TooLarge}
 use Rattle.bench_types.specs.declared.fields.Field.{Field}
 use Rattle.bench_types.specs.declared.fields.Field.TheVariants as field
 use Rattle.bench_types.specs.declared.fields.TableName.TheVariants as name
-use Rattle.bench_types.specs.declared.limits.TheConstants.{MOST_ROUNDS, MOST_WRITES}
+use Rattle.bench_types.specs.declared.limits.TheConstants.{MOST_ROUNDS, MOST_WRITES, MOST_ENTRIES}
 use Rattle.scenario.specs.declared.elements.Partition.{Partition}
 use Rattle.scenario.specs.declared.elements.Restart.{Restart}
 use Rattle.scenario.specs.declared.elements.Load.{Load}
 use Rattle.scenario.specs.Budgets.{budget_at}
-use Rattle.scenario.specs.Parts.{size_checked}
 use Rattle.scenario.specs.Elements.{has_generations, list_of, array_of, as_table, forget_at, values_at, elements_at, elements_have_only, only_elements, partition_fields, restart_fields, load_fields}
 use Rattle.bench_types.specs.Field.{field_name}
 use Rattle.scenario.specs.Fields.{◌>>=◌, value_at, number_of, number_at, has_only, only_fields}
 use Rattle.scenario.specs.Settings.{Settings}
 use Rattle.scenario.specs.Top.{format_at, nodes_at, keys_at, rounds_at, seed_at, mode_at, peers_at, rotation_at, choice_at, loss_ppm_at, writes_at, top_fields}
-use Rattle.scenario.specs.Words.{mode_of, peers_of, rotation_of, choice_of}
+use Rattle.scenario.specs.Words.{peers_of, rotation_of, choice_of}
+use Rattle.bench_types.specs.Mode.{mode_named}
+use Rattle.std.specs.Str.{is_utf8}
+use Rattle.toml.specs.Parse.{parse_document}
+
+-- the document that some bytes write: they have to be UTF-8, and to follow the grammar of TOML
+abbrev pub document_of : List ℕ → Option Members
+document_of bytes = if is_utf8 bytes then parse_document bytes else None
+
+-- the entries that all tables can hold: one of each owner and key in the table of each node
+abbrev pub size_checked : ℕ → ℕ → Result (Unit {0}) Fault
+size_checked nodes keys = if nat_le (nodes * nodes * keys) MOST_ENTRIES then Ok tt else Err TooLarge
 
 -- the fault of the size, where both numbers are lawful
 abbrev pub size_fault : Result ℕ Fault → Result ℕ Fault → Option Fault
@@ -212,7 +222,7 @@ pub record Says (table : Members) (s : Settings) : Type 0 where
   pub keys : HasNumber table field.Keys s.keys
   pub rounds : HasNumber table field.Rounds s.rounds
   pub seed : HasNumber table field.Seed s.seed
-  pub mode : HasWord table field.Mode mode_of s.mode
+  pub mode : HasWord table field.Mode mode_named s.mode
   pub budget : HasBudget table s.budget
   pub peers : HasWord table field.Peers peers_of s.peers
   pub rotation : HasWord table field.Rotation rotation_of s.rotation
@@ -226,3 +236,7 @@ pub record Says (table : Members) (s : Settings) : Type 0 where
   pub others_of_partitions : elements_have_only field.Partition partition_fields table ≡ true
   pub others_of_restarts : elements_have_only field.Restart (restart_fields s.format) table ≡ true
   pub others_of_loads : elements_have_only field.Load load_fields table ≡ true
+
+-- no two scenarios are what one document says
+abbrev pub DocumentsFixSettings : Type 0
+DocumentsFixSettings = (table : Members) (s t : Settings) → Says table s → Says table t → s ≡ t

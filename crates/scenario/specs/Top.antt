@@ -11,7 +11,8 @@ use Rattle.scenario.specs.declared.choices.Rotation.{Rotation}
 use Rattle.scenario.specs.declared.choices.Choice.{Choice}
 use Rattle.scenario.specs.Budgets.{budget_field}
 use Rattle.scenario.specs.Fields.{number_at}
-use Rattle.scenario.specs.Words.{word_at, mode_of, peers_of, rotation_of, choice_of}
+use Rattle.scenario.specs.Words.{word_at, peers_of, rotation_of, choice_of}
+use Rattle.bench_types.specs.Mode.{mode_named}
 
 abbrev pub format_at : Members → Result ℕ Fault
 format_at = number_at field.Format 1 2
@@ -29,7 +30,7 @@ abbrev pub seed_at : Members → Result ℕ Fault
 seed_at = number_at field.Seed 0 MOST_SEED
 
 abbrev pub mode_at : Members → Result Mode Fault
-mode_at = word_at field.Mode mode_of
+mode_at = word_at field.Mode mode_named
 
 abbrev pub peers_at : Members → Result Peers Fault
 peers_at = word_at field.Peers peers_of

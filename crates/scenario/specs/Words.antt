@@ -1,11 +1,9 @@
 -- The fields that take one of a few words, and what the words stand for. Source: this project.
 use Rattle.std.specs.Prelude.{ℕ, List, Option, None, Some, Result, Ok, Err, codes, bytes_eq, if◌then◌else◌}
 use Rattle.toml.specs.Data.{Members}
-use Rattle.bench_types.specs.declared.exchanges.Mode.{Mode}
 use Rattle.bench_types.specs.declared.faults.Fault.{Fault}
 use Rattle.bench_types.specs.declared.faults.Fault.TheVariants.{OutOfRange}
 use Rattle.bench_types.specs.declared.fields.Field.{Field}
-use Rattle.bench_types.specs.Mode.{mode_named}
 use Rattle.scenario.specs.declared.choices.Peers.{Peers}
 use Rattle.scenario.specs.declared.choices.Peers.TheVariants as peers
 use Rattle.scenario.specs.declared.choices.Rotation.{Rotation}
@@ -22,10 +20,6 @@ or_out_of_range f (Some x) = Ok x
 -- the value of a field whose words stand for what `meaning` says
 abbrev pub word_at : {A : Type 0} → Field → (List ℕ → Option A) → Members → Result A Fault
 word_at f meaning table = text_at f table >>= (λ word. or_out_of_range f (meaning word))
-
--- the words of this field are the names of the modes
-abbrev pub mode_of : List ℕ → Option Mode
-mode_of = mode_named
 
 abbrev pub peers_of : List ℕ → Option Peers
 peers_of word =

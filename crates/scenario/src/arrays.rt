@@ -3,7 +3,8 @@
 ghost use Rattle.std.specs.Prelude.{◌≡◌, ◌≢◌, ◌≤◌, length, map, IfOk, IfErr};
 ghost use Rattle.std.specs.List.{list_all};
 ghost use Rattle.toml.specs.View.{view, table_view};
-ghost use Rattle.scenario.specs.Elements.{array_of, as_table, elements_at, array_at, values_of, table_has_only, elements_have_only, only_elements};
+ghost use Rattle.scenario.specs.Elements.{array_of, as_table, elements_at, values_of, table_has_only, elements_have_only, only_elements};
+ghost use Rattle.scenario.specs.inner.Elements.{array_at};
 ghost use Rattle.scenario.specs.Settings.{AreLawful};
 
 use crate::fields::{found, has_only};

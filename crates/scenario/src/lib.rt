@@ -6,12 +6,11 @@
 //!
 //! - UTF-8 is tested before the TOML, so bytes that are no text are `NotToml` even where memory is short (clause
 //!   `no_text` of `read`). No clause rules out `OutOfMemory` at a text that is UTF-8: the TOML reader may answer it at
-//!   any text that isn't blank. So `refused` and `first` speak of the other faults.
-//! - The contract of `read` states the check twice. `accepted` and `refused` say that the answer is that of
-//!   `text_checked`, a chain of checks. `says`, `first` and `no_fault` say it of all checks at once, so a reader needs
-//!   no chain in mind: each value is the one that the document has at the field's key, and a fault is the first one in
-//!   the list of checks. In that list each value of `apart` is held against the value before it, and a `to` against the
-//!   `from` of its own table.
+//!   any text that isn't blank. So `first` speaks of the other faults.
+//! - The contract of `read` speaks of all checks at once, so a reader needs no chain in mind: each value is the one that
+//!   the document has at the field's key (`says`), which fixes it (`documents_fix_settings`), and a fault is the first
+//!   one in the list of checks (`first`, `no_fault`). In that list each value of `apart` is held against the value before
+//!   it, and a `to` against the `from` of its own table.
 //! - What TOML is, the toolchain's crate `toml` says: TOML 1.1, integers of 64 bits with a sign, and no value nested
 //!   more than 80 deep. An integer that doesn't fit, or a deeper value, is `NotToml`, not a fault of its field.
 //! - The elements of all three arrays are read by one function, `array_at`, over the types of arrays (`Elements`). What
@@ -34,6 +33,7 @@ mod budgets;
 mod choices;
 mod elements;
 mod fields;
+mod laws;
 mod parts;
 mod scenarios;
 mod tables;
@@ -42,5 +42,6 @@ mod words;
 
 pub use choices::{Choice, Peers, Rotation};
 pub use elements::{Load, Partition, Restart};
+pub use laws::documents_fix_settings;
 pub use scenarios::Scenario;
 pub use texts::read;

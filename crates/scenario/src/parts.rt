@@ -2,7 +2,8 @@
 
 ghost use Rattle.std.specs.Prelude.{◌≡◌, ◌*◌, ◌≤◌, IfOk, OnOk};
 ghost use Rattle.toml.specs.View.{table_view};
-ghost use Rattle.scenario.specs.Parts.{size_checked, basics_at, conduct_at};
+ghost use Rattle.scenario.specs.Order.{size_checked};
+ghost use Rattle.scenario.specs.inner.Checked.{basics_at, conduct_at};
 ghost use Rattle.scenario.specs.inner.Parts.{IsLawfulBasics, IsLawfulConduct};
 
 use crate::budgets::budget_at;

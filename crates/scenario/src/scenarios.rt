@@ -2,8 +2,8 @@
 
 ghost use Rattle.std.specs.Prelude.{◌≡◌, ◌≢◌, ◌*◌, ◌≤◌, IfOk, IfErr};
 ghost use Rattle.toml.specs.View.{table_view};
-ghost use Rattle.bench_types.specs.Budget.{IsLawfulBudget};
-ghost use Rattle.scenario.specs.Checked.{checked, unknown_checked};
+ghost use Rattle.bench_types.specs.calls.Budget.{IsLawfulBudget};
+ghost use Rattle.scenario.specs.inner.Checked.{checked, unknown_checked};
 ghost use Rattle.scenario.specs.Top.{top_fields};
 
 use crate::arrays::{array_at, only_elements};

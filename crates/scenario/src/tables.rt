@@ -2,7 +2,8 @@
 
 ghost use Rattle.std.specs.Prelude.{◌≡◌, ◌≢◌, ◌≤◌, IfOk, IfErr};
 ghost use Rattle.toml.specs.View.{table_view};
-ghost use Rattle.scenario.specs.Elements.{has_generations, restart_fields, apart_at, forget_at};
+ghost use Rattle.scenario.specs.Elements.{has_generations, restart_fields, forget_at};
+ghost use Rattle.scenario.specs.inner.Elements.{apart_at};
 ghost use Rattle.scenario.specs.Fields.{number_at};
 
 use crate::arrays::{Elements, array_of, as_table};
@@ -26,7 +27,7 @@ pub(crate) struct Partitions;
 impl Elements for Partitions {
     type Element = Partition;
 
-    ghost use Rattle.scenario.specs.Elements.{partition_of};
+    ghost use Rattle.scenario.specs.inner.Elements.{partition_of};
     ghost use Rattle.scenario.specs.Settings.{IsLawfulPartition};
 
     ghost checked = { λ _. partition_of };
@@ -48,7 +49,7 @@ pub(crate) struct Restarts;
 impl Elements for Restarts {
     type Element = Restart;
 
-    ghost use Rattle.scenario.specs.Elements.{restart_of};
+    ghost use Rattle.scenario.specs.inner.Elements.{restart_of};
     ghost use Rattle.scenario.specs.Settings.{IsLawfulRestart};
 
     ghost checked = { restart_of };
@@ -76,7 +77,7 @@ pub(crate) struct Loads;
 impl Elements for Loads {
     type Element = Load;
 
-    ghost use Rattle.scenario.specs.Elements.{load_of};
+    ghost use Rattle.scenario.specs.inner.Elements.{load_of};
     ghost use Rattle.scenario.specs.Settings.{IsLawfulLoad};
 
     ghost checked = { λ _ _. load_of };

@@ -2,8 +2,8 @@
 
 ghost use Rattle.std.specs.Prelude.{◌≡◌, ◌≢◌, None, IfOk, IfErr, OnOk, IsErrOf, IsSomeAnd, IsUtf8};
 ghost use Rattle.toml.specs.View.{table_view};
-ghost use Rattle.scenario.specs.Checked.{document_of, text_checked};
-ghost use Rattle.scenario.specs.Order.{first_fault, Says};
+ghost use Rattle.scenario.specs.Order.{document_of, first_fault, Says};
+ghost use Rattle.scenario.specs.inner.Checked.{text_checked};
 ghost use Rattle.scenario.specs.CheckFault.{IsFaultOfCheck};
 
 use crate::scenarios::Scenario;
@@ -16,18 +16,14 @@ use toml::Table;
 /// Answers `NotToml`, `Missing`, `WrongType`, `OutOfRange`, `TooLarge`, `BudgetTooSmall` or
 /// `UnknownField` for a text at fault, and `OutOfMemory` where memory was refused.
 pub fn read(alloc: Global, bytes: &[u8]) -> Result<Scenario, Fault>
-    ensures accepted { IfOk result (λ scenario. text_checked bytes.now ≡ Ok scenario) }
-    ensures refused { IfErr result (λ fault.
-        fault ≢ Fault.OutOfMemory → text_checked bytes.now ≡ Err fault) }
-    ensures only { IfErr result IsFaultOfCheck }
-    ensures no_text { ¬ IsUtf8 bytes.now → IsErrOf result Fault.NotToml }
-
     // A scenario is what the document says, and a fault is that of the first check that fails.
     ensures says { IfOk result (λ scenario.
         IsSomeAnd (document_of bytes.now) (λ table. Says table scenario)) }
     ensures first { IfErr result (λ fault.
         fault ≢ Fault.OutOfMemory → first_fault (document_of bytes.now) ≡ Some fault) }
     ensures no_fault { OnOk result (first_fault (document_of bytes.now) ≡ None) }
+    ensures only { IfErr result IsFaultOfCheck }
+    ensures no_text { ¬ IsUtf8 bytes.now → IsErrOf result Fault.NotToml }
 {
     let table = document(alloc, bytes)?;
     Scenario::checked(alloc, &table)

@@ -20,14 +20,16 @@ use Rattle.bench_types.specs.declared.exchanges.Record.{Record}
 use Rattle.bench_types.specs.declared.exchanges.Rules.{Rules}
 use Rattle.bench_types.specs.declared.limits.TheConstants.{ENTRY_SIZES}
 use Rattle.bench_types.specs.Budget.{amount_of, share_of, largest_share}
-use Rattle.bench_types.specs.Exchange.{IsPlanned}
+use Rattle.bench_types.specs.calls.Exchange.{IsPlanned}
 use Rattle.bench_types.specs.Mark.{mark_of, is_before}
 use Rattle.bench_types.specs.Mode.{digest_kind}
 use Rattle.scenario.specs.Settings.{Settings, IsLawfulScenario}
-use Rattle.model.specs.Table.{place_cmp, Table, items_of, IsItemInPlace, IsProper}
+use Rattle.model.specs.Table.{place_cmp, Table, items_of, IsProper}
+use Rattle.model.specs.calls.Table.{IsItemInPlace}
 use Rattle.model.specs.Tables.{table_of_node, AreTablesInOrder, AreProper}
 use Rattle.model.specs.Candidates.{known_mark, candidates}
-use Rattle.model.specs.Deltas.{DeltaView, AreWithin, item_share, delta_between}
+use Rattle.model.specs.Deltas.{DeltaView, item_share, delta_between}
+use Rattle.model.specs.calls.DeltaLaws.{AreWithin}
 use Rattle.model.specs.Digests.{digest_size}
 use Rattle.model.specs.Exchanged.{exchanged, fate_of, sent_until}
 use Rattle.model.specs.Folds.{Folded, exchange_in}

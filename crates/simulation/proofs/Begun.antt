@@ -7,11 +7,11 @@ use Rattle.std.proofs.lemmas.List.FromFn.{length-map-range_with_len}
 use Rattle.model.specs.Table.{Table, empty_table, with_own_writes}
 use Rattle.round_plan.specs.Writes.{count_before, own_writes}
 use Rattle.scenario.specs.Settings.{Settings}
-use Rattle.model.specs.OwnerListView.{OwnerListView, list_of_owner}
+use Rattle.model.specs.calls.OwnerListView.{OwnerListView, list_of_owner}
 use Rattle.model.specs.Tables.{table_of_node}
 use Rattle.simulation.specs.Rounds.{restarted_table, restarted, written_table, begun}
 use Rattle.simulation.specs.inner.Steps.{begun_table, OthersStay}
-use Rattle.simulation.specs.Standing.{IsOwner, StandAfterRound}
+use Rattle.simulation.specs.calls.Standing.{IsOwner, StandAfterRound}
 use Rattle.model.proofs.Tables.{table_of_node-set_same, table_of_node-set_other, table_of_node-made, same_tables}
 
 -- the nodes below n have begun the round

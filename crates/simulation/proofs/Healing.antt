@@ -11,7 +11,7 @@ use Rattle.bench_types.specs.declared.exchanges.Exchange.{Exchange}
 use Rattle.bench_types.specs.declared.exchanges.Fate.TheVariants as fate
 use Rattle.bench_types.specs.declared.exchanges.Record.{Record}
 use Rattle.bench_types.specs.declared.exchanges.Rules.{Rules}
-use Rattle.bench_types.specs.Exchange.{IsPlanned}
+use Rattle.bench_types.specs.calls.Exchange.{IsPlanned}
 use Rattle.scenario.specs.Settings.{Settings, IsLawfulScenario}
 use Rattle.model.specs.Table.{Table, applied, entry_at, with_own_writes, without_others, without_all, IsProper}
 use Rattle.model.specs.Tables.{table_of_node}

@@ -2,30 +2,32 @@
 -- Serves `Cluster::play`.
 use Rattle.std.proofs.Common.{◌≡◌, ℕ, ◌+◌, ◌-◌, ◌≤◌, All, List, [], length, map, sym, ap, ◌∙◌, subst, arith}
 use Rattle.std.proofs.lemmas.List.{length-map}
-use Rattle.bench_types.specs.Budget.{IsLawfulBudget}
-use Rattle.bench_types.specs.Exchange.{IsPlanned}
+use Rattle.bench_types.specs.calls.Budget.{IsLawfulBudget}
+use Rattle.bench_types.specs.calls.Exchange.{IsPlanned}
 use Rattle.bench_types.specs.declared.exchanges.Budget.{Budget}
 use Rattle.bench_types.specs.declared.exchanges.Budget.TheVariants.{Entries, Bytes}
 use Rattle.bench_types.specs.declared.exchanges.Record.{Record}
 use Rattle.bench_types.specs.declared.exchanges.Rules.{Rules}
 use Rattle.bench_types.specs.declared.rows.Figures.{Figures}
 use Rattle.model.specs.Table.{Table}
-use Rattle.model.specs.Clusters.{KeepOwnParts}
+use Rattle.model.specs.inner.Owns.{KeepOwnParts}
 use Rattle.model.specs.Folds.{Folded, fold_of}
-use Rattle.model.specs.Tables.{AreTablesInOrder, AreProper, HoldsOfEach, IsCluster}
+use Rattle.model.specs.Tables.{AreTablesInOrder, AreProper, HoldsOfEach}
+use Rattle.model.specs.calls.Tables.{IsCluster}
 use Rattle.model.proofs.FoldLaws.{fold_counts_tables, fold_counts_records, fold_keeps_own, fold_proper}
 use Rattle.model.proofs.Tables.{cluster_of}
-use Rattle.model.specs.RoundLists.{RoundListView, IsRoundPlan}
+use Rattle.model.specs.RoundLists.{RoundListView}
+use Rattle.model.specs.calls.RoundLists.{IsRoundPlan}
 use Rattle.round_plan.specs.Plan.{round_list_of}
-use Rattle.round_plan.specs.Words.{RunWordsView, run_words_of}
+use Rattle.round_plan.specs.calls.Words.{RunWordsView, run_words_of}
 use Rattle.scenario.specs.Settings.{Settings, IsBudgetOf, IsLawfulScenario}
 use Rattle.model.specs.Figures.{figures_of}
-use Rattle.model.specs.OwnerListView.{OwnerListView, lists_in}
-use Rattle.simulation.specs.Outcomes.{played_with}
+use Rattle.model.specs.calls.OwnerListView.{OwnerListView, lists_in}
+use Rattle.simulation.specs.calls.Outcomes.{played_with}
 use Rattle.simulation.specs.inner.Steps.{IsPlayedFrom}
-use Rattle.simulation.specs.RoundView.{RoundView}
+use Rattle.simulation.specs.calls.RoundView.{RoundView}
 use Rattle.simulation.specs.Rounds.{begun, rules_of, round_of, tables_after}
-use Rattle.simulation.specs.Standing.{StandAfterRound}
+use Rattle.simulation.specs.calls.Standing.{StandAfterRound}
 use Rattle.round_tables.specs.Histories.{StandsAmong}
 use Rattle.simulation.specs.Soundness.{AreSound}
 use Rattle.simulation.proofs.Soundness.{begun_sound, sound_run}

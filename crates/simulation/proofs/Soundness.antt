@@ -8,7 +8,7 @@ use Rattle.std.proofs.lemmas.List.FromFn.{length-map-range_with_len}
 use Rattle.bench_types.specs.declared.entries.Entry.{Entry}
 use Rattle.bench_types.specs.declared.entries.Mark.{Mark}
 use Rattle.bench_types.specs.declared.exchanges.Exchange.{Exchange}
-use Rattle.bench_types.specs.Entry.{AreNextAfter}
+use Rattle.bench_types.specs.calls.Entry.{AreNextAfter}
 use Rattle.model.specs.Table.{Table, empty_table, entry_at, greatest_version, with_own_writes, without_others, without_all, IsProper}
 use Rattle.model.proofs.TableLaws.{entry_at-empty_table}
 use Rattle.model.proofs.MarkLaws.{greatest_mark-empty_table, greatest_mark-without_all, greatest_mark-without_others_own}
@@ -20,7 +20,7 @@ use Rattle.round_plan.proofs.Generations.{generation_upto-same, generation_upto-
 use Rattle.round_plan.proofs.Growth.{count_before-grown, count_upto-grown, keys-own_writes, next-own_writes, written_upto-grown}
 use Rattle.round_plan.proofs.Planned.{planned_list}
 use Rattle.scenario.specs.Settings.{Settings}
-use Rattle.bench_types.specs.Exchange.{IsPlanned}
+use Rattle.bench_types.specs.calls.Exchange.{IsPlanned}
 use Rattle.model.specs.Clusters.{NoMarksFall}
 use Rattle.model.specs.Copies.{IsLastOf}
 use Rattle.model.specs.Tables.{table_of_node, AreTablesInOrder, AreProper}

@@ -6,12 +6,12 @@ use Rattle.std.proofs.lemmas.Bool.{cases_eq, cases_lt}
 use Rattle.std.proofs.lemmas.List.{append-nil, get_or-append_right}
 use Rattle.std.proofs.lemmas.List.Elements.{All-nil, All-append, All-weaker}
 use Rattle.bench_types.specs.declared.entries.Entry.{Entry}
-use Rattle.model.specs.Numbers.{write_from, write_numbered}
+use Rattle.model.specs.calls.Numbers.{write_from, write_numbered}
 use Rattle.round_plan.specs.Writes.{count_before, own_writes, written_upto}
 use Rattle.round_plan.proofs.Growth.{born-own_writes, written_upto-grown}
 use Rattle.scenario.specs.Settings.{Settings}
 use Rattle.round_tables.specs.Histories.{BirthsRise}
-use Rattle.simulation.specs.Simulation.{MayWriteAll}
+use Rattle.simulation.specs.calls.Simulation.{MayWriteAll}
 use Rattle.simulation.specs.inner.Steps.{MayWriteEach}
 
 -- none was born later

@@ -1,7 +1,7 @@
 //! What a round came to.
 
 ghost use Rattle.std.specs.Prelude.{◌≡◌, ◌≤◌, length};
-ghost use Rattle.simulation.specs.Outcomes.{played_with};
+ghost use Rattle.simulation.specs.calls.Outcomes.{played_with};
 ghost use Rattle.model.specs.declared.lists.TheConstants.{MOST_EXCHANGES};
 ghost use Rattle.simulation.specs.Rows.{row_of, has_lost};
 
@@ -20,7 +20,7 @@ pub struct Round {
 
 impl Model for Round {
     ghost use Rattle.std.specs.Prelude.{◌≡◌, length};
-    ghost use Rattle.simulation.specs.RoundView.{RoundView};
+    ghost use Rattle.simulation.specs.calls.RoundView.{RoundView};
 
     ghost Value = { RoundView };
 

@@ -5,7 +5,7 @@ ghost use Rattle.bench_types.specs.declared.faults.Fault.TheVariants.{OutOfMemor
 ghost use Rattle.scenario.specs.Settings.{IsLawfulScenario};
 ghost use Rattle.model.specs.Runs.{AreWorkers};
 ghost use Rattle.simulation.specs.Rounds.{opening_tables};
-ghost use Rattle.simulation.specs.Simulation.{AreTablesAfter, MayWriteAll, PlaysNext, MayStep, IsRefusedBy, IsStepFault};
+ghost use Rattle.simulation.specs.calls.Simulation.{AreTablesAfter, MayWriteAll, PlaysNext, MayStep, IsRefusedBy, IsStepFault};
 
 use crate::clusters::Cluster;
 use crate::rounds::Round;
@@ -30,7 +30,7 @@ pub struct Sim<T: MemoryTable, H: RoundHistories<T>> {
 }
 
 impl<T: MemoryTable, H: RoundHistories<T>> Model for Sim<T, H> {
-    ghost use Rattle.simulation.specs.Simulation.{SimView};
+    ghost use Rattle.simulation.specs.calls.Simulation.{SimView};
     ghost use Rattle.simulation.specs.inner.Insides.{IsInside, simulation_of, simulation_code};
 
     ghost Value = { SimView T };

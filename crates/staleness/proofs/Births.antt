@@ -5,7 +5,7 @@ use Rattle.std.specs.List.{find}
 use Rattle.std.proofs.lemmas.Bool.{cases_lt}
 use Rattle.std.proofs.lemmas.List.Elements.{All-head, All-tail}
 use Rattle.model.specs.declared.writes.Write.{Write}
-use Rattle.model.specs.Writes.{IsNumbered, last_write}
+use Rattle.model.specs.calls.Writes.{IsNumbered, last_write}
 use Rattle.owner_lists.specs.Missed.{is_missed, first_missed, in_order_from, born_in_order}
 use Rattle.owner_lists.specs.inner.Linked.{version_or_zero}
 use Rattle.staleness.specs.inner.Copies.{version_staleness}

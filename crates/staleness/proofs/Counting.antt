@@ -6,7 +6,7 @@ use Rattle.std.proofs.lemmas.List.FromFn.{length-range_with_len}
 use Rattle.std.proofs.lemmas.Slice.Zip.{AllZip-long}
 use Rattle.bench_types.specs.declared.rows.Figures.{Figures}
 use Rattle.model.specs.Table.{Table}
-use Rattle.model.specs.Tables.{IsCluster}
+use Rattle.model.specs.calls.Tables.{IsCluster}
 use Rattle.model.specs.declared.writes.Write.{Write}
 use Rattle.bench_types.specs.Sums.{most_below}
 use Rattle.model.specs.Figures.{figures_of}

@@ -10,7 +10,7 @@ use Rattle.bench_types.specs.declared.entries.Entry.{Entry}
 use Rattle.bench_types.specs.Mark.{mark_held, is_before}
 use Rattle.model.specs.Table.{Table, empty_table, entry_at, generation_held, IsProper}
 use Rattle.model.specs.declared.writes.Write.{Write}
-use Rattle.model.specs.Writes.{IsNumbered}
+use Rattle.model.specs.calls.Writes.{IsNumbered}
 use Rattle.owner_lists.specs.Missed.{is_missed}
 use Rattle.model.specs.Figures.{generation_at, staleness_of}
 use Rattle.staleness.specs.inner.Copies.{generations_in, least_known, at_least, version_known, version_staleness}

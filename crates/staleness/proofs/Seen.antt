@@ -7,7 +7,7 @@ use Rattle.model.specs.Table.{Table, entry_at, mark_at}
 use Rattle.model.specs.Tables.{table_of_node}
 use Rattle.staleness.specs.declared.copies.Copies.{Copies}
 use Rattle.model.specs.declared.writes.Write.{Write}
-use Rattle.model.specs.Writes.{IsNumbered, last_write}
+use Rattle.model.specs.calls.Writes.{IsNumbered, last_write}
 use Rattle.owner_lists.specs.Missed.{born_in_order}
 use Rattle.owner_lists.specs.inner.Linked.{version_or_zero}
 use Rattle.bench_types.specs.Sums.{most_below}

@@ -4,7 +4,7 @@ ghost use Rattle.std.specs.Prelude.{◌≡◌, ◌+◌, ◌*◌, ◌<◌, ◌≤
 ghost use Rattle.bench_types.specs.declared.limits.TheConstants.{MOST_NODES, MOST_KEYS};
 ghost use Rattle.model.specs.Table.{generation_held, IsProper};
 ghost use Rattle.node_table.specs.NodeTableView.{tables_in};
-ghost use Rattle.model.specs.OwnerListView.{lists_in, written};
+ghost use Rattle.model.specs.calls.OwnerListView.{lists_in, written};
 ghost use Rattle.staleness.specs.inner.Parts.{MayBegin};
 ghost use Rattle.owner_lists.specs.Latest.{write_of, KeysRise};
 ghost use Rattle.owner_lists.specs.inner.Keys.{IsFrontForKey};

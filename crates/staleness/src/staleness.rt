@@ -3,16 +3,17 @@
 ghost use Rattle.std.specs.Prelude.{◌≡◌, ◌+◌, ◌*◌, ◌/◌, ◌^◌, ◌<◌, ◌≤◌, max, All, IfOk, IsFalse, IsOkUnless, length, unwrap_or};
 ghost use Rattle.bench_types.specs.declared.faults.Fault.TheVariants.{OutOfMemory};
 ghost use Rattle.bench_types.specs.declared.limits.TheConstants.{MOST_NODES, MOST_KEYS, MOST_ROUNDS};
-ghost use Rattle.model.specs.OwnerListView.{lists_in, written};
+ghost use Rattle.model.specs.calls.OwnerListView.{lists_in, written};
 ghost use Rattle.staleness.specs.declared.copies.Copies.{Copies};
-ghost use Rattle.model.specs.Writes.{AreBornBy, IsNumbered};
+ghost use Rattle.model.specs.calls.Writes.{AreBornBy, IsNumbered};
 ghost use Rattle.model.specs.Table.{entry_at};
 ghost use Rattle.bench_types.specs.Sums.{most_below};
 ghost use Rattle.model.specs.Figures.{writes_of_owner, rounds_behind, figures_of};
 ghost use Rattle.bench_types.specs.Sums.{sum_below};
 ghost use Rattle.staleness.specs.inner.Copies.{generations_in, version_known, version_staleness, copies_of, key_staleness, owner_staleness, owners_staleness, most_behind, node_leftover, nodes_leftover, AreSeenOf};
 ghost use Rattle.node_table.specs.NodeTableView.{tables_in};
-ghost use Rattle.model.specs.Tables.{table_of_node, IsCluster};
+ghost use Rattle.model.specs.Tables.{table_of_node};
+ghost use Rattle.model.specs.calls.Tables.{IsCluster};
 ghost use Rattle.staleness.specs.inner.Parts.{AreCountable, AreFewTriples, IsCounted, AreCounted, AreAllSeen, MayPass, MayCountParts, IsSeenInPart, AreSeenInParts, found_at};
 
 use crate::copies::{Copies, copies_from, generations_of, least_known, merge, no_copies};

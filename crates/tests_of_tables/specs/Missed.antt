@@ -1,12 +1,12 @@
 -- Four writes of one owner, by hand: the keys 5 and 3 in round 2, and the key 5 in the rounds 4 and 7.
-use Rattle.std.specs.Prelude.{ℕ, ◌++◌, ◌∷◌, [], List, Option, option_map}
+use Rattle.std.specs.Prelude.{ℕ, ◌+◌, ◌++◌, ◌∷◌, [], List, length, Option, option_map}
 use Rattle.model.specs.declared.writes.Write.{Write}
-use Rattle.model.specs.Writes.{next_write, first_above}
+use Rattle.model.specs.Writes.{first_above}
 use Rattle.owner_lists.specs.Missed.{first_missed}
 
 -- one write more
 abbrev pub pushed : List Write → ℕ → ℕ → List Write
-pushed writes key born = writes ++ next_write writes key born ∷ []
+pushed writes key born = writes ++ record { key = key; version = length writes + 1; born = born } ∷ []
 
 abbrev pub four_writes : List Write
 four_writes = pushed (pushed (pushed (pushed [] 5 2) 3 2) 5 4) 5 7

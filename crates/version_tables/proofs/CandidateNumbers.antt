@@ -12,7 +12,7 @@ use Rattle.model.proofs.Items.{entry_at-items_of}
 use Rattle.model.proofs.Members.{Contains-kept}
 use Rattle.model.specs.Candidates.{candidates}
 use Rattle.version_tables.specs.inner.Offers.{Offers, IsHistory, is_lacked}
-use Rattle.model.specs.Numbers.{write_numbered}
+use Rattle.model.specs.calls.Numbers.{write_numbered}
 use Rattle.planes.specs.Planes.{Cells}
 use Rattle.version_tables.proofs.Offers.{versions-rise}
 use Rattle.version_tables.specs.inner.Firsts.{item_number}

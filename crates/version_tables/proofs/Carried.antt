@@ -3,8 +3,8 @@
 use Rattle.std.proofs.Common.{◌≡◌, ℕ, zero, suc, ◌≤◌, All, List, [], ◌∷◌, Some, sym, subst, arith}
 use Rattle.std.proofs.lemmas.Option.{same_Some}
 use Rattle.bench_types.specs.declared.entries.Entry.{Entry}
-use Rattle.model.specs.Numbers.{write_from, write_numbered}
-use Rattle.model.specs.OwnerListView.{all_writes}
+use Rattle.model.specs.calls.Numbers.{write_from, write_numbered}
+use Rattle.model.specs.calls.OwnerListView.{all_writes}
 use Rattle.model.specs.Table.{Table}
 use Rattle.round_tables.specs.Histories.{AreWrittenBy, StandsAmong}
 use Rattle.version_tables.specs.Views.{HistoriesView}

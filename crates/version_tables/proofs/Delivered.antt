@@ -11,14 +11,15 @@ use Rattle.bench_types.specs.declared.exchanges.First.TheVariants.{Oldest, Newes
 use Rattle.bench_types.specs.declared.exchanges.Mode.{Mode}
 use Rattle.bench_types.specs.declared.exchanges.DigestKind.{DigestKind}
 use Rattle.bench_types.specs.declared.exchanges.DigestKind.TheVariants.{Scuttle, Precise}
-use Rattle.bench_types.specs.Mode.{digest_kind, first_sent}
+use Rattle.bench_types.specs.Mode.{digest_kind}
+use Rattle.bench_types.specs.calls.Mode.{first_sent}
 use Rattle.bench_types.specs.Budget.{amount_of}
 use Rattle.model.specs.Table.{Table}
 use Rattle.model.specs.Candidates.{candidates}
 use Rattle.model.specs.Deltas.{delta_between}
 use Rattle.model.specs.Order.{rotated}
-use Rattle.model.specs.Numbers.{write_numbered}
-use Rattle.model.specs.OwnerListView.{OwnerListView, all_writes, AreWrites, list_of_owner}
+use Rattle.model.specs.calls.Numbers.{write_numbered}
+use Rattle.model.specs.calls.OwnerListView.{OwnerListView, all_writes, AreWrites, list_of_owner}
 use Rattle.planes.specs.Planes.{Cells, cell, number_ahead, HasEach, HasEachPlace, HasNoneAbove}
 use Rattle.version_tables.specs.declared.weights.Offer.{Offer}
 use Rattle.version_tables.specs.SentSets.{HasSet}

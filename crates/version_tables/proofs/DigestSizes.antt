@@ -13,7 +13,7 @@ use Rattle.bench_types.specs.declared.exchanges.DigestKind.TheVariants.{Scuttle,
 use Rattle.bench_types.specs.Mark.{IsUpTo, mark_held}
 use Rattle.model.specs.Table.{Table, entry_at, items_of, item_of, mark_at, greatest_mark, greatest_version}
 use Rattle.model.proofs.Greatest.{greatest_mark-none, mark_at-up_to_greatest}
-use Rattle.model.specs.Numbers.{write_numbered}
+use Rattle.model.specs.calls.Numbers.{write_numbered}
 use Rattle.planes.specs.Planes.{cell, total_of}
 use Rattle.bench_types.specs.Sums.{sum_below}
 use Rattle.bench_types.proofs.Sums.{sum_below-same}

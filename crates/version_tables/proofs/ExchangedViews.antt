@@ -12,9 +12,9 @@ use Rattle.bench_types.specs.declared.exchanges.Record.{Record}
 use Rattle.bench_types.specs.declared.exchanges.Rules.{Rules}
 use Rattle.bench_types.specs.Mode.{digest_kind}
 use Rattle.model.specs.Exchanged.{Exchanged, last_fate, sent_until, initiator_after, responder_after}
-use Rattle.model.specs.Exchanging.{MakesOf}
+use Rattle.model.specs.calls.Exchanging.{MakesOf}
 use Rattle.model.specs.Table.{Table, applied}
-use Rattle.model.specs.OwnerListView.{OwnerListView, all_writes, list_of_owner, AreWrites}
+use Rattle.model.specs.calls.OwnerListView.{OwnerListView, all_writes, list_of_owner, AreWrites}
 use Rattle.model.specs.Deltas.{DeltaView}
 use Rattle.model.specs.Digests.{digest_size}
 use Rattle.version_tables.specs.Views.{VersionTableView, HistoriesView, table_in, IsKept}

@@ -5,8 +5,8 @@ use Rattle.std.specs.Prelude.{Contains}
 use Rattle.std.proofs.lemmas.Bool.{cases_lt}
 use Rattle.bench_types.specs.declared.entries.Entry.{Entry}
 use Rattle.model.specs.Table.{entry_at}
-use Rattle.model.specs.Numbers.{write_from}
-use Rattle.model.specs.OwnerListView.{all_writes}
+use Rattle.model.specs.calls.Numbers.{write_from}
+use Rattle.model.specs.calls.OwnerListView.{all_writes}
 use Rattle.planes.specs.Planes.{Cells, cell}
 use Rattle.version_tables.specs.Views.{VersionTableView, HistoriesView, table_in, IsKept}
 use Rattle.version_tables.specs.inner.Histories.{IsWrittenSoFar, FitsHistories}

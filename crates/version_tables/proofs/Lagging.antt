@@ -7,9 +7,10 @@ use Rattle.std.proofs.lemmas.List.{get_or-map, length-map, get_or_append_left}
 use Rattle.bench_types.specs.declared.entries.Entry.{Entry}
 use Rattle.model.specs.Table.{Table, entry_at, IsProper}
 use Rattle.model.specs.declared.writes.Write.{Write}
-use Rattle.model.specs.Writes.{write_of_entry, last_write, IsNumbered}
-use Rattle.model.specs.OwnerListView.{OwnerListView, entries_of, written, AreWrites}
-use Rattle.model.specs.Numbers.{write_numbered}
+use Rattle.model.specs.Writes.{write_of_entry}
+use Rattle.model.specs.calls.Writes.{last_write, IsNumbered}
+use Rattle.model.specs.calls.OwnerListView.{OwnerListView, entries_of, written, AreWrites}
+use Rattle.model.specs.calls.Numbers.{write_numbered}
 use Rattle.round_tables.specs.Histories.{BirthsRise, StandsBeside}
 use Rattle.model.specs.Figures.{is_left_over, stale_count, rounds_behind}
 use Rattle.version_tables.specs.inner.Missed.{base_of, number_staleness, IsMissed, HasNoneMissed, IsLastNumber}

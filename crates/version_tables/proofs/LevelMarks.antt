@@ -11,11 +11,11 @@ use Rattle.bench_types.specs.declared.exchanges.First.{First}
 use Rattle.bench_types.specs.declared.exchanges.First.TheVariants.{Oldest, Newest}
 use Rattle.bench_types.specs.declared.exchanges.Mode.{Mode}
 use Rattle.bench_types.specs.declared.exchanges.Mode.TheVariants.{ScuttleBreadth, ScuttleDepth, PreciseOldest, PreciseNewest}
-use Rattle.bench_types.specs.Mode.{first_sent}
+use Rattle.bench_types.specs.calls.Mode.{first_sent}
 use Rattle.model.specs.Table.{Table, IsProper}
 use Rattle.bench_types.proofs.Comparing.{nat_cmp-less, nat_cmp-equal, nat_cmp-greater}
 use Rattle.model.specs.Candidates.{candidates}
-use Rattle.model.specs.Numbers.{write_numbered}
+use Rattle.model.specs.calls.Numbers.{write_numbered}
 use Rattle.model.specs.Order.{rank_among, owner_count}
 use Rattle.model.specs.inner.Levels.{age_cmp, level_cmp}
 use Rattle.version_tables.specs.inner.Offers.{Offers, IsHistory, rank_above}

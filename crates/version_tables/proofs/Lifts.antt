@@ -13,14 +13,14 @@ use Rattle.bench_types.specs.declared.exchanges.Mode.{Mode}
 use Rattle.bench_types.specs.declared.exchanges.First.{First}
 use Rattle.bench_types.specs.declared.exchanges.First.TheVariants.{Oldest, Newest}
 use Rattle.bench_types.specs.Budget.{amount_of}
-use Rattle.bench_types.specs.Mode.{first_sent}
+use Rattle.bench_types.specs.calls.Mode.{first_sent}
 use Rattle.model.specs.Table.{Table, entry_at, items_of, IsProper}
 use Rattle.model.proofs.Items.{Contains-items_of}
 use Rattle.model.specs.Candidates.{candidates}
 use Rattle.model.specs.Deltas.{DeltaView, delta_between, item_share}
 use Rattle.model.specs.Order.{rotated}
 use Rattle.model.proofs.Members.{Contains-filter}
-use Rattle.model.specs.Numbers.{write_numbered}
+use Rattle.model.specs.calls.Numbers.{write_numbered}
 use Rattle.planes.specs.Planes.{Cells, HasNoneAbove}
 use Rattle.bench_types.proofs.Sums.{sum_below-same}
 use Rattle.version_tables.specs.SentSets.{HasSet}

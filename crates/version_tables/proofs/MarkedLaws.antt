@@ -7,7 +7,7 @@ use Rattle.bench_types.specs.declared.exchanges.First.{First}
 use Rattle.bench_types.specs.declared.exchanges.First.TheVariants.{Oldest, Newest}
 use Rattle.bench_types.specs.declared.exchanges.Mode.{Mode}
 use Rattle.bench_types.specs.Budget.{amount_of}
-use Rattle.bench_types.specs.Mode.{first_sent}
+use Rattle.bench_types.specs.calls.Mode.{first_sent}
 use Rattle.planes.specs.Planes.{Cells, HasNoneAbove}
 use Rattle.bench_types.proofs.Sums.{sum_below-le}
 use Rattle.version_tables.specs.declared.weights.Offer.{Offer}

@@ -17,14 +17,15 @@ use Rattle.bench_types.specs.declared.exchanges.Mode.{Mode}
 use Rattle.bench_types.specs.declared.exchanges.Record.{Record}
 use Rattle.bench_types.specs.declared.exchanges.Rules.{Rules}
 use Rattle.bench_types.specs.Budget.{amount_of, largest_share}
-use Rattle.bench_types.specs.Mode.{digest_kind, first_sent}
+use Rattle.bench_types.specs.Mode.{digest_kind}
+use Rattle.bench_types.specs.calls.Mode.{first_sent}
 use Rattle.bench_types.proofs.Sums.{sum_below-le}
 use Rattle.model.specs.Deltas.{DeltaView}
 use Rattle.model.specs.Digests.{digest_size}
 use Rattle.model.specs.Exchanged.{last_fate, sent_until}
-use Rattle.model.specs.Exchanging.{MakesOf}
-use Rattle.model.specs.Numbers.{write_numbered}
-use Rattle.model.specs.OwnerListView.{all_writes, list_of_owner, AreWrites}
+use Rattle.model.specs.calls.Exchanging.{MakesOf}
+use Rattle.model.specs.calls.Numbers.{write_numbered}
+use Rattle.model.specs.calls.OwnerListView.{all_writes, list_of_owner, AreWrites}
 use Rattle.model.specs.Table.{applied}
 use Rattle.planes.specs.Planes.{Cells, cell, count_between, most_ahead, number_raised, number_taken, numbers_taken, total_above, HasEach}
 use Rattle.planes.proofs.Places.{total-same}

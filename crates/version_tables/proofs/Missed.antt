@@ -10,9 +10,10 @@ use Rattle.bench_types.specs.declared.entries.Mark.{Mark}
 use Rattle.bench_types.specs.Mark.{absent, mark_of, mark_held, is_before, IsBefore, IsUpTo}
 use Rattle.bench_types.proofs.Marks.{before-yes, before-no, before-up_to, up_to-itself}
 use Rattle.model.specs.declared.writes.Write.{Write}
-use Rattle.model.specs.Writes.{write_of_entry, IsNumbered, is_write_of, last_write}
-use Rattle.model.specs.OwnerListView.{OwnerListView, entries_of, written, AreWrites}
-use Rattle.model.specs.Numbers.{write_numbered}
+use Rattle.model.specs.Writes.{write_of_entry}
+use Rattle.model.specs.calls.Writes.{IsNumbered, is_write_of, last_write}
+use Rattle.model.specs.calls.OwnerListView.{OwnerListView, entries_of, written, AreWrites}
+use Rattle.model.specs.calls.Numbers.{write_numbered}
 use Rattle.version_tables.specs.inner.Missed.{base_of, number_staleness, IsMissed, IsFirstMissed, HasNoneMissed}
 use Rattle.owner_writes.proofs.Numbered.{write_from-here}
 use Rattle.version_tables.proofs.Offers.{write_from-at}

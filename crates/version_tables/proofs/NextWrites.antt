@@ -10,8 +10,8 @@ use Rattle.bench_types.specs.declared.entries.Entry.{Entry}
 use Rattle.bench_types.specs.Mark.{mark_of, mark_held, IsUpTo}
 use Rattle.model.specs.Table.{Table, entry_at, greatest_mark, greatest_version}
 use Rattle.model.proofs.Greatest.{mark_at-up_to_greatest}
-use Rattle.model.specs.Numbers.{write_from, write_numbered}
-use Rattle.model.specs.OwnerListView.{OwnerListView, AreWrites, entries_of, next_entry}
+use Rattle.model.specs.calls.Numbers.{write_from, write_numbered}
+use Rattle.model.specs.calls.OwnerListView.{OwnerListView, AreWrites, entries_of, next_entry}
 use Rattle.planes.specs.Planes.{cell}
 use Rattle.version_tables.specs.Views.{VersionTableView, table_in, IsKept}
 use Rattle.version_tables.specs.Writes.{IsNextWrite}

@@ -7,7 +7,7 @@ use Rattle.std.proofs.lemmas.Option.{same_Some}
 use Rattle.bench_types.specs.declared.entries.Entry.{Entry}
 use Rattle.bench_types.specs.Mark.{mark_of, is_before, IsUpTo}
 use Rattle.bench_types.proofs.Marks.{before-yes, before-no, before-up_to, up_to-itself}
-use Rattle.model.specs.Numbers.{write_from, write_numbered}
+use Rattle.model.specs.calls.Numbers.{write_from, write_numbered}
 use Rattle.version_tables.specs.inner.Offers.{IsHistory}
 use Rattle.version_tables.proofs.Offers.{write_from-at, numbers-before}
 

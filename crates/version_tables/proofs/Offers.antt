@@ -15,7 +15,7 @@ use Rattle.model.proofs.Members.{Contains-filter}
 use Rattle.model.specs.Candidates.{candidates}
 use Rattle.version_tables.specs.inner.Grids.{number_here, number_there}
 use Rattle.version_tables.specs.inner.Offers.{Offers, is_lacked, offered_sum, IsHistory}
-use Rattle.model.specs.Numbers.{write_from, write_numbered}
+use Rattle.model.specs.calls.Numbers.{write_from, write_numbered}
 use Rattle.planes.specs.Planes.{Cells}
 use Rattle.round_tables.specs.Histories.{BirthsRise}
 use Rattle.version_tables.proofs.Grids.{candidates_sum}

@@ -13,7 +13,7 @@ use Rattle.bench_types.proofs.Marks.{not_both, up_to-itself}
 use Rattle.model.specs.Table.{Table, entry_at, empty_table, with_own_write, without_others, without_all, IsProper}
 use Rattle.model.proofs.TableLaws.{entry_at-own_write, entry_at-own_write_other, entry_at-without_others_own, entry_at-without_others_other, entry_at-without_all, entry_at-empty_table}
 use Rattle.model.proofs.ProperLaws.{proper-empty_table, proper-with_own_write, proper-without_others, proper-without_all}
-use Rattle.model.specs.Numbers.{write_numbered}
+use Rattle.model.specs.calls.Numbers.{write_numbered}
 use Rattle.planes.specs.Planes.{cell, ArePlanesChanged, HasEach}
 use Rattle.planes.specs.Elementwise.{AreChanged}
 use Rattle.version_tables.specs.Views.{VersionTableView, table_in, IsKept}

@@ -9,7 +9,7 @@ use Rattle.bench_types.specs.declared.entries.Entry.{Entry}
 use Rattle.bench_types.specs.declared.limits.TheConstants.{MOST_NODES, MOST_KEYS}
 use Rattle.model.specs.Table.{Table}
 use Rattle.model.specs.Tables.{table_of_node}
-use Rattle.model.specs.OwnerListView.{OwnerListView, list_of_owner}
+use Rattle.model.specs.calls.OwnerListView.{OwnerListView, list_of_owner}
 use Rattle.bench_types.specs.Sums.{sum_below}
 use Rattle.planes.specs.Planes.{cell, total_of, HasEach, HasEachPlace, ArePlanesChanged}
 use Rattle.bench_types.proofs.Sums.{sum_below-same}

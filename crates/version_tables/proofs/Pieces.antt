@@ -7,8 +7,8 @@ use Rattle.bench_types.specs.declared.entries.Entry.{Entry}
 use Rattle.bench_types.specs.Mark.{mark_held}
 use Rattle.model.specs.Table.{Table, entry_at, mark_at, IsProper}
 use Rattle.model.specs.Tables.{table_of_node}
-use Rattle.model.specs.OwnerListView.{OwnerListView, entries_of, list_of_owner, lists_in, no_writes, AreWrites}
-use Rattle.model.specs.Numbers.{write_numbered}
+use Rattle.model.specs.calls.OwnerListView.{OwnerListView, entries_of, list_of_owner, lists_in, no_writes, AreWrites}
+use Rattle.model.specs.calls.Numbers.{write_numbered}
 use Rattle.model.proofs.Owners.{list_read}
 use Rattle.bench_types.specs.Sums.{sum_below}
 use Rattle.planes.specs.Planes.{cell, total_of, HasEachPlace, ArePlanesChanged}

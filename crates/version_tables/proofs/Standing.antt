@@ -8,8 +8,8 @@ use Rattle.bench_types.specs.declared.entries.Entry.{Entry}
 use Rattle.bench_types.specs.declared.limits.TheConstants.{MOST_NODES}
 use Rattle.model.specs.Table.{Table, entry_at, empty_table}
 use Rattle.model.specs.Tables.{table_of_node}
-use Rattle.model.specs.OwnerListView.{OwnerListView, entries_of, list_of_owner}
-use Rattle.model.specs.Numbers.{write_numbered}
+use Rattle.model.specs.calls.OwnerListView.{OwnerListView, entries_of, list_of_owner}
+use Rattle.model.specs.calls.Numbers.{write_numbered}
 use Rattle.planes.specs.Planes.{cell, HasEachPlace, IsGrid}
 use Rattle.version_tables.specs.Views.{VersionTableView, table_in, IsKept}
 use Rattle.version_tables.specs.inner.Missed.{IsNumberAt}

@@ -6,8 +6,8 @@ use Rattle.std.proofs.lemmas.Bool.{cases_lt, cases_eq, lt-ltb, le-leb, eq-eqb, n
 use Rattle.std.proofs.lemmas.List.{get_or_default, get_or-set_same, get_or-set_other, length-set, length-append}
 use Rattle.bench_types.specs.declared.entries.Entry.{Entry}
 use Rattle.bench_types.specs.declared.exchanges.DigestKind.{DigestKind}
-use Rattle.model.specs.Numbers.{write_from, write_numbered}
-use Rattle.model.specs.OwnerListView.{OwnerListView, all_writes, entries_of, no_writes, AreWrites}
+use Rattle.model.specs.calls.Numbers.{write_from, write_numbered}
+use Rattle.model.specs.calls.OwnerListView.{OwnerListView, all_writes, entries_of, no_writes, AreWrites}
 use Rattle.planes.specs.Planes.{cell, total_of}
 use Rattle.bench_types.specs.Sums.{sum_below}
 use Rattle.planes.specs.Elementwise.{AreChanged}

@@ -11,7 +11,7 @@ use Rattle.bench_types.specs.declared.entries.Entry.{Entry}
 use Rattle.bench_types.specs.declared.entries.Item.{Item}
 use Rattle.bench_types.specs.declared.exchanges.First.{First}
 use Rattle.bench_types.specs.declared.exchanges.Mode.{Mode}
-use Rattle.bench_types.specs.Mode.{first_sent}
+use Rattle.bench_types.specs.calls.Mode.{first_sent}
 use Rattle.bench_types.proofs.Comparing.{both_equal, nat_cmp-less, nat_cmp-equal, nat_cmp-greater}
 use Rattle.model.specs.Table.{Table, IsProper}
 use Rattle.model.specs.Candidates.{candidates}

@@ -7,8 +7,8 @@ use Rattle.std.proofs.lemmas.List.{get_or_append_left, get_or-append_right, leng
 use Rattle.std.proofs.lemmas.Option.{same_Some}
 use Rattle.bench_types.specs.declared.entries.Entry.{Entry}
 use Rattle.model.specs.Table.{Table, entry_at, generation_held, IsProper}
-use Rattle.model.specs.Numbers.{write_from, write_numbered}
-use Rattle.model.specs.OwnerListView.{OwnerListView, entries_of, AreWrites}
+use Rattle.model.specs.calls.Numbers.{write_from, write_numbered}
+use Rattle.model.specs.calls.OwnerListView.{OwnerListView, entries_of, AreWrites}
 use Rattle.version_tables.specs.inner.Offers.{IsHistory, IsNumberedHistory, start_before, start_of}
 use Rattle.version_tables.specs.inner.Taken.{SendsNoNewer, SendsNewer, drop_start, number_kept}
 use Rattle.version_tables.proofs.Numbers.{numbered-some, numbers-up_to}

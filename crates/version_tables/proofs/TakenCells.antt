@@ -8,7 +8,7 @@ use Rattle.model.specs.Table.{Table, entry_at, IsProper}
 use Rattle.model.proofs.TableLaws.{frame-applied}
 use Rattle.model.specs.Deltas.{delta_between}
 use Rattle.version_tables.specs.inner.Offers.{HasCells}
-use Rattle.model.specs.Numbers.{write_numbered}
+use Rattle.model.specs.calls.Numbers.{write_numbered}
 use Rattle.planes.specs.Planes.{Cells}
 use Rattle.version_tables.specs.inner.Taken.{AreSent, AreTakenCells}
 use Rattle.version_tables.proofs.TakenEntries.{after, Comes, after-sent, after-kept, after-dropped, came-held}

@@ -15,7 +15,7 @@ use Rattle.model.specs.Table.{Table, entry_at, mark_at, greatest_mark, generatio
 use Rattle.model.proofs.Greatest.{greatest_mark-from, mark_at-up_to_greatest}
 use Rattle.model.proofs.TableLaws.{entry_at-applied_from, frame-applied}
 use Rattle.model.specs.Deltas.{delta_between}
-use Rattle.model.specs.DeltaLaws.{Lacks}
+use Rattle.model.specs.calls.DeltaLaws.{Lacks}
 use Rattle.model.proofs.Lacking.{candidates-lacked}
 use Rattle.model.proofs.DeltaLaws.{sent-candidate}
 use Rattle.model.proofs.Received.{received, sent-held, received-proper, kept, sent-up_to}

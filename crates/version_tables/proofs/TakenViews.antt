@@ -8,8 +8,8 @@ use Rattle.bench_types.specs.declared.exchanges.Rules.{Rules}
 use Rattle.model.specs.Table.{Table, applied, IsProper}
 use Rattle.model.proofs.TableLaws.{KeepsFrame, frame-applied}
 use Rattle.model.proofs.Received.{received-proper}
-use Rattle.model.specs.Numbers.{write_numbered}
-use Rattle.model.specs.OwnerListView.{OwnerListView, all_writes, list_of_owner, AreWrites}
+use Rattle.model.specs.calls.Numbers.{write_numbered}
+use Rattle.model.specs.calls.OwnerListView.{OwnerListView, all_writes, list_of_owner, AreWrites}
 use Rattle.planes.specs.Planes.{Cells, cell, number_taken, numbers_taken}
 use Rattle.version_tables.specs.Views.{VersionTableView, HistoriesView, table_in, IsKept}
 use Rattle.version_tables.specs.inner.Deltas.{delta_of_views, is_taken_at}

@@ -15,7 +15,7 @@ use Rattle.bench_types.proofs.Marks.{before-yes, before-no, absent-first}
 use Rattle.model.specs.Table.{Table, mark_at, greatest_mark, generation_held, IsProper}
 use Rattle.model.proofs.Greatest.{greatest_mark-unique}
 use Rattle.model.specs.Candidates.{known_mark}
-use Rattle.model.specs.Numbers.{write_numbered}
+use Rattle.model.specs.calls.Numbers.{write_numbered}
 use Rattle.planes.specs.Planes.{Cells, number_ahead}
 use Rattle.version_tables.specs.inner.Offers.{IsHistory, IsNumberedHistory, HasCells, Offers, is_lacked, start_before, start_of, told_by, told_number, offered_by}
 use Rattle.version_tables.specs.Laid.{AreNumbers, IsGreatest}

@@ -8,7 +8,7 @@ use Rattle.std.proofs.lemmas.Bool.{cases_lt, cases_eq, lt-ltb, le-ltb, le-leb, l
 use Rattle.bench_types.specs.declared.exchanges.First.{First}
 use Rattle.bench_types.specs.declared.exchanges.First.TheVariants.{Oldest, Newest}
 use Rattle.bench_types.specs.Budget.{amount_of}
-use Rattle.model.specs.OwnerListView.{all_writes}
+use Rattle.model.specs.calls.OwnerListView.{all_writes}
 use Rattle.planes.specs.Planes.{Cells, HasNoneAbove}
 use Rattle.bench_types.specs.Sums.{sum_below}
 use Rattle.bench_types.proofs.Sums.{sum_below-same, sum_below-plus}
@@ -25,7 +25,7 @@ use Rattle.version_tables.specs.inner.Turns.{AreTurnsPassed, IsStop}
 use Rattle.version_tables.specs.inner.Weights.{weight_of, weight_from, weight_through, one_each}
 use Rattle.version_tables.proofs.WeightLaws.{part, part-in, part-low, part-high, weight_of-split, weight_of-same, weight_of-most, number_share-one, count_between-most}
 use Rattle.version_tables.proofs.OfferWeights.{offer-few, share-most}
-use Rattle.model.specs.Numbers.{write_numbered}
+use Rattle.model.specs.calls.Numbers.{write_numbered}
 
 -- a sum that changes at one index
 sum_below-changed : (n r d : ℕ) (f g : ℕ → ℕ) → r < n → ((i : ℕ) → i < n → i ≢ r → g i ≡ f i) → g r ≡ f r + d → sum_below n g ≡ sum_below n f + d

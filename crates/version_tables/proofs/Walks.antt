@@ -5,8 +5,8 @@ use Rattle.std.proofs.Math.Nat.{mul-le-mul_right}
 use Rattle.std.proofs.lemmas.Bool.{cases_lt}
 use Rattle.std.proofs.lemmas.Option.{same_Some}
 use Rattle.bench_types.specs.declared.entries.Entry.{Entry}
-use Rattle.model.specs.OwnerListView.{OwnerListView, entries_of, list_of_owner, AreWrites}
-use Rattle.model.specs.Numbers.{write_numbered}
+use Rattle.model.specs.calls.OwnerListView.{OwnerListView, entries_of, list_of_owner, AreWrites}
+use Rattle.model.specs.calls.Numbers.{write_numbered}
 use Rattle.planes.specs.Planes.{cell}
 use Rattle.round_tables.specs.Histories.{BirthsRise}
 use Rattle.bench_types.specs.Sums.{most_below}

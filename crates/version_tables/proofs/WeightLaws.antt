@@ -5,7 +5,7 @@ use Rattle.std.proofs.lemmas.Bool.{cases_lt, lt-ltb, le-ltb, le-leb, lt-leb}
 use Rattle.bench_types.specs.declared.entries.Entry.{Entry}
 use Rattle.bench_types.specs.declared.exchanges.Budget.{Budget}
 use Rattle.bench_types.specs.declared.exchanges.Budget.TheVariants.{Entries}
-use Rattle.model.specs.Numbers.{write_from, write_numbered}
+use Rattle.model.specs.calls.Numbers.{write_from, write_numbered}
 use Rattle.planes.specs.Planes.{Cells, count_between, HasNoneAbove}
 use Rattle.bench_types.specs.Sums.{sum_below}
 use Rattle.bench_types.proofs.Sums.{sum_below-same, sum_below-le, sum_below-plus}

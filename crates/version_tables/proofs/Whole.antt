@@ -5,8 +5,9 @@ use Rattle.bench_types.specs.declared.entries.Entry.{Entry}
 use Rattle.bench_types.specs.declared.rows.Figures.{Figures}
 use Rattle.bench_types.specs.declared.limits.TheConstants.{MOST_NODES, MOST_KEYS, MOST_ROUNDS}
 use Rattle.model.specs.Table.{Table}
-use Rattle.model.specs.Tables.{IsCluster, HoldsOfEach}
-use Rattle.model.specs.OwnerListView.{OwnerListView, all_writes, list_of_owner, lists_in, AreWrites}
+use Rattle.model.specs.Tables.{HoldsOfEach}
+use Rattle.model.specs.calls.Tables.{IsCluster}
+use Rattle.model.specs.calls.OwnerListView.{OwnerListView, all_writes, list_of_owner, lists_in, AreWrites}
 use Rattle.bench_types.specs.Sums.{sum_below}
 use Rattle.planes.specs.Planes.{HasEachPlace}
 use Rattle.bench_types.proofs.Sums.{sum_below-same}

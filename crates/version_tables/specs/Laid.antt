@@ -4,8 +4,8 @@ use Rattle.std.specs.Prelude.{◌≡◌, ◌≢◌, ℕ, zero, suc, ◌*◌, ◌
 use Rattle.std.specs.List.{range_with_len}
 use Rattle.bench_types.specs.declared.entries.Entry.{Entry}
 use Rattle.model.specs.Table.{Table, IsProper}
-use Rattle.model.specs.Held.{held_by_lists}
-use Rattle.model.specs.Numbers.{write_numbered}
+use Rattle.model.specs.calls.Held.{held_by_lists}
+use Rattle.model.specs.calls.Numbers.{write_numbered}
 use Rattle.planes.specs.Planes.{Cells, cell}
 
 abbrev pub entry_list : Option Entry → List Entry

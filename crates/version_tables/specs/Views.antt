@@ -3,7 +3,7 @@
 use Rattle.std.specs.Prelude.{ℕ, List}
 use Rattle.bench_types.specs.declared.entries.Entry.{Entry}
 use Rattle.model.specs.Table.{Table}
-use Rattle.model.specs.OwnerListView.{OwnerListView}
+use Rattle.model.specs.calls.OwnerListView.{OwnerListView}
 use Rattle.planes.specs.Planes.{cell}
 use Rattle.version_tables.specs.Laid.{table_of_cells, IsVersionTable}
 

@@ -57,8 +57,9 @@ pub trait SharedNumber: Number {
     ghost use Rattle.bench_types.specs.declared.faults.Fault.TheVariants.{OutOfMemory};
     ghost use Rattle.bench_types.specs.declared.limits.TheConstants.{MOST_ROUNDS};
     ghost use Rattle.model.specs.Figures.{figures_of};
-    ghost use Rattle.model.specs.OwnerListView.{lists_in};
-    ghost use Rattle.model.specs.Tables.{IsCluster, HoldsOfEach};
+    ghost use Rattle.model.specs.calls.OwnerListView.{lists_in};
+    ghost use Rattle.model.specs.Tables.{HoldsOfEach};
+    ghost use Rattle.model.specs.calls.Tables.{IsCluster};
     ghost use Rattle.round_tables.specs.Histories.{AreWrittenBy, StandsAmong};
     ghost use Rattle.version_tables.specs.inner.Pieces.{tables_of_views};
 

@@ -3,7 +3,8 @@
 ghost use Rattle.std.specs.Prelude.{◌≡◌, ◌<◌, length, map, IfOk, IsOkUnless};
 ghost use Rattle.bench_types.specs.declared.exchanges.DigestKind.TheVariants.{Precise};
 ghost use Rattle.bench_types.specs.declared.faults.Fault.TheVariants.{OutOfMemory};
-ghost use Rattle.bench_types.specs.Mode.{digest_kind, first_sent};
+ghost use Rattle.bench_types.specs.Mode.{digest_kind};
+ghost use Rattle.bench_types.specs.calls.Mode.{first_sent};
 ghost use Rattle.version_tables.specs.Views.{table_in, IsKept};
 ghost use Rattle.version_tables.specs.inner.Deltas.{AreMarksOf, MaySend};
 ghost use Rattle.version_tables.specs.inner.Histories.{FitsHistories};

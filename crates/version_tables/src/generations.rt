@@ -2,8 +2,8 @@
 
 ghost use Rattle.std.specs.Prelude.{◌≡◌, ◌≤◌, Some};
 ghost use Rattle.bench_types.specs.declared.entries.Entry.{Entry};
-ghost use Rattle.model.specs.OwnerListView.{entries_of};
-ghost use Rattle.model.specs.Numbers.{write_numbered};
+ghost use Rattle.model.specs.calls.OwnerListView.{entries_of};
+ghost use Rattle.model.specs.calls.Numbers.{write_numbered};
 ghost use Rattle.version_tables.specs.inner.Offers.{start_of};
 
 use owner_writes::OwnerWrites;

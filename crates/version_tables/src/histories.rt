@@ -2,7 +2,7 @@
 
 ghost use Rattle.std.specs.Prelude.{◌≡◌, ℕ, length, map, IfOk, IsOkUnless};
 ghost use Rattle.bench_types.specs.declared.faults.Fault.TheVariants.{OutOfMemory};
-ghost use Rattle.model.specs.OwnerListView.{list_of_owner, no_writes};
+ghost use Rattle.model.specs.calls.OwnerListView.{list_of_owner, no_writes};
 ghost use Rattle.planes.specs.Planes.{HasEach};
 
 use crate::owners::clear_owner;
@@ -50,7 +50,7 @@ impl<N: Number, H: Written> Histories<N, H> {
     ghost use Rattle.std.specs.Prelude.{ℕ, ◌+◌, ◌^◌, ◌<◌, ◌≤◌, map, length, IfOk, OnOk, OnErr, IsOkUnless};
     ghost use Rattle.bench_types.specs.declared.faults.Fault.TheVariants.{OutOfMemory};
     ghost use Rattle.bench_types.specs.declared.limits.TheConstants.{MOST_KEYS, MOST_NODES};
-    ghost use Rattle.model.specs.OwnerListView.{all_writes, list_of_owner, no_writes, next_entry, with_write, begun_generation, AreWrites, ListBecomes};
+    ghost use Rattle.model.specs.calls.OwnerListView.{all_writes, list_of_owner, no_writes, next_entry, with_write, begun_generation, AreWrites, ListBecomes};
     ghost use Rattle.planes.specs.Planes.{HasEach, HasEachPlace};
     ghost use Rattle.version_tables.specs.inner.Histories.{IsWrittenSoFar, IsWriteUnder};
     ghost use Rattle.version_tables.specs.inner.Missed.{IsLastNumber};

@@ -3,9 +3,10 @@
 ghost use Rattle.std.specs.Prelude.{◌≡◌, ℕ, ◌+◌, ◌-◌, ◌*◌, ◌/◌, ◌^◌, ◌<◌, ◌≤◌, ◌&&◌, ◌↔◌, map, length, nat_lt, nat_le, slice_index, IfOk, IsFalse, IsTrue, IsOkUnless};
 ghost use Rattle.bench_types.specs.declared.faults.Fault.TheVariants.{OutOfMemory};
 ghost use Rattle.bench_types.specs.declared.limits.TheConstants.{MOST_NODES, MOST_KEYS, MOST_ROUNDS};
-ghost use Rattle.model.specs.Tables.{IsCluster, HoldsOfEach};
-ghost use Rattle.model.specs.OwnerListView.{all_writes, list_of_owner, lists_in, entries_of, AreWrites};
-ghost use Rattle.model.specs.Numbers.{write_numbered};
+ghost use Rattle.model.specs.Tables.{HoldsOfEach};
+ghost use Rattle.model.specs.calls.Tables.{IsCluster};
+ghost use Rattle.model.specs.calls.OwnerListView.{all_writes, list_of_owner, lists_in, entries_of, AreWrites};
+ghost use Rattle.model.specs.calls.Numbers.{write_numbered};
 ghost use Rattle.planes.specs.Lags.{IsLeastBehind};
 ghost use Rattle.planes.specs.Planes.{cell, total_of, HasEach, HasEachPlace, IsGrid};
 ghost use Rattle.round_tables.specs.Histories.{BirthsRise, AreWrittenBy, StandsAmong};

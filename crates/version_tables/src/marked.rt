@@ -2,7 +2,7 @@
 
 ghost use Rattle.std.specs.Prelude.{◌≡◌, ℕ, ◌<◌, ◌≤◌, length, map, IfOk, IsOkUnless};
 ghost use Rattle.bench_types.specs.declared.faults.Fault.TheVariants.{OutOfMemory};
-ghost use Rattle.bench_types.specs.Mode.{first_sent};
+ghost use Rattle.bench_types.specs.calls.Mode.{first_sent};
 ghost use Rattle.version_tables.specs.inner.Firsts.{by_first};
 ghost use Rattle.version_tables.specs.inner.Marked.{HasShapeOf, AreMarked};
 ghost use Rattle.version_tables.specs.inner.OfferInMemory.{marks, IsCountOffered, IsOffer, IsTooLarge};

@@ -4,7 +4,7 @@ ghost use Rattle.std.specs.Prelude.{◌≡◌, ℕ, ◌+◌, ◌*◌, ◌<◌, �
 ghost use Rattle.bench_types.specs.Budget.{amount_of};
 ghost use Rattle.bench_types.specs.declared.faults.Fault.TheVariants.{OutOfMemory};
 ghost use Rattle.bench_types.specs.declared.limits.TheConstants.{MOST_NODES};
-ghost use Rattle.model.specs.OwnerListView.{all_writes};
+ghost use Rattle.model.specs.calls.OwnerListView.{all_writes};
 ghost use Rattle.planes.specs.Planes.{cell, HasEach};
 ghost use Rattle.planes.specs.Elementwise.{AreChanged};
 ghost use Rattle.version_tables.specs.inner.LevelMarks.{AreRounds};

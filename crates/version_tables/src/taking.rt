@@ -1,7 +1,7 @@
 //! What a table holds once it has taken a delta.
 
 ghost use Rattle.std.specs.Prelude.{◌≡◌, ◌<◌, length, map, slice_index};
-ghost use Rattle.model.specs.OwnerListView.{all_writes, entries_of};
+ghost use Rattle.model.specs.calls.OwnerListView.{all_writes, entries_of};
 ghost use Rattle.planes.specs.Planes.{ArePlanesChanged, IsGrid};
 ghost use Rattle.version_tables.specs.inner.Offers.{IsNumberedHistory};
 ghost use Rattle.version_tables.specs.inner.Histories.{AreOwners};

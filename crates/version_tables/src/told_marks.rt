@@ -3,7 +3,7 @@
 ghost use Rattle.std.specs.Prelude.{◌≡◌, ℕ, ◌<◌, ◌≤◌, length, map, slice_index, IfOk, IsOkUnless};
 ghost use Rattle.bench_types.specs.declared.faults.Fault.TheVariants.{OutOfMemory};
 ghost use Rattle.bench_types.specs.declared.exchanges.DigestKind.TheVariants.{Precise};
-ghost use Rattle.model.specs.OwnerListView.{all_writes, entries_of};
+ghost use Rattle.model.specs.calls.OwnerListView.{all_writes, entries_of};
 ghost use Rattle.planes.specs.Planes.{HasEach};
 ghost use Rattle.planes.specs.Elementwise.{AreChanged};
 ghost use Rattle.version_tables.specs.inner.Offers.{start_of, told_by, told_number, IsNumberedHistory};

@@ -4,12 +4,14 @@ use Rattle.std.proofs.Common.{◌≡◌, ℕ, ◌<◌, List, length, Option, Non
 use Rattle.bench_types.specs.declared.exchanges.Exchange.{Exchange}
 use Rattle.bench_types.specs.declared.exchanges.Record.{Record}
 use Rattle.bench_types.specs.declared.exchanges.Rules.{Rules}
-use Rattle.bench_types.specs.Exchange.{IsPlanned}
+use Rattle.bench_types.specs.calls.Exchange.{IsPlanned}
 use Rattle.model.specs.Table.{Table}
-use Rattle.model.specs.RoundLists.{RoundListView, IsRoundPlan}
+use Rattle.model.specs.RoundLists.{RoundListView}
+use Rattle.model.specs.calls.RoundLists.{IsRoundPlan}
 use Rattle.model.specs.Exchanged.{Exchanged, exchanged}
-use Rattle.model.specs.Exchanging.{MayBeExchanged, MakesOf, IsKeptByExchanges}
-use Rattle.model.specs.Tables.{table_of_node, IsCluster}
+use Rattle.model.specs.calls.Exchanging.{MayBeExchanged, MakesOf, IsKeptByExchanges}
+use Rattle.model.specs.Tables.{table_of_node}
+use Rattle.model.specs.calls.Tables.{IsCluster}
 use Rattle.model.proofs.FoldLaws.{before_tables, before_keeps_each}
 use Rattle.dependencies.specs.Sharing.{exchange_at, no_exchange}
 use Rattle.dependencies.specs.Neighbours.{as_list, successors}

@@ -22,7 +22,7 @@ use Rattle.board.specs.Weights.{times}
 use Rattle.board.specs.Plan.{BoardPlan, exchanged_at}
 use Rattle.board.specs.Boards.{AreLeft, HasMadeAll, IsMadeOf}
 use Rattle.collector.specs.declared.collectors.Stamped.{Stamped}
-use Rattle.model.specs.Runs.{MayCarryOut}
+use Rattle.workers.specs.Carrying.{MayCarryOut}
 use Rattle.workers.specs.inner.Deques.{AllBelow}
 use Rattle.workers.specs.inner.Returns.{AreRecordsOf}
 use Rattle.workers.specs.inner.Gathering.{IsEachOnce, AreInListOrder}

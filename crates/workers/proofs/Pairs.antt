@@ -7,7 +7,7 @@ use Rattle.bench_types.specs.declared.exchanges.Record.{Record}
 use Rattle.bench_types.specs.declared.exchanges.Rules.{Rules}
 use Rattle.model.specs.Table.{Table, empty_table}
 use Rattle.model.specs.Exchanged.{Exchanged, exchanged}
-use Rattle.model.specs.Exchanging.{MayBeExchanged}
+use Rattle.model.specs.calls.Exchanging.{MayBeExchanged}
 use Rattle.model.specs.Tables.{table_of_node, IsTableOf, AreTablesInOrder, HoldsOfEach}
 use Rattle.model.specs.Folds.{Folded, exchange_in}
 

@@ -2,13 +2,13 @@
 -- Serves `exchange_all`.
 use Rattle.std.proofs.Common.{◌≡◌, ℕ, ◌+◌, ◌<◌, List, [], ◌∷◌, ◌++◌, length, take, get_or, All, refl, ap, ◌∙◌, subst, length-append}
 use Rattle.std.proofs.lemmas.List.Sums.{fold_more}
-use Rattle.bench_types.specs.Exchange.{IsPlanned}
+use Rattle.bench_types.specs.calls.Exchange.{IsPlanned}
 use Rattle.bench_types.specs.declared.exchanges.Exchange.{Exchange}
 use Rattle.bench_types.specs.declared.exchanges.Record.{Record}
 use Rattle.bench_types.specs.declared.exchanges.Rules.{Rules}
 use Rattle.model.specs.Table.{Table}
 use Rattle.model.specs.Tables.{AreTablesInOrder}
-use Rattle.model.specs.Clusters.{KeepOwnParts}
+use Rattle.model.specs.inner.Owns.{KeepOwnParts}
 use Rattle.model.specs.Folds.{Folded, exchange_in, fold_of}
 use Rattle.model.proofs.FoldLaws.{before_tables, before_keeps_own}
 

@@ -1,3 +1,4 @@
+pub mod Carrying
 pub mod inner
 pub use Rattle.model.specs.Tables
 pub use Rattle.model.specs.Folds

@@ -2,10 +2,10 @@
 
 ghost use Rattle.std.specs.Prelude.{length, map, IfOk, IsOkUnless};
 ghost use Rattle.bench_types.specs.declared.faults.Fault.TheVariants.{OutOfMemory};
-ghost use Rattle.bench_types.specs.Exchange.{IsPlanned};
+ghost use Rattle.bench_types.specs.calls.Exchange.{IsPlanned};
 ghost use Rattle.workers.specs.inner.Turns.{IsPairExchanged};
 ghost use Rattle.workers.specs.inner.Works.{MayWorkOn, HasWorkedOn};
-ghost use Rattle.model.specs.Runs.{MayCarryOut};
+ghost use Rattle.workers.specs.Carrying.{MayCarryOut};
 
 use crate::gates::Gate;
 use crate::works::Work;

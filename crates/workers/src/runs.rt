@@ -1,7 +1,8 @@
 //! Carrying out the exchanges of a list.
 
 ghost use Rattle.std.specs.Prelude.{map, IfOk, IfErr};
-ghost use Rattle.model.specs.Runs.{AreWorkers, MayCarryOut, AreExchanged, IsFaultOfWorkers};
+ghost use Rattle.model.specs.Runs.{AreWorkers, IsFaultOfWorkers};
+ghost use Rattle.workers.specs.Carrying.{MayCarryOut, AreExchanged};
 
 use crate::gates::Gate;
 use crate::in_order::exchange_all;

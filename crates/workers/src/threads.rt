@@ -2,7 +2,7 @@
 
 ghost use Rattle.std.specs.Prelude.{◌≡◌, ◌+◌, ◌<◌, ◌≤◌, [], All, length, map, IfOk, IfErr, IsOk, IsOkUnless, MatchResult, OnOk, vec_len, vec_capacity};
 ghost use Rattle.bench_types.specs.declared.faults.Fault.TheVariants.{OutOfMemory, NoThread};
-ghost use Rattle.model.specs.Tables.{IsCluster};
+ghost use Rattle.model.specs.calls.Tables.{IsCluster};
 ghost use Rattle.board.specs.Boards.{plan_of, seat_view, IsMadeOf, IsSeatOf};
 ghost use Rattle.model.specs.Runs.{IsFaultOfWorkers};
 ghost use Rattle.workers.specs.inner.Returns.{IsFreshSeat, IsReturned};

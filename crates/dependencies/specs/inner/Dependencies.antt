@@ -1,7 +1,8 @@
 -- What is kept of a list's dependencies. Source: this project.
 use Rattle.std.specs.Prelude.{◌≡◌, ℕ, List, length, map}
 use Rattle.bench_types.specs.declared.exchanges.Exchange.{Exchange}
-use Rattle.model.specs.RoundLists.{RoundListView, IsRoundPlan}
+use Rattle.model.specs.RoundLists.{RoundListView}
+use Rattle.model.specs.calls.RoundLists.{IsRoundPlan}
 use Rattle.dependencies.specs.declared.deps.After.{After}
 use Rattle.dependencies.specs.declared.deps.Before.{Before}
 use Rattle.dependencies.specs.Neighbours.{first_ready_of, predecessors_of, successors}

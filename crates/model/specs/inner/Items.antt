@@ -5,7 +5,8 @@ use Rattle.std.specs.FinMap.{is_sorted}
 use Rattle.bench_types.specs.declared.entries.Entry.{Entry}
 use Rattle.bench_types.specs.declared.entries.Item.{Item}
 use Rattle.bench_types.specs.declared.limits.TheConstants.{LEAST_KEYS, MOST_NODES, MOST_KEYS}
-use Rattle.model.specs.Table.{Place, place_cmp, IsItemInPlace}
+use Rattle.model.specs.Table.{Place, place_cmp}
+use Rattle.model.specs.calls.Table.{IsItemInPlace}
 
 abbrev pub no_item : Item
 no_item = record { owner = 0; entry = record { key = 0; generation = 0; version = 0; value = 0; born = 0 } }

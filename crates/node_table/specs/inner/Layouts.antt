@@ -7,8 +7,10 @@ use Rattle.bench_types.specs.declared.entries.Entry.{Entry}
 use Rattle.bench_types.specs.declared.entries.Item.{Item}
 use Rattle.node_table.specs.declared.layouts.Row.{Row}
 use Rattle.node_table.specs.declared.layouts.Layout.{Layout}
-use Rattle.model.specs.Table.{Held, Table, greatest_version, taken, IsItemInPlace, IsProper}
-use Rattle.model.specs.Held.{held_by_lists, entry_in, HaveTwoKeys}
+use Rattle.model.specs.Table.{Held, Table, greatest_version, taken, IsProper}
+use Rattle.model.specs.calls.Table.{IsItemInPlace}
+use Rattle.model.specs.calls.Held.{held_by_lists}
+use Rattle.model.specs.inner.Held.{entry_in, HaveTwoKeys}
 use Rattle.node_table.specs.Entries.{entry_cmp, StandsBefore, AreGenerations, AreGreatest}
 
 -- the entries of a row

@@ -5,7 +5,7 @@ use Rattle.bench_types.specs.declared.entries.Entry.{Entry}
 use Rattle.bench_types.specs.Entry.{next_version}
 use Rattle.owner_lists.specs.declared.lists.Link.{Link}
 use Rattle.model.specs.declared.writes.Write.{Write}
-use Rattle.model.specs.OwnerListView.{OwnerListView, AreWrites}
+use Rattle.model.specs.calls.OwnerListView.{OwnerListView, AreWrites}
 use Rattle.owner_writes.specs.inner.Views.{view_by}
 use Rattle.owner_lists.specs.Missed.{first_missed, born_in_order}
 use Rattle.owner_lists.specs.Latest.{IsLatest}

@@ -3,7 +3,7 @@ use Rattle.std.specs.Prelude.{ℕ, List, refl}
 use Rattle.std.specs.Coded.{Coded, code_by, coded×, coded_ℕ, coded_list}
 use Rattle.bench_types.specs.declared.entries.Entry.{Entry}
 use Rattle.bench_types.specs.contracts.entries.Entry as entry
-use Rattle.model.specs.OwnerListView.{OwnerListView}
+use Rattle.model.specs.calls.OwnerListView.{OwnerListView}
 
 abbrev pub list_code : Coded OwnerListView
 list_code =

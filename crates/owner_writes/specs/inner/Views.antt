@@ -2,7 +2,7 @@
 -- Source: this project.
 use Rattle.std.specs.Prelude.{ℕ, ◌^◌, ◌<◌, ◌≤◌, List, length, map, take, drop}
 use Rattle.bench_types.specs.declared.entries.Entry.{Entry}
-use Rattle.model.specs.OwnerListView.{OwnerListView, AreWrites}
+use Rattle.model.specs.calls.OwnerListView.{OwnerListView, AreWrites}
 
 -- those with so many of earlier generations
 abbrev pub view_by : {X : Type 0} → (X → Entry) → List X → ℕ → ℕ → OwnerListView

@@ -9,7 +9,7 @@ use Rattle.bench_types.specs.declared.exchanges.Budget.{Budget}
 use Rattle.bench_types.specs.declared.exchanges.First.{First}
 use Rattle.bench_types.specs.declared.exchanges.First.TheVariants.{Oldest, Newest}
 use Rattle.bench_types.specs.declared.exchanges.Mode.{Mode}
-use Rattle.bench_types.specs.Mode.{first_sent}
+use Rattle.bench_types.specs.calls.Mode.{first_sent}
 use Rattle.reconcile.specs.declared.candidates.Candidate.{Candidate}
 use Rattle.model.specs.Deltas.{DeltaView}
 use Rattle.reconcile.specs.inner.Parcels.{first_within}

@@ -4,7 +4,6 @@ use Rattle.std.specs.List.{list_all}
 use Rattle.std.specs.declared.alloc.Global.{Global}
 use Rattle.csv.specs.declared.writer.Writer.{Writer}
 use Rattle.csv.specs.Writing.{default_writer, needs_quotes, fields_written, has_written, writer_pending, writer_setup, writer_under}
-use Rattle.report.specs.Line.{comma}
 use Rattle.report.specs.declared.cells.Cell.{Cell}
 use Rattle.report.specs.declared.cells.Cell.TheVariants.{Text, Number}
 use Rattle.bench_types.specs.declared.rows.Row.{Row}
@@ -26,6 +25,9 @@ is_plain_cell (Number number) = true
 -- what a writer of lines has written
 abbrev pub bytes_written : Writer (Vec ℕ Global) → List ℕ
 bytes_written lines = (writer_under lines).items ++ writer_pending lines
+
+abbrev pub comma : ℕ
+comma = 44
 
 -- what stands before the next field: a comma, where one was written in this line
 abbrev pub comma_before : Writer (Vec ℕ Global) → List ℕ

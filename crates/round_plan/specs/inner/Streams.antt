@@ -4,7 +4,8 @@ use Rattle.bench_types.specs.declared.limits.TheConstants.{MOST_ROUNDS}
 use Rattle.rand_chacha.specs.ChaCha.{ChaCha, word_at, key_of}
 use Rattle.round_plan.specs.declared.run_words.NodeWords.{NodeWords}
 use Rattle.round_plan.specs.declared.words.TheConstants.{ROUND_WORDS}
-use Rattle.round_plan.specs.Words.{position, seed_bytes, AreWordsOf}
+use Rattle.round_plan.specs.Words.{position, seed_bytes}
+use Rattle.round_plan.specs.calls.Words.{AreWordsOf}
 
 -- a node's stream, where the word at a place of a round comes next
 abbrev pub stream_of : ℕ → ℕ → ℕ → ℕ → ChaCha

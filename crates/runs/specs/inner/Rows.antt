@@ -11,8 +11,8 @@ use Rattle.report.specs.Report.{report_line}
 use Rattle.report.specs.Trace.{trace_lines}
 use Rattle.runs.specs.Comparisons.{lines_upto}
 use Rattle.scenario.specs.Settings.{Settings}
-use Rattle.simulation.specs.RoundView.{RoundView}
-use Rattle.simulation.specs.Simulation.{SimView, PlaysNext, IsStepFault}
+use Rattle.simulation.specs.calls.RoundView.{RoundView}
+use Rattle.simulation.specs.calls.Simulation.{SimView, PlaysNext, IsStepFault}
 
 module _ {T W : Type 0} (table : T → Table) (sim sim' : SimView T) (sink : Sink W) (old new : W) (mode : Mode) where
   -- it was played, and its row in the comparison was written

@@ -4,7 +4,7 @@ use Rattle.bench_types.specs.declared.sinks.Sink.{Ghosts as Sink}
 use Rattle.runs.specs.declared.runs.Opened.{Opened}
 use Rattle.runs.specs.declared.runs.Opened.TheVariants.{Byte, Narrow, Wide}
 use Rattle.scenario.specs.Settings.{Settings}
-use Rattle.simulation.specs.Simulation.{SimView}
+use Rattle.simulation.specs.calls.Simulation.{SimView}
 
 -- no round was carried out, and none has failed
 abbrev pub IsAtStart : {T : Type 0} → SimView T → Type 0

@@ -3,12 +3,12 @@
 use Rattle.std.specs.Prelude.{◌≡◌, ℕ, ◌-◌, ◌≤◌, List, map}
 use Rattle.bench_types.specs.declared.limits.TheConstants.{MOST_ROUNDS}
 use Rattle.model.specs.Table.{Table}
-use Rattle.model.specs.OwnerListView.{OwnerListView, list_of_owner}
+use Rattle.model.specs.calls.OwnerListView.{OwnerListView, list_of_owner}
 use Rattle.round_plan.specs.declared.owners.OwnWrite.{OwnWrite}
 use Rattle.round_tables.specs.Histories.{own_list}
 use Rattle.scenario.specs.Settings.{Settings}
 use Rattle.simulation.specs.Rounds.{begun}
-use Rattle.simulation.specs.Standing.{IsOwner, StandAfterRound}
+use Rattle.simulation.specs.calls.Standing.{IsOwner, StandAfterRound}
 use Rattle.simulation.specs.inner.Steps.{begun_table, HasWritten, HasRestarted, IsNodeBefore, OthersStay}
 
 -- what a round begins with, of one table and of all

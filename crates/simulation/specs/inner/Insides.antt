@@ -7,13 +7,13 @@ use Rattle.owner_writes.specs.inner.Codes.{list_code}
 use Rattle.simulation.specs.declared.clusters.Cluster.{Cluster}
 use Rattle.model.specs.Table.{Table}
 use Rattle.scenario.specs.Settings.{Settings}
-use Rattle.model.specs.OwnerListView.{OwnerListView}
-use Rattle.round_plan.specs.Words.{run_words_of}
-use Rattle.simulation.specs.RoundView.{RoundView}
+use Rattle.model.specs.calls.OwnerListView.{OwnerListView}
+use Rattle.round_plan.specs.calls.Words.{run_words_of}
+use Rattle.simulation.specs.calls.RoundView.{RoundView}
 use Rattle.simulation.specs.Rounds.{tables_after}
 use Rattle.simulation.specs.inner.Steps.{IsPlayedFrom}
-use Rattle.simulation.specs.Standing.{StandAfterRound}
-use Rattle.simulation.specs.Simulation.{AreTablesAfter, MayWriteAll, SimView}
+use Rattle.simulation.specs.calls.Standing.{StandAfterRound}
+use Rattle.simulation.specs.calls.Simulation.{AreTablesAfter, MayWriteAll, SimView}
 
 abbrev pub simulation_code : {T : Type 0} → Coded T → Coded (SimView T)
 simulation_code {T} table_code =

@@ -2,23 +2,24 @@
 use Rattle.std.specs.Prelude.{◌≡◌, ◌≢◌, ℕ, List, ◌+◌, ◌-◌, ◌^◌, ◌<◌, ◌≤◌, map, ◌++◌, length, slice_index_or, All}
 use Rattle.bench_types.specs.declared.entries.Entry.{Entry}
 use Rattle.bench_types.specs.declared.limits.TheConstants.{MOST_ROUNDS}
-use Rattle.bench_types.specs.Entry.{AreNextAfter}
+use Rattle.bench_types.specs.calls.Entry.{AreNextAfter}
 use Rattle.round_plan.specs.Plan.{round_list_of}
 use Rattle.scenario.specs.Settings.{Settings}
 use Rattle.model.specs.Figures.{figures_of}
-use Rattle.model.specs.OwnerListView.{OwnerListView, written, list_of_owner, lists_in, all_writes}
-use Rattle.simulation.specs.RoundView.{RoundView}
+use Rattle.model.specs.calls.OwnerListView.{OwnerListView, written, list_of_owner, lists_in, all_writes}
+use Rattle.simulation.specs.calls.RoundView.{RoundView}
 use Rattle.simulation.specs.Rounds.{round_of, after_restart}
-use Rattle.simulation.specs.Outcomes.{played_with}
+use Rattle.simulation.specs.calls.Outcomes.{played_with}
 use Rattle.model.specs.Table.{Table, with_own_writes, greatest_version, IsProper}
-use Rattle.round_plan.specs.Writes.{count_before, own_writes, born_in, writes_before, written_upto}
+use Rattle.round_plan.specs.Writes.{count_before, own_writes, written_upto}
+use Rattle.round_plan.specs.calls.Writes.{born_in, writes_before}
 use Rattle.round_plan.specs.declared.owners.OwnWrite.{OwnWrite}
 use Rattle.round_plan.specs.Generations.{generation_upto}
-use Rattle.model.specs.OwnParts.{OwnPartIsLastWrites}
-use Rattle.model.specs.Writes.{AreBornBy}
+use Rattle.model.specs.calls.OwnParts.{OwnPartIsLastWrites}
+use Rattle.model.specs.calls.Writes.{AreBornBy}
 use Rattle.round_tables.specs.Histories.{own_list, StandsBeside}
-use Rattle.simulation.specs.Simulation.{MayWriteAll}
-use Rattle.simulation.specs.Standing.{IsOwnerOf, IsOwner}
+use Rattle.simulation.specs.calls.Simulation.{MayWriteAll}
+use Rattle.simulation.specs.calls.Standing.{IsOwnerOf, IsOwner}
 
 -- and from the tables before it, and the tables and lists after it
 abbrev pub played_from : Settings → ℕ → List Table → List Table → List OwnerListView → RoundView

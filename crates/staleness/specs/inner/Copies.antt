@@ -12,7 +12,7 @@ use Rattle.model.specs.Tables.{table_of_node}
 use Rattle.staleness.specs.declared.copies.Copies.{Copies}
 use Rattle.staleness.specs.declared.staleness.Staleness.{Staleness}
 use Rattle.model.specs.declared.writes.Write.{Write}
-use Rattle.model.specs.Writes.{last_write}
+use Rattle.model.specs.calls.Writes.{last_write}
 use Rattle.owner_lists.specs.Missed.{first_missed}
 use Rattle.owner_lists.specs.inner.Linked.{version_or_zero}
 use Rattle.bench_types.specs.Sums.{most_below}

@@ -6,9 +6,10 @@ use Rattle.std.specs.List.{AllZip, range_with_len}
 use Rattle.bench_types.specs.declared.rows.Figures.{Figures}
 use Rattle.bench_types.specs.declared.limits.TheConstants.{MOST_NODES, MOST_KEYS, MOST_ROUNDS}
 use Rattle.model.specs.Table.{Table}
-use Rattle.model.specs.Tables.{table_of_node, IsCluster}
+use Rattle.model.specs.Tables.{table_of_node}
+use Rattle.model.specs.calls.Tables.{IsCluster}
 use Rattle.model.specs.declared.writes.Write.{Write}
-use Rattle.model.specs.Writes.{AreBornBy}
+use Rattle.model.specs.calls.Writes.{AreBornBy}
 use Rattle.staleness.specs.declared.copies.Copies.{Copies}
 use Rattle.staleness.specs.declared.staleness.Seen.{Seen}
 use Rattle.staleness.specs.inner.Copies.{generations_in, part_figures, no_copies, copies_of, part_copies, AreSeen, AreSeenOnce}

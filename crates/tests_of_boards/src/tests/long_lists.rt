@@ -2,7 +2,7 @@
 
 ghost use Rattle.std.specs.Prelude.{◌≡◌, ◌<◌, ◌≤◌};
 ghost use Rattle.bench_types.specs.declared.limits.TheConstants.{MOST_WORKERS};
-ghost use Rattle.bench_types.specs.Budget.{IsLawfulBudget};
+ghost use Rattle.bench_types.specs.calls.Budget.{IsLawfulBudget};
 ghost use Rattle.tests_of_boards.specs.declared.tests.long_lists.TheConstants.{NODES};
 
 use crate::tests::comparing::expect;

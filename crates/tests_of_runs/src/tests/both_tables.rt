@@ -1,7 +1,7 @@
 //! Simulations by tables with entries and by tables that keep versions alone come to the same, round by round: lists,
 //! records, figures, and each table entry by entry.
 
-ghost use Rattle.simulation.specs.Simulation.{MayWriteAll};
+ghost use Rattle.simulation.specs.calls.Simulation.{MayWriteAll};
 ghost use Rattle.runs.specs.inner.Writes.{AreWrittenIn, HasWritesBelow};
 
 use crate::tests::comparing::expect;

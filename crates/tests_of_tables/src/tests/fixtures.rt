@@ -1,9 +1,9 @@
 //! Items, steps of a table and comparisons that several tests share. Where memory is refused they stop.
 
 ghost use Rattle.std.specs.Prelude.{◌≡◌, ◌≢◌, ◌<◌, ◌≤◌, All, IsTrue};
-ghost use Rattle.bench_types.specs.Budget.{IsLawfulBudget};
+ghost use Rattle.bench_types.specs.calls.Budget.{IsLawfulBudget};
 ghost use Rattle.model.specs.Table.{empty_table};
-ghost use Rattle.model.specs.Table.{IsItemInPlace};
+ghost use Rattle.model.specs.calls.Table.{IsItemInPlace};
 
 use crate::tests::comparing::expect_at;
 use bench_types::{Budget, Entry, Fault, Item, Mark};

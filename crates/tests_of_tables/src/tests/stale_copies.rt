@@ -2,8 +2,8 @@
 //! those copies are stale, and since when, and how many are left over where the node forgot.
 
 ghost use Rattle.std.specs.Prelude.{◌≡◌, ℕ, None, Some, ◌+◌, ◌<◌, ◌≤◌};
-ghost use Rattle.model.specs.OwnerListView.{written};
-ghost use Rattle.model.specs.Writes.{AreBornBy};
+ghost use Rattle.model.specs.calls.OwnerListView.{written};
+ghost use Rattle.model.specs.calls.Writes.{AreBornBy};
 ghost use Rattle.tests_of_tables.specs.Missed.{missed, missed_in};
 
 use crate::tests::comparing::expect_at;

@@ -1,7 +1,7 @@
 -- The codes of what contracts see of tables of versions and of histories. Source: this project.
 use Rattle.std.specs.Prelude.{ℕ, List, refl}
 use Rattle.std.specs.Coded.{Coded, code_by, coded×, coded_ℕ, coded_list}
-use Rattle.model.specs.OwnerListView.{OwnerListView}
+use Rattle.model.specs.calls.OwnerListView.{OwnerListView}
 use Rattle.owner_writes.specs.inner.Codes.{list_code}
 use Rattle.version_tables.specs.Views.{VersionTableView, HistoriesView}
 

@@ -2,7 +2,7 @@
 use Rattle.std.specs.Prelude.{◌≡◌, ℕ, ◌<◌, Bool, List, length, slice_index}
 use Rattle.bench_types.specs.declared.entries.Entry.{Entry}
 use Rattle.bench_types.specs.declared.exchanges.Rules.{Rules}
-use Rattle.bench_types.specs.Budget.{IsLawfulBudget}
+use Rattle.bench_types.specs.calls.Budget.{IsLawfulBudget}
 use Rattle.planes.specs.Planes.{cell}
 use Rattle.model.specs.Deltas.{DeltaView, delta_between}
 use Rattle.version_tables.specs.Views.{VersionTableView, HistoriesView, table_in}

@@ -5,8 +5,8 @@ use Rattle.model.specs.Table.{Table}
 use Rattle.model.proofs.TableLaws.{frame-applied}
 use Rattle.model.specs.Deltas.{delta_between}
 use Rattle.model.specs.Exchanged.{fate_of}
-use Rattle.model.specs.Exchanging.{IsKeptByExchanges}
-use Rattle.model.specs.ExchangeLaws.{MayMeet}
+use Rattle.model.specs.calls.Exchanging.{IsKeptByExchanges}
+use Rattle.model.specs.calls.ExchangeLaws.{MayMeet}
 use Rattle.model.proofs.Cases.{initiator_after-either, responder_after-either}
 use Rattle.model.proofs.ExchangeLaws.{initiator_proper, responder_proper, initiator_either, responder_either}
 use Rattle.version_tables.specs.Views.{HistoriesView}

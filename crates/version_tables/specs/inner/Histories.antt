@@ -4,12 +4,12 @@ use Rattle.bench_types.specs.declared.entries.Entry.{Entry}
 use Rattle.bench_types.specs.declared.exchanges.Exchange.{Exchange}
 use Rattle.bench_types.specs.declared.exchanges.Rules.{Rules}
 use Rattle.bench_types.specs.declared.limits.TheConstants.{MOST_KEYS, MOST_NODES}
-use Rattle.bench_types.specs.Budget.{IsLawfulBudget}
+use Rattle.bench_types.specs.calls.Budget.{IsLawfulBudget}
 use Rattle.bench_types.specs.Mark.{mark_of}
-use Rattle.model.specs.Exchanging.{MayBeExchanged}
+use Rattle.model.specs.calls.Exchanging.{MayBeExchanged}
 use Rattle.model.specs.Table.{Table, entry_at, IsProper}
-use Rattle.model.specs.OwnerListView.{OwnerListView, all_writes, AreWrites, list_of_owner}
-use Rattle.model.specs.Numbers.{write_numbered}
+use Rattle.model.specs.calls.OwnerListView.{OwnerListView, all_writes, AreWrites, list_of_owner}
+use Rattle.model.specs.calls.Numbers.{write_numbered}
 use Rattle.planes.specs.Planes.{HasEach, HasEachPlace, cell}
 use Rattle.version_tables.specs.Views.{HistoriesView}
 use Rattle.version_tables.specs.declared.histories.Owners.{Owners}

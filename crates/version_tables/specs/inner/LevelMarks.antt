@@ -13,7 +13,7 @@ use Rattle.bench_types.specs.declared.exchanges.Mode.TheVariants.{ScuttleBreadth
 use Rattle.model.specs.Order.{rotated}
 use Rattle.model.specs.Table.{Table}
 use Rattle.version_tables.specs.inner.Offers.{offered_sum}
-use Rattle.model.specs.Numbers.{write_numbered}
+use Rattle.model.specs.calls.Numbers.{write_numbered}
 use Rattle.planes.specs.Planes.{Cells, count_above, count_between, HasNoneAbove}
 use Rattle.version_tables.specs.inner.Firsts.{item_number, comes_first}
 

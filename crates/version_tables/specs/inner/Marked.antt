@@ -5,8 +5,8 @@ use Rattle.bench_types.specs.declared.exchanges.First.TheVariants.{Oldest, Newes
 use Rattle.bench_types.specs.declared.exchanges.Mode.{Mode}
 use Rattle.bench_types.specs.declared.exchanges.DigestKind.{DigestKind}
 use Rattle.bench_types.specs.Budget.{amount_of}
-use Rattle.bench_types.specs.Mode.{first_sent}
-use Rattle.model.specs.OwnerListView.{all_writes}
+use Rattle.bench_types.specs.calls.Mode.{first_sent}
+use Rattle.model.specs.calls.OwnerListView.{all_writes}
 use Rattle.planes.specs.Planes.{cell}
 use Rattle.version_tables.specs.Views.{VersionTableView}
 use Rattle.version_tables.specs.declared.weights.Level.{Level}

@@ -4,8 +4,8 @@ use Rattle.std.specs.Prelude.{◌≡◌, ℕ, ◌<◌, ◌≤◌, List, length, 
 use Rattle.bench_types.specs.declared.entries.Entry.{Entry}
 use Rattle.bench_types.specs.Mark.{mark_held}
 use Rattle.model.specs.Table.{Table, entry_at}
-use Rattle.model.specs.OwnerListView.{OwnerListView, entries_of, written, list_of_owner}
-use Rattle.model.specs.Numbers.{write_numbered}
+use Rattle.model.specs.calls.OwnerListView.{OwnerListView, entries_of, written, list_of_owner}
+use Rattle.model.specs.calls.Numbers.{write_numbered}
 use Rattle.model.specs.Figures.{staleness_of}
 
 -- how many writes an owner made in its earlier generations

@@ -1,7 +1,7 @@
 -- What is offered in memory: cells with marks for each owner, and the owners' lists. Source: this project.
 use Rattle.std.specs.Prelude.{◌≡◌, ℕ, ◌<◌, ◌≤◌, List, length, map, slice_index}
 use Rattle.bench_types.specs.Budget.{amount_of}
-use Rattle.model.specs.OwnerListView.{all_writes}
+use Rattle.model.specs.calls.OwnerListView.{all_writes}
 use Rattle.planes.specs.Planes.{Cells, cell, count_above, IsGrid, HasNoneAbove}
 use Rattle.version_tables.specs.declared.weights.Offer.{Offer}
 use Rattle.version_tables.specs.inner.LevelMarks.{NumbersDiffer}

@@ -1,7 +1,7 @@
 -- What is offered from one table to another, in memory. Source: this project.
 use Rattle.std.specs.Prelude.{◌≡◌, ℕ, List, length, map, slice_index}
 use Rattle.bench_types.specs.declared.exchanges.DigestKind.{DigestKind}
-use Rattle.model.specs.OwnerListView.{all_writes}
+use Rattle.model.specs.calls.OwnerListView.{all_writes}
 use Rattle.planes.specs.Planes.{cell, number_ahead, total_above, HasEach, HasEachPlace}
 use Rattle.planes.specs.declared.grids.Masked.{Masked}
 use Rattle.version_tables.specs.Views.{VersionTableView, HistoriesView}

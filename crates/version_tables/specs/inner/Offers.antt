@@ -12,7 +12,7 @@ use Rattle.model.specs.Table.{Table, entry_at}
 use Rattle.model.specs.Candidates.{known_mark}
 use Rattle.bench_types.specs.Sums.{sum_below}
 use Rattle.planes.specs.Planes.{Cells, number_ahead}
-use Rattle.model.specs.Numbers.{write_numbered}
+use Rattle.model.specs.calls.Numbers.{write_numbered}
 
 -- the marks of an owner's writes rise, and births never fall
 pub record IsHistory (writes : List Entry) : Type 0 where

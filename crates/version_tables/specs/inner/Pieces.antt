@@ -4,9 +4,10 @@ use Rattle.std.specs.Borrow.{Bor}
 use Rattle.bench_types.specs.declared.entries.Entry.{Entry}
 use Rattle.bench_types.specs.declared.limits.TheConstants.{MOST_NODES, MOST_KEYS, MOST_ROUNDS}
 use Rattle.model.specs.Table.{Table}
-use Rattle.model.specs.Tables.{table_of_node, IsCluster, HoldsOfEach}
-use Rattle.model.specs.OwnerListView.{OwnerListView, entries_of, list_of_owner, lists_in, AreWrites}
-use Rattle.model.specs.Numbers.{write_numbered}
+use Rattle.model.specs.Tables.{table_of_node, HoldsOfEach}
+use Rattle.model.specs.calls.Tables.{IsCluster}
+use Rattle.model.specs.calls.OwnerListView.{OwnerListView, entries_of, list_of_owner, lists_in, AreWrites}
+use Rattle.model.specs.calls.Numbers.{write_numbered}
 use Rattle.bench_types.specs.Sums.{sum_below}
 use Rattle.planes.specs.Planes.{cell, HasEachPlace, IsGrid}
 use Rattle.round_tables.specs.Histories.{BirthsRise, AreWrittenBy, StandsAmong}

@@ -3,7 +3,7 @@ use Rattle.std.specs.Prelude.{◌≡◌, ℕ, ◌-◌, ◌<◌, ◌≤◌, max, 
 use Rattle.bench_types.specs.declared.exchanges.First.{First}
 use Rattle.bench_types.specs.declared.exchanges.First.TheVariants.{Oldest, Newest}
 use Rattle.bench_types.specs.Budget.{amount_of}
-use Rattle.model.specs.OwnerListView.{all_writes}
+use Rattle.model.specs.calls.OwnerListView.{all_writes}
 use Rattle.planes.specs.Planes.{cell, HasEach}
 use Rattle.version_tables.specs.declared.rounds.Ends.{Ends}
 use Rattle.version_tables.specs.declared.weights.Offer.{Offer}

@@ -6,7 +6,7 @@ use Rattle.model.specs.Table.{Table, entry_at, generation_held}
 use Rattle.planes.specs.Planes.{Cells, cell, numbers_taken, ArePlanesChanged, IsRaised}
 use Rattle.version_tables.specs.Views.{VersionTableView}
 use Rattle.version_tables.specs.Laid.{IsVersionTable}
-use Rattle.model.specs.OwnerListView.{all_writes}
+use Rattle.model.specs.calls.OwnerListView.{all_writes}
 use Rattle.version_tables.specs.declared.histories.Owners.{Owners}
 use Rattle.version_tables.specs.declared.taking.Arrival.{Arrival}
 use Rattle.version_tables.specs.inner.Histories.{bases_in, AreOwners}

@@ -2,7 +2,7 @@
 use Rattle.std.specs.Prelude.{◌≡◌, ℕ, ◌<◌, ◌≤◌, List, length, map, slice_index}
 use Rattle.bench_types.specs.declared.entries.Entry.{Entry}
 use Rattle.bench_types.specs.declared.limits.TheConstants.{MOST_NODES}
-use Rattle.model.specs.OwnerListView.{OwnerListView, all_writes, AreWrites, list_of_owner}
+use Rattle.model.specs.calls.OwnerListView.{OwnerListView, all_writes, AreWrites, list_of_owner}
 use Rattle.planes.specs.Elementwise.{AreChanged}
 use Rattle.planes.specs.Planes.{HasEach}
 use Rattle.version_tables.specs.declared.histories.Owners.{Owners}

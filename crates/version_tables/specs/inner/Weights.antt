@@ -4,7 +4,7 @@ use Rattle.bench_types.specs.declared.entries.Entry.{Entry}
 use Rattle.bench_types.specs.declared.exchanges.Budget.{Budget}
 use Rattle.bench_types.specs.declared.exchanges.First.{First}
 use Rattle.bench_types.specs.Budget.{share_of}
-use Rattle.model.specs.Numbers.{write_numbered}
+use Rattle.model.specs.calls.Numbers.{write_numbered}
 use Rattle.planes.specs.Planes.{Cells, count_between}
 use Rattle.bench_types.specs.Sums.{sum_below}
 use Rattle.version_tables.specs.inner.Firsts.{by_first}

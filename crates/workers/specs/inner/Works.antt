@@ -1,7 +1,7 @@
 -- Work on the tables of all nodes. Source: this project.
 use Rattle.std.specs.Prelude.{List, map}
 use Rattle.bench_types.specs.declared.exchanges.Record.{Record}
-use Rattle.model.specs.Runs.{MayCarryOut, AreExchanged}
+use Rattle.workers.specs.Carrying.{MayCarryOut, AreExchanged}
 use Rattle.model.specs.Table.{Table}
 use Rattle.workers.specs.declared.works.Work.{Work}
 

@@ -2,7 +2,7 @@
 use Rattle.std.specs.Prelude.{◌≡◌}
 use Rattle.model.specs.Table.{Table}
 use Rattle.board.specs.Boards.{plan_of}
-use Rattle.model.specs.Runs.{MayCarryOut}
+use Rattle.workers.specs.Carrying.{MayCarryOut}
 use Rattle.workers.specs.declared.workers.Workshop.{Workshop}
 
 -- the board is of these rules, this list and the tables of its nodes, which fit what they share

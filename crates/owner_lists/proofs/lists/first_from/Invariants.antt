@@ -1,5 +1,5 @@
 use Rattle.std.proofs.Common.{◌≡◌, find, drop}
-use Rattle.model.specs.Writes.{is_write_of}
+use Rattle.model.specs.calls.Writes.{is_write_of}
 use Rattle.owner_lists.specs.inner.Linked.{writes_linked}
 use Rattle.owner_lists.proofs.lists.first_from.Given as goal
 

@@ -1,7 +1,7 @@
 use Rattle.std.proofs.Common.{◌≡◌, ◌<◌, ◌^◌, length, List, IfSome, sym, ap, subst, arith}
 use Rattle.std.proofs.lemmas.Result.{IfOk-weaker}
 use Rattle.reconcile.specs.declared.candidates.Candidate.{Candidate}
-use Rattle.model.specs.Deltas.{AreWithin}
+use Rattle.model.specs.calls.DeltaLaws.{AreWithin}
 use Rattle.reconcile.specs.Answers.{answer_of}
 use Rattle.reconcile.specs.inner.Keys.{items_in, AllSet, IsSentOf}
 use Rattle.reconcile.specs.inner.Newer.{AreCandidates}

@@ -1,5 +1,5 @@
 use Rattle.std.proofs.Common.{◌≡◌, ◌<◌, ◌-◌, length, sym, ap, ◌∙◌, subst, arith}
-use Rattle.model.specs.Deltas.{AreWithin}
+use Rattle.model.specs.calls.DeltaLaws.{AreWithin}
 use Rattle.model.specs.Order.{rank_among}
 use Rattle.reconcile.specs.inner.Suffixes.{items_of_suffixes, AreSuffixes, AreLayered, lengths_first}
 use Rattle.reconcile.proofs.Answering.{few-turned, length-layered-le, within-layered, answer-turned}

@@ -8,7 +8,8 @@ use Rattle.scenario.specs.Settings.{Settings}
 use Rattle.round_plan.specs.declared.owners.OwnWrite.{OwnWrite}
 use Rattle.round_plan.specs.Outages.{is_up}
 use Rattle.round_plan.specs.Generations.{generation_upto}
-use Rattle.round_plan.specs.Writes.{writes_in, own_write_at, own_writes, numbered_write, writes_before, born_in, AreWritesOf}
+use Rattle.round_plan.specs.Writes.{writes_in, own_write_at, own_writes, numbered_write}
+use Rattle.round_plan.specs.calls.Writes.{writes_before, born_in, AreWritesOf}
 use Rattle.round_plan.proofs.Growth.{writes_upto-grown, keys-own_writes, keys-born_in}
 use Rattle.round_plan.proofs.owners.writes_by.Goals as goal
 

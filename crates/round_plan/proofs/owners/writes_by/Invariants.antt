@@ -2,7 +2,8 @@ use Rattle.std.proofs.Common.{◌≡◌, length, take, map}
 use Rattle.std.specs.List.{range_with_len}
 use Rattle.bench_types.specs.declared.limits.TheConstants.{MOST_WRITES}
 use Rattle.round_plan.specs.Generations.{generation_upto}
-use Rattle.round_plan.specs.Writes.{own_write_at, born_in}
+use Rattle.round_plan.specs.Writes.{own_write_at}
+use Rattle.round_plan.specs.calls.Writes.{born_in}
 use Rattle.round_plan.proofs.owners.writes_by.Given as goal
 
 abbrev pub invariant-loop-place : goal.invariant-loop-place

@@ -7,7 +7,7 @@ use Rattle.rayon.specs.Numbers.{nat_range}
 use Rattle.rayon.proofs.ListFacts.{IfOk-then, AllZip-weaken}
 use Rattle.rayon.proofs.ToStd.{nat_range-All}
 use Rattle.scenario.specs.Settings.{Settings}
-use Rattle.bench_types.specs.Exchange.{IsPlanned}
+use Rattle.bench_types.specs.calls.Exchange.{IsPlanned}
 use Rattle.round_plan.specs.Plan.{exchange_of}
 use Rattle.round_plan.specs.inner.Rounds.{IsNodeInRound, AreChosen}
 use Rattle.round_plan.proofs.rounds.choices.Goals as goal

@@ -1,7 +1,7 @@
 use Rattle.std.proofs.Common.{◌≡◌, ◌+◌, true, false, All, length, get_or, sym, subst, ap, ◌∙◌, arith}
 use Rattle.bench_types.specs.declared.exchanges.Exchange.{Exchange}
 use Rattle.round_plan.specs.Outages.{is_up}
-use Rattle.bench_types.specs.Exchange.{IsPlanned}
+use Rattle.bench_types.specs.calls.Exchange.{IsPlanned}
 use Rattle.round_plan.specs.Plan.{exchange_of, reaches}
 use Rattle.model.specs.RoundLists.{round_list_view}
 use Rattle.round_plan.specs.inner.Rounds.{AreChosen}

@@ -1,5 +1,5 @@
 use Rattle.std.proofs.Common.{◌≡◌, ◌+◌, ◌<◌, true, false, All, sym, subst, ap, ◌∙◌, arith}
-use Rattle.bench_types.specs.Exchange.{IsPlanned}
+use Rattle.bench_types.specs.calls.Exchange.{IsPlanned}
 use Rattle.bench_types.specs.declared.exchanges.Exchange.{Exchange}
 use Rattle.round_plan.specs.Outages.{is_up}
 use Rattle.round_plan.specs.Plan.{reaches}

@@ -1,7 +1,7 @@
 use Rattle.std.proofs.Common.{◌≡◌, ◌-◌, map, drop}
 use Rattle.toml.specs.View.{view}
 use Rattle.bench_types.specs.declared.fields.Field.TheVariants as field
-use Rattle.scenario.specs.Elements.{ascending}
+use Rattle.scenario.specs.inner.Elements.{ascending}
 use Rattle.scenario.proofs.Walks.{joined}
 use Rattle.scenario.proofs.tables.apart_at.Given as goal
 

@@ -2,7 +2,7 @@ use Rattle.std.proofs.Common.{◌≡◌, ℕ, Bool, true, false, List, Option, N
 use Rattle.std.specs.Str.{is_utf8}
 use Rattle.std.proofs.lemmas.Str.{IsUtf8-from_is_utf8, is_utf8-from_IsUtf8}
 use Rattle.toml.specs.Parse.{parse_document}
-use Rattle.scenario.specs.Checked.{document_of}
+use Rattle.scenario.specs.Order.{document_of}
 use Rattle.scenario.proofs.texts.document.Goals as goal
 
 -- The document of some bytes, by whether they are UTF-8.

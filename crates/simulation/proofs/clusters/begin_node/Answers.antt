@@ -3,10 +3,11 @@ use Rattle.std.proofs.lemmas.Result.{on_ok_weaker}
 use Rattle.model.specs.Table.{with_own_writes}
 use Rattle.round_plan.specs.declared.owners.OwnWrite.{OwnWrite}
 use Rattle.round_plan.specs.Generations.{generation_upto}
-use Rattle.round_plan.specs.Writes.{born_in, count_before, own_writes}
+use Rattle.round_plan.specs.Writes.{count_before, own_writes}
+use Rattle.round_plan.specs.calls.Writes.{born_in}
 use Rattle.scenario.specs.Settings.{Settings}
-use Rattle.model.specs.OwnerListView.{written, list_of_owner}
-use Rattle.model.specs.Writes.{AreBornBy}
+use Rattle.model.specs.calls.OwnerListView.{written, list_of_owner}
+use Rattle.model.specs.calls.Writes.{AreBornBy}
 use Rattle.model.proofs.OwnParts.{born-later}
 use Rattle.simulation.specs.inner.Steps.{HasWritten}
 use Rattle.simulation.proofs.Standing.{beside_own, next_own, may_write_own, owner_written}

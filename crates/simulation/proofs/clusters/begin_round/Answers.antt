@@ -2,7 +2,7 @@ use Rattle.std.proofs.Common.{map, sym, subst, arith}
 use Rattle.std.proofs.lemmas.Result.{on_ok_weaker}
 use Rattle.simulation.proofs.Begun.{begun_next, begun_all}
 use Rattle.simulation.proofs.Standing.{written_by}
-use Rattle.simulation.specs.Standing.{StandAfterRound}
+use Rattle.simulation.specs.calls.Standing.{StandAfterRound}
 use Rattle.simulation.proofs.clusters.begin_round.Goals as goal
 
 pub loop-node-preserved : goal.loop-node-preserved

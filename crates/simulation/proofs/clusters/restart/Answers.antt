@@ -1,6 +1,6 @@
 use Rattle.std.proofs.Common.{◌≡◌, ◌-◌, ap, sym, ◌∙◌, subst, arith}
 use Rattle.model.specs.Table.{without_all}
-use Rattle.model.specs.OwnerListView.{begun_generation, list_of_owner}
+use Rattle.model.specs.calls.OwnerListView.{begun_generation, list_of_owner}
 use Rattle.round_plan.proofs.Generations.{generation_upto_le}
 use Rattle.simulation.specs.inner.Steps.{HasRestarted}
 use Rattle.simulation.proofs.Standing.{restarted_forgot, restarted_kept}

@@ -1,5 +1,5 @@
 use Rattle.std.proofs.Common.{◌-◌, map, take}
-use Rattle.round_plan.specs.Writes.{born_in}
+use Rattle.round_plan.specs.calls.Writes.{born_in}
 use Rattle.simulation.proofs.Writing.{IsWritingIn}
 use Rattle.simulation.proofs.clusters.write_own.Given as goal
 

@@ -1,4 +1,4 @@
-use Rattle.model.specs.OwnerListView.{written}
+use Rattle.model.specs.calls.OwnerListView.{written}
 use Rattle.staleness.specs.inner.Copies.{AreAdded}
 use Rattle.owner_lists.specs.inner.Keys.{IsFrontForKey}
 use Rattle.staleness.proofs.copies.add_keys.Given as goal

@@ -1,8 +1,8 @@
 use Rattle.std.proofs.Common.{◌≡◌, ◌+◌, ◌*◌, get_or, [], inl, inr, sym, ap, ◌∙◌, arith}
 use Rattle.std.proofs.lemmas.Bool.{cases_lt}
-use Rattle.model.specs.Writes.{last_write}
+use Rattle.model.specs.calls.Writes.{last_write}
 use Rattle.owner_lists.specs.inner.Linked.{version_or_zero}
-use Rattle.model.specs.OwnerListView.{written, lists_in}
+use Rattle.model.specs.calls.OwnerListView.{written, lists_in}
 use Rattle.model.proofs.Owners.{list_read}
 use Rattle.model.specs.Figures.{writes_of_owner}
 use Rattle.staleness.specs.inner.Copies.{no_copies}

@@ -1,4 +1,4 @@
-use Rattle.model.specs.OwnerListView.{lists_in}
+use Rattle.model.specs.calls.OwnerListView.{lists_in}
 use Rattle.staleness.specs.inner.Copies.{no_copies, current_of, AreSeen}
 use Rattle.staleness.proofs.copies.no_copies.Given as goal
 

@@ -7,9 +7,10 @@ use Rattle.bench_types.specs.declared.limits.TheConstants.{MOST_NODES}
 use Rattle.model.specs.Table.{Table}
 use Rattle.node_table.specs.NodeTableView.{NodeTableView}
 use Rattle.node_table.specs.NodeTableView.{tables_in}
-use Rattle.model.specs.Tables.{table_of_node, IsCluster}
+use Rattle.model.specs.Tables.{table_of_node}
+use Rattle.model.specs.calls.Tables.{IsCluster}
 use Rattle.node_table.proofs.InOrder.{table_indexed, length-tables_in}
-use Rattle.model.specs.OwnerListView.{lists_in}
+use Rattle.model.specs.calls.OwnerListView.{lists_in}
 use Rattle.staleness.specs.declared.copies.Copies.{Copies}
 use Rattle.model.specs.declared.writes.Write.{Write}
 use Rattle.staleness.specs.inner.Copies.{no_copies, current_of, copies_of, merged, MayCountBoth, AreSeen}

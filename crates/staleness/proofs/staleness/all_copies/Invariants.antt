@@ -1,7 +1,7 @@
 use Rattle.std.proofs.Common.{◌*◌, length, min}
 use Rattle.node_table.specs.NodeTableView.{tables_in}
 use Rattle.model.specs.Tables.{table_of_node}
-use Rattle.model.specs.OwnerListView.{lists_in}
+use Rattle.model.specs.calls.OwnerListView.{lists_in}
 use Rattle.staleness.specs.inner.Copies.{copies_of, AreSeen}
 use Rattle.staleness.proofs.staleness.all_copies.Given as goal
 

@@ -1,9 +1,9 @@
 use Rattle.std.proofs.Common.{◌+◌, ◌/◌, length, ap, sym, subst, arith}
 use Rattle.std.proofs.Math.Nat.{div-le_self}
 use Rattle.node_table.specs.NodeTableView.{tables_in}
-use Rattle.model.specs.Tables.{IsCluster}
+use Rattle.model.specs.calls.Tables.{IsCluster}
 use Rattle.node_table.proofs.InOrder.{length-tables_in}
-use Rattle.model.specs.OwnerListView.{lists_in}
+use Rattle.model.specs.calls.OwnerListView.{lists_in}
 use Rattle.staleness.proofs.Counting.{as_many, bounded, figures_of_all}
 use Rattle.bench_types.proofs.EqualParts.{enough}
 use Rattle.staleness.proofs.staleness.figures.Goals as goal

@@ -1,7 +1,7 @@
 use Rattle.std.proofs.Common.{◌/◌, length}
 use Rattle.rayon.proofs.ListFacts.{IfOk-then}
 use Rattle.node_table.specs.NodeTableView.{tables_in}
-use Rattle.model.specs.OwnerListView.{lists_in}
+use Rattle.model.specs.calls.OwnerListView.{lists_in}
 use Rattle.staleness.specs.inner.Parts.{IsCounted}
 use Rattle.staleness.proofs.EachPart.{up_to_last, in_order}
 use Rattle.staleness.proofs.staleness.figures_of_parts.Goals as goal

@@ -3,7 +3,7 @@ use Rattle.model.specs.Table.{Table, entry_at, mark_at}
 use Rattle.node_table.specs.NodeTableView.{tables_in}
 use Rattle.model.specs.Tables.{table_of_node}
 use Rattle.node_table.proofs.InOrder.{table_indexed, length-tables_in}
-use Rattle.model.specs.OwnerListView.{written, lists_in}
+use Rattle.model.specs.calls.OwnerListView.{written, lists_in}
 use Rattle.model.proofs.Owners.{length-lists_in, list_read}
 use Rattle.model.specs.Figures.{writes_of_owner, generation_at, staleness_of, staleness_at, rounds_behind}
 use Rattle.staleness.specs.inner.Copies.{version_known, version_staleness}

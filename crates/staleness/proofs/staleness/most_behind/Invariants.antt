@@ -1,6 +1,6 @@
 use Rattle.std.proofs.Common.{◌≡◌}
 use Rattle.node_table.specs.NodeTableView.{tables_in}
-use Rattle.model.specs.OwnerListView.{lists_in}
+use Rattle.model.specs.calls.OwnerListView.{lists_in}
 use Rattle.bench_types.specs.Sums.{most_below}
 use Rattle.model.specs.Figures.{staleness_at, rounds_behind}
 use Rattle.staleness.proofs.staleness.most_behind.Given as goal

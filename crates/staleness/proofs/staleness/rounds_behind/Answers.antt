@@ -2,7 +2,7 @@ use Rattle.std.proofs.Common.{◌≤◌, sym, ◌∙◌}
 use Rattle.model.specs.declared.writes.Write.{Write}
 use Rattle.owner_lists.specs.Missed.{is_missed}
 use Rattle.owner_lists.proofs.Last.{All-find}
-use Rattle.model.specs.OwnerListView.{written}
+use Rattle.model.specs.calls.OwnerListView.{written}
 use Rattle.staleness.proofs.staleness.rounds_behind.Goals as goal
 
 pub overflow_sub-result : goal.overflow_sub-result

@@ -1,10 +1,10 @@
 use Rattle.std.proofs.Common.{◌≡◌, ℕ, ◌-◌, ◌<◌, ◌≤◌, true, [], length, if◌then◌else◌, sym, ap, ◌∙◌, subst, arith, lt-ltb, le-ltb, eq-eqb, ne_eqb}
 use Rattle.node_table.specs.NodeTableView.{tables_in}
 use Rattle.node_table.proofs.InOrder.{length-tables_in}
-use Rattle.model.specs.OwnerListView.{written, lists_in}
+use Rattle.model.specs.calls.OwnerListView.{written, lists_in}
 use Rattle.model.proofs.Owners.{length-lists_in, list_read}
 use Rattle.staleness.specs.declared.copies.Copies.{Copies}
-use Rattle.model.specs.Writes.{IsNumbered, AreBornBy}
+use Rattle.model.specs.calls.Writes.{IsNumbered, AreBornBy}
 use Rattle.owner_lists.specs.Missed.{born_in_order}
 use Rattle.bench_types.specs.Sums.{most_below}
 use Rattle.model.specs.Figures.{writes_of_owner, staleness_at, stale_count, rounds_behind}

@@ -1,5 +1,5 @@
 use Rattle.std.proofs.Common.{◌+◌, max, length, ap, ◌∙◌, arith, add-one}
-use Rattle.model.specs.OwnerListView.{lists_in}
+use Rattle.model.specs.calls.OwnerListView.{lists_in}
 use Rattle.staleness.specs.declared.staleness.Staleness.{Staleness}
 use Rattle.node_table.specs.NodeTableView.{tables_in}
 use Rattle.bench_types.specs.Sums.{most_below}

@@ -4,7 +4,7 @@ use Rattle.model.specs.Table.{Table}
 use Rattle.node_table.specs.NodeTableView.{tables_in}
 use Rattle.model.specs.Tables.{table_of_node}
 use Rattle.node_table.proofs.InOrder.{table_indexed, length-tables_in}
-use Rattle.model.specs.OwnerListView.{lists_in}
+use Rattle.model.specs.calls.OwnerListView.{lists_in}
 use Rattle.staleness.specs.inner.Copies.{copies_of}
 use Rattle.staleness.proofs.Places.{all_within}
 use Rattle.staleness.proofs.staleness.staleness_of_owners.Goals as goal

@@ -1,6 +1,6 @@
 use Rattle.std.proofs.Common.{◌+◌, length, sym, ap, ◌∙◌, subst}
-use Rattle.model.specs.Numbers.{write_numbered}
-use Rattle.model.specs.OwnerListView.{all_writes, next_entry, list_of_owner}
+use Rattle.model.specs.calls.Numbers.{write_numbered}
+use Rattle.model.specs.calls.OwnerListView.{all_writes, next_entry, list_of_owner}
 use Rattle.version_tables.specs.Writes.{IsNextWrite}
 use Rattle.version_tables.proofs.NextWrites.{next-write}
 use Rattle.version_tables.proofs.carrying.write.Goals as goal

@@ -3,7 +3,7 @@ use Rattle.std.proofs.Math.Path.{transport}
 use Rattle.std.specs.Prelude.{◌||◌}
 use Rattle.std.proofs.lemmas.List.{length-map}
 use Rattle.bench_types.specs.declared.entries.Entry.{Entry}
-use Rattle.model.specs.OwnerListView.{all_writes}
+use Rattle.model.specs.calls.OwnerListView.{all_writes}
 use Rattle.planes.specs.Planes.{HasEach}
 use Rattle.version_tables.specs.Views.{HistoriesView, VersionTableView}
 use Rattle.version_tables.specs.declared.histories.Owners.{Owners}

@@ -1,5 +1,5 @@
 use Rattle.std.proofs.Common.{◌≡◌, ℕ, ◌<◌, length, map, sym, subst, arith}
-use Rattle.model.specs.OwnerListView.{list_of_owner}
+use Rattle.model.specs.calls.OwnerListView.{list_of_owner}
 use Rattle.planes.specs.Planes.{HasEachPlace}
 use Rattle.bench_types.specs.Sums.{most_below}
 use Rattle.version_tables.specs.inner.Missed.{IsLastNumber}

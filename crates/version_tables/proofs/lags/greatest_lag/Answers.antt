@@ -1,6 +1,6 @@
 use Rattle.std.proofs.Common.{rules, ◌≡◌, ◌+◌, ◌≤◌, max, length, map, refl, ap, ◌∙◌, arith}
 use Rattle.std.proofs.lemmas.List.{length-map, get_or_default}
-use Rattle.model.specs.OwnerListView.{list_of_owner, no_writes}
+use Rattle.model.specs.calls.OwnerListView.{list_of_owner, no_writes}
 use Rattle.planes.specs.Planes.{cell}
 use Rattle.planes.proofs.Elementwise.{number-at}
 use Rattle.version_tables.specs.inner.Pieces.{most_lag}

@@ -1,5 +1,5 @@
 use Rattle.std.proofs.Common.{◌≡◌, length, map}
-use Rattle.model.specs.OwnerListView.{list_of_owner}
+use Rattle.model.specs.calls.OwnerListView.{list_of_owner}
 use Rattle.bench_types.specs.Sums.{most_below}
 use Rattle.version_tables.specs.inner.Pieces.{most_lag}
 use Rattle.version_tables.proofs.lags.greatest_lag.Given as goal

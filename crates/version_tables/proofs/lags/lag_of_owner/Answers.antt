@@ -4,8 +4,8 @@ use Rattle.std.specs.Borrow.{Bor}
 use Rattle.std.proofs.lemmas.List.{length-map}
 use Rattle.std.proofs.lemmas.Option.{same_Some}
 use Rattle.bench_types.specs.declared.entries.Entry.{Entry}
-use Rattle.model.specs.OwnerListView.{entries_of}
-use Rattle.model.specs.Numbers.{write_numbered}
+use Rattle.model.specs.calls.OwnerListView.{entries_of}
+use Rattle.model.specs.calls.Numbers.{write_numbered}
 use Rattle.owner_writes.specs.declared.writes.Kept.{Kept}
 use Rattle.owner_writes.specs.Kept.{entry_kept}
 use Rattle.planes.specs.Planes.{cell}

@@ -1,5 +1,5 @@
 use Rattle.std.proofs.Common.{slice_index, map}
-use Rattle.model.specs.OwnerListView.{all_writes}
+use Rattle.model.specs.calls.OwnerListView.{all_writes}
 use Rattle.planes.specs.Planes.{ArePlanesChanged}
 use Rattle.planes.proofs.ByOwner.{owners_changed}
 use Rattle.version_tables.specs.inner.Taken.{drop_start, number_kept}

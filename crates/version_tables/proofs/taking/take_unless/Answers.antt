@@ -3,7 +3,7 @@ use Rattle.std.proofs.Math.Path.{transport}
 use Rattle.std.specs.Vec.{with_items}
 use Rattle.std.proofs.lemmas.List.{length-map, with_items_is}
 use Rattle.planes.specs.Planes.{AreCovered, ArePlanesChanged, AreRaised, AreTaken}
-use Rattle.model.specs.OwnerListView.{all_writes}
+use Rattle.model.specs.calls.OwnerListView.{all_writes}
 use Rattle.version_tables.specs.Views.{VersionTableView}
 use Rattle.version_tables.specs.inner.Histories.{bases_in, AreOwners}
 use Rattle.version_tables.specs.inner.Taken.{drop_start, number_kept, IsTaken}

@@ -1,6 +1,6 @@
 use Rattle.std.proofs.Common.{◌<◌, length, get_or, sym, ◌∙◌, subst, arith, map}
 use Rattle.std.proofs.lemmas.List.{length-map}
-use Rattle.model.specs.OwnerListView.{entries_of}
+use Rattle.model.specs.calls.OwnerListView.{entries_of}
 use Rattle.planes.proofs.Elementwise.{number-at, written_next}
 use Rattle.version_tables.specs.inner.Offers.{IsNumberedHistory}
 use Rattle.version_tables.specs.inner.Told.{IsEarlierStart}

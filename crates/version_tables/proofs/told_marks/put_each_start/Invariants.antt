@@ -1,5 +1,5 @@
 use Rattle.std.proofs.Common.{slice_index, map}
-use Rattle.model.specs.OwnerListView.{all_writes}
+use Rattle.model.specs.calls.OwnerListView.{all_writes}
 use Rattle.planes.specs.Elementwise.{AreChangedUpto}
 use Rattle.version_tables.specs.inner.Told.{IsEarlierStart}
 use Rattle.version_tables.proofs.told_marks.put_each_start.Given as goal

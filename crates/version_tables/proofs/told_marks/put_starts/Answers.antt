@@ -1,5 +1,5 @@
 use Rattle.std.proofs.Common.{◌<◌, length, get_or, sym, ◌∙◌, arith, map}
-use Rattle.model.specs.OwnerListView.{list_of_owner}
+use Rattle.model.specs.calls.OwnerListView.{list_of_owner}
 use Rattle.version_tables.proofs.Starts.{start-own, start-lowered}
 use Rattle.version_tables.proofs.told_marks.put_starts.Goals as goal
 

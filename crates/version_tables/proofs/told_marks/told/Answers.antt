@@ -1,6 +1,6 @@
 use Rattle.std.proofs.Common.{◌≡◌, length, set, map, slice_index, sym, ap, subst, ◌∙◌, arith}
 use Rattle.std.proofs.lemmas.List.{map-set, with_items_is}
-use Rattle.model.specs.OwnerListView.{all_writes}
+use Rattle.model.specs.calls.OwnerListView.{all_writes}
 use Rattle.planes.specs.Elementwise.{AreChanged}
 use Rattle.planes.specs.Planes.{HasEach}
 use Rattle.version_tables.specs.inner.Offers.{told_by, told_number}

@@ -1,7 +1,8 @@
 use Rattle.std.proofs.Common.{◌≡◌, ◌+◌, ◌<◌, ◌++◌, ◌∷◌, [], length, map, take, get_or, sym, ap, subst, ◌∙◌, arith}
 use Rattle.std.proofs.lemmas.List.{take_all, length-map}
 use Rattle.model.specs.Folds.{Folded, exchange_in, fold_of}
-use Rattle.model.specs.Tables.{table_of_node, IsCluster, HoldsOfEach}
+use Rattle.model.specs.Tables.{table_of_node, HoldsOfEach}
+use Rattle.model.specs.calls.Tables.{IsCluster}
 use Rattle.model.proofs.Tables.{cluster_of}
 use Rattle.model.proofs.FoldLaws.{before_keeps_each}
 use Rattle.dependencies.specs.Sharing.{no_exchange}

@@ -1,5 +1,5 @@
 use Rattle.std.proofs.Common.{length, map, sym, ap, subst, ◌∙◌}
-use Rattle.model.specs.Tables.{IsCluster}
+use Rattle.model.specs.calls.Tables.{IsCluster}
 use Rattle.dependencies.specs.Neighbours.{first_ready_of}
 use Rattle.workers.specs.inner.Deques.{AllBelow}
 use Rattle.workers.specs.inner.Starts.{AreSeveral}

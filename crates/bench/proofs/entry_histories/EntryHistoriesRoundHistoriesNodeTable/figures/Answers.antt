@@ -1,6 +1,6 @@
 use Rattle.std.proofs.Common.{All, sym, subst}
-use Rattle.model.specs.OwnerListView.{lists_in}
-use Rattle.model.specs.Writes.{AreBornBy}
+use Rattle.model.specs.calls.OwnerListView.{lists_in}
+use Rattle.model.specs.calls.Writes.{AreBornBy}
 use Rattle.round_tables.specs.Histories.{AreWrittenBy}
 use Rattle.bench.proofs.Born.{lists_born}
 use Rattle.bench.proofs.entry_histories.EntryHistoriesRoundHistoriesNodeTable.figures.Goals as goal

@@ -6,7 +6,7 @@ use Rattle.bench_types.specs.declared.entries.Entry.{Entry}
 use Rattle.bench_types.specs.Mark.{mark_held}
 use Rattle.model.specs.Table.{mark_at}
 use Rattle.node_table.specs.inner.Layouts.{table_laid}
-use Rattle.model.specs.Held.{entry_in}
+use Rattle.model.specs.inner.Held.{entry_in}
 use Rattle.node_table.proofs.Taking.{version-le-greatest}
 use Rattle.node_table.proofs.InLayout.{entry_at-in}
 use Rattle.node_table.proofs.layouts.Layout.is_newer.Goals as goal

@@ -5,7 +5,7 @@ use Rattle.node_table.specs.declared.layouts.Layout.{Layout}
 use Rattle.node_table.specs.declared.layouts.Row.{Row}
 use Rattle.model.specs.Table.{Table, generation_held, taken, IsProper}
 use Rattle.node_table.specs.Entries.{AreGenerations, AreGreatest}
-use Rattle.model.specs.Held.{held_by_lists}
+use Rattle.model.specs.calls.Held.{held_by_lists}
 use Rattle.node_table.specs.inner.Layouts.{rows_of, row_at, table_laid, count_in_rows, AreLaid}
 use Rattle.model.proofs.ProperLaws.{proper-taking}
 use Rattle.node_table.proofs.Taking.{greatest_set, generations_same, generations_newer}

@@ -6,7 +6,7 @@ use Rattle.std.proofs.lemmas.List.{drop_more}
 use Rattle.bench_types.specs.declared.entries.Item.{Item}
 use Rattle.model.specs.Table.{Table, greatest_version, taken, applied}
 use Rattle.model.specs.inner.Items.{no_item}
-use Rattle.model.specs.Table.{IsItemInPlace}
+use Rattle.model.specs.calls.Table.{IsItemInPlace}
 use Rattle.node_table.specs.NodeTableView.{blocks_for}
 use Rattle.node_table.specs.inner.Layouts.{table_laid}
 use Rattle.model.proofs.TableLaws.{frame-taken}

@@ -4,7 +4,7 @@ use Rattle.std.proofs.lemmas.Nat.{le-div}
 use Rattle.bench_types.specs.declared.entries.Entry.{Entry}
 use Rattle.model.specs.Table.{Table}
 use Rattle.node_table.specs.NodeTableView.{blocks_for}
-use Rattle.model.specs.Held.{held_by_lists}
+use Rattle.model.specs.calls.Held.{held_by_lists}
 use Rattle.node_table.specs.inner.Layouts.{rows_of}
 use Rattle.node_table.proofs.tables.NodeTable.reserve_for.Goals as goal
 

@@ -1,5 +1,5 @@
 use Rattle.std.proofs.Common.{◌≡◌, length, ap, ◌∙◌, arith}
-use Rattle.model.specs.OwnerListView.{begun_generation}
+use Rattle.model.specs.calls.OwnerListView.{begun_generation}
 use Rattle.owner_lists.specs.declared.lists.Link.{Link}
 use Rattle.owner_writes.proofs.Keeping.{view_begun}
 use Rattle.owner_lists.proofs.Keeping.{kept_begun}

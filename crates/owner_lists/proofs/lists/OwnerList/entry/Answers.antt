@@ -1,8 +1,9 @@
 use Rattle.std.proofs.Common.{List, take, drop, sym, ap, ◌∙◌, subst}
 use Rattle.std.specs.List.{find}
 use Rattle.owner_lists.specs.declared.lists.Link.{Link}
-use Rattle.model.specs.Numbers.{write_numbered}
-use Rattle.model.specs.OwnerListView.{OwnerListView, has_mark, MarksRise, entry_of}
+use Rattle.model.specs.calls.Numbers.{write_numbered}
+use Rattle.model.specs.calls.OwnerListView.{OwnerListView, MarksRise}
+use Rattle.owner_lists.specs.Marked.{has_mark, entry_of}
 use Rattle.owner_lists.specs.inner.Linked.{entries_linked, view_of}
 use Rattle.owner_lists.proofs.Marked.{rising_earlier, entry_current, entry_earlier}
 use Rattle.owner_lists.proofs.Keeping.{sliced}

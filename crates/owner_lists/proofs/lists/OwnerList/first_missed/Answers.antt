@@ -1,7 +1,7 @@
 use Rattle.std.proofs.Common.{◌≡◌, ◌+◌, List, drop, ap, ◌∙◌, arith}
 use Rattle.owner_lists.specs.declared.lists.Link.{Link}
 use Rattle.model.specs.declared.writes.Write.{Write}
-use Rattle.model.specs.OwnerListView.{written}
+use Rattle.model.specs.calls.OwnerListView.{written}
 use Rattle.owner_lists.specs.Latest.{write_of}
 use Rattle.owner_lists.specs.inner.Linked.{writes_linked}
 use Rattle.owner_lists.specs.Missed.{first_missed}

@@ -1,5 +1,5 @@
 use Rattle.std.proofs.Common.{ap, ◌∙◌, subst}
-use Rattle.model.specs.OwnerListView.{written, AreWrites}
+use Rattle.model.specs.calls.OwnerListView.{written, AreWrites}
 use Rattle.owner_lists.specs.Missed.{born_in_order}
 use Rattle.owner_lists.proofs.Keeping.{numbered_kept, shown_kept}
 use Rattle.owner_lists.proofs.lists.OwnerList.is_in_order.Goals as goal

@@ -1,5 +1,5 @@
 use Rattle.std.proofs.Common.{sym, ap, ◌∙◌, subst}
-use Rattle.model.specs.OwnerListView.{written}
+use Rattle.model.specs.calls.OwnerListView.{written}
 use Rattle.owner_lists.specs.Latest.{IsLatest}
 use Rattle.owner_lists.proofs.Keeping.{shown_kept}
 use Rattle.owner_lists.proofs.lists.OwnerList.latest.Goals as goal

@@ -1,7 +1,7 @@
 use Rattle.std.proofs.Common.{List, sym, ap, ◌∙◌}
 use Rattle.bench_types.specs.declared.entries.Entry.{Entry}
-use Rattle.model.specs.Numbers.{write_numbered}
-use Rattle.model.specs.OwnerListView.{entries_of}
+use Rattle.model.specs.calls.Numbers.{write_numbered}
+use Rattle.model.specs.calls.OwnerListView.{entries_of}
 use Rattle.owner_lists.specs.inner.Linked.{entries_linked}
 use Rattle.owner_lists.specs.declared.lists.Link.{Link}
 use Rattle.owner_writes.proofs.Keeping.{entries_whole}

@@ -5,8 +5,9 @@ use Rattle.std.proofs.lemmas.List.{length-map}
 use Rattle.bench_types.specs.declared.entries.Entry.{Entry}
 use Rattle.owner_lists.specs.declared.lists.Link.{Link}
 use Rattle.model.specs.declared.writes.Write.{Write}
-use Rattle.model.specs.OwnerListView.{OwnerListView, next_entry}
-use Rattle.model.specs.Writes.{write_of_entry, last_write}
+use Rattle.model.specs.calls.OwnerListView.{OwnerListView, next_entry}
+use Rattle.model.specs.Writes.{write_of_entry}
+use Rattle.model.specs.calls.Writes.{last_write}
 use Rattle.owner_lists.specs.Missed.{last_born}
 use Rattle.owner_lists.specs.Latest.{keyed, write_of}
 use Rattle.owner_lists.specs.inner.Linked.{entries_linked, writes_linked, version_or_zero, view_of}

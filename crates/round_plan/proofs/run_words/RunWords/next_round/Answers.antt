@@ -1,7 +1,7 @@
 use Rattle.std.proofs.Common.{◌≡◌, ◌+◌, ◌<◌, ◌≤◌, ◌++◌, ℕ, List, length, take, drop, append-nil, sym, subst, ap, ◌∙◌, arith}
 use Rattle.std.proofs.lemmas.List.{drop_all, take_all}
 use Rattle.bench_types.specs.declared.limits.TheConstants.{MOST_ROUNDS}
-use Rattle.round_plan.specs.Words.{RunWordsView}
+use Rattle.round_plan.specs.calls.Words.{RunWordsView}
 use Rattle.round_plan.specs.inner.Streams.{ArePartsOf, HaveDrawn}
 use Rattle.round_plan.proofs.Streams.{parts_next}
 use Rattle.round_plan.proofs.run_words.RunWords.next_round.Goals as goal

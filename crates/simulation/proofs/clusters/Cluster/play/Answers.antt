@@ -1,11 +1,12 @@
 use Rattle.std.proofs.Common.{map, subst, sym, ap, ◌∙◌, arith}
-use Rattle.bench_types.specs.Budget.{IsLawfulBudget}
+use Rattle.bench_types.specs.calls.Budget.{IsLawfulBudget}
 use Rattle.bench_types.specs.declared.exchanges.Rules.{Rules}
-use Rattle.model.specs.Tables.{IsCluster}
-use Rattle.model.specs.OwnerListView.{lists_in}
+use Rattle.model.specs.calls.Tables.{IsCluster}
+use Rattle.model.specs.calls.OwnerListView.{lists_in}
 use Rattle.model.specs.Figures.{figures_of}
-use Rattle.model.specs.RoundLists.{RoundListView, IsRoundPlan}
-use Rattle.round_plan.specs.Words.{RunWordsView}
+use Rattle.model.specs.RoundLists.{RoundListView}
+use Rattle.model.specs.calls.RoundLists.{IsRoundPlan}
+use Rattle.round_plan.specs.calls.Words.{RunWordsView}
 use Rattle.simulation.proofs.Playing.{IsLeft, next_words_of, lawful_budget, is_left, each_begun, nodes_cluster, standing_cluster, one_list_each, one_record_each, round_is, played_is}
 use Rattle.simulation.proofs.Standing.{written_by}
 use Rattle.simulation.proofs.clusters.Cluster.play.Given as given

@@ -1,6 +1,6 @@
 use Rattle.std.proofs.Common.{◌+◌, Some, sym, ◌∙◌, subst, arith}
 use Rattle.scenario.specs.Settings.{IsLawfulScenario}
-use Rattle.simulation.specs.Simulation.{SimView, MayStep, PlaysNext}
+use Rattle.simulation.specs.calls.Simulation.{SimView, MayStep, PlaysNext}
 use Rattle.simulation.specs.inner.Insides.{simulation_of}
 use Rattle.simulation.proofs.Stepping.{after_before, step_played}
 use Rattle.simulation.proofs.sims.Sim.step.Goals as goal

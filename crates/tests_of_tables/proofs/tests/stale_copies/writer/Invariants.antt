@@ -1,6 +1,6 @@
 use Rattle.std.proofs.Common.{◌≡◌}
-use Rattle.model.specs.OwnerListView.{written}
-use Rattle.model.specs.Writes.{AreBornBy}
+use Rattle.model.specs.calls.OwnerListView.{written}
+use Rattle.model.specs.calls.Writes.{AreBornBy}
 use Rattle.tests_of_tables.proofs.tests.stale_copies.writer.Given as goal
 
 abbrev pub invariant-loop : goal.invariant-loop

@@ -1,7 +1,7 @@
 use Rattle.std.proofs.Common.{rules, ◌≡◌, ◌<◌, ◌==◌, cond, length, set, map, subst, sym, ◌∙◌}
 use Rattle.std.proofs.lemmas.List.{with_items_is}
 use Rattle.bench_types.specs.declared.limits.TheConstants.{MOST_KEYS}
-use Rattle.model.specs.OwnerListView.{all_writes, begun_generation}
+use Rattle.model.specs.calls.OwnerListView.{all_writes, begun_generation}
 use Rattle.planes.specs.Planes.{ArePlanesChanged}
 use Rattle.version_tables.specs.Views.{HistoriesView}
 use Rattle.version_tables.specs.inner.Histories.{AreHistories}

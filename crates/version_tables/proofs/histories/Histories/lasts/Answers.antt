@@ -1,6 +1,6 @@
 use Rattle.std.proofs.Common.{rules, ◌≡◌, ◌*◌, length, map, take, sym, subst}
 use Rattle.bench_types.specs.declared.limits.TheConstants.{MOST_KEYS}
-use Rattle.model.specs.OwnerListView.{list_of_owner}
+use Rattle.model.specs.calls.OwnerListView.{list_of_owner}
 use Rattle.planes.specs.Planes.{HasEachPlace}
 use Rattle.version_tables.specs.Views.{HistoriesView}
 use Rattle.version_tables.specs.inner.Missed.{IsLastNumber}

@@ -1,9 +1,9 @@
 -- What contracts see of an owner's list: all that it wrote, in order. A write is known by its mark, and what stands
 -- under a mark never changes. Source: the LADIS 2008 paper for versions that rise; generations are this project's.
-use Rattle.std.specs.Prelude.{◌≡◌, ◌≢◌, ℕ, ◌+◌, ◌<◌, ◌==◌, ◌&&◌, List, [], ◌∷◌, ◌++◌, length, map, find, slice_index_or, All, Bool, Option}
+use Rattle.std.specs.Prelude.{◌≡◌, ◌≢◌, ℕ, ◌+◌, ◌<◌, List, [], ◌∷◌, ◌++◌, length, map, slice_index_or, All}
 use Rattle.bench_types.specs.declared.entries.Entry.{Entry}
-use Rattle.bench_types.specs.declared.entries.Mark.{Mark}
-use Rattle.bench_types.specs.Entry.{next_version, AreNextAfter}
+use Rattle.bench_types.specs.Entry.{next_version}
+use Rattle.bench_types.specs.calls.Entry.{AreNextAfter}
 use Rattle.bench_types.specs.Mark.{mark_of, IsBefore}
 use Rattle.model.specs.declared.writes.Write.{Write}
 use Rattle.model.specs.Writes.{write_of_entry}
@@ -55,14 +55,6 @@ with_write v key value born = record v { current = v.current ++ next_entry v key
 -- it forgets what it wrote, and begins its next generation
 abbrev pub begun_generation : OwnerListView → OwnerListView
 begun_generation v = record { earlier = entries_of v; current = []; generation = v.generation + 1 }
-
--- an entry has this mark
-abbrev pub has_mark : Mark → Entry → Bool
-has_mark mark e = e.generation == mark.generation && e.version == mark.version
-
--- the write of a mark, if there is one
-abbrev pub entry_of : OwnerListView → Mark → Option Entry
-entry_of v mark = find (has_mark mark) (entries_of v)
 
 -- the list of an owner
 abbrev pub list_of_owner : List OwnerListView → ℕ → OwnerListView

@@ -3,7 +3,8 @@
 use Rattle.std.specs.Prelude.{◌≡◌, ℕ, List, option_map}
 use Rattle.model.specs.Table.{Table, entry_at}
 use Rattle.model.specs.declared.writes.Write.{Write}
-use Rattle.model.specs.Writes.{write_of_entry, last_write}
+use Rattle.model.specs.Writes.{write_of_entry}
+use Rattle.model.specs.calls.Writes.{last_write}
 
 -- a node's own part is the last write of each key, in key, version and born
 abbrev pub OwnPartIsLastWrites : Table → List Write → Type 0

@@ -3,7 +3,7 @@ use Rattle.std.specs.Prelude.{ℕ, List, ◌++◌, codes, decimal}
 use Rattle.bench_types.specs.declared.faults.Fault.{Fault}
 use Rattle.bench_types.specs.declared.faults.Fault.TheVariants as fault
 use Rattle.bench_types.specs.declared.limits.TheConstants.{MOST_BYTES, MOST_ENTRIES, MOST_ENTRY_SIZE}
-use Rattle.bench_types.specs.Field.{field_text, table_name}
+use Rattle.bench_types.specs.calls.Field.{field_text, table_name}
 
 abbrev pub fault_line : Fault → List ℕ
 fault_line fault.OutOfMemory = codes "fault 1: out of memory"

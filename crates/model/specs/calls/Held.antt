@@ -1,6 +1,6 @@
 -- What lists of entries come to as a table's map, one list for each owner, in order: each entry stands at its owner and
 -- key. Source: this project.
-use Rattle.std.specs.Prelude.{◌≢◌, ℕ, suc, ◌==◌, List, [], ◌∷◌, ◌++◌, map, Option, None, Some, if◌then◌else◌}
+use Rattle.std.specs.Prelude.{ℕ, suc, List, [], ◌∷◌, ◌++◌, map}
 use Rattle.std.specs.FinMap.{from_entries}
 use Rattle.bench_types.specs.declared.entries.Entry.{Entry}
 use Rattle.model.specs.Table.{Place, Held}
@@ -17,12 +17,3 @@ placed_from owner (list ∷ lists) = map (placed owner) list ++ placed_from (suc
 -- what they hold, the first list being that of owner 0
 unfoldable pub held_by_lists : List (List Entry) → Held
 held_by_lists lists = from_entries (placed_from 0 lists)
-
--- the entry of a key in a list, the first where there are several
-abbrev pub entry_in : List Entry → ℕ → Option Entry
-entry_in [] key = None
-entry_in (e ∷ es) key = if e.key == key then Some e else entry_in es key
-
--- two entries are of different keys
-abbrev pub HaveTwoKeys : Entry → Entry → Type 0
-HaveTwoKeys d e = d.key ≢ e.key

@@ -6,15 +6,15 @@ use Rattle.bench_types.specs.declared.faults.Fault.TheVariants.{Broken, Finished
 use Rattle.bench_types.specs.declared.entries.Entry.{Entry}
 use Rattle.model.specs.Table.{Table}
 use Rattle.scenario.specs.Settings.{Settings}
-use Rattle.model.specs.OwnerListView.{OwnerListView}
-use Rattle.simulation.specs.RoundView.{RoundView}
-use Rattle.model.specs.Numbers.{write_numbered}
+use Rattle.model.specs.calls.OwnerListView.{OwnerListView}
+use Rattle.simulation.specs.calls.RoundView.{RoundView}
+use Rattle.model.specs.calls.Numbers.{write_numbered}
 use Rattle.round_plan.specs.Writes.{written_upto}
 use Rattle.model.specs.Runs.{IsFaultOfWorkers}
 use Rattle.simulation.specs.Rounds.{tables_after}
-use Rattle.simulation.specs.Outcomes.{played_of}
+use Rattle.simulation.specs.calls.Outcomes.{played_of}
 use Rattle.simulation.specs.Soundness.{AreSound, OnlyRestartsLowerMarks}
-use Rattle.simulation.specs.Standing.{StandAfterRound}
+use Rattle.simulation.specs.calls.Standing.{StandAfterRound}
 
 -- `T` are the tables in memory
 pub record SimView (T : Type 0) : Type 0 where

@@ -7,9 +7,9 @@ use Rattle.round_plan.specs.Generations.{generation_upto}
 use Rattle.round_plan.specs.Writes.{writes_upto, written_upto}
 use Rattle.bench_types.specs.declared.limits.TheConstants.{MOST_WRITES}
 use Rattle.scenario.specs.Settings.{Settings}
-use Rattle.model.specs.OwnerListView.{OwnerListView, entries_of, written, list_of_owner}
-use Rattle.model.specs.OwnParts.{OwnPartIsLastWrites}
-use Rattle.model.specs.Writes.{AreBornBy}
+use Rattle.model.specs.calls.OwnerListView.{OwnerListView, entries_of, written, list_of_owner}
+use Rattle.model.specs.calls.OwnParts.{OwnPartIsLastWrites}
+use Rattle.model.specs.calls.Writes.{AreBornBy}
 
 -- a node's table of a generation beside its list, which has these writes of it, and these of all, up to a round
 pub record IsOwnerOf (s : Settings) (n current : ℕ) (of_it of_all : List Entry) (round : ℕ) (t : Table)

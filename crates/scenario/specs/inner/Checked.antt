@@ -1,21 +1,48 @@
--- The check of a scenario's text. The bytes have to be a TOML document. Then its fields are checked
--- in order, each one for being there, for its type and for its value; right after the nodes and the
--- keys comes how many entries the tables can hold. Then come the partitions, the restarts and the
--- loads, element by element, and at last that no table has another field: first the document itself,
--- then each element. The first fault is the answer. Source: this project.
-use Rattle.std.specs.Prelude.{ℕ, List, Option, None, Some, Result, Ok, Err, if◌then◌else◌}
-use Rattle.std.specs.Str.{is_utf8}
+-- The check of a document as a chain of checks, as the reader makes them. Source: this project.
+use Rattle.std.specs.Prelude.{ℕ, Result, Ok, List, Option, None, Some, Err}
 use Rattle.toml.specs.Data.{Members}
-use Rattle.toml.specs.Parse.{parse_document}
 use Rattle.bench_types.specs.declared.faults.Fault.{Fault}
+use Rattle.scenario.specs.declared.parts.Basics.{Basics}
+use Rattle.scenario.specs.declared.parts.Conduct.{Conduct}
+use Rattle.scenario.specs.Budgets.{budget_at}
+use Rattle.scenario.specs.Fields.{◌>>=◌, only_fields}
+use Rattle.scenario.specs.Top.{format_at, nodes_at, keys_at, rounds_at, seed_at, mode_at, peers_at, rotation_at, choice_at, loss_ppm_at, writes_at, top_fields}
+use Rattle.scenario.specs.Order.{size_checked, document_of}
 use Rattle.bench_types.specs.declared.faults.Fault.TheVariants.{NotToml}
 use Rattle.bench_types.specs.declared.fields.Field.TheVariants as field
 use Rattle.bench_types.specs.declared.fields.TableName.TheVariants as name
-use Rattle.scenario.specs.Elements.{partitions_at, restarts_at, loads_at, only_elements, partition_fields, restart_fields, load_fields}
-use Rattle.scenario.specs.Fields.{◌>>=◌, only_fields}
+use Rattle.scenario.specs.Elements.{only_elements, partition_fields, restart_fields, load_fields}
+use Rattle.scenario.specs.inner.Elements.{partitions_at, restarts_at, loads_at}
 use Rattle.scenario.specs.Settings.{Settings}
-use Rattle.scenario.specs.Parts.{basics_at, conduct_at}
-use Rattle.scenario.specs.Top.{top_fields}
+
+abbrev pub basics_at : Members → Result Basics Fault
+basics_at table = do
+  format ← format_at table
+  nodes ← nodes_at table
+  keys ← keys_at table
+  _ ← size_checked nodes keys
+  rounds ← rounds_at table
+  seed ← seed_at table
+  Ok (record { format = format; nodes = nodes; keys = keys; rounds = rounds; seed = seed })
+
+abbrev pub conduct_at : ℕ → Members → Result Conduct Fault
+conduct_at format table = do
+  mode ← mode_at table
+  budget ← budget_at format table
+  peers ← peers_at table
+  rotation ← rotation_at table
+  choice ← choice_at table
+  loss_ppm ← loss_ppm_at table
+  writes ← writes_at table
+  Ok (record {
+    mode = mode;
+    budget = budget;
+    peers = peers;
+    rotation = rotation;
+    choice = choice;
+    loss_ppm = loss_ppm;
+    writes = writes;
+  })
 
 -- no table has a key that the format does not list
 abbrev pub unknown_checked : ℕ → Members → Result (Unit {0}) Fault
@@ -51,10 +78,6 @@ checked table = do
     restarts = restarts;
     loads = loads;
   })
-
--- the document that some bytes write: they have to be UTF-8, and to follow the grammar of TOML
-abbrev pub document_of : List ℕ → Option Members
-document_of bytes = if is_utf8 bytes then parse_document bytes else None
 
 abbrev pub document_checked : Option Members → Result Settings Fault
 document_checked None = Err NotToml

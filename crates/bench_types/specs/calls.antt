@@ -1,0 +1,6 @@
+pub mod Budget
+pub mod Entry
+pub mod Exchange
+pub mod FaultLine
+pub mod Field
+pub mod Mode

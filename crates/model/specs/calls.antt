@@ -1,0 +1,12 @@
+pub mod Clusters
+pub mod DeltaLaws
+pub mod ExchangeLaws
+pub mod Exchanging
+pub mod Held
+pub mod Numbers
+pub mod OwnParts
+pub mod OwnerListView
+pub mod RoundLists
+pub mod Table
+pub mod Tables
+pub mod Writes

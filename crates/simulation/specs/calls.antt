@@ -1,0 +1,4 @@
+pub mod Outcomes
+pub mod RoundView
+pub mod Simulation
+pub mod Standing

@@ -1,0 +1,22 @@
+-- Carrying out a list of exchanges on tables in memory, whatever their representation is: it comes to the tables and
+-- the records of list order, with any number of workers. Source: this project.
+use Rattle.std.specs.Prelude.{◌≡◌, ℕ, List, map}
+use Rattle.bench_types.specs.declared.exchanges.Exchange.{Exchange}
+use Rattle.bench_types.specs.declared.exchanges.Record.{Record}
+use Rattle.bench_types.specs.declared.exchanges.Rules.{Rules}
+use Rattle.bench_types.specs.calls.Budget.{IsLawfulBudget}
+use Rattle.model.specs.Table.{Table}
+use Rattle.model.specs.Folds.{fold_of}
+use Rattle.model.specs.Tables.{HoldsOfEach}
+use Rattle.model.specs.calls.Tables.{IsCluster}
+
+-- the tables of so many nodes, each of which fits what all read, and rules: exchanges of the nodes may be carried out
+pub record MayCarryOut (fits : Table → Type 0) (rules : Rules) (nodes : ℕ) (tables : List Table) : Type 0 where
+  pub cluster : IsCluster nodes tables
+  pub each_fits : HoldsOfEach fits tables
+  pub budget : IsLawfulBudget rules.budget
+
+-- these are the tables and the records of list order
+abbrev pub AreExchanged : {T : Type 0} → (T → Table) → Rules → List Exchange → List T → List T → List Record → Type 0
+AreExchanged table rules es old new records =
+    fold_of rules (map table old) es ≡ record { tables = map table new; records = records }

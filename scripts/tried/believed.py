@@ -1,0 +1,65 @@
+"""Trials of scripts/believed: it holds of the repository, and in a copy it finds each definition that stands elsewhere
+than what means it asks for."""
+import shutil
+
+from tried.calls import run
+from trials import TOP, holds
+
+# What is put in front of all of a file of crates/ and behind it, and the definitions of which it then complains.
+CHANGES = {
+    "nothing means it": (
+        {"bench_types/specs/Budget.antt": ("", "abbrev pub unmeant : Budget → ℕ\nunmeant budget = 0\n")},
+        ["bench_types.specs.Budget.unmeant"],
+    ),
+    "a field of a record means it": (
+        {"bench_types/specs/Mark.antt": ("", "abbrev pub IsMeant : ℕ → Type 0\nIsMeant writes = Unit {0}\n"),
+         "scenario/specs/Settings.antt": (
+             "use Rattle.bench_types.specs.Mark.{IsMeant}\n",
+             # (the last record of the file is IsLawfulScenario)
+             "  pub meant : IsMeant s.writes\n")},
+        [],
+    ),
+    "a law alone means it": (
+        {"simulation/specs/calls/Outcomes.antt": ("", "abbrev pub AreRings : Type 0\nAreRings = Unit {0}\n"),
+         "simulation/src/laws.rt": (
+             "ghost use Rattle.simulation.specs.calls.Outcomes.{AreRings};\n",
+             "pub fn rings_are_rings()\n    ensures { AreRings }\n{}\n")},
+        ["simulation.specs.calls.Outcomes.AreRings"],
+    ),
+    "it names one from further in": (
+        {"model/specs/calls/Held.antt": (
+            "use Rattle.model.specs.inner.Held.{entry_in}\n",
+            "abbrev pub placed_in : Entry → ℕ → Option Entry\nplaced_in e = entry_in []\n")},
+        ["model.specs.calls.Held.placed_in", "model.specs.calls.Held.placed_in names"],
+    ),
+}
+
+
+def copied(room):
+    """A copy of the repository's crates, without what checks keep, and of its scripts."""
+    shutil.copytree(TOP / "scripts", room / "scripts", ignore=shutil.ignore_patterns("__pycache__"))
+    shutil.copy(TOP / "crates.txt", room)
+    for part in [*TOP.glob("crates/*/specs"), *TOP.glob("crates/*/src")]:
+        shutil.copytree(part, room / part.relative_to(TOP))
+
+
+def try_repository(room):
+    copied(room)
+    status, out, err = run(room, room / "scripts" / "believed")
+    holds("all stand where they belong", (0, True, ""), (status, out.endswith(" 0 failed\n"), err))
+
+
+def try_changes(room):
+    for name, (files, wanted) in CHANGES.items():
+        kept = {room / "crates" / it: (room / "crates" / it).read_text() for it in files}
+        for file, (front, behind) in files.items():
+            text = kept[room / "crates" / file]
+            (room / "crates" / file).write_text(f"{front}{text}{behind}")
+        status, out, _ = run(room, room / "scripts" / "believed")
+        told = [it.split(": wanted ")[0] for it in out.splitlines() if ": wanted " in it]
+        holds(name, (bool(wanted), wanted), (bool(status), told))
+        for file, text in kept.items():
+            file.write_text(text)
+
+
+TRIALS = [try_repository, try_changes]

@@ -7,22 +7,16 @@
 //! - UTF-8 is tested before the TOML, so bytes that are no text are `NotToml` even where memory is short (clause
 //!   `no_text` of `read`). No clause rules out `OutOfMemory` at a text that is UTF-8: the TOML reader may answer it at
 //!   any text that isn't blank. So `refused` and `first` speak of the other faults.
-//! - The contract of `read` states the check twice. `accepted` and `refused` say that the answer is that of
-//!   `text_checked`, a chain of checks. `says`, `first` and `no_fault` say it of all checks at once, so a reader needs
-//!   no chain in mind: each value is the one that the document has at the field's key, and a fault is the first one in
-//!   the list of checks. In that list each value of `apart` is held against the value before it, and a `to` against the
-//!   `from` of its own table.
+//! - The contract of `read` states the check twice: `accepted` and `refused` by a chain of checks (`text_checked`),
+//!   `says`, `first` and `no_fault` of all checks at once, so a reader needs no chain in mind. In the list of these
+//!   each value of `apart` is held against the value before it, and a `to` against the `from` of its own table.
 //! - What TOML is, the toolchain's crate `toml` says: TOML 1.1, integers of 64 bits with a sign, and no value nested
 //!   more than 80 deep. An integer that doesn't fit, or a deeper value, is `NotToml`, not a fault of its field.
 //! - The elements of all three arrays are read by one function, `array_at`, over the types of arrays (`Elements`). What
-//!   reads an element is no trait of the element's own type: a crate loads every impl of a type that it names, with all
-//!   that the impl names. With the impl on `Load` itself each check of a crate above loaded 9,000 modules of TOML, 15
-//!   seconds' worth.
+//!   reads an element is no trait of the element's own type: a crate loads every impl of a type that it names, and with
+//!   the impl on `Load` itself each check of a crate above loaded 9,000 modules of TOML, 15 seconds' worth.
 //! - Unknown keys of elements are looked for in a second walk, since they come after all other checks. That check names
-//!   the table alone, so it doesn't matter which element has the unknown key, and the definition asks of all of them at
-//!   once (`elements_have_only`).
-//! - `IsLawfulScenario` says of `apart` that it rises and that each node is below `nodes`. That so many nodes are at
-//!   most 4096 follows, and no clause says it.
+//!   the table alone, so the definition asks of all elements at once (`elements_have_only`).
 //! - A contract sees a `Partition` as a `PartitionView`, its two rounds and the list of nodes: the vector in it has a
 //!   capacity, which no text says. `Restart` and `Load` hold numbers alone and are seen as they are. Callers see the
 //!   values of a `Scenario` alone, and one reader, `rounds`, says that all limits hold (`lawful`).

@@ -94,6 +94,8 @@ try:
     sys.stdout.flush()
 except Refused as refused:
     status, why = 2, str(refused)
+except BrokenPipeError:
+    status, why = 2, "nobody reads the output any more."
 except OSError as error:
     reason = "it is closed" if error.errno == errno.EBADF else error.strerror
     status, why = 2, f"the output can't be written: {reason}."

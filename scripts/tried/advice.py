@@ -33,6 +33,11 @@ def worst(folder, budget, first, last):
     return [max(int(line.split(",")[7]) for line in text.splitlines()[first:last + 1]) for text in reports]
 
 
+def cut(report):
+    """What a report has of `cut`, as formats.md has its place."""
+    return {line.split(",")[5] for line in report.read_text().splitlines()[1:]}
+
+
 def as_rounds(figure):
     return f"{min(figure)} to {max(figure)} rounds" if min(figure) < max(figure) else f"{max(figure)} rounds"
 
@@ -56,7 +61,9 @@ def try_advice(room):
               (len(lines), len(set(lines)), bool(lines) and lines[0] in first.splitlines()))
     holds("the budget", "Take scuttle-depth with room for 8 entries in a delta, 320 bytes (nodes * keys, above which "
           "nothing changes; nodes * writes); packet=320.", said.partition("\n")[0])
-    holds("nothing is cut", True, "  share cut           0.00 % of what was lacking\n" in said)
+    holds("nothing is cut, so no other run is made for the floor", (True, True, 8), (
+        "  share cut           0.00 % of what was lacking\n" in said, "; the chosen one has that\n" in said,
+        max(int(it.name.split(".")[0].partition("-")[2]) for it in (advice / "many").glob("*.csv"))))
     holds("the answer is kept", said.rpartition("\n\n")[0] + "\n", (advice / "answer.txt").read_text())
     text = (advice / "report.html").read_text()
     tags, pictures = Tags(text), 7 if shutil.which("gnuplot") else 0
@@ -128,6 +135,15 @@ def try_reserve(room):
     for name, told in (("first", first), ("last", said)):
         holds(f"the budget of the {name} answer", (0, True, True),
               (status, f"scuttle-depth with room for {budget}" in told, other in told))
+    # (24 * 6 entries never cut)
+    cuts = {it for seed in range(1, 6) for it in cut(room / "reserve" / "many" /
+            f"budget-144.seed-{seed}.mode-scuttle-depth.csv")}
+    best, own = worst(room / "reserve" / "many", 144, 101, 200), at_most if is_worse else at_knee
+    seconds = as_rounds(best).replace("rounds", "s")
+    has = "that" if best == own else as_rounds(own).removesuffix(" rounds")
+    holds("the floor", ({"0"}, True), (cuts, f"\n  the floor           no mode and no budget does better than "
+                                       f"{as_rounds(best)}, {seconds}, with these peers and losses; the chosen one has "
+                                       f"{has}\n" in said))
     holds("nothing that heals is run where none is asked for", ({"few", "many"}, False),
           ({it.parent.name for it in (room / "reserve").glob("*/scenario")}, "a split" in out or "a restart" in out))
     # (the name that a packet had before)
@@ -161,8 +177,9 @@ def try_target(room):
             f"packet={least * 40 + 240}.")
     line = next((it for it in out.splitlines() if it.startswith("Take ")), "")
     holds("the smallest packet", (0, True, True), (status, line.startswith(said[0]), line.endswith(said[1])))
-    holds("the target", (True, True),
-          ("  target              met: the worst staleness is within 4 s, or 8 rounds, under the 5 seeds; no "
+    holds("the target and the floor", (True, True, True),
+          ("\n  the floor           no mode and no budget does better than " in out,
+           "  target              met: the worst staleness is within 4 s, or 8 rounds, under the 5 seeds; no "
            "guarantee\n" in out,
            f"  a smaller one       {below} entries: the next smaller budget that was run has " in out))
     shares = [100 * sum(it[100:200]) / 100 / 3312 for it in column(many, least, "stale")]

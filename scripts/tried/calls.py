@@ -1,7 +1,10 @@
 """Calls of the tools in a room of their own, and what has to come of them."""
+import importlib.machinery
+import importlib.util
 import os
 import pathlib
 import subprocess
+import sys
 import tempfile
 import time
 
@@ -50,6 +53,17 @@ def run(room, script, *words, **how):
     with started(room, script, *words, **how) as process:
         out, err = process.communicate(timeout=60)
     return process.returncode, out, err
+
+
+def imported(script):
+    """A script of Python as a module."""
+    name = f"imported_{script.name}"
+    loader = importlib.machinery.SourceFileLoader(name, str(script))
+    made = importlib.util.module_from_spec(importlib.util.spec_from_loader(name, loader))
+    # (one that has dataclasses looks itself up)
+    sys.modules[name] = made
+    loader.exec_module(made)
+    return made
 
 
 def place(script):

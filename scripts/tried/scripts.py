@@ -1,12 +1,8 @@
 """Trials of what all scripts share: their words, that they can be imported, the parts of scripts/gate, and of pages."""
-import importlib.machinery
-import importlib.util
-import sys
-
 from installed import Missing
 from pages import PAGES, in_package, without_marks
 from parts import Part, Parts, outcome_of
-from tried.calls import run, written
+from tried.calls import imported, run, written
 from trials import TOP, holds
 
 SCRIPTS = TOP / "scripts"
@@ -42,13 +38,7 @@ def try_words(room):
 def try_imports(_):
     """To import a script does nothing: it has a function for all that it does."""
     for script in python_scripts():
-        name = f"imported_{script.name}"
-        loader = importlib.machinery.SourceFileLoader(name, str(script))
-        made = importlib.util.module_from_spec(importlib.util.spec_from_loader(name, loader))
-        # (one that has dataclasses looks itself up)
-        sys.modules[name] = made
-        loader.exec_module(made)
-        holds(f"{script.name} is imported", True, callable(made.main))
+        holds(f"{script.name} is imported", True, callable(imported(script).main))
 
 
 def try_parts(room):

@@ -4,12 +4,13 @@ gossip_advise -o FOLDER
 
 Says which mode and which budget to take for a cluster, how stale its copies get, and how long it takes to heal. It runs
 the modes with what fits and with nodes * writes, under five seeds, on all cores: first few intervals, for a first
-answer, then what is to heal, then many intervals, and up to 800 where they show no level. Where no budget that fits is
-enough, it says so, and what would be. With a target and no packet it looks for the smallest packet that keeps to it.
-The folder, `advice` where none is named, gets the scenarios, the reports, `answer.txt` and the page `report.html`; both
-have the first answer until the last one comes. It can be stopped, which loses the runs under way: the same call goes
-on. Without numbers it takes those that the folder has. Restarts and a split may be asked for in one call, so that what
-comes before them is run once.
+answer, then what is to heal, then many intervals, and up to 800 where they show no level. Last comes a budget that cuts
+nothing, for the floor: no mode and no budget does better than that. Where no budget that fits is enough, it says so,
+and what would be. With a target and no packet it looks for the smallest packet that keeps to it. The folder, `advice`
+where none is named, gets the scenarios, the reports, `answer.txt` and the page `report.html`; both have the first
+answer until the last one comes. It can be stopped, which loses the runs under way: the same call goes on. Without
+numbers it takes those that the folder has. Restarts and a split may be asked for in one call, so that what comes before
+them is run once.
 
   nodes, keys, writes    how many nodes; the things that each tells of itself; how many of these change in an interval
   entry     the bytes of a mean entry: key, version and value
@@ -196,6 +197,15 @@ class Stages:
             decision = answer.Decision(self.study, found, decision.stage, decision.dropped)
         return decision
 
+    def look_at_floor(self, decision):
+        """Has it what no mode and no budget goes below, from runs that cut nothing: some of its own, else others."""
+        it = self.study
+        decision.floor = decision.found.floor(decision.window)
+        if not decision.floor:
+            pairs = {(it.ample(), it.usual)}
+            self.plan(decision.stage, pairs, 0)
+            decision.floor = self.carry_out(decision.stage, pairs).floor(decision.window)
+
     def heal(self, decision):
         """What heals, with the budget that is taken and with all that fits."""
         pairs = {(budget, decision.mode) for budget in (decision.budget, decision.most)}
@@ -279,7 +289,9 @@ def last_answer(it, stages, few):
         return decision, None
     stages.expect(decision.mode, decision.budget, decision.stage, *it.healing_stages())
     decision = stages.look_below(decision)
-    return decision, stages.heal(decision) if it.heals() else None
+    healing = stages.heal(decision) if it.heals() else None
+    stages.look_at_floor(decision)
+    return decision, healing
 
 
 def smallest_packet(it, stages, check_sum):
@@ -289,6 +301,7 @@ def smallest_packet(it, stages, check_sum):
     pairs = {search.run_of(mode) for mode in search.modes or [it.usual]}
     stages.plan(f"{search.stage}-stop", pairs, 0)
     met = target.Met(search, is_met, target.aged(stages, search.stage, search.found, pairs))
+    stages.look_at_floor(met)
     call = call_with(it, met.packet(), f"{stages.folder}-packet")
     Told(stages.folder).tell(met.in_words(call))
     print("", page.make(stages.folder, met, None, stages.made, check_sum, more=met.more()), sep="\n")

@@ -59,6 +59,8 @@ class Decision:
         self.study, self.found, self.stage, self.window = study, found, stage, study.window(stage)
         # (why a mode is no longer run, in words)
         self.dropped = list(dropped)
+        # (what no mode and no budget goes below, for each seed: empty where no run shows it, None where none was made)
+        self.floor = None
         self.figures = {mode: self.worst_with(study.most(mode), mode) for mode in study.fits
                         if (study.most(mode), mode) in found.rows}
         enough = {mode: it for mode, it in self.figures.items() if self.is_enough(study.most(mode), mode)}
@@ -227,6 +229,18 @@ class Decision:
     def why_empty(self):
         """Why some budgets were not run in some modes."""
         return "smaller budgets are run with the chosen mode, down to the first that is worse, for the last answer"
+
+    def above_floor(self):
+        """What no mode and no budget goes below, in words; empty where it wasn't looked at."""
+        it = self.study
+        if self.floor is None:
+            return ""
+        if not self.floor:
+            return f"none to tell: the largest budget that a scenario takes, {it.ample()} entries, still cuts some"
+        own = "that" if self.floor == self.worst else span(self.worst)
+        chosen = f"; the chosen one has {own}" if self.suffices else ""
+        run = f" ({it.nodes} nodes run)" if it.parts > 1 else ""
+        return f"{rules.FLOOR.format(lasting(it, self.floor))}{chosen}{run}"
 
     def in_window(self):
         """What the worst staleness was read from, in words."""
@@ -478,7 +492,7 @@ def fewer(study, asked):
 # What heals, by its stage, and the words for that.
 HEALED = {"split": "a split", "restart": "a restart", "forgotten": "a forgotten state"}
 ENDS = {"split": "healed", "restart": "healed", "forgotten": "gone from all copies"}
-ROLLING = "a rolling restart"
+ROLLING, FLOOR = "a rolling restart", "the floor"
 IN_A_ROW = 98
 
 
@@ -710,7 +724,8 @@ def in_words(decision, healing, missing=(), more=()):
     in_mode = "" if decision.suffices else f", in {decision.mode}"
     lines = [takes, *([f"{decision.tells_all()}."] if decision.suffices and decision.tells_all() else []), "",
              row("worst staleness", f"{decision.staleness()}{in_window}"), *(row(*one) for one in more)]
-    for name, said in (("a reserve", decision.reserve()), (decision.study.knee_name, decision.why_not_knee())):
+    for name, said in ((FLOOR, decision.above_floor()), ("a reserve", decision.reserve()),
+                       (decision.study.knee_name, decision.why_not_knee())):
         lines += [row(name, said)] if said else []
     lines.append(row("share cut", f"{span(decision.cut, 2)} % of what was lacking{in_mode}"))
     if healing:

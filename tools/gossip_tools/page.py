@@ -68,6 +68,8 @@ def cards(decision, healing, more):
                 ("worst staleness", "not known", f"not level within {decision.window[1]} rounds", "none")]
         if decision.to_knee():
             rows.append(("enough", f"{it.packet(decision.mode)} bytes", decision.to_knee(), "first"))
+    if decision.floor:
+        rows.append((answer.FLOOR, answer.in_rounds(decision.floor), decision.above_floor(), ""))
     rows += [(name, *said.partition(": ")[::2], "none" if said.startswith("not met") else "") for name, said in more]
     rows.append(("share cut", f"{answer.span(decision.cut, 2)}\u00a0%", "of what was lacking", ""))
     for stage in it.heals() if healing else ():
@@ -82,7 +84,8 @@ def cards(decision, healing, more):
 
 def below_the_cards(decision, healing):
     """What other budgets bring, and what the rounds of healing are."""
-    said = [decision.tells_all() if decision.suffices else "", decision.reserve(), decision.why_not_knee()]
+    no_floor = f"{answer.FLOOR}: {decision.above_floor()}".capitalize() if decision.floor == [] else ""
+    said = [decision.tells_all() if decision.suffices else "", no_floor, decision.reserve(), decision.why_not_knee()]
     said = [it for it in said if it]
     if healing:
         said += [f"With the reserve: {healing.with_reserve(decision)}"] if healing.has_reserve(decision) else []
@@ -101,6 +104,7 @@ def captions(decision, healing):
     it, many = decision.study, len(rules.SEEDS)
     first, last = decision.window
     above = "What is higher than the picture is in the table. "
+    floor = "The line `floor` has the seed in the middle of runs that cut nothing, below which none goes. "
     same = plots.lie_on_each_other(decision, lambda *at: decision.found.worst(*at, decision.window))
     same = f"All modes have the same figures from {it.whole(same)} entries on. " if same else ""
     band = f"The line has the middle of {many} seeds, the band their least and most"
@@ -108,7 +112,7 @@ def captions(decision, healing):
     most = " Of each interval the round with the most is shown." if it.fanout > 1 else ""
     return {
         "worst": f"The knee: worst staleness in rounds {first} to {last}. Bars go from the least to the most of {many} "
-                 f"seeds, points are the seed in the middle. {above}{same}",
+                 f"seeds, points are the seed in the middle. {above}{same}{floor if decision.floor else ''}",
         "cut": f"The share of lacking entries that the budget cut, in the same rounds.",
         "greatest": "The age of the oldest write that some copy lacks, round by round, under seed 1. Each mode has the "
                     f"budget that it would take, as the key says. Wide curves lie below narrow ones.{most}",

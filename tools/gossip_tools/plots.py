@@ -74,7 +74,9 @@ def knee(decision, name, y, figure, capped):
     text += f"set xrange [{0.85 * budgets[0]:.6g}:{1.18 * budgets[-1]:.6g}]\n"
     text += budget_line(decision, budgets[-1])
     if capped and study.target and study.parts == 1:
-        text += target_line(study.target)
+        text += level_line(study.target, "target", 1, 3)
+    if capped and decision.floor:
+        text += level_line(rules.middle(decision.floor), "floor", 0.12, 4)
     return text + "set clip two\nplot " + ", \\\n  ".join(plots) + "\n"
 
 
@@ -91,9 +93,10 @@ def budget_line(decision, most):
     return f'set arrow from {at}, graph 0 to {at}, graph 1 {LINE} 2\nset label "{label}" at {at}, graph 1.03 center\n'
 
 
-def target_line(rounds):
-    return (f'set arrow from graph 0, first {rounds} to graph 1, first {rounds} {LINE} 3\n'
-            f'set label "target" at graph 1, first {rounds} right offset 0, 0.5\n')
+def level_line(rounds, label, at, dashes):
+    """A line at so many rounds, with its label that far from the left."""
+    return (f'set arrow from graph 0, first {rounds} to graph 1, first {rounds} {LINE} {dashes}\n'
+            f'set label "{label}" at graph {at}, first {rounds} right offset 0, 0.5\n')
 
 
 def spaced(budgets):

@@ -60,6 +60,10 @@ def are_close(one, other):
     return not is_better(one, other) and not is_better(other, one)
 
 
+# What a run that cuts nothing shows.
+FLOOR = "no mode and no budget does better than {}, with these peers and losses"
+
+
 def rounds_of(window, fanout):
     """The first and the last round of a window of intervals."""
     first, last = window

@@ -14,6 +14,7 @@ MOST_TRIPLES = 268435456  # of nodes * nodes * keys
 MOST_SECTIONS = 1000
 MOST_BYTES = 1048576
 MEAN = Fraction("523.5")  # bytes of an entry of format 2, which has 24 + value mod 1000
+LARGEST = 1023  # of these bytes at most
 
 
 def is_scenario_of(name, number):

@@ -8,8 +8,8 @@
   longer      twice as many, where nothing is level after those; and again, as `longest`
   many-stop   many intervals and some without writes, where a target is told: how old a stale copy is; so for the others
 
-What is run is only what may change the answer. What heals is run with the budget that is taken, and in the end with all
-that fits too, where that is more. An interval has as many rounds as a node calls others in it, and writes in the first
+What is run is only what may change the answer, and what no budget can better: one that cuts nothing, where none of the
+others does. What heals is run with the budget that is taken, and in the end with all that fits too, where that is more. An interval has as many rounds as a node calls others in it, and writes in the first
 of them.
 """
 from gossip_tools import cluster, read, rules, scenario
@@ -169,6 +169,15 @@ class Study:
         """The largest budget that a mode may take."""
         return rules.most_of(self.fits[mode], self.nodes, self.keys, self.knee)
 
+    def ample(self):
+        """A budget with which nothing is cut, as a node never lacks more than `nodes * keys` entries; or the largest
+        that a scenario takes, if that is less."""
+        entries, most = self.nodes * self.keys, scenario.LIMITS["budget"][1]
+        if self.in_bytes:
+            entries, most = (int(it // scenario.MEAN) for it in (
+                entries * scenario.LARGEST + scenario.MEAN, scenario.LIMITS["budget_bytes"][1]))
+        return min(entries, most)
+
     def keeps_to_target(self, figure):
         """Whether a worst staleness is within the target under all seeds, for the whole cluster."""
         return (rules.reckoned(figure) if self.parts > 1 else max(figure)) <= self.target
@@ -300,6 +309,13 @@ class Found:
     def cut(self, budget, mode, window):
         """The share that was cut, in per cent, for each seed."""
         return [read.percent_cut(read.between(rows, *window)) for rows in self.rows[(budget, mode)]]
+
+    def floor(self, window):
+        """The worst staleness in a window that no mode and no budget goes below, for each seed: that of a run that cut
+        nothing up to its end. Empty where some seed has none."""
+        uncut = [[rows for rows in of_seed if not any(row["cut"] for row in read.between(rows, 1, window[1]))]
+                 for of_seed in zip(*self.rows.values())]
+        return [max(row["greatest"] for row in read.between(some[0], *window)) for some in uncut] if all(uncut) else []
 
     def stale(self, budget, mode, window):
         """The copies that are stale on average, for each seed."""

@@ -167,7 +167,7 @@ class Met(answer.Decision):
     def __init__(self, search, is_met, ages):
         self.study, self.found, self.stage, self.window = search.study, search.found, search.stage, ages.window
         self.search, self.is_met, self.ages = search, is_met, ages
-        self.dropped, self.ahead = [], None
+        self.dropped, self.ahead, self.floor = [], None, None
         self.mode = search.best() if is_met else self.study.usual
         self.suffices = is_met or self.is_enough(search.top, self.mode)
         self.budget = self.most = search.least[self.mode]
@@ -247,6 +247,7 @@ class Met(answer.Decision):
         in_window = self.in_window() if self.suffices else ""
         lines += ["", row("worst staleness", f"{self.staleness()}{in_window}"),
                   *(row(*more) for more in self.more())]
+        lines += [row(answer.FLOOR, self.above_floor())] if self.above_floor() else []
         if self.is_met:
             lines += ["", "What heals, and what else speaks for a mode, is told with that packet:", f"  {call}"]
         return lines + answer.heads(self)

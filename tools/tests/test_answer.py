@@ -106,6 +106,25 @@ class Decided(unittest.TestCase):
             found = decided(worst | {(1000, "precise-oldest"): [9, 9], (1000, "precise-newest"): [9, 9]}, rising)
             self.assertEqual(budget, found.budget)
 
+    def test_floor(self):
+        """What no budget goes below stands below the worst staleness. Where the seeds have the same, it says so."""
+        depth = {1000: [7, 8], 600: [8, 8]}
+        found = decided({(budget, "scuttle-depth"): worst for budget, worst in depth.items()})
+        self.assertEqual("", found.above_floor())
+        best = "no mode and no budget does better than {}, with these peers and losses; the chosen one has {}"
+        cases = {(7, 8): best.format("7 to 8 rounds, 7 to 8 s", "8"), (7, 7): best.format("7 rounds, 7 s", "8"),
+                 (8, 8): best.format("8 rounds, 8 s", "that"),
+                 (): "none to tell: the largest budget that a scenario takes, 1200 entries, still cuts some"}
+        for floor, said in cases.items():
+            found.floor = list(floor)
+            lines = answer.in_words(found, None)
+            self.assertEqual(f"  the floor           {said}", lines[3])
+            self.assertTrue(lines[2].startswith("  worst staleness "), lines[2])
+        it = of("nodes=10000 keys=4 writes=1 entry=40 packet=640000 digest=20")
+        tenth = answer.Decision(it, Figures({(1100, "scuttle-depth"): [8, 9]}), MANY)
+        tenth.floor = [7, 7]
+        self.assertTrue(tenth.above_floor().endswith("; the chosen one has 8 to 9 (1000 nodes run)"))
+
     def test_no_smaller_one_close(self):
         """450 aren't worse than 600, which are taken, but than the 1000."""
         depth = {1000: [7, 7], 600: [7, 8], 450: [8, 9]}

@@ -2,7 +2,7 @@
 import re
 import unittest
 
-from gossip_tools import advise, answer, cluster, page, study
+from gossip_tools import advise, answer, cluster, page, plots, study
 
 # By the guidelines for accessible pages, WCAG 2: at least this contrast between a text and what is behind it.
 CONTRAST = 4.5
@@ -84,6 +84,23 @@ class Cards(unittest.TestCase):
                  "met: the worst": '<div class="">target<b>met</b>the worst</div>'}
         for said, card in cases.items():
             self.assertIn(card, page.cards(decided(), None, [("target", said)]))
+
+
+    def test_floor(self):
+        """It is a card behind the worst staleness, a line of the picture and a sentence below that; where there is none
+        to tell, a sentence alone."""
+        decision, best = decided(), "no mode and no budget does better than 7 rounds, 7 s, with these peers and losses"
+        card = f'<div class="">the floor<b>7 rounds</b>{best}; the chosen one has 7 to 8</div>'
+        none = "The floor: none to tell: the largest budget that a scenario takes, 400 entries, still cuts some"
+        for floor, wanted in ((None, (False, False, False, False)), ([], (False, True, False, False)),
+                              ([7, 7], (True, False, True, True))):
+            decision.floor = floor
+            worst = lambda budget, mode: decision.worst_with(budget, mode)
+            picture = plots.knee(decision, "worst", "rounds", worst, capped=True)
+            self.assertEqual(wanted, (card in page.cards(decision, None, []),
+                                      none in page.below_the_cards(decision, None),
+                                      'set arrow from graph 0, first 7 to graph 1, first 7 ' in picture,
+                                      "The line `floor` has " in page.captions(decision, None)["worst"]))
 
 
 class Table(unittest.TestCase):

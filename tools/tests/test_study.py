@@ -125,6 +125,13 @@ class Numbers(unittest.TestCase):
         with self.assertRaisesRegex(cluster.Refused, "30 bytes have no room .* 8 of them takes packet=320"):
             of("nodes=8 keys=2 writes=1 entry=40 packet=30")
 
+    def test_what_cuts_nothing(self):
+        """300 * 4 entries. 10 * 4 entries of 1023 bytes are 40920 bytes, and 79 mean ones 41356. A budget is at most
+        65535 entries, where 2000 nodes with 64 keys have 128000."""
+        cases = {ROOMY: 1200, LARGE: 4000, FEW: 79, "nodes=2000 keys=64 writes=1 entry=40 packet=120000": 65535}
+        self.assertEqual(cases, {words: of(words).ample() for words in cases})
+        self.assertEqual(("budget_bytes", 41356), scenario.budget_field(79, True))
+
     def test_stages_that_can_show_a_level(self):
         """39 * 6 copies at two times 2 entries in a round take 58 rounds, less 6; 60 rounds show no more than 45. With
         3 entries they take 39, less 6. 199 * 8 copies at two times 5 take 159, less 8, and 200 rounds show 150."""
@@ -229,6 +236,16 @@ class Reading(unittest.TestCase):
         found = self.found
         self.assertEqual([9, 7], found.worst(9, DEPTH, (3, 4)))
         self.assertEqual([85.0, 60.0], found.cut(9, DEPTH, (3, 4)))
+
+    def test_floor(self):
+        """In the rounds 3 and 4: the first seed cut nothing with 9 entries, the second with 12, and only up to round 5.
+        Up to round 6 it has no such run."""
+        for row in self.found.rows[(9, DEPTH)][0]:
+            row["cut"] = 0
+        self.found.rows[(12, NEWEST)] = [rows(2, 3, 9, 9, 9, 9), rows(4, 4, 6, 5, 5, 5)]
+        for row in self.found.rows[(12, NEWEST)][1][:5]:
+            row["cut"] = 0
+        self.assertEqual({(3, 4): [9, 6], (3, 6): []}, {it: self.found.floor(it) for it in ((3, 4), (3, 6))})
 
     def test_healed(self):
         """After round 3 the first seed is back in round 6, the third, and the other in round 4; after round 4 it never

@@ -10,9 +10,9 @@ pub fn every_board_keeps_a_schedule()
     ensures { EachKeepsASchedule }
 {}
 
-/// A seat that has all parts was told that exchanges are taken only of such as it has put back or holds. What
-/// it knows to be put back it has put back itself, and a stop that it knows of it has called for itself. What
-/// waits for others it has freed exactly where it has put back all of these.
+/// A seat that has all parts has put back or holds each exchange that it was told is taken. What it knows to be
+/// put back it has put back itself, and a stop that it knows of it has called for itself. What waits for others
+/// it has freed exactly where it has put back all of these.
 pub fn every_whole_seat_knows_its_own()
     ensures { EachWholeSeatKnowsItsOwn }
 {}

@@ -15,12 +15,11 @@
 //!   operand that would say which exchange it is for.
 //! - The count word counts by twos, and its lowest bit is the stop. So one addition finishes an exchange, one `or`
 //!   stops, and one load sees both.
-//! - `join` costs two loads. Joining two seats tells their owner nothing. The second load is there for the promise that
-//!   no exchange stands twice in what the joined seat has made and holds.
+//! - `join` costs two loads, of which the second is there for the promise that no exchange stands twice in what the
+//!   joined seat has made and holds.
 //! - Between two steps of a call its view says what the call owes: an exchange whose tables are on their way
 //!   (`moving`), and releases (`owes`). A seat at rest owes nothing, and contracts never show either.
-//! - A seat has 65536 parts at first, and a split gives one away. A seat with all of them is the only one that isn't
-//!   spent, so its answers are exact.
+//! - A seat has 65536 parts at first, and a split gives one away. One with all is alone, so its answers are exact.
 //! - The wrong body with the opening tables (`must-fail`) leaves a clone of each table that it hands out in its slot,
 //!   and keeps it there when the table comes back. It has no other way to them: a board keeps one table for each node.
 #![tactic(auto)]

@@ -19,7 +19,6 @@ pub(crate) fn commands<'a>(alloc: Global) -> Result<Command<'a>, AllocError>
         .subcommand(compare(alloc)?)
 }
 
-// The program alone.
 fn program<'a>(alloc: Global) -> Result<Command<'a>, AllocError>
     ensures { IfOk result (λ command. app_of command ≡ record { top = program_alone; subs = [] }) }
 {
@@ -57,7 +56,6 @@ fn compare<'a>(alloc: Global) -> Result<Command<'a>, AllocError>
         .arg(workers(alloc))
 }
 
-// The option for the number of workers.
 fn workers<'a>(alloc: Global) -> Arg<'a>
     ensures { rule_of result ≡ workers_option }
 {
@@ -69,7 +67,6 @@ fn workers<'a>(alloc: Global) -> Arg<'a>
         .help("Do the exchanges of a round in N threads, from 1 to 64; the output is the same")
 }
 
-// The option for the file of a trace.
 fn trace<'a>(alloc: Global) -> Arg<'a>
     ensures { rule_of result ≡ trace_option }
 {

@@ -100,7 +100,6 @@ fn workers_of(options: &ArgMatches) -> Option<u32>
     }
 }
 
-// Whether a job may have so many workers.
 fn are_lawful(workers: u32) -> bool
     ensures { IsTrue result ↔ AreLawfulWorkers workers }
 {

@@ -189,14 +189,12 @@ fn free_places(alloc: Global, before: &[Before]) -> Result<Vec<u32>, Fault>
     Ok(free)
 }
 
-// How many of the two there are.
 fn count(before: Before) -> u32
     ensures { result ≡ length (as_list before.first ++ as_list before.second) }
 {
     u32::from(before.first.is_some()) + u32::from(before.second.is_some())
 }
 
-// The second of two, unless it is the first as well.
 fn unless_same(first: Option<u32>, second: Option<u32>) -> Option<u32>
     ensures { result ≡ unless_same first second }
 {

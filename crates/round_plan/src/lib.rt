@@ -4,28 +4,23 @@
 //!
 //! # Choices
 //!
-//! - In `specs` a node's own writes are entries, in `own_writes` and `writes_upto` alike, so with value and `born`, not
-//!   the `OwnWrite` that a round hands out; `born_in` gives such a one its round and its generation. So they are what
-//!   the owner's state is made of, and `writes_of` says how a round adds to it (`grows`).
-//! - An owner has two lists of writes in `specs`. `writes_upto` has those of its current generation: the figures read
-//!   them, versions are places in them, and a restart that forgets empties them. `written_upto` has those of all
-//!   generations, and nothing is ever taken from it: what a copy holds is among them, also where it is left over.
+//! - In `specs` a node's own writes are entries, with value and `born`, not the `OwnWrite` that a round hands out
+//!   (`born_in` gives that its round and generation). So they are what the owner's state is made of, and `writes_of`
+//!   says how a round adds to it (`grows`).
+//! - `writes_upto` has an owner's writes of its current generation: the figures read them, versions are places in them,
+//!   and a restart that forgets empties them. `written_upto` has those of all generations: what a copy holds is among
+//!   them, also where it is left over.
 //! - A generation follows from the scenario, as in how many rounds so far the node forgot (`generation_upto`). So
 //!   `writes_of` doesn't ask for it, and no entry has one that isn't the scenario's.
 //! - A word is drawn by its place: `draw`, `peer`, `round_list` and `writes_of` set the node's stream to the place, so
-//!   a draw that nothing uses can't shift another. A run keeps each node's stream (`RunWords`), which stands after
-//!   round 0 at the node's first word. Each round takes the next 16 words of every node, used or not, so the streams
-//!   stand where `draw` would set them, and `round_list_by` and `writes_by` read these. So each word is made once, and
-//!   no key is set up twice, for some 400 bytes a node.
-//! - `round_list` chooses every node's exchange, also that of a node that is down, node by node, in several threads
-//!   where there are many nodes, and only then leaves out the nodes out of reach. Words of nodes that are down cost a
-//!   block each and change nothing. `round_list_by`, which has the words at hand, needs neither. For these threads
-//!   `round_list` takes the runtime before the allocator. It starts none for fewer than 2048 nodes, and never waits:
-//!   the crate `rayon` joins them.
-//! - `peer` draws its word on a ring too, where nothing uses it. So the peer has one path, and one block is all that it
-//!   costs.
-//! - A list of partitions is walked, and a list `apart` is searched: `apart` rises, so two binary searches tell whether
-//!   exactly one of two nodes is in it.
+//!   a draw that nothing uses can't shift another. A run keeps each node's stream (`RunWords`): each round takes the
+//!   next 16 words of every node, used or not, so the streams stand where `draw` would set them, and `round_list_by`
+//!   and `writes_by` read these. So each word is made once, and no key set up twice, for some 400 bytes a node.
+//! - `round_list` chooses every node's exchange, also that of a node that is down, in several threads from 2048 nodes
+//!   on, and only then leaves out the nodes out of reach. For these threads it takes the runtime before the allocator,
+//!   and never waits: the crate `rayon` joins them.
+//! - `peer` draws its word on a ring too, where nothing uses it: one block is all that it costs.
+//! - A list `apart` rises, so two binary searches tell whether exactly one of two nodes is in it.
 //! - `as_slice` of `Writes` is there because a loop over a slice needs no index and no `None`.
 #![tactic(auto)]
 

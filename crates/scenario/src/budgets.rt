@@ -10,7 +10,6 @@ use bench_types::limits::{MOST_BUDGET, MOST_BUDGET_BYTES, MOST_ENTRY_SIZE};
 use bench_types::{Budget, Fault, Field};
 use toml::{Table, Value};
 
-// Whether a format has budgets in entries.
 fn is_in_entries(format: u32) -> bool
     ensures { result ≡ is_in_entries format }
 {

@@ -52,7 +52,6 @@ impl Model for Scenario {
     ghost invariant = { λ s. IsLawfulScenario (settings_of s) };
 }
 
-// The fields of the text itself in a format, in the order of their checks.
 fn top_fields(format: u32) -> [Field; 15]
     ensures { result ≡ top_fields format }
 {

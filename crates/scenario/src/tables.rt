@@ -93,7 +93,6 @@ impl Elements for Loads {
     }
 }
 
-// Whether nodes have generations in a format.
 fn has_generations(format: u32) -> bool
     ensures { result ≡ has_generations format }
 {

@@ -1,13 +1,15 @@
 -- The last write of a key, and the first one that was missed.
--- Serves `Linking` and `staleness`.
-use Rattle.std.proofs.Common.{◌≡◌, ℕ, zero, suc, ◌+◌, ◌<◌, ◌≤◌, Bool, true, false, cond, eqb, ltb, ◌&&◌, List, [], ◌∷◌, length, get_or, drop, reverse, Some, None, IfSome, All, if◌then◌else◌, refl, sym, ap, ◌∙◌, subst, arith}
+-- Serves `OwnerList::first_missed`, `first_from` and `staleness`.
+use Rattle.std.proofs.Common.{◌≡◌, ◌≢◌, ℕ, zero, suc, ◌+◌, ◌<◌, ◌≤◌, Bool, true, false, cond, eqb, ltb, ◌&&◌, List, [], ◌∷◌, length, get_or, drop, drop-cons, map, reverse, Some, None, IfSome, All, if◌then◌else◌, refl, sym, ap, ◌∙◌, subst, arith}
 use Rattle.std.specs.List.{find}
 use Rattle.std.specs.Option.{option_or}
-use Rattle.std.proofs.lemmas.Bool.{lt-ltb, le-ltb}
-use Rattle.std.proofs.lemmas.List.{reverse-append}
+use Rattle.std.proofs.lemmas.Bool.{lt-ltb, le-ltb, eq-eqb, ne_eqb}
+use Rattle.std.proofs.lemmas.List.{reverse-append, drop_all, get_or-map, length-map}
 use Rattle.std.proofs.lemmas.List.Folds.{find-append}
 use Rattle.std.proofs.lemmas.List.Elements.{All-head, All-tail}
 use Rattle.model.specs.declared.writes.Write.{Write}
+use Rattle.bench_types.specs.declared.entries.Entry.{Entry}
+use Rattle.model.specs.Writes.{write_of_entry}
 use Rattle.model.specs.calls.Writes.{IsNumbered, is_write_of, last_write}
 use Rattle.owner_lists.specs.Missed.{is_missed, first_missed}
 
@@ -91,3 +93,24 @@ All-find P test (v ∷ ws) w all found =
       | true ↦ λ here. let same : v ≡ w = cc in subst P same (All-head P v ws all)
       | false ↦ λ later. All-find P test ws w (All-tail P v ws all) later
     ] found
+
+-- the first write of a key from a place on stands there, or behind it, among entries
+module _ (es : List Entry) (key at : ℕ) where
+  next_entry : (e : Entry) → at < length es → drop at (map write_of_entry es) ≡ write_of_entry (get_or es at e) ∷ drop (suc at) (map write_of_entry es)
+  next_entry e lt =
+      drop-cons (map write_of_entry es) at (write_of_entry e) (omega (arith, lt, length-map es write_of_entry))
+      ∙ ap (λ w. w ∷ drop (suc at) (map write_of_entry es)) (get_or-map write_of_entry es at e (write_of_entry e) lt)
+
+  pub first_here : (e : Entry) → at < length es → (get_or es at e).key ≡ key → find (is_write_of key) (drop at (map write_of_entry es)) ≡ Some (write_of_entry (get_or es at e))
+  first_here e lt same =
+      ap (find (is_write_of key)) (next_entry e lt)
+      ∙ ap (λ b. cond b (Some (write_of_entry (get_or es at e))) (find (is_write_of key) (drop (suc at) (map write_of_entry es)))) (eq-eqb (get_or es at e).key key same)
+
+  pub first_later : (e : Entry) → at < length es → (get_or es at e).key ≢ key → find (is_write_of key) (drop at (map write_of_entry es)) ≡ find (is_write_of key) (drop (at + 1) (map write_of_entry es))
+  first_later e lt other =
+      ap (find (is_write_of key)) (next_entry e lt)
+      ∙ ap (λ b. cond b (Some (write_of_entry (get_or es at e))) (find (is_write_of key) (drop (suc at) (map write_of_entry es)))) (ne_eqb (get_or es at e).key key other)
+      ∙ ap (λ n. find (is_write_of key) (drop n (map write_of_entry es))) {x = suc at} {y = at + 1} (omega arith)
+
+  pub first_nowhere : length es ≤ at → find (is_write_of key) (drop at (map write_of_entry es)) ≡ None
+  first_nowhere past = ap (find (is_write_of key)) (drop_all at (map write_of_entry es) (omega (arith, past, length-map es write_of_entry)))

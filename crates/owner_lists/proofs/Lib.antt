@@ -1,6 +1,4 @@
-pub mod Rising
 pub mod Last
-pub mod Linking
-pub mod InOrder
+pub mod Rising
 pub mod Marked
 pub mod Keeping

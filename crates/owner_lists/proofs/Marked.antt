@@ -1,22 +1,20 @@
 -- What stands under a mark.
 -- Serves `OwnerList::entry` and `searched_entry`.
-use Rattle.std.proofs.Common.{◌≡◌, ◌≢◌, ℕ, zero, suc, ◌+◌, ◌<◌, ◌≤◌, Bool, true, false, cond, eqb, ◌&&◌, List, [], ◌∷◌, length, get_or, Option, Some, None, All, inl, inr, refl, sym, ap, ◌∙◌, subst, arith, length-append}
+use Rattle.std.proofs.Common.{◌≡◌, ◌≢◌, ℕ, zero, suc, ◌+◌, ◌<◌, Bool, true, false, cond, eqb, ◌&&◌, List, [], ◌∷◌, length, get_or, Option, Some, None, All, inl, inr, refl, sym, ap, ◌∙◌, subst, arith, length-append}
 use Rattle.std.specs.List.{find}
 use Rattle.std.specs.List.Sorted.{IsPartitionedBy, IsPartitionPoint}
 use Rattle.std.specs.Option.{option_or}
 use Rattle.std.proofs.lemmas.Bool.{cases_eq, cases_lt, eq-eqb, eqb-true, ne_eqb}
-use Rattle.std.proofs.lemmas.List.{get_or-map, get_or_append_left, length-map}
+use Rattle.std.proofs.lemmas.List.{get_or_append_left}
 use Rattle.std.proofs.lemmas.List.Folds.{find-append}
 use Rattle.bench_types.specs.declared.entries.Entry.{Entry}
 use Rattle.bench_types.specs.declared.entries.Mark.{Mark}
 use Rattle.bench_types.specs.calls.Entry.{AreNextAfter}
 use Rattle.bench_types.specs.Mark.{mark_of, is_before, IsBefore}
 use Rattle.bench_types.proofs.Marks.{before-true, before-false, before-yes, before-up_to, up_to-before}
-use Rattle.owner_lists.specs.declared.lists.Link.{Link}
 use Rattle.model.specs.calls.OwnerListView.{OwnerListView, entries_of, MarksRise, AreWrites}
 use Rattle.owner_lists.specs.Marked.{has_mark, entry_of}
 use Rattle.model.specs.calls.Numbers.{write_numbered}
-use Rattle.owner_lists.specs.inner.Linked.{entries_linked}
 use Rattle.owner_writes.proofs.Numbered.{write_from-here, write_from-past}
 
 pub find-here : (test : Entry → Bool) (es : List Entry) (i : ℕ) (d : Entry) → i < length es → test (get_or es i d) ≡ true → ((j : ℕ) → j < i → test (get_or es j d) ≡ false) → find test es ≡ Some (get_or es i d)
@@ -115,29 +113,6 @@ module _ (m : Mark) (es : List Entry) (rising : MarksRise es) where
             let rises = rising at j d lt in_range in
             let of_one : m.generation ≡ (get_or es at d).generation = omega (arith, up.generation, rises.generation, same) in
             omega (arith, up.version of_one, rises.version (sym of_one ∙ sym same), is)
-
--- the same of links
-parted_of : (m : Mark) (ls : List Link) → IsPartitionedBy (λ e. is_before (mark_of e) m) (entries_linked ls) → IsPartitionedBy (λ (l : Link). is_before (mark_of l.write) m) ls
-parted_of m ls parts i j d le lt passes =
-    ap (λ e. is_before (mark_of e) m) (sym (get_or-map (λ (l : Link). l.write) ls i d d.write (omega arith)))
-    ∙ parts i j d.write le (omega (arith, length-map ls (λ (l : Link). l.write)))
-    (ap (λ e. is_before (mark_of e) m) (get_or-map (λ (l : Link). l.write) ls j d d.write lt) ∙ passes)
-
-pub parted_links : (m : Mark) (ls : List Link) → MarksRise (entries_linked ls) → IsPartitionedBy (λ (l : Link). is_before (mark_of l.write) m) ls
-parted_links m ls rising = parted_of m ls (parted m (entries_linked ls) rising)
-
-abbrev linked : Entry → Link
-linked e = record { write = e; next = 0 }
-
-pub point_of_links : (m : Mark) (ls : List Link) (at : ℕ) → at ≤ length ls → IsPartitionPoint (λ (l : Link). is_before (mark_of l.write) m ≡ true) (λ (l : Link). is_before (mark_of l.write) m ≡ false) ls at
-    → IsPartitionPoint (λ e. is_before (mark_of e) m ≡ true) (λ e. is_before (mark_of e) m ≡ false) (entries_linked ls) at
-point_of_links m ls at within point = (
-  λ j d le lt. let in_range : j < length ls = omega (arith, lt, within) in read j d in_range ∙ point.0 j (linked d) le lt,
-  λ j d le lt. let in_range : j < length ls = omega (arith, length-map ls (λ (l : Link). l.write)) in read j d in_range ∙ point.1 j (linked d) le in_range,
-)
-  where
-    read : (j : ℕ) (d : Entry) → j < length ls → is_before (mark_of (get_or (entries_linked ls) j d)) m ≡ is_before (mark_of (get_or ls j (linked d)).write) m
-    read j d lt = ap (λ e. is_before (mark_of e) m) (get_or-map (λ (l : Link). l.write) ls j (linked d) d lt)
 
 -- the parts of a list
 pub rising_earlier : (v : OwnerListView) → AreWrites v → MarksRise v.earlier

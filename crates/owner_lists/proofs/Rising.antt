@@ -1,6 +1,6 @@
 -- Lists of writes that rise by key: what a search finds, and what an edit at an index does to the look-ups.
--- Serves `put`, `search`, `write_in`, `Linking` and `staleness`.
-use Rattle.std.proofs.Common.{◌≡◌, ◌≢◌, ℕ, zero, suc, ◌+◌, ◌<◌, Bool, true, false, cond, List, [], ◌∷◌, length, get_or, set, Some, None, Result, Ok, Err, IfOk, IfErr, inl, inr, if◌then◌else◌, refl, sym, ap, ◌∙◌, subst, arith}
+-- Serves `put`, `search`, `write_in` and `Keeping`.
+use Rattle.std.proofs.Common.{◌≡◌, ◌≢◌, ℕ, zero, suc, ◌+◌, ◌<◌, false, cond, List, [], ◌∷◌, length, get_or, set, Some, None, Result, Ok, Err, IfOk, IfErr, inl, inr, refl, sym, ap, ◌∙◌, subst, arith}
 use lib.Dec.{T}
 use Rattle.std.specs.declared.cmp.Ordering.TheVariants.{Less, Equal, Greater}
 use Rattle.std.specs.Ordering.{nat_cmp, is_lt, is_eq}
@@ -83,14 +83,6 @@ put_gap (v ∷ ws) w (suc i) gap =
 
 pub rising_put : (ws vs : List Write) (w : Write) → KeysRise ws → put nat_cmp w.key w (keyed ws) ≡ keyed vs → KeysRise vs
 rising_put ws vs w rising is = subst (λ es. T (is_sorted nat_cmp es)) is (is_sorted-put nat_cmp nat_cmp_total w.key w (keyed ws) rising)
-
-pub rising_set : (ws : List Write) (w : Write) (i : ℕ) → KeysRise ws → IsIndexOfKey ws w.key i → KeysRise (set ws i w)
-rising_set ws w i rising at = rising_put ws (set ws i w) w rising (put_at ws w i rising at)
-
--- an insert that may be refused leaves a rising list
-pub rising_tried : (ws vs : List Write) (w : Write) (i : ℕ) (b : Bool) → KeysRise ws → IsGapForKey ws w.key i → vs ≡ (if b then insert ws i w else ws) → KeysRise vs
-rising_tried ws vs w i true rising gap is = subst KeysRise (sym is) (rising_put ws (insert ws i w) w rising (put_gap ws w i gap))
-rising_tried ws vs w i false rising gap is = subst KeysRise (sym is) rising
 
 sorted_of_rising : (ws : List Write) → KeysRise ws → IsSortedBy (λ a b. is_lt (nat_cmp a.key b.key)) ws
 sorted_of_rising ws rising k d from in_range = ap is_lt (nat_cmp-greater (get_or ws (k + 1) d).key (get_or ws k d).key (rising_at ws k (k + 1) d d rising (omega arith) in_range))

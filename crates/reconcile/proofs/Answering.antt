@@ -1,32 +1,29 @@
 -- What is sent of the suffixes that were found, or of the candidates, is the answer to the digest.
--- Serves `likely_delta`, `precise_delta`, `scuttle_delta` and `sorted_delta`.
-use Rattle.std.proofs.Common.{◌≡◌, ℕ, ◌-◌, ◌<◌, ◌≤◌, ◌^◌, not, ◌&&◌, eqb, Bool, List, length, sym, ap, ◌∙◌, arith, subst}
+-- Serves `precise_delta` and `scuttle_delta`.
+use Rattle.std.proofs.Common.{◌≡◌, ℕ, ◌-◌, ◌<◌, ◌≤◌, ◌^◌, not, ◌&&◌, eqb, Bool, List, length, sym, ap, arith, subst}
 use Rattle.std.specs.Prelude.{IsPermutation}
-use Rattle.std.proofs.lemmas.List.{length-map}
 use Rattle.std.proofs.lemmas.List.Elements.{Contains-get_or}
-use Rattle.std.proofs.lemmas.List.Sorted.{length_permutation, IsPermutation-map, IsPermutation-trans}
+use Rattle.std.specs.List.Sorted.{IsSorted}
+use Rattle.std.proofs.lemmas.List.Sorted.{length_permutation, IsPermutation-trans}
 use Rattle.bench_types.specs.declared.exchanges.Budget.{Budget}
 use Rattle.bench_types.specs.Budget.{amount_of}
 use Rattle.bench_types.specs.declared.entries.Item.{Item}
 use Rattle.bench_types.specs.declared.exchanges.Mode.{Mode}
-use Rattle.bench_types.specs.declared.exchanges.DigestKind.TheVariants.{Precise}
 use Rattle.bench_types.specs.Mark.{mark_of, is_before}
-use Rattle.bench_types.specs.Mode.{digest_kind}
 use Rattle.model.specs.Table.{Table, items_of, IsProper}
 use Rattle.model.specs.Candidates.{IsScuttleMode, items_above}
 use Rattle.model.specs.Deltas.{DeltaView, item_share}
 use Rattle.model.specs.calls.DeltaLaws.{AreWithin}
+use Rattle.model.specs.Order.{sending_order}
+use Rattle.reconcile.specs.inner.Parcels.{first_within}
 use Rattle.reconcile.specs.Answers.{answer_of}
 use Rattle.reconcile.specs.Digests.{DigestView, told_mark}
-use Rattle.reconcile.specs.inner.Keys.{item_in, items_in, AllSet, AreFirstItems, IsSentOf}
 use Rattle.reconcile.specs.inner.Newer.{AreCandidates}
 use Rattle.reconcile.specs.inner.Suffixes.{items_of_suffixes, IsTurned, layered, AreLayered}
-use Rattle.reconcile.specs.declared.candidates.Candidate.{Candidate}
 use Rattle.reconcile.specs.declared.suffixes.Suffix.{Suffix}
 use Rattle.model.proofs.Fitting.{length-fitting-le, sum-fitting}
-use Rattle.reconcile.proofs.Layers.{layered-permutation, order_layers}
+use Rattle.reconcile.proofs.Layers.{first_key, layered-permutation, order_layers}
 use Rattle.reconcile.proofs.Newer.{candidates-permuted}
-use Rattle.reconcile.proofs.Ordered.{first_key, order_numbers}
 use Rattle.model.proofs.Sending.{length-candidates-lt, sorted_sent}
 use Rattle.reconcile.proofs.Turned.{turned-permutation, turned-pairs}
 
@@ -39,12 +36,6 @@ length-layered-le number budget all items layers =
 -- and what is sent is within the budget
 pub within-layered : (number : Item → ℕ) (budget : Budget) (all items : List Item) → AreLayered number budget all items → AreWithin budget items
 within-layered number budget all items layers = subst (AreWithin budget) (sym layers.is) (sum-fitting (item_share budget) (amount_of budget) (layered number all layers.least layers.layers))
-
-pub within-first : (budget : Budget) (found : List Candidate) (items : List Item) → AreFirstItems budget found items → AreWithin budget items
-within-first budget found items first = subst (AreWithin budget) (sym first.is) (sum-fitting (item_share budget) (amount_of budget) (items_in first.sorted))
-
-pub length-first : (budget : Budget) (found : List Candidate) (items : List Item) → AreFirstItems budget found items → length items ≤ length found
-length-first budget found items first = omega (arith, ap length first.is, length-fitting-le (item_share budget) (amount_of budget) (items_in first.sorted), length-map first.sorted item_in, length_permutation found first.sorted first.same)
 
 module _ (mode : Mode) (t : Table) (told : DigestView) (receiver rotation : ℕ) (proper : IsProper t) (in_nodes : rotation < t.nodes) where
   abbrev unknown : Item → Bool
@@ -65,22 +56,12 @@ module _ (mode : Mode) (t : Table) (told : DigestView) (receiver rotation : ℕ)
         (turned-pairs t.nodes rotation in_nodes old new turned are.rising (λ k d lt. (are.each _ (Contains-get_or (items_of_suffixes old) k d lt)).1)) layers.within)
         layers.is
 
-  module _ (found : List Candidate) (are : AreCandidates t told receiver t.nodes (items_in found)) where
+  module _ (found : List Item) (are : AreCandidates t told receiver t.nodes found) where
+    same_found : IsPermutation (items_above (told_mark told) receiver (items_of t)) found
+    same_found = candidates-permuted t told receiver found proper are
+
     pub few-found : length found < 2 ^ 32
-    few-found = omega (arith, length-map found item_in, length-candidates-lt t unknown (items_in found) proper (candidates-permuted t told receiver (items_in found) proper are))
+    few-found = length-candidates-lt t unknown found proper same_found
 
-    pub answer-found : digest_kind mode ≡ Precise → AllSet mode t.nodes rotation found → (budget : Budget) (items : List Item) → AreFirstItems budget found items → ◌≡◌ {A = DeltaView} (record { items = items; cut = length found - length items }) (answer_of mode rotation budget t receiver told)
-    answer-found precise set budget items first =
-        (λ i. record { items = items; cut = sym (length-map found item_in) i - length items })
-        ∙ sorted_sent mode t unknown (items_in found) (items_in first.sorted) items rotation budget proper in_nodes (candidates-permuted t told receiver (items_in found) proper are)
-        (IsPermutation-map item_in found first.sorted first.same)
-        (order_numbers mode precise t.nodes rotation found set first.sorted first.same first.rises)
-        first.is
-
-    pub answer-sent : digest_kind mode ≡ Precise → AllSet mode t.nodes rotation found → (budget : Budget) (d : DeltaView) → IsSentOf budget found d → d ≡ answer_of mode rotation budget t receiver told
-    answer-sent precise set budget d sent =
-        (λ i. record { items = d.items; cut = sent.cut i })
-        ∙ answer-found precise set budget d.items sent.items
-
-    pub few-sent : (budget : Budget) (d : DeltaView) → IsSentOf budget found d → length d.items < 2 ^ 32
-    few-sent budget d sent = omega (arith, few-found, length-first budget found d.items sent.items)
+    pub answer-found : (budget : Budget) (sorted items : List Item) → IsPermutation found sorted → IsSorted (sending_order mode t.nodes rotation found) sorted → items ≡ first_within budget sorted → ◌≡◌ {A = DeltaView} (record { items = items; cut = length found - length items }) (answer_of mode rotation budget t receiver told)
+    answer-found budget sorted items moved rises is = sorted_sent mode t unknown found sorted items rotation budget proper in_nodes same_found moved rises is

@@ -1,30 +1,31 @@
 -- Items that stand by turn, then by version and then by key, and are taken layer by layer, are in the order of their
 -- scuttle mode.
--- Serves `by_length`, `by_rank`, `Answering` and `Turned`.
+-- Serves `by_length`, `by_rank`, `scuttle_delta`, `Answering` and `Turned`.
 use Rattle.std.proofs.Common.{◌≡◌, ℕ, zero, suc, ◌+◌, ◌<◌, ◌≤◌, ◌^◌, Bool, true, false, cond, not, ◌&&◌, eqb, ltb, List, [], ◌∷◌, ◌++◌, length, get_or, All, ◌⊎◌, inl, inr, refl, sym, ap, ◌∙◌, subst, arith}
 use Rattle.std.specs.Prelude.{filter, Contains, IsPermutation}
 use Rattle.std.specs.List.{AllPairs}
 use Rattle.std.specs.List.Sorted.{IsSorted}
+use Rattle.std.specs.declared.cmp.Ordering.{Ordering}
 use Rattle.std.specs.declared.cmp.Ordering.TheVariants.{Less, Greater}
 use Rattle.std.specs.Ordering.{nat_cmp, ordering_then, ordering_reverse, is_lt}
 use Rattle.std.proofs.lemmas.Bool.{cases_lt, cases_order, eq-eqb, eqb-true, ne_eqb, lt-ltb, le-ltb}
 use Rattle.std.proofs.lemmas.List.{append-nil, append_assoc, length-append}
 use Rattle.std.proofs.lemmas.List.Elements.{All-nil, All-head, All-tail, All-append, All-weaker, All-contains, Contains-get_or, filter_passes}
 use Rattle.std.proofs.lemmas.List.Kept.{AllPairs-filter}
+use Rattle.std.proofs.lemmas.List.Sums.{count_by-le-length}
 use Rattle.std.proofs.lemmas.List.Sorted.{length_permutation, Contains-permutation, IsPermutation-refl, IsPermutation-sym, IsPermutation-trans, IsPermutation-append_left, IsPermutation-filter_both}
 use Rattle.bench_types.specs.declared.entries.Item.{Item}
 use Rattle.bench_types.specs.declared.exchanges.Mode.{Mode}
+use Rattle.bench_types.specs.declared.exchanges.Mode.TheVariants.{ScuttleBreadth, ScuttleDepth, PreciseOldest, PreciseNewest}
 use Rattle.bench_types.proofs.Comparing.{nat_cmp-less, nat_cmp-equal, nat_cmp-greater}
 use Rattle.model.specs.Candidates.{IsScuttleMode}
-use Rattle.model.specs.Order.{rotated, sending_order}
+use Rattle.model.specs.Order.{rotated, rank_among, owner_count, sending_order}
 use Rattle.model.specs.inner.Fitting.{fitting, left_after}
-use Rattle.reconcile.specs.inner.Suffixes.{layer_of, layered}
+use Rattle.reconcile.specs.inner.Suffixes.{layer_of, layered, reversed, lengths_first}
 use Rattle.model.proofs.Apart.{sending_total}
 use Rattle.model.proofs.DeltaLaws.{sending_order-ascending}
 use Rattle.model.proofs.Fitting.{length-fitting-le, fitting-zero, fitting-append, left_after-append}
-use Rattle.reconcile.proofs.Front.{up-sorted}
 use Rattle.model.proofs.Members.{AllPairs-append}
-use Rattle.reconcile.proofs.Ordered.{first_key, second_key, scuttle-sending}
 
 -- one filter after another
 filter-twice : (p q r : Item → Bool) → ((c : Item) → r c ≡ (q c && p c)) → (cs : List Item) → filter p (filter q cs) ≡ filter r cs
@@ -146,6 +147,41 @@ module _ (size : Item → ℕ) (some : (i : Item) → 1 ≤ size i) (number : It
 abbrev pub InTurn : ℕ → ℕ → Item → Item → Type 0
 InTurn ns s i j = (rotated ns s i.owner < rotated ns s j.owner) ⊎ ((i.owner ≡ j.owner) × (ordering_then (nat_cmp i.entry.version j.entry.version) (nat_cmp i.entry.key j.entry.key) ≡ Less))
 
+-- what a scuttle mode looks at first, among all candidates, and after the owner's turn, of a version
+abbrev pub first_key : Mode → List Item → Item → ℕ
+first_key ScuttleBreadth cs i = rank_among cs i
+first_key ScuttleDepth cs i = lengths_first cs i
+first_key PreciseOldest cs i = 0
+first_key PreciseNewest cs i = 0
+
+abbrev second_key : Mode → ℕ → ℕ
+second_key ScuttleBreadth version = 0
+second_key ScuttleDepth version = version
+second_key PreciseOldest version = 0
+second_key PreciseNewest version = 0
+
+-- numbers that are taken from a greater one compare the other way round
+nat_cmp-reversed : (a b : ℕ) → a < 2 ^ 32 → b < 2 ^ 32 → nat_cmp (reversed a) (reversed b) ≡ nat_cmp b a
+nat_cmp-reversed a b in_a in_b = elim (cases_order a b) [
+  | inl same ↦ nat_cmp-equal (reversed a) (reversed b) (omega arith) ∙ sym (nat_cmp-equal b a (omega arith))
+  | inr differ ↦ elim differ [
+    | inl below ↦ nat_cmp-greater (reversed a) (reversed b) (omega arith) ∙ sym (nat_cmp-greater b a (omega arith))
+    | inr above ↦ nat_cmp-less (reversed a) (reversed b) (omega arith) ∙ sym (nat_cmp-less b a (omega arith))
+  ]
+]
+
+-- they compare as the mode says
+abbrev by_keys : Mode → ℕ → ℕ → List Item → Item → Item → Ordering
+by_keys mode ns s items i j = ordering_then (nat_cmp (first_key mode items i) (first_key mode items j)) (ordering_then (nat_cmp (rotated ns s i.owner) (rotated ns s j.owner)) (ordering_then (nat_cmp (second_key mode i.entry.version) (second_key mode j.entry.version)) (nat_cmp i.entry.key j.entry.key)))
+
+scuttle-sending : (mode : Mode) → IsScuttleMode mode → (ns s : ℕ) (items : List Item) (i j : Item) → length items < 2 ^ 32 → by_keys mode ns s items i j ≡ sending_order mode ns s items i j
+scuttle-sending ScuttleBreadth is ns s items i j few = refl
+scuttle-sending ScuttleDepth is ns s items i j few =
+    ap (λ o. ordering_then o (ordering_then (nat_cmp (rotated ns s i.owner) (rotated ns s j.owner)) (ordering_then (nat_cmp i.entry.version j.entry.version) (nat_cmp i.entry.key j.entry.key))))
+    (nat_cmp-reversed (owner_count items i) (owner_count items j) (omega (arith, count_by-le-length (λ (d : Item). eqb d.owner i.owner) items)) (omega (arith, count_by-le-length (λ (d : Item). eqb d.owner j.owner) items)))
+scuttle-sending PreciseOldest is ns s items i j few = cc
+scuttle-sending PreciseNewest is ns s items i j few = cc
+
 module _ (mode : Mode) (scuttle : IsScuttleMode mode) (ns s : ℕ) (cs : List Item) (few : length cs < 2 ^ 32) where
   -- so an item comes before those of later layers, and in its layer before those of later turns
   pair_sent : (c d : Item) → Contains cs c → (first_key mode cs c < first_key mode cs d) ⊎ ((first_key mode cs c ≡ first_key mode cs d) × InTurn ns s c d) → sending_order mode ns s cs c d ≡ Less
@@ -171,7 +207,7 @@ module _ (mode : Mode) (scuttle : IsScuttleMode mode) (ns s : ℕ) (cs : List It
 
   -- items that stand in turn, taken layer by layer, are in the order of the mode
   pub order_layers : (least layers : ℕ) → AllPairs (InTurn ns s) cs → All (λ (i : Item). (least ≤ first_key mode cs i) × (first_key mode cs i < least + layers)) cs → IsSorted (sending_order mode ns s cs) (layered (first_key mode cs) cs least layers)
-  order_layers least layers in_turn within = up-sorted (sending_order mode ns s cs) (sending_total ns s cs mode) whole up
+  order_layers least layers in_turn within k d from in_range = up k (k + 1) d (omega arith) in_range
     where
       whole : List Item
       whole = layered (first_key mode cs) cs least layers

@@ -1,8 +1,6 @@
 pub mod Told
 pub mod Adding
-pub mod Ordered
 pub mod Dense
-pub mod Front
 pub mod Newer
 pub mod Layers
 pub mod Turned

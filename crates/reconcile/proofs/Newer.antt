@@ -7,7 +7,7 @@ use Rattle.std.specs.declared.cmp.Ordering.TheVariants.{Less, Equal}
 use Rattle.std.specs.Ordering.{nat_cmp, ordering_then, is_eq}
 use Rattle.std.specs.Cmp.{IsTotalOrder, nat_cmp_total, on_total, then_total, tied_itself}
 use Rattle.std.proofs.lemmas.Bool.{cases_lt, eq-eqb, ne_eqb, eqb-true, and_parts, and_from, both_ways, not-true}
-use Rattle.std.proofs.lemmas.List.{append-nil, append_assoc, map-append, take_more}
+use Rattle.std.proofs.lemmas.List.{append_assoc, map-append, take_more}
 use Rattle.std.proofs.lemmas.List.Elements.{All-contains, All-head, All-tail, All-map, Contains-get_or, Contains-append_left, Contains-append_right, Contains-append_cases, filter-append}
 use Rattle.std.proofs.lemmas.List.Kept.{AllPairs-filter}
 use Rattle.bench_types.specs.declared.entries.Entry.{Entry}
@@ -15,7 +15,7 @@ use Rattle.bench_types.specs.declared.entries.Item.{Item}
 use Rattle.bench_types.specs.declared.entries.Mark.{Mark}
 use Rattle.bench_types.specs.Mark.{absent, mark_of, mark_held, is_before, IsBefore, IsUpTo}
 use Rattle.bench_types.proofs.Marks.{before-true, before-yes, before-no, up_to-then}
-use Rattle.model.specs.Table.{Table, entry_at, greatest_mark, generation_held, items_of, IsProper}
+use Rattle.model.specs.Table.{Table, entry_at, greatest_mark, items_of, IsProper}
 use Rattle.node_table.specs.Entries.{AreAbove}
 use Rattle.model.specs.inner.Applied.{stands_at}
 use Rattle.bench_types.proofs.Comparing.{nat_cmp-less, nat_cmp-equal}
@@ -23,10 +23,8 @@ use Rattle.model.proofs.Items.{IsApart, apart-items_of, entry_at-items_of, Conta
 use Rattle.model.proofs.TableLaws.{tied-stands_at}
 use Rattle.model.proofs.Greatest.{mark_at-up_to_greatest}
 use Rattle.model.specs.Candidates.{items_above}
-use Rattle.reconcile.specs.Digests.{DigestView, told_generation, told_mark_at, told_mark}
+use Rattle.reconcile.specs.Digests.{DigestView, told_mark_at, told_mark}
 use Rattle.reconcile.specs.inner.Newer.{AreNewer, item_with, newer_items, version_order, IsCandidate, AreCandidates}
-use Rattle.reconcile.specs.inner.Keys.{item_in, items_in}
-use Rattle.reconcile.specs.declared.candidates.Candidate.{Candidate}
 use Rattle.model.proofs.Members.{Contains-filter, Contains-kept, Contains-map, AllPairs-append, AllPairs-map, same_members}
 
 pub version_total : IsTotalOrder version_order
@@ -63,10 +61,6 @@ filter-all : (p : Item → Bool) (xs : List Item) → All (λ x. p x ≡ true) x
 filter-all p [] each = refl
 filter-all p (x ∷ xs) each = ap (λ b. cond b (x ∷ filter p xs) (filter p xs)) (All-head (λ y. p y ≡ true) x xs each) ∙ ap (λ ys. x ∷ ys) (filter-all p xs (All-tail (λ y. p y ≡ true) x xs each))
 
-filter-none : (p : Item → Bool) (xs : List Item) → All (λ x. p x ≡ false) xs → filter p xs ≡ []
-filter-none p [] each = refl
-filter-none p (x ∷ xs) each = ap (λ b. cond b (x ∷ filter p xs) (filter p xs)) (All-head (λ y. p y ≡ false) x xs each) ∙ filter-none p xs (All-tail (λ y. p y ≡ false) x xs each)
-
 -- entries above what is told are all newer
 pub newer_items-above : (t : Table) (told : DigestView) (owner : ℕ) (mark : Mark) (entries : List Entry) → ((key : ℕ) → told_mark_at told owner key ≡ mark) → AreAbove t owner mark entries → newer_items told owner entries ≡ map (item_with owner) entries
 newer_items-above t told owner mark entries same above =
@@ -75,52 +69,22 @@ newer_items-above t told owner mark entries same above =
     (λ k d lt. let e = get_or entries k d in
     before-yes (told_mark_at told owner e.key) (mark_of e) (subst (λ m. IsBefore m (mark_of e)) (sym (same e.key)) (above.held e (Contains-get_or entries k d lt)).1)))
 
--- of an older generation than is told none is newer
-pub newer_items-older : (told : DigestView) (owner generation : ℕ) (entries : List Entry) → All (λ (e : Entry). e.generation ≡ generation) entries → generation < told_generation told owner → newer_items told owner entries ≡ []
-newer_items-older told owner generation entries alike older =
-    filter-none (λ (i : Item). is_before (told_mark told i) (mark_of i.entry)) (map (item_with owner) entries)
-    (All-map (λ (i : Item). is_before (told_mark told i) (mark_of i.entry) ≡ false) (item_with owner) entries
-    (λ k d lt. let e = get_or entries k d in
-    before-no (told_mark_at told owner e.key) (mark_of e) (record { generation = omega (arith, older, alike k d lt); version = λ same. absurd (omega (arith, same, older, alike k d lt)) })))
-
 -- the keys of a proper table's entries are in range
 pub row-keys : (t : Table) (owner : ℕ) (mark : Mark) (entries : List Entry) → IsProper t → AreAbove t owner mark entries → All (λ (e : Entry). e.key < t.keys) entries
 row-keys t owner mark entries proper above k d lt =
     let e = get_or entries k d in
     (proper.in_place owner e.key e (above.held e (Contains-get_or entries k d lt)).0).key_below
 
--- and they have the generation that is held
-pub row-generation : (t : Table) (owner : ℕ) (mark : Mark) (entries : List Entry) → IsProper t → AreAbove t owner mark entries → All (λ (e : Entry). e.generation ≡ generation_held t owner) entries
-row-generation t owner mark entries proper above k d lt =
-    let e = get_or entries k d in
-    proper.copies owner e.key e (above.held e (Contains-get_or entries k d lt)).0
-
 -- one more entry is looked at
-module _ (told : DigestView) (owner : ℕ) (entries : List Entry) (n : ℕ) (before : List Item) (found : List Candidate) (so_far : items_in found ≡ before ++ newer_items told owner (take n entries)) (lt : n < length entries) (d : Entry) where
-  one_more : before ++ newer_items told owner (take (n + 1) entries) ≡ (before ++ newer_items told owner (take n entries)) ++ newer_items told owner (get_or entries n d ∷ [])
-  one_more =
-      ap (λ es. before ++ newer_items told owner es) (take_more entries n d lt)
-      ∙ ap (λ is. before ++ filter (λ (i : Item). is_before (told_mark told i) (mark_of i.entry)) is) (map-append (item_with owner) (take n entries) (get_or entries n d ∷ []))
-      ∙ ap (λ is. before ++ is) (filter-append (λ (i : Item). is_before (told_mark told i) (mark_of i.entry)) (map (item_with owner) (take n entries)) (item_with owner (get_or entries n d) ∷ []))
-      ∙ sym (append_assoc before (newer_items told owner (take n entries)) (newer_items told owner (get_or entries n d ∷ [])))
-
-  -- and isn't known
-  pub newer_items-more : (c : Candidate) → c.item ≡ item_with owner (get_or entries n d) → IsBefore (told_mark_at told owner (get_or entries n d).key) (mark_of (get_or entries n d)) → items_in (found ++ c ∷ []) ≡ before ++ newer_items told owner (take (n + 1) entries)
-  newer_items-more c is newer =
-      let e = get_or entries n d in
-      map-append item_in found (c ∷ [])
-      ∙ (λ i. so_far i ++ is i ∷ [])
-      ∙ ap (λ b. (before ++ newer_items told owner (take n entries)) ++ cond b (item_with owner e ∷ []) []) (sym (before-yes (told_mark_at told owner e.key) (mark_of e) newer))
-      ∙ sym one_more
-
-  -- or is known
-  pub newer_items-known : IsUpTo (mark_of (get_or entries n d)) (told_mark_at told owner (get_or entries n d).key) → items_in found ≡ before ++ newer_items told owner (take (n + 1) entries)
-  newer_items-known known =
-      let e = get_or entries n d in
-      so_far
-      ∙ sym (append-nil (before ++ newer_items told owner (take n entries)))
-      ∙ ap (λ b. (before ++ newer_items told owner (take n entries)) ++ cond b (item_with owner e ∷ []) []) (sym (before-no (told_mark_at told owner e.key) (mark_of e) known))
-      ∙ sym one_more
+pub newer_items-more : (told : DigestView) (owner : ℕ) (entries : List Entry) (n : ℕ) (before : List Item) (d : Entry) (newer : Bool) → n < length entries → is_before (told_mark_at told owner (get_or entries n d).key) (mark_of (get_or entries n d)) ≡ newer
+    → (before ++ newer_items told owner (take n entries)) ++ cond newer (item_with owner (get_or entries n d) ∷ []) [] ≡ before ++ newer_items told owner (take (n + 1) entries)
+newer_items-more told owner entries n before d newer lt is =
+    let e = get_or entries n d in
+    append_assoc before (newer_items told owner (take n entries)) (cond newer (item_with owner e ∷ []) [])
+    ∙ ap (λ b. before ++ (newer_items told owner (take n entries) ++ cond b (item_with owner e ∷ []) [])) (sym is)
+    ∙ ap (λ is. before ++ is) (sym (filter-append (λ (i : Item). is_before (told_mark told i) (mark_of i.entry)) (map (item_with owner) (take n entries)) (item_with owner e ∷ [])))
+    ∙ ap (λ is. before ++ filter (λ (i : Item). is_before (told_mark told i) (mark_of i.entry)) is) (sym (map-append (item_with owner) (take n entries) (e ∷ [])))
+    ∙ ap (λ es. before ++ newer_items told owner es) (sym (take_more entries n d lt))
 
 module _ (t : Table) (told : DigestView) (receiver : ℕ) where
   -- before the first owner there are none

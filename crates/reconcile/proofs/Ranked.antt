@@ -1,5 +1,5 @@
 -- The entries of a rank, where entries stand by version: a stretch of one version.
--- Serves `Parcel::add_entries`, `bytes_left`, `entries_ranked`, `push_entries` and `SuffixLayers`.
+-- Serves `Parcel::add_entries`, `entries_ranked` and `SuffixLayers`.
 use Rattle.std.proofs.Common.{◌≡◌, ◌≢◌, ℕ, zero, suc, ◌+◌, ◌-◌, ◌<◌, ◌≤◌, Bool, true, false, eqb, ltb, List, [], ◌∷◌, length, take, drop, get_or, ◌⊎◌, inl, inr, refl, ap, ◌∙◌, arith}
 use Rattle.std.specs.Prelude.{count_by}
 use Rattle.std.specs.List.{AllPairs}

@@ -1,6 +1,5 @@
 pub mod Inside
 pub mod Newer
-pub mod Keys
 pub mod Parcels
 pub mod Questions
 pub mod Suffixes

@@ -25,12 +25,9 @@ use std::alloc::Global;
 /// A scuttle mode compares a mark for each owner, and looks at the entries of those where its own
 /// is greater. Nothing is sorted: scuttle-breadth goes over those owners once for each place in
 /// their suffixes of entries, scuttle-depth once for each length of these, so at most once for each key,
-/// until the budget is reached. It takes memory for those owners, and for as many items as the budget
-/// may let through: in bytes, as if all were of the least size.
-/// A precise mode compares a generation for each owner and looks at each entry once, but for those of
-/// an older generation, under a budget in bytes at times twice. It sorts what is sent, in bytes about
-/// an eighth more: where the budget cuts, a selection parts it from the rest. It takes memory in
-/// proportion to the candidates.
+/// until the budget is reached. It takes memory for those owners, and for as many items as are found and the
+/// budget may let through.
+/// A precise mode looks at each entry once and sorts the candidates. It takes memory in proportion to them.
 ///
 /// An error is lack of that memory (`OutOfMemory`).
 pub fn delta(

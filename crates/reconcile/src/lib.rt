@@ -25,17 +25,10 @@
 //!   them are dropped on the way.
 //! - The budget ends the walk. What is sent goes into a `Parcel`, which has what is left of the budget, and the first
 //!   entry that doesn't fit leaves nothing for those behind it. So nothing but the order says what is sent, whatever an
-//!   entry takes of the budget, which stands in one place, `share_of` of `bench_types`. In entries one comparison says
-//!   whether all that an owner adds fits; in bytes the sizes are taken off one by one. What is known before the walk is
-//!   how many candidates the budget lets through at most (`most_sent`): so much memory is asked for, and so many are
-//!   selected.
-//! - The precise modes sort what is sent. Where more were found than the budget may let through, a selection brings the
-//!   first of them to the front. The contract of the selection says what its three parts are, and nothing of the slice
-//!   that they are lent from, so the items are copied from the front while it is lent (`front_items`). How many a
-//!   budget in bytes lets through isn't known before they are sorted, and the bound, all of the least size, is some
-//!   twenty times too many for sizes spread evenly. So first about as many are parted as their mean size says, and an
-//!   eighth more (`likely_delta`). Where these take more than the budget has, no others can be sent. Else the
-//!   candidates are looked up again, since nothing is known of the slice, and the bound is taken.
+//!   entry takes of the budget, which stands in one place, `share_of` of `bench_types`.
+//! - The precise modes sort all candidates by the order itself, `Turns::compare`, and cut them at the budget. To select
+//!   the first of them before sorting would be faster where the budget cuts most of them, and needs an estimate of how
+//!   many fit in bytes; a run, whose tables are others, plans no such delta.
 //! - `delta` and `Delta` stand in two modules, as two items of one module may not differ in case alone.
 #![tactic(auto)]
 

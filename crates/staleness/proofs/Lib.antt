@@ -1,9 +1,2 @@
-pub mod Births
-pub mod Rows
 pub mod Known
-pub mod Leftover
-pub mod Seen
-pub mod Places
-pub mod Counting
-pub mod Merging
-pub mod EachPart
+pub mod Totals

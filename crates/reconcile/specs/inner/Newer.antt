@@ -1,5 +1,5 @@
 -- Entries of a table that a digest doesn't know. Source: this project.
-use Rattle.std.specs.Prelude.{◌≡◌, ◌≢◌, ℕ, ◌<◌, List, Some, ◌++◌, Contains, filter, map}
+use Rattle.std.specs.Prelude.{◌≡◌, ◌≢◌, ℕ, ◌<◌, List, Some, Contains, filter, map}
 use Rattle.std.specs.List.{AllPairs}
 use Rattle.std.specs.Ordering.{nat_cmp, ordering_then}
 use Rattle.std.specs.declared.cmp.Ordering.{Ordering}
@@ -10,8 +10,6 @@ use Rattle.bench_types.specs.Mark.{mark_of, is_before, IsBefore}
 use Rattle.model.specs.Table.{Table, entry_at}
 use Rattle.node_table.specs.Entries.{StandsBefore}
 use Rattle.reconcile.specs.Digests.{DigestView, told_mark_at, told_mark}
-use Rattle.reconcile.specs.inner.Keys.{items_in}
-use Rattle.reconcile.specs.declared.candidates.Candidate.{Candidate}
 
 -- entries of an owner, ascending by version and then by key, with all those among them that a digest doesn't know
 pub record AreNewer (t : Table) (told : DigestView) (owner : ℕ) (entries : List Entry) : Type 0 where
@@ -27,10 +25,6 @@ item_with owner e = record { owner = owner; entry = e }
 abbrev pub newer_items : DigestView → ℕ → List Entry → List Item
 newer_items told owner entries =
     filter (λ i. is_before (told_mark told i) (mark_of i.entry)) (map (item_with owner) entries)
-
--- candidates of these come behind
-abbrev pub AddsNewer : DigestView → ℕ → List Entry → List Candidate → List Candidate → Type 0
-AddsNewer told owner entries old new = items_in new ≡ items_in old ++ newer_items told owner entries
 
 -- by owner, then by version, then by key
 abbrev pub version_order : Item → Item → Ordering

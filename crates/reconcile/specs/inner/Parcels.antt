@@ -1,5 +1,5 @@
 -- Items on their way into a delta, under a budget. Source: this project.
-use Rattle.std.specs.Prelude.{◌≡◌, ℕ, ◌≤◌, List, ◌++◌, length}
+use Rattle.std.specs.Prelude.{◌≡◌, List, ◌++◌}
 use Rattle.bench_types.specs.declared.entries.Item.{Item}
 use Rattle.bench_types.specs.declared.exchanges.Budget.{Budget}
 use Rattle.model.specs.Deltas.{item_share}
@@ -16,7 +16,3 @@ pub record AddsFitting (items : List Item) (old new : Parcel) : Type 0 where
 -- as many of these items, from the first one on, as a budget has room for
 abbrev pub first_within : Budget → List Item → List Item
 first_within budget items = fitting (item_share budget) (amount_of budget) items
-
--- of any so many items at most these fit
-abbrev pub AreEnough : Budget → ℕ → ℕ → Type 0
-AreEnough budget count most = (items : List Item) → length items ≤ count → length (first_within budget items) ≤ most

@@ -1,14 +1,13 @@
 -- What a digest of greatest marks doesn't know, as suffixes: the entries of one owner, ascending by version. A budget
 -- is shared out among the suffixes layer by layer: in a layer each suffix sends its entries of one rank, or the suffixes of one
 -- length send all. Source: this project, after the two orders of the LADIS 2008 paper.
-use Rattle.std.specs.Prelude.{◌≡◌, ◌≢◌, ℕ, zero, suc, ◌+◌, ◌<◌, ◌≤◌, ◌==◌, nat_lt, List, [], ◌++◌, length, take, drop, filter, map, count_by, All, if◌then◌else◌}
+use Rattle.std.specs.Prelude.{◌≡◌, ◌≢◌, ℕ, zero, suc, ◌+◌, ◌-◌, ◌<◌, ◌≤◌, ◌==◌, nat_lt, List, [], ◌++◌, length, take, drop, filter, map, count_by, All, if◌then◌else◌}
 use Rattle.std.specs.List.{AllPairs, flat_map}
 use Rattle.bench_types.specs.declared.entries.Entry.{Entry}
 use Rattle.bench_types.specs.declared.entries.Item.{Item}
 use Rattle.bench_types.specs.declared.exchanges.Budget.{Budget}
 use Rattle.node_table.specs.Entries.{StandsBefore}
 use Rattle.reconcile.specs.inner.Parcels.{first_within, AddsFitting}
-use Rattle.reconcile.specs.inner.Keys.{reversed}
 use Rattle.reconcile.specs.inner.Newer.{item_with}
 use Rattle.model.specs.Order.{owner_count}
 use Rattle.reconcile.specs.declared.parcels.Parcel.{Parcel}
@@ -53,6 +52,10 @@ of_length len r = if length r.entries.now == len then suffix_items r else []
 -- what each suffix sends comes behind, as long as it fits
 abbrev pub AddsLayer : (Suffix → List Item) → List Suffix → Parcel → Parcel → Type 0
 AddsLayer part suffixes old new = AddsFitting (flat_map part suffixes) old new
+
+-- a number of 32 bits as one that is smaller the greater it is
+abbrev pub reversed : ℕ → ℕ
+reversed n = 4294967295 - n
 
 -- a number that is smaller the more items the owner has
 abbrev pub lengths_first : List Item → Item → ℕ

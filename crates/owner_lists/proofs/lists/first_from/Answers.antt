@@ -1,12 +1,20 @@
-use Rattle.std.proofs.Common.{sym, ◌∙◌}
-use Rattle.owner_lists.proofs.Linking.{no_link, first_here, first_later, first_nowhere}
+use Rattle.std.proofs.Common.{Some, get_or, sym, ◌∙◌}
+use Rattle.bench_types.specs.declared.entries.Entry.{Entry}
+use Rattle.model.specs.Writes.{write_of_entry}
+use Rattle.owner_lists.proofs.Last.{first_here, first_later, first_nowhere}
 use Rattle.owner_lists.proofs.lists.first_from.Goals as goal
 
-pub returns-then-links-at : goal.returns-then-links-at
-returns-then-links-at c = sym (c.loop-at.invariant ∙ first_here c.args.links.now c.args.key c.loop-at.at no_link c.write_at.result c.loop-at-test.true c.if-links-at.true c.write_at.ensures)
+abbrev no_entry : Entry
+no_entry = record { key = 0; generation = 0; version = 0; value = 0; born = 0 }
+
+pub returns-then-entry-key : goal.returns-then-entry-key
+returns-then-entry-key c =
+    sym (c.loop-at.invariant
+    ∙ first_here c.args.entries.now c.args.key c.loop-at.at no_entry c.loop-at-test.true c.if-entry-key.true
+    ∙ (λ i. Some (record (write_of_entry (get_or c.args.entries.now c.loop-at.at no_entry)) { key = c.if-entry-key.true i })))
 
 pub loop-at-preserved : goal.loop-at-preserved
-loop-at-preserved c = c.loop-at.invariant ∙ first_later c.args.links.now c.args.key c.loop-at.at no_link c.loop-at-test.true c.if-links-at.false
+loop-at-preserved c = c.loop-at.invariant ∙ first_later c.args.entries.now c.args.key c.loop-at.at no_entry c.loop-at-test.true c.if-entry-key.false
 
 pub returns : goal.returns
-returns c = sym (c.loop-at.invariant ∙ first_nowhere c.args.links.now c.args.key c.loop-at.at c.loop-at-test.false)
+returns c = sym (c.loop-at.invariant ∙ first_nowhere c.args.entries.now c.args.key c.loop-at.at c.loop-at-test.false)

@@ -4,8 +4,7 @@ use Rattle.bench_types.specs.Budget.{amount_of}
 use Rattle.bench_types.specs.declared.entries.Item.{Item}
 use Rattle.model.specs.Deltas.{item_share}
 use Rattle.reconcile.specs.inner.Parcels.{first_within}
-use Rattle.reconcile.specs.inner.Keys.{reversed}
-use Rattle.reconcile.specs.inner.Suffixes.{items_of_suffixes, of_length, layer_of, layered, lengths_first}
+use Rattle.reconcile.specs.inner.Suffixes.{items_of_suffixes, of_length, layer_of, layered, lengths_first, reversed}
 use Rattle.reconcile.proofs.Adding.{some_share, adds-under}
 use Rattle.reconcile.proofs.Layers.{layered-next, layered-left, layered-full, layered-whole}
 use Rattle.reconcile.proofs.SuffixLayers.{layer-length, within-length}

@@ -3,7 +3,7 @@ use Rattle.model.specs.calls.DeltaLaws.{AreWithin}
 use Rattle.model.specs.Order.{rank_among}
 use Rattle.reconcile.specs.inner.Suffixes.{items_of_suffixes, AreSuffixes, AreLayered, lengths_first}
 use Rattle.reconcile.proofs.Answering.{few-turned, length-layered-le, within-layered, answer-turned}
-use Rattle.reconcile.proofs.Ordered.{first_key}
+use Rattle.reconcile.proofs.Layers.{first_key}
 use Rattle.reconcile.proofs.Turned.{seen-turned, turned-suffixes}
 use Rattle.reconcile.proofs.suffixes.scuttle_delta.Goals as goal
 use Rattle.reconcile.proofs.suffixes.scuttle_delta.Goals.{in-ScuttleBreadth+in_ok-items-in-ScuttleBreadth, in-ScuttleDepth+in_ok-items-in-ScuttleDepth}

@@ -1,26 +1,46 @@
-use Rattle.std.proofs.Common.{◌≡◌, ◌+◌, List, drop, ap, ◌∙◌, arith}
-use Rattle.owner_lists.specs.declared.lists.Link.{Link}
+use Rattle.std.proofs.Common.{◌≡◌, ◌≤◌, IfSome, None, List, find, map, drop, sym, ap, ◌∙◌, subst}
+use Rattle.bench_types.specs.declared.entries.Entry.{Entry}
 use Rattle.model.specs.declared.writes.Write.{Write}
-use Rattle.model.specs.calls.OwnerListView.{written}
+use Rattle.model.specs.calls.OwnerListView.{written, AreWrites}
+use Rattle.model.specs.Writes.{write_of_entry}
+use Rattle.model.specs.calls.Writes.{is_write_of, last_write, IsNumbered}
 use Rattle.owner_lists.specs.Latest.{write_of}
-use Rattle.owner_lists.specs.inner.Linked.{writes_linked}
 use Rattle.owner_lists.specs.Missed.{first_missed}
-use Rattle.owner_lists.proofs.Keeping.{sliced, shown_kept}
+use Rattle.owner_lists.proofs.Last.{first_missed-drop, fresh}
+use Rattle.owner_lists.proofs.Keeping.{sliced, all_themselves, numbered_kept}
 use Rattle.owner_lists.proofs.lists.OwnerList.first_missed.Goals as goal
+use Rattle.owner_lists.proofs.lists.OwnerList.first_missed.Goals.{After-write_in}
 
-pub returns-in-Some : goal.returns-in-Some
-returns-in-Some c =
-    let l = c.self.inside in
-    let version : c.in-Some.at + 1 ≡ c.args.version = omega (arith, c.in-Some.ensures.0, c.in-Some.ensures.1) in
-    c.missed_after.ensures
-    ∙ ap (λ (ls : List Link). first_missed (writes_linked ls) c.args.key (c.in-Some.at + 1)) (sliced l.earlier c.deref.result.now ∙ ap (drop l.earlier) c.deref.ensures.value)
-    ∙ (λ i. first_missed ((shown_kept l.links.items l.earlier l.generation l.firsts.items l.latest.items l.in_order c.self.invariant ∙ ap written c.self.view_is) i) c.args.key (version i))
+numbered : (c : After-write_in) → IsNumbered (written c.args.self.now)
+numbered c = numbered_kept c.args.self.now (subst AreWrites c.self.view_is c.self.invariant.kept.writes)
 
-pub returns-in-None : goal.returns-in-None
-returns-in-None c =
+-- where the last write of the key is no newer
+none_missed : (c : After-write_in) → IfSome c.write_in.result (λ (w : Write). w.version ≤ c.args.version) → None ≡ first_missed (written c.args.self.now) c.args.key c.args.version
+none_missed c no_newer =
+    let last : c.write_in.result ≡ last_write (written c.args.self.now) c.args.key =
+    c.write_in.ensures ∙ ap (λ ws. write_of ws c.args.key) c.deref.ensures.value ∙ c.self.invariant.ends.last c.args.key ∙ ap (λ v. last_write (written v) c.args.key) c.self.view_is in
+    sym (fresh (written c.args.self.now) c.args.key c.args.version (numbered c) (subst (λ o. IfSome o (λ (w : Write). w.version ≤ c.args.version)) last no_newer))
+
+pub returns-in_err-last-clause-missed : goal.returns-in_err-last-clause-missed
+returns-in_err-last-clause-missed c = c.from_residual.ensures ∙ none_missed (goal.at.returns-in_err-last-clause-missed c).After-write_in (subst (λ o. IfSome o (λ (w : Write). w.version ≤ c.args.version)) (sym c.in_err-last.was) tt)
+
+pub returns-then-version-last-clause-missed : goal.returns-then-version-last-clause-missed
+returns-then-version-last-clause-missed c =
     let l = c.self.inside in
-    let version : 0 ≡ c.args.version = omega (arith, c.in-None.ensures) in
-    c.write_in.ensures
-    ∙ ap (λ (ws : List Write). write_of ws c.args.key) c.deref-in-None.ensures.value
-    ∙ c.self.invariant.list.begins.first c.args.key
-    ∙ (λ i. first_missed ((shown_kept l.links.items l.earlier l.generation l.firsts.items l.latest.items l.in_order c.self.invariant ∙ ap written c.self.view_is) i) c.args.key (version i))
+    c.first_from.ensures
+    ∙ ap (λ (es : List Entry). find (is_write_of c.args.key) (drop c.args.version (map write_of_entry es)))
+    (sliced l.earlier c.deref-then-version-last.result.now ∙ ap (drop l.earlier) c.deref-then-version-last.ensures.value ∙ sym (all_themselves (drop l.earlier l.entries.items)))
+    ∙ ap (λ v. find (is_write_of c.args.key) (drop c.args.version (written v))) c.self.view_is
+    ∙ sym (first_missed-drop (written c.args.self.now) c.args.key c.args.version (numbered (goal.at.returns-then-version-last-clause-missed c).After-write_in))
+
+pub returns-else-version-last-clause-missed : goal.returns-else-version-last-clause-missed
+returns-else-version-last-clause-missed c = none_missed (goal.at.returns-else-version-last-clause-missed c).After-write_in (subst (λ o. IfSome o (λ (w : Write). w.version ≤ c.args.version)) (sym c.in_ok-last.was) c.if-version-last.false)
+
+pub returns-in_err-last-clause-numbered : goal.returns-in_err-last-clause-numbered
+returns-in_err-last-clause-numbered c = numbered (goal.at.returns-in_err-last-clause-numbered c).After-write_in
+
+pub returns-then-version-last-clause-numbered : goal.returns-then-version-last-clause-numbered
+returns-then-version-last-clause-numbered c = numbered (goal.at.returns-then-version-last-clause-numbered c).After-write_in
+
+pub returns-else-version-last-clause-numbered : goal.returns-else-version-last-clause-numbered
+returns-else-version-last-clause-numbered c = numbered (goal.at.returns-else-version-last-clause-numbered c).After-write_in

@@ -1,18 +1,10 @@
-use Rattle.std.proofs.Common.{[], ◌∷◌, map, take, get_or, refl, subst, arith}
+use Rattle.std.proofs.Common.{[], ◌∷◌, map, take, get_or, subst}
 use Rattle.reconcile.specs.inner.Newer.{item_with}
 use Rattle.reconcile.specs.inner.Parcels.{AddsFitting}
-use Rattle.reconcile.proofs.Adding.{adds-all, adds-append, sum_by-items}
+use Rattle.reconcile.proofs.Adding.{adds-append}
 use Rattle.reconcile.proofs.Ranked.{no_entry}
 use Rattle.reconcile.proofs.SuffixLayers.{map-more}
 use Rattle.reconcile.proofs.parcels.Parcel.add_entries.Goals as goal
-
-pub returns-in-Some-clause-added : goal.returns-in-Some-clause-added
-returns-in-Some-clause-added c =
-    let sum = sum_by-items c.args.self.now.budget c.args.owner c.args.entries.now in
-    adds-all (map (item_with c.args.owner) c.args.entries.now) c.args.self.now _ refl
-    (omega (arith, sum, c.in-Some.ensures))
-    c.in_ok-push_entries.ensures.items
-    (omega (arith, sum, c.in-Some.ensures))
 
 pub loop-entry-preserved : goal.loop-entry-preserved
 loop-entry-preserved c =

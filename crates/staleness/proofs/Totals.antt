@@ -1,0 +1,68 @@
+-- The figures of several parts together.
+-- Serves `figures`, `figures_of_copy` and `joined_all`.
+use Rattle.std.proofs.Common.{◌≡◌, ℕ, ◌+◌, ◌*◌, ◌<◌, ◌≤◌, Bool, true, false, eqb, List, length, get_or, All, if◌then◌else◌, inl, inr, ap, ◌∙◌, subst, arith}
+use Rattle.std.specs.Prelude.{is_some}
+use Rattle.std.specs.List.{range_with_len}
+use Rattle.std.proofs.lemmas.Bool.{cases_lt}
+use Rattle.std.proofs.lemmas.List.FromFn.{length-range_with_len}
+use Rattle.std.proofs.lemmas.Slice.Zip.{AllZip-long}
+use Rattle.bench_types.proofs.EqualParts.{at_place}
+use Rattle.bench_types.proofs.Sums.{sums, greatest, sum_below-most, fold_below-same}
+use Rattle.bench_types.specs.declared.limits.TheConstants.{MOST_NODES, MOST_KEYS}
+use Rattle.bench_types.specs.declared.rows.Figures.{Figures}
+use Rattle.model.specs.Figures.{generation_at, is_left_over, staleness_at, node_figures, figures_of}
+use Rattle.model.specs.Table.{Table, entry_at}
+use Rattle.model.specs.Tables.{table_of_node}
+use Rattle.model.specs.declared.writes.Write.{Write}
+use Rattle.staleness.specs.inner.Totals.{total_below, triple_figures, found_at, AreFew, IsCounted, AreCounted}
+
+-- as many triples as parts times those of each
+pub total_few : (f : ℕ → Figures) (n most : ℕ) → ((i : ℕ) → i < n → AreFew most (f i)) → AreFew (n * most) (total_below n f)
+total_few f n most few = record {
+  stale = sum_below-most (λ i. (f i).stale) n most (λ i lt. (few i lt).stale);
+  leftover = sum_below-most (λ i. (f i).leftover) n most (λ i lt. (few i lt).leftover);
+}
+
+total_same : (f g : ℕ → Figures) (n : ℕ) → ((i : ℕ) → i < n → f i ≡ g i) → total_below n f ≡ total_below n g
+total_same f g n same = λ j. record {
+  stale = fold_below-same sums (λ i. (f i).stale) (λ i. (g i).stale) n (λ i lt. ap (λ (x : Figures). x.stale) (same i lt)) j;
+  greatest = fold_below-same greatest (λ i. (f i).greatest) (λ i. (g i).greatest) n (λ i lt. ap (λ (x : Figures). x.greatest) (same i lt)) j;
+  leftover = fold_below-same sums (λ i. (f i).leftover) (λ i. (g i).leftover) n (λ i lt. ap (λ (x : Figures). x.leftover) (same i lt)) j;
+}
+
+one_at_most : (b : Bool) → (if b then 1 else 0) ≤ 1
+one_at_most true = omega arith
+one_at_most false = omega arith
+
+-- a triple counts once at most
+pub triple_few : (round : ℕ) (tables : List Table) (lists : List (List Write)) (p r k : ℕ) → AreFew 1 (triple_figures round tables lists p r k)
+triple_few round tables lists p r k =
+    let left = one_at_most (is_left_over (generation_at tables r) (entry_at (table_of_node tables p) r k)) in
+    record {
+      stale = one_at_most (is_some (staleness_at round tables lists p r k));
+      leftover = elim (eqb p r) as (λ b. (if b then 0 else (if is_left_over (generation_at tables r) (entry_at (table_of_node tables p) r k) then 1 else 0)) ≤ 1) [ true ↦ omega arith | false ↦ left ];
+    }
+
+-- those of all nodes
+module _ (round : ℕ) (tables : List Table) (lists : List (List Write)) (parts : List Figures) (each : AreCounted round tables lists parts) where
+  counted : (k : ℕ) (d : Figures) → k < length tables → IsCounted round tables lists k (get_or parts k d)
+  counted k d lt = let same : 0 + k ≡ k = omega arith in
+      subst (λ n. IsCounted round tables lists n (get_or parts k d)) same (at_place (IsCounted round tables lists) 0 (length tables) parts each k d lt)
+
+  as_many : length parts ≡ length tables
+  as_many = AllZip-long (IsCounted round tables lists) (range_with_len 0 (length tables)) parts each ∙ length-range_with_len 0 (length tables)
+
+  pub parts_few : All (AreFew (MOST_NODES * MOST_KEYS)) parts
+  parts_few k d lt = (counted k d (omega (arith, as_many))).few
+
+  pub parts_limit : length parts ≤ MOST_NODES
+  parts_limit = elim (cases_lt 0 (length tables)) [
+    | inl some ↦ omega (arith, as_many, (counted 0 (found_at parts 0) some).nodes_limit)
+    | inr none ↦ omega (arith, as_many)
+  ]
+
+  pub figures_of_all : total_below (length parts) (found_at parts) ≡ figures_of round tables lists
+  unfolding figures_of
+  figures_of_all =
+      ap (λ n. total_below n (found_at parts)) as_many
+      ∙ total_same (found_at parts) (node_figures round tables lists) (length tables) (λ k lt. (counted k (record { stale = 0; greatest = 0; leftover = 0 }) lt).are)

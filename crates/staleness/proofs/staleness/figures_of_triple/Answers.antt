@@ -1,0 +1,14 @@
+use Rattle.std.proofs.Common.{◌<◌, [], length, sym, ap, ◌∙◌, subst, arith}
+use Rattle.model.proofs.Owners.{length-lists_in, list_read}
+use Rattle.model.specs.calls.OwnerListView.{written}
+use Rattle.model.specs.calls.Writes.{AreBornBy}
+use Rattle.node_table.proofs.InOrder.{length-tables_in}
+use Rattle.staleness.proofs.staleness.figures_of_triple.Goals as goal
+
+pub staleness_of-staleness-requires-clause-born : goal.staleness_of-staleness-requires-clause-born
+staleness_of-staleness-requires-clause-born c =
+    let lists = c.args.lists.now in
+    let owner = c.args.owner in
+    let list = c.index-lists-owner.result in
+    let lt : owner < length lists = omega (arith, c.requires.owner, c.requires.countable.one_list_each, length-lists_in lists, length-tables_in c.args.tables.now) in
+    subst (AreBornBy c.args.round) (list_read lists owner list [] lt ∙ sym (ap written c.index-lists-owner.is)) (c.requires.countable.born owner [] (omega (arith, lt, length-lists_in lists)))

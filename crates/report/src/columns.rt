@@ -1,11 +1,10 @@
 //! The columns of the report, in one list: its header, its rows and the comparison go by it.
 
-ghost use Rattle.std.specs.Prelude.{◌++◌, map, IsTrue, OnOk, IsOkUnless};
-ghost use Rattle.std.specs.List.{list_all, AllZip};
+ghost use Rattle.std.specs.Prelude.{◌≡◌, ◌++◌, map, IsTrue, OnOk, IsOkUnless};
+ghost use Rattle.std.specs.List.{list_all};
 ghost use Rattle.report.specs.inner.Cells.{cell_text, is_plain_cell, AddsCells};
-ghost use Rattle.report.specs.Columns.{all_columns};
+ghost use Rattle.report.specs.Columns.{rule_of};
 ghost use Rattle.report.specs.calls.Columns.{IsFormat};
-ghost use Rattle.report.specs.inner.Cells.{IsColumn};
 ghost use Rattle.report.specs.Line.{line_of};
 ghost use Rattle.report.specs.Report.{names, numbers};
 ghost use Rattle.report.specs.calls.Writing.{WritesText};
@@ -15,34 +14,83 @@ use crate::outputs::write_line;
 use bench_types::{Fault, Row, Sink};
 use std::alloc::Global;
 
-// The header has the names alone.
-const NO_ROW: Row = Row {
-    round: 0,
-    exchanges: 0,
-    unreached: 0,
-    lost: 0,
-    entries: 0,
-    cut: 0,
-    stale: 0,
-    greatest: 0,
-    leftover: 0,
-};
+/// A column of the report.
+#[derive(Clone, Copy)]
+pub(crate) enum Column {
+    Round,
+    Exchanges,
+    Unreached,
+    Lost,
+    Entries,
+    Cut,
+    Stale,
+    Greatest,
+    Leftover,
+}
 
-// Each column's name, its number in a row, and the first format that has it.
-fn columns(row: &Row) -> [(&'static str, u64, u32); 9]
-    ensures { AllZip (λ shown c. IsColumn row.now shown.0.now shown.1 shown.2 c) result all_columns }
-{
-    [
-        ("round", row.round.into(), 1),
-        ("exchanges", row.exchanges.into(), 1),
-        ("unreached", row.unreached.into(), 1),
-        ("lost", row.lost.into(), 1),
-        ("entries", row.entries, 1),
-        ("cut", row.cut, 1),
-        ("stale", row.stale, 1),
-        ("greatest", row.greatest.into(), 1),
-        ("leftover", row.leftover, 2),
-    ]
+impl Column {
+    /// All columns, in order.
+    pub(crate) const ALL: [Column; 9] = [
+        Column::Round,
+        Column::Exchanges,
+        Column::Unreached,
+        Column::Lost,
+        Column::Entries,
+        Column::Cut,
+        Column::Stale,
+        Column::Greatest,
+        Column::Leftover,
+    ];
+
+    fn name(self) -> &'static str
+        ensures { result.now ≡ (rule_of self).name }
+    {
+        match self {
+            Column::Round => "round",
+            Column::Exchanges => "exchanges",
+            Column::Unreached => "unreached",
+            Column::Lost => "lost",
+            Column::Entries => "entries",
+            Column::Cut => "cut",
+            Column::Stale => "stale",
+            Column::Greatest => "greatest",
+            Column::Leftover => "leftover",
+        }
+    }
+
+    // The first format that has it.
+    fn since(self) -> u32
+        ensures { result ≡ (rule_of self).since }
+    {
+        match self {
+            Column::Round
+            | Column::Exchanges
+            | Column::Unreached
+            | Column::Lost
+            | Column::Entries
+            | Column::Cut
+            | Column::Stale
+            | Column::Greatest => 1,
+            Column::Leftover => 2,
+        }
+    }
+
+    // What a row has in it.
+    fn number(self, row: &Row) -> u64
+        ensures { result ≡ (rule_of self).number row.now }
+    {
+        match self {
+            Column::Round => row.round.into(),
+            Column::Exchanges => row.exchanges.into(),
+            Column::Unreached => row.unreached.into(),
+            Column::Lost => row.lost.into(),
+            Column::Entries => row.entries,
+            Column::Cut => row.cut,
+            Column::Stale => row.stale,
+            Column::Greatest => row.greatest.into(),
+            Column::Leftover => row.leftover,
+        }
+    }
 }
 
 /// Writes a line of these cells and of the names of a format's columns, and flushes.
@@ -68,9 +116,9 @@ fn push_names(cells: &mut Vec<Cell<'static>>, format: u32) -> Result<(), Fault>
     ensures added { OnOk result (AddsCells cells.old.items cells.new.items (names format)) }
     ensures only { IsOkUnless result Fault.OutOfMemory }
 {
-    for (name, _, since) in columns(&NO_ROW) {
-        if since <= format {
-            cells.push(Cell::Text(name))?;
+    for column in Column::ALL {
+        if column.since() <= format {
+            cells.push(Cell::Text(column.name()))?;
         }
     }
     Ok(())
@@ -101,9 +149,9 @@ fn push_numbers(cells: &mut Vec<Cell<'static>>, format: u32, row: &Row) -> Resul
     ensures added { OnOk result (AddsCells cells.old.items cells.new.items (numbers format row.now)) }
     ensures only { IsOkUnless result Fault.OutOfMemory }
 {
-    for (_, number, since) in columns(row) {
-        if since <= format {
-            cells.push(Cell::Number(number))?;
+    for column in Column::ALL {
+        if column.since() <= format {
+            cells.push(Cell::Number(column.number(row)))?;
         }
     }
     Ok(())

@@ -3,9 +3,8 @@
 //!
 //! # Choices
 //!
-//! - The columns of the report stand in one list, in code and in `specs`: each with its name, its number in a row and
-//!   the first format that has it. The headers and the rows of report and comparison go by it, so a further column is
-//!   one line more in each of the two lists.
+//! - The columns of the report are an enum: `Column::ALL` has their order, and the headers and the rows of report and
+//!   comparison go over it.
 //! - Every error of `csv` is `OutOfMemory`, as its writer writes into a vector, which fails for no other cause. Each
 //!   line has a writer of its own, so none can differ in its number of fields.
 //! - No trace row is made for a sink that drops all: a sink may say that it takes each byte and keeps none

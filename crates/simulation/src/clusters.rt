@@ -46,7 +46,7 @@ impl<T: MemoryTable + Send + Sync, H: RoundHistories<T>> Cluster<T, H> {
         })
     }
 
-    // What a round begins with: its restarts and its writes, by the words of the round.
+    // What a round begins with: its restarts and its writes, by node, by the words of the round.
     fn begin(&mut self, scenario: &Scenario, round: u32) -> Result<(), Fault>
         requires round { IsRoundOf H.may_write scenario.now round }
         requires ended { H.has_ended self.old.histories (round - 1) }
@@ -60,13 +60,17 @@ impl<T: MemoryTable + Send + Sync, H: RoundHistories<T>> Cluster<T, H> {
         ensures words { self.new.words ≡ run_words_of scenario.now round }
         ensures only { IsOkUnless result OutOfMemory }
     {
-        begin_round(
-            scenario,
-            &mut self.tables,
-            &mut self.histories,
-            &self.words,
-            round,
-        )
+        for node in 0..scenario.nodes() {
+            begin_node(
+                scenario,
+                node,
+                &mut self.tables[node as usize],
+                &mut self.histories,
+                self.words.of_node(node),
+                round,
+            )?;
+        }
+        self.histories.end_writes(round)
     }
 
     /// A round. Where it fails, the tables are given up.
@@ -143,37 +147,6 @@ fn empty_tables<T: MemoryTable, H: RoundHistories<T>>(
         tables.push(H::empty_table(alloc, node, nodes, keys)?)?;
     }
     Ok(tables)
-}
-
-// What a round begins with: its restarts and its writes, by node.
-fn begin_round<T: MemoryTable, H: RoundHistories<T>>(
-    scenario: &Scenario,
-    tables: &mut [T],
-    histories: &mut H,
-    words: &RunWords,
-    round: u32,
-) -> Result<(), Fault>
-    requires round { IsRoundOf H.may_write scenario.now round }
-    requires words { words.now ≡ run_words_of scenario.now round }
-    requires ended { H.has_ended histories.old (round - 1) }
-    requires standing { TablesStand T.table H.lists scenario.now (round - 1) tables.old histories.old }
-    ensures standing { OnOk result (TablesStand T.table H.lists scenario.now round tables.new histories.new) }
-    ensures tables { OnOk result (AreBegun T.table scenario.now round tables.old tables.new) }
-    ensures ended { OnOk result (H.has_ended histories.new round) }
-    ensures only { IsOkUnless result OutOfMemory }
-{
-    for node in 0..scenario.nodes() {
-        let at = node as usize;
-        begin_node(
-            scenario,
-            node,
-            &mut tables[at],
-            histories,
-            words.of_node(node),
-            round,
-        )?;
-    }
-    histories.end_writes(round)
 }
 
 // What a node begins a round with: its restarts, and then its writes. No other node's table or list matters

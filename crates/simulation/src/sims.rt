@@ -9,7 +9,7 @@ ghost use Rattle.simulation.specs.calls.Simulation.{AreTablesAfter, MayWriteAll,
 
 use crate::clusters::Cluster;
 use crate::rounds::Round;
-use bench_types::Fault;
+use bench_types::{Fault, Mode};
 use model::MemoryTable;
 use round_tables::{RoundHistories, TakesAll};
 use scenario::Scenario;
@@ -167,6 +167,13 @@ impl<T: MemoryTable + Send + Sync, H: RoundHistories<T>> Sim<T, H> {
         ensures limits { (1 ≤ result) × (result ≤ 2) }
     {
         self.scenario.format()
+    }
+
+    /// The mode of the exchanges.
+    pub fn mode(&self) -> Mode
+        ensures { result ≡ self.now.settings.mode }
+    {
+        self.scenario.mode()
     }
 
     /// How many rounds there are in all.

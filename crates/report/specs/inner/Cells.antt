@@ -6,8 +6,6 @@ use Rattle.csv.specs.declared.writer.Writer.{Writer}
 use Rattle.csv.specs.Writing.{default_writer, needs_quotes, fields_written, has_written, writer_pending, writer_setup, writer_under}
 use Rattle.report.specs.declared.cells.Cell.{Cell}
 use Rattle.report.specs.declared.cells.Cell.TheVariants.{Text, Number}
-use Rattle.bench_types.specs.declared.rows.Row.{Row}
-use Rattle.report.specs.Columns.{Column}
 
 abbrev pub cell_text : Cell → List ℕ
 cell_text (Text text) = text.now
@@ -45,10 +43,6 @@ pub record AddsField (old new : Writer (Vec ℕ Global)) (field : List ℕ) : Ty
   pub fields : 0 < fields_written new
   pub wrote : has_written new ≡ true
   pub text : bytes_written new ≡ bytes_written old ++ (comma_before old ++ field)
-
--- what stands for a column where a row is written: its name, the row's number in it, and the first format that has it
-abbrev pub IsColumn : Row → List ℕ → ℕ → ℕ → Column → Type 0
-IsColumn row name number since c = (name ≡ c.name) × (number ≡ c.number row) × (since ≡ c.since)
 
 -- cells of these texts stand behind the old ones; there are some cells, and each stands in a line as it is
 pub record AddsCells (old new : List Cell) (texts : List (List ℕ)) : Type 0 where

@@ -1,5 +1,6 @@
-use Rattle.report.proofs.ColumnFacts.{ArePushed, is_in, name_cell}
+use Rattle.report.specs.Columns.{rule_of}
+use Rattle.report.proofs.ColumnFacts.{ArePushed}
 use Rattle.report.proofs.columns.push_names.Given as goal
 
-abbrev pub invariant-loop-name : goal.invariant-loop-name
-invariant-loop-name l = ArePushed (is_in l.format) name_cell l.name-items l.name-index l.initial.cells.items l.cells.items
+abbrev pub invariant-loop-column : goal.invariant-loop-column
+invariant-loop-column l = ArePushed (λ c. (rule_of c).name) l.format l.column-index l.initial.cells.items l.cells.items

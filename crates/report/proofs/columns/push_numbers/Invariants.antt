@@ -1,5 +1,7 @@
-use Rattle.report.proofs.ColumnFacts.{ArePushed, is_in, number_cell}
+use Rattle.std.proofs.Common.{decimal}
+use Rattle.report.specs.Columns.{rule_of}
+use Rattle.report.proofs.ColumnFacts.{ArePushed}
 use Rattle.report.proofs.columns.push_numbers.Given as goal
 
-abbrev pub invariant-loop-number : goal.invariant-loop-number
-invariant-loop-number l = ArePushed (is_in l.format) number_cell l.number-items l.number-index l.initial.cells.items l.cells.items
+abbrev pub invariant-loop-column : goal.invariant-loop-column
+invariant-loop-column l = ArePushed (λ c. decimal ((rule_of c).number l.row)) l.format l.column-index l.initial.cells.items l.cells.items

@@ -1,5 +1,4 @@
 """Trials of scripts/try_edits over a small crate, with what the prover said of such ones."""
-import shutil
 import types
 
 from tried.calls import imported
@@ -97,7 +96,6 @@ def toy(room, name, said=()):
     rt = types.SimpleNamespace(checked=checked, unread=lambda *_: False, rtlib=library)
     made = types.SimpleNamespace(name="toy", folder=str(folder))
     crate = script.Crate(rt, made, ("edits",), None)
-    shutil.rmtree(crate.kept, ignore_errors=True)
     crate.kept = kept
     return script, crate, read
 

@@ -30,4 +30,6 @@ pub mod Received
 pub mod Rising
 pub mod Sending
 pub mod Sent
+pub mod StateFolds
+pub mod States
 pub mod Tables

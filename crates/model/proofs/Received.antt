@@ -64,7 +64,7 @@ greatest_among-ge (x ∷ xs) i (suc k, lt, is) =
     ]
 
 -- a held entry that the receiver doesn't know is a candidate
-candidate : (mode : Mode) (from to : Table) (owner key : ℕ) (e : Entry) → entry_at from owner key ≡ Some e → owner ≢ to.node → IsBefore (known_mark (digest_kind mode) to (record { owner = owner; entry = e })) (mark_of e) → Contains (candidates mode from to) (record { owner = owner; entry = e })
+pub candidate : (mode : Mode) (from to : Table) (owner key : ℕ) (e : Entry) → entry_at from owner key ≡ Some e → owner ≢ to.node → IsBefore (known_mark (digest_kind mode) to (record { owner = owner; entry = e })) (mark_of e) → Contains (candidates mode from to) (record { owner = owner; entry = e })
 candidate mode from to owner key e held other newer =
     let i : Item = record { owner = owner; entry = e } in
     Contains-filter (λ (x : Item). not (eqb x.owner to.node) && is_before (known_mark (digest_kind mode) to x) (mark_of x.entry)) (items_of from) i (Contains-items_of from owner key e held)

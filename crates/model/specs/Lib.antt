@@ -13,6 +13,7 @@ pub mod Owns
 pub mod Tables
 pub mod Folds
 pub mod Clusters
+pub mod States
 pub mod Fresh
 pub mod Runs
 pub mod RoundLists

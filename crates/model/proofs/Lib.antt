@@ -30,6 +30,8 @@ pub mod Received
 pub mod Rising
 pub mod Sending
 pub mod Sent
+pub mod StateDeltas
+pub mod StateFigures
 pub mod StateFolds
 pub mod States
 pub mod Tables

@@ -274,7 +274,7 @@ module _ (rules rules' : Rules) (nodes keys : ℕ) (writes : WritesBy) (f g : Fo
     }
 
 -- the record of the next exchange of a list is among those of the whole list
-next_recorded : (rules : Rules) (f : Folded) (e : Exchange) (es : List Exchange) → Contains (fold (exchange_in rules) (exchange_in rules f e) es).records (exchanged rules e (table_of_node f.tables e.initiator) (table_of_node f.tables e.responder)).sent
+pub next_recorded : (rules : Rules) (f : Folded) (e : Exchange) (es : List Exchange) → Contains (fold (exchange_in rules) (exchange_in rules f e) es).records (exchanged rules e (table_of_node f.tables e.initiator) (table_of_node f.tables e.responder)).sent
 next_recorded rules f e es =
     let sent = (exchanged rules e (table_of_node f.tables e.initiator) (table_of_node f.tables e.responder)).sent in
     keeps_records rules es (exchange_in rules f e) sent (Contains-append_right f.records (sent ∷ []) sent (0, omega arith, refl))

@@ -54,7 +54,7 @@ held-up_to t owner key e proper held =
     subst (λ h. IsUpTo (mark_held h) (greatest_mark t owner)) held (mark_at-up_to_greatest t owner key (proper.in_place owner key e held).key_below)
 
 -- a fact of each entry of an owner in a table makes one of the whole
-as_much-from : (owner : ℕ) (other t : Table)
+pub as_much-from : (owner : ℕ) (other t : Table)
     → ((key : ℕ) (e : Entry) → entry_at other owner key ≡ Some e → IsUpTo (mark_of e) (greatest_mark t owner))
     → ((key : ℕ) (e : Entry) → entry_at other owner key ≡ Some e → generation_held t owner ≡ generation_held other owner → IsUpTo (mark_of e) (mark_at t owner key))
     → HoldsAsMuchOf owner other t

@@ -7,5 +7,8 @@ pub mod Soundness
 pub mod Healing
 pub mod Rings
 pub mod Ample
+pub mod Floors
+pub mod Best
+pub mod Alike
 pub mod Stepping
 pub mod Playing

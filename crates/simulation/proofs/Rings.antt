@@ -93,7 +93,7 @@ abbrev one_if : Bool → ℕ
 one_if b = if b then 1 else 0
 
 -- of a sum of nothing each part is nothing
-sum_none : {X : Type 0} (f : X → ℕ) (xs : List X) (x : X) → sum_by f xs ≡ 0 → Contains xs x → f x ≡ 0
+pub sum_none : {X : Type 0} (f : X → ℕ) (xs : List X) (x : X) → sum_by f xs ≡ 0 → Contains xs x → f x ≡ 0
 sum_none f [] x none (k, lt, is) = absurd (omega arith)
 sum_none f (y ∷ ys) x none (zero, lt, is) = subst (λ z. f z ≡ 0) is (omega (arith, none, sum_by-cons f y ys))
 sum_none f (y ∷ ys) x none (suc k, lt, is) = sum_none f ys x (omega (arith, none, sum_by-cons f y ys)) (k, omega arith, is)

@@ -6,9 +6,11 @@ pub mod Rows
 pub mod RoundView
 pub mod Outcomes
 pub mod Healing
+pub mod Floors
 pub mod Simulation
 pub mod inner
 pub use Rattle.model.specs.Exchanged
+pub use Rattle.model.specs.States
 pub use Rattle.model.specs.Tables
 pub use Rattle.model.specs.Folds
 pub use Rattle.model.specs.RoundLists

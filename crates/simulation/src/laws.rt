@@ -3,6 +3,7 @@
 
 ghost use Rattle.scenario.specs.Settings.{Settings, IsLawfulScenario};
 ghost use Rattle.simulation.specs.Soundness.{IsSoundRun};
+ghost use Rattle.simulation.specs.Floors.{UncutCopiesAreStates, UncutRunsAreBest, UncutModesAreAlike};
 ghost use Rattle.simulation.specs.Healing.{ExchangesMakeFresh, FreshCopiesStay, QuietRingsHeal, AmpleBudgetsCutNothing};
 
 /// The law of every run. After each round, once a round has begun, and after each of its exchanges:
@@ -37,4 +38,22 @@ pub fn quiet_rings_heal()
 /// A budget with room for the largest entry of each key of all owners but one cuts nothing, in any round.
 pub fn ample_budgets_cut_nothing()
     ensures { (s : Settings) → IsLawfulScenario s → AmpleBudgetsCutNothing s }
+{}
+
+/// As long as nothing was cut, what a node holds of another is exactly the state that this one had when it made the
+/// write with the greatest mark that is held: at each key the last write of the generation up to it.
+pub fn uncut_copies_are_states()
+    ensures { (s : Settings) → IsLawfulScenario s → UncutCopiesAreStates s }
+{}
+
+/// A run that has cut nothing is the best. After each round up to which its rows say so, no more is stale, and nothing
+/// for longer, than under any other mode and with any other budget, whatever is lost, cut or separated, and whoever
+/// restarts or forgets. Of what is left over nothing is said: what spreads less leaves less over.
+pub fn uncut_runs_are_best()
+    ensures { (s : Settings) → IsLawfulScenario s → UncutRunsAreBest s }
+{}
+
+/// All runs that have cut nothing are alike: under each mode and with each budget they have the same tables and rows.
+pub fn uncut_modes_are_alike()
+    ensures { (s : Settings) → IsLawfulScenario s → UncutModesAreAlike s }
 {}

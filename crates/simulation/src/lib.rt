@@ -21,7 +21,7 @@ mod sims;
 
 pub use laws::{
     ample_budgets_cut_nothing, every_run_is_sound, exchanges_make_fresh, fresh_copies_stay,
-    quiet_rings_heal,
+    quiet_rings_heal, uncut_copies_are_states, uncut_modes_are_alike, uncut_runs_are_best,
 };
 pub use rounds::Round;
 pub use sims::Sim;

@@ -30,6 +30,7 @@ pub mod Received
 pub mod Rising
 pub mod Sending
 pub mod Sent
+pub mod Spreads
 pub mod StateDeltas
 pub mod StateFigures
 pub mod StateFolds

@@ -1,12 +1,12 @@
 -- Deltas that cut nothing: each has as many entries as there are candidates, and to a copy that is a state of its owner
 -- these are the same in every mode.
 -- Serves `simulation`.
-use Rattle.std.proofs.Common.{◌≡◌, ◌≢◌, ℕ, zero, suc, ◌<◌, ◌≤◌, Bool, true, false, cond, not, ◌&&◌, eqb, List, [], ◌∷◌, length, get_or, Some, None, refl, sym, ap, ◌∙◌, subst, inl, inr, arith}
+use Rattle.std.proofs.Common.{◌≡◌, ℕ, suc, ◌<◌, Bool, true, false, cond, not, ◌&&◌, eqb, List, [], ◌∷◌, length, get_or, Some, None, refl, sym, ap, ◌∙◌, subst, inl, inr, arith}
 use Rattle.std.specs.Prelude.{filter, Contains}
 use Rattle.std.specs.Cmp.{IsTotalOrder}
 use Rattle.std.specs.Ordering.{is_eq}
 use Rattle.std.specs.declared.cmp.Ordering.{Ordering}
-use Rattle.std.proofs.lemmas.Bool.{and_parts, eqb-true, both_ways}
+use Rattle.std.proofs.lemmas.Bool.{and_parts, eqb-true}
 use Rattle.std.proofs.lemmas.List.{get_or_default}
 use Rattle.std.proofs.lemmas.List.Kept.{AllPairs-filter}
 use Rattle.std.proofs.lemmas.List.Sorted.{length_permutation}
@@ -18,14 +18,13 @@ use Rattle.bench_types.specs.declared.exchanges.Budget.{Budget}
 use Rattle.bench_types.specs.declared.exchanges.DigestKind.{DigestKind}
 use Rattle.bench_types.specs.declared.exchanges.DigestKind.TheVariants.{Scuttle, Precise}
 use Rattle.bench_types.specs.declared.exchanges.Mode.{Mode}
-use Rattle.bench_types.specs.Budget.{amount_of}
 use Rattle.bench_types.specs.Mark.{mark_of, mark_held, is_before, IsBefore, IsUpTo}
 use Rattle.bench_types.specs.Mode.{digest_kind}
 use Rattle.bench_types.proofs.Marks.{before-true, before-yes, before-no, cases_before, not_both}
 use Rattle.model.specs.Table.{Table, entry_at, mark_at, greatest_mark, generation_held, items_of, IsProper}
 use Rattle.model.specs.Candidates.{known_mark, candidates}
 use Rattle.model.specs.Copies.{HoldsOf}
-use Rattle.model.specs.Deltas.{DeltaView, delta_between, item_share}
+use Rattle.model.specs.Deltas.{delta_between}
 use Rattle.model.specs.Order.{sending_order}
 use Rattle.model.specs.Picks.{before_count, first_places}
 use Rattle.model.specs.States.{MissesNone}

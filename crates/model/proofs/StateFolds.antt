@@ -1,7 +1,7 @@
 -- Copies that are states through the exchanges of a list that cut nothing, beside those of another mode and budget.
 -- Serves `simulation`.
-use Rattle.std.proofs.Common.{◌≡◌, ◌≢◌, ℕ, ◌+◌, ◌<◌, List, [], ◌∷◌, ◌++◌, length, set, fold, All, Some, None, inl, inr, refl, sym, ap, ◌∙◌, subst, arith}
-use Rattle.std.specs.Prelude.{Contains, Option}
+use Rattle.std.proofs.Common.{◌≡◌, ◌≢◌, ℕ, ◌<◌, List, [], ◌∷◌, set, fold, All, Some, None, inl, inr, refl, sym, ap, ◌∙◌, subst, arith}
+use Rattle.std.specs.Prelude.{Contains}
 use Rattle.std.proofs.lemmas.Bool.{cases_eq}
 use Rattle.std.proofs.lemmas.List.{length-set}
 use Rattle.std.proofs.lemmas.List.Elements.{All-head, All-tail, Contains-append_left, Contains-append_right}
@@ -85,12 +85,12 @@ module _ (rules : Rules) (nodes keys : ℕ) (s : Folded) (e : Exchange) (planned
   abbrev done : Exchanged
   done = exchanged rules e p q
 
-  initiator_is : table_of_node (exchange_in rules s e).tables e.initiator ≡ done.initiator
+  pub initiator_is : table_of_node (exchange_in rules s e).tables e.initiator ≡ done.initiator
   initiator_is =
       table_of_node-set_other (set s.tables e.initiator done.initiator) e.responder e.initiator done.responder planned.apart
       ∙ table_of_node-set_same s.tables e.initiator done.initiator (omega (arith, planned.initiator, tables.size))
 
-  responder_is : table_of_node (exchange_in rules s e).tables e.responder ≡ done.responder
+  pub responder_is : table_of_node (exchange_in rules s e).tables e.responder ≡ done.responder
   responder_is =
       table_of_node-set_same (set s.tables e.initiator done.initiator) e.responder done.responder (omega (arith, planned.responder, tables.size, length-set s.tables e.initiator done.initiator))
 
@@ -101,7 +101,7 @@ module _ (rules : Rules) (nodes keys : ℕ) (s : Folded) (e : Exchange) (planned
 
 -- facts of one node's table among all
 module _ (writes : WritesBy) (nodes keys : ℕ) (ts : List Table) (copies : AreCopiesOf writes nodes keys ts) (n : ℕ) (lt : n < nodes) where
-  proper_at : IsProper (table_of_node ts n)
+  pub proper_at : IsProper (table_of_node ts n)
   proper_at = copies.proper n (omega (arith, lt, copies.tables.size))
 
   node_at : (table_of_node ts n).node ≡ n
@@ -115,10 +115,10 @@ module _ (writes : WritesBy) (nodes keys : ℕ) (ts : List Table) (copies : AreC
 
 -- and of two nodes' that meet
 module _ (writes : WritesBy) (nodes keys : ℕ) (ts : List Table) (copies : AreCopiesOf writes nodes keys ts) (a b : ℕ) (a_in : a < nodes) (b_in : b < nodes) where
-  same_nodes : (table_of_node ts a).nodes ≡ (table_of_node ts b).nodes
+  pub same_nodes : (table_of_node ts a).nodes ≡ (table_of_node ts b).nodes
   same_nodes = (copies.tables.tables a a_in).nodes ∙ sym (copies.tables.tables b b_in).nodes
 
-  same_keys : (table_of_node ts a).keys ≡ (table_of_node ts b).keys
+  pub same_keys : (table_of_node ts a).keys ≡ (table_of_node ts b).keys
   same_keys = (copies.tables.tables a a_in).keys ∙ sym (copies.tables.tables b b_in).keys
 
 -- one exchange that cuts nothing leaves copies states

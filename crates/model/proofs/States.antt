@@ -1,8 +1,8 @@
 -- Copies that are states of their owners, and tables that hold as much as others: what an exchange that cuts nothing makes
 -- of them.
 -- Serves `simulation`.
-use Rattle.std.proofs.Common.{◌≡◌, ◌≢◌, ℕ, ◌<◌, ◌≤◌, List, Some, None, ◌⊎◌, inl, inr, refl, sym, ap, ◌∙◌, subst, arith}
-use Rattle.std.specs.Prelude.{Contains, Option}
+use Rattle.std.proofs.Common.{◌≡◌, ◌≢◌, ℕ, ◌<◌, ◌≤◌, List, Some, None, ◌⊎◌, inl, inr, refl, sym, ap, subst, arith}
+use Rattle.std.specs.Prelude.{Contains}
 use Rattle.std.proofs.lemmas.Bool.{cases_lt}
 use Rattle.bench_types.specs.declared.entries.Entry.{Entry}
 use Rattle.bench_types.specs.declared.entries.Item.{Item}
@@ -10,7 +10,7 @@ use Rattle.bench_types.specs.declared.entries.Mark.{Mark}
 use Rattle.bench_types.specs.declared.exchanges.DigestKind.{DigestKind}
 use Rattle.bench_types.specs.declared.exchanges.DigestKind.TheVariants.{Scuttle, Precise}
 use Rattle.bench_types.specs.declared.exchanges.Rules.{Rules}
-use Rattle.bench_types.specs.Mark.{absent, mark_of, mark_held, IsBefore, IsUpTo}
+use Rattle.bench_types.specs.Mark.{absent, mark_of, mark_held, IsUpTo}
 use Rattle.bench_types.specs.Mode.{digest_kind}
 use Rattle.bench_types.proofs.Marks.{absent-first, before-up_to, cases_before, up_to-itself, up_to-then}
 use Rattle.model.specs.Table.{Table, entry_at, mark_at, greatest_mark, generation_held, IsProper}
@@ -78,11 +78,11 @@ module _ (owner : ℕ) (p q new : Table) (p_proper : IsProper p) (q_proper : IsP
         | inr held ↦ up_to-then (mark_of e) (greatest_mark q owner) (greatest_mark t owner) (held-up_to q owner key e q_proper held) of_q.greatest
       ])
       (λ key e found same.
-          let alike = new_proper.copies owner key e found in
-          elim (either owner key e found) [
-            | inl held ↦ subst (λ h. IsUpTo (mark_held h) (mark_at t owner key)) held (of_p.within key (omega (arith, same, alike, p_proper.copies owner key e held)))
-            | inr held ↦ subst (λ h. IsUpTo (mark_held h) (mark_at t owner key)) held (of_q.within key (omega (arith, same, alike, q_proper.copies owner key e held)))
-          ])
+      let alike = new_proper.copies owner key e found in
+      elim (either owner key e found) [
+        | inl held ↦ subst (λ h. IsUpTo (mark_held h) (mark_at t owner key)) held (of_p.within key (omega (arith, same, alike, p_proper.copies owner key e held)))
+        | inr held ↦ subst (λ h. IsUpTo (mark_held h) (mark_at t owner key)) held (of_q.within key (omega (arith, same, alike, q_proper.copies owner key e held)))
+      ])
 
   -- and where that is the new table it misses no more than they do
   pub misses-either : (writes : List Entry) → HoldsAsMuchOf owner p new → HoldsAsMuchOf owner q new → MissesNone owner writes p → MissesNone owner writes q → MissesNone owner writes new

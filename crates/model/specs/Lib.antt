@@ -5,6 +5,7 @@ pub mod Order
 pub mod Picks
 pub mod Deltas
 pub mod DeltaLaws
+pub mod StrictOrders
 pub mod Exchanged
 pub mod Exchanging
 pub mod ExchangeLaws
@@ -15,6 +16,7 @@ pub mod Folds
 pub mod Clusters
 pub mod States
 pub mod Fresh
+pub mod Spreads
 pub mod Runs
 pub mod RoundLists
 pub mod Writes

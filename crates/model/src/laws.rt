@@ -1,12 +1,18 @@
 //! What holds of every sending order, delta, exchange and list of exchanges. The calls do nothing.
 
 ghost use Rattle.model.specs.DeltaLaws.{SendingOrdersAreTotal, ScuttleDeltasAscend, UncutDeltasSendAll, CandidatesAreLacked};
+ghost use Rattle.model.specs.StrictOrders.{SendingOrdersAreStrict};
 ghost use Rattle.model.specs.ExchangeLaws.{EntriesComeFromEither, EnoughBudgetCutsNothing, WholePreciseExchangesGiveTheNewer};
 ghost use Rattle.model.specs.Clusters.{CopiesAreNeverAhead, ListsKeepTablesProper};
 
 /// The sending order of any items is total, in every mode and with every rotation.
 pub fn sending_orders_are_total()
     ensures { SendingOrdersAreTotal }
+{}
+
+/// And strict: of the candidates for one delta no two tie.
+pub fn sending_orders_are_strict()
+    ensures { SendingOrdersAreStrict }
 {}
 
 /// In the scuttle modes what is sent of each owner ascends in version.

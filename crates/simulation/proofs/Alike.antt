@@ -1,6 +1,6 @@
 -- Two runs that have cut nothing, by whatever modes and budgets: their tables and rows are the same.
 -- Serves `uncut_modes_are_alike`.
-use Rattle.std.proofs.Common.{◌≡◌, ℕ, ◌+◌, ◌-◌, ◌<◌, ◌≤◌, Bool, cond, List, [], ◌∷◌, ◌++◌, length, fold, All, refl, sym, ap, ◌∙◌, subst, arith}
+use Rattle.std.proofs.Common.{◌≡◌, ℕ, ◌+◌, ◌-◌, ◌<◌, ◌≤◌, cond, List, [], ◌∷◌, ◌++◌, length, fold, All, refl, sym, ap, ◌∙◌, subst, arith}
 use Rattle.std.proofs.lemmas.List.Elements.{All-head, All-tail}
 use Rattle.std.proofs.lemmas.List.Sums.{sum_by-append, sum_by-cons}
 use Rattle.bench_types.specs.declared.exchanges.Exchange.{Exchange}
@@ -8,11 +8,10 @@ use Rattle.bench_types.specs.declared.exchanges.Fate.{Fate}
 use Rattle.bench_types.specs.declared.exchanges.Fate.TheVariants as fate
 use Rattle.bench_types.specs.declared.exchanges.Record.{Record}
 use Rattle.bench_types.specs.declared.exchanges.Rules.{Rules}
-use Rattle.bench_types.specs.declared.rows.Figures.{Figures}
 use Rattle.bench_types.specs.Exchange.{IsPlanned}
 use Rattle.bench_types.specs.Mode.{digest_kind}
 use Rattle.scenario.specs.Settings.{Settings}
-use Rattle.model.specs.Table.{Table, IsProper}
+use Rattle.model.specs.Table.{Table}
 use Rattle.model.specs.Tables.{table_of_node}
 use Rattle.model.specs.Clusters.{AreCopiesOf}
 use Rattle.model.specs.Copies.{WritesBy}
@@ -22,20 +21,19 @@ use Rattle.model.specs.Exchanged.{exchanged, fate_of, sent_until}
 use Rattle.model.specs.Figures.{figures_of}
 use Rattle.model.specs.Folds.{Folded, exchange_in}
 use Rattle.model.specs.RoundLists.{RoundListView}
-use Rattle.model.specs.States.{MissesNone}
 use Rattle.model.proofs.StateDeltas.{lengths-alike}
 use Rattle.model.proofs.StateFolds.{CutsNothing, CutNothing, MissNone, AreBeside, next_recorded, step_beside, same_held}
 use Rattle.model.proofs.Tables.{same_tables}
 use Rattle.round_plan.specs.Plan.{round_list_of}
 use Rattle.round_plan.proofs.Planned.{planned_list}
 use Rattle.simulation.specs.Floors.{with_rules, CutsNothingUpTo}
-use Rattle.simulation.specs.Lists.{lists_after}
 use Rattle.simulation.specs.Outcomes.{figures_in, row_in}
 use Rattle.simulation.specs.Rounds.{begun, rules_of, tables_after, records_in}
 use Rattle.simulation.specs.Rows.{has_lost, lost_count, entry_count, cut_total}
 use Rattle.simulation.specs.Soundness.{writes_by}
-use Rattle.simulation.proofs.Best.{AreBesideAfter, begun_beside, beside_after}
-use Rattle.simulation.proofs.Floors.{same_writes, same_list, same_lists, uncut_round}
+use Rattle.simulation.proofs.Best.{same_writes, begun_beside, beside_after}
+use Rattle.simulation.proofs.Floors.{uncut_round}
+use Rattle.simulation.proofs.Modes.{same_list, same_lists}
 
 -- two tables that stand beside each other both ways are one
 module _ (writes : WritesBy) (nodes keys : ℕ) (ts us : List Table) (to : AreBeside writes nodes keys ts us) (from : AreBeside writes nodes keys us ts) where
@@ -90,11 +88,10 @@ abbrev CountsAlike : List Record → List Record → Type 0
 CountsAlike rs ss = (lost_count rs ≡ lost_count ss) × (entry_count rs ≡ entry_count ss)
 
 counts_more : (rs ss : List Record) (r s : Record) → CountsAlike rs ss → CountAlike r s → CountsAlike (rs ++ r ∷ []) (ss ++ s ∷ [])
-counts_more rs ss r s before this =
-    (
-      omega (arith, before.0, this.0, sum_by-append lost_of rs (r ∷ []), sum_by-append lost_of ss (s ∷ []), sum_by-cons lost_of r [], sum_by-cons lost_of s []),
-      omega (arith, before.1, this.1, sum_by-append entries_of rs (r ∷ []), sum_by-append entries_of ss (s ∷ []), sum_by-cons entries_of r [], sum_by-cons entries_of s []),
-    )
+counts_more rs ss r s before this = (
+  omega (arith, before.0, this.0, sum_by-append lost_of rs (r ∷ []), sum_by-append lost_of ss (s ∷ []), sum_by-cons lost_of r [], sum_by-cons lost_of s []),
+  omega (arith, before.1, this.1, sum_by-append entries_of rs (r ∷ []), sum_by-append entries_of ss (s ∷ []), sum_by-cons entries_of r [], sum_by-cons entries_of s []),
+)
 
 module _ (rules rules' : Rules) (nodes keys : ℕ) (writes : WritesBy) where
   -- the records of one exchange
@@ -146,12 +143,12 @@ module _ (s : Settings) (some : 2 ≤ s.nodes) (most : s.nodes ≤ 4096) (some_k
 
     counts_alike : CountsAlike (records_in other round) (records_in s round)
     counts_alike =
-        subst (λ es. CutNothing (fold (exchange_in rules) (record { tables = ts; records = [] }) es).records → CountsAlike (fold (exchange_in rules) (record { tables = ts; records = [] }) es).records (records_in s round)) (sym (ap (λ (l : RoundListView). l.exchanges) (same_list s rules round)))
+        subst (λ es. CutNothing (fold (exchange_in rules) (record { tables = ts; records = [] }) es).records → CountsAlike (fold (exchange_in rules) (record { tables = ts; records = [] }) es).records (records_in s round)) (sym (ap (λ (l : RoundListView). l.exchanges) (same_list s s.format rules round)))
         (λ uncut. fold_counts rules (rules_of s) s.nodes s.keys (writes_by s round) (round_list_of s round).exchanges (record { tables = ts; records = [] }) (record { tables = us; records = [] }) (planned_list s round some) to from uncut (uncut_round s some most some_key few_keys round (none round first (omega arith))) (refl, refl))
         (uncut_round other some most some_key few_keys round (none' round first (omega arith)))
 
     figures_alike : figures_in other round ≡ figures_in s round
-    figures_alike = λ i. figures_of round (tables_alike i) (same_lists s rules round i)
+    figures_alike = λ i. figures_of round (tables_alike i) (same_lists s s.format rules round i)
 
     cuts_alike : cut_total (records_in other round) ≡ cut_total (records_in s round)
     cuts_alike = none' round first (omega arith) ∙ sym (none round first (omega arith))
@@ -159,8 +156,8 @@ module _ (s : Settings) (some : 2 ≤ s.nodes) (most : s.nodes ≤ 4096) (some_k
     pub rows_alike : row_in other round ≡ row_in s round
     rows_alike = λ i. record {
       round = round;
-      exchanges = length (same_list s rules round i).exchanges;
-      unreached = (same_list s rules round i).unreached;
+      exchanges = length (same_list s s.format rules round i).exchanges;
+      unreached = (same_list s s.format rules round i).unreached;
       lost = counts_alike.0 i;
       entries = counts_alike.1 i;
       cut = cuts_alike i;

@@ -1,15 +1,13 @@
 -- Beside a run that has cut nothing: none of another mode or budget holds more, and where that has cut nothing either both
 -- hold the same.
 -- Serves `uncut_runs_are_best` and `uncut_modes_are_alike`.
-use Rattle.std.proofs.Common.{◌≡◌, ◌≢◌, ℕ, zero, suc, ◌+◌, ◌-◌, ◌<◌, ◌≤◌, true, false, if◌then◌else◌, List, [], length, map, All, AllPairs, Some, None, inl, inr, refl, sym, ap, ◌∙◌, subst, arith}
+use Rattle.std.proofs.Common.{◌≡◌, ◌≢◌, ℕ, zero, suc, ◌-◌, ◌<◌, ◌≤◌, true, false, if◌then◌else◌, List, [], length, AllPairs, Some, None, inl, inr, refl, sym, ap, ◌∙◌, subst, arith}
 use Rattle.std.proofs.lemmas.Bool.{cases_eq, cases_lt}
 use Rattle.std.proofs.lemmas.List.{get_or_past}
 use Rattle.std.proofs.lemmas.List.FromFn.{get_or-map-range_with_len}
 use Rattle.std.proofs.lemmas.List.Kept.{AllPairs-filter}
 use Rattle.bench_types.specs.declared.entries.Entry.{Entry}
-use Rattle.bench_types.specs.declared.exchanges.Exchange.{Exchange}
 use Rattle.bench_types.specs.declared.exchanges.Rules.{Rules}
-use Rattle.bench_types.specs.Exchange.{IsPlanned}
 use Rattle.bench_types.proofs.Marks.{up_to-itself}
 use Rattle.bench_types.specs.declared.rows.Figures.{Figures}
 use Rattle.scenario.specs.Settings.{Settings}
@@ -18,7 +16,7 @@ use Rattle.model.specs.Tables.{table_of_node}
 use Rattle.model.specs.Clusters.{AreCopiesOf}
 use Rattle.model.specs.ExchangeLaws.{NoMarkFalls}
 use Rattle.model.specs.Figures.{writes_of_owner, figures_of}
-use Rattle.model.specs.Folds.{Folded, exchange_in, fold_of}
+use Rattle.model.specs.Folds.{fold_of}
 use Rattle.model.specs.RoundLists.{RoundListView}
 use Rattle.model.specs.States.{HoldAsMuch}
 use Rattle.model.specs.declared.writes.Write.{Write}
@@ -27,9 +25,8 @@ use Rattle.model.proofs.ExchangeLaws.{marks_stay}
 use Rattle.model.proofs.FoldLaws.{before_keeps_own}
 use Rattle.model.proofs.Members.{AllPairs-map}
 use Rattle.model.proofs.StateFigures.{NoneIsOlder, stale-le, greatest-le}
-use Rattle.model.proofs.StateFolds.{AreBeside, own_beside, fold_beside, same_held}
+use Rattle.model.proofs.StateFolds.{AreBeside, own_beside, fold_beside}
 use Rattle.model.proofs.States.{HoldsAsMuchOf}
-use Rattle.model.proofs.Tables.{same_tables}
 use Rattle.round_plan.specs.Generations.{generation_upto}
 use Rattle.round_plan.specs.Outages.{restarts_now}
 use Rattle.round_plan.specs.Plan.{round_list_of}
@@ -40,8 +37,9 @@ use Rattle.simulation.specs.Floors.{with_rules, CutsNothingUpTo, IsAsGood}
 use Rattle.simulation.specs.Lists.{list_after, lists_after}
 use Rattle.simulation.specs.Outcomes.{figures_in}
 use Rattle.simulation.specs.Rounds.{begun, rules_of, round_of, tables_after}
-use Rattle.simulation.specs.Soundness.{writes_by, IsSoundRun}
-use Rattle.simulation.proofs.Floors.{same_writes, same_list, same_lists, restarts, generation, gone-as_much, kept-as_much, copies_after, copies_begun, begun-others, same_keys, next_tables, begun_states, uncut_round, states_after}
+use Rattle.simulation.specs.Soundness.{writes_by}
+use Rattle.simulation.proofs.Floors.{gone-as_much, kept-as_much, copies_after, copies_begun, begun-others, same_keys, next_tables, begun_states, uncut_round, states_after}
+use Rattle.simulation.proofs.Modes.{generation, restarts, same_list, same_lists, written}
 use Rattle.simulation.proofs.Soundness.{sound_run, counts_after}
 use Rattle.simulation.proofs.Written.{births_rise}
 
@@ -72,6 +70,9 @@ begun_generation s some most some_key few_keys round n first lt =
     ∙ ap (λ ts. (table_of_node ts n).generation) ((sound_run s some most some_key few_keys).ends round first)
     ∙ (counts_after s some most some_key few_keys round n lt).0
 
+pub same_writes : (s : Settings) (rules : Rules) (round : ℕ) → writes_by (with_rules s rules) round ≡ writes_by s round
+same_writes s rules round = λ i n. written s s.format rules n round i
+
 -- a run of other rules beside one that has cut nothing
 module _ (s : Settings) (some : 2 ≤ s.nodes) (most : s.nodes ≤ 4096) (some_key : 1 ≤ s.keys) (few_keys : s.keys ≤ 64) (rules : Rules) where
   abbrev other : Settings
@@ -97,7 +98,7 @@ module _ (s : Settings) (some : 2 ≤ s.nodes) (most : s.nodes ≤ 4096) (some_k
     generations_begun : (n : ℕ) → n < s.nodes → (table_of_node ts n).generation ≡ (table_of_node us n).generation
     generations_begun n lt =
         begun_generation other some most some_key few_keys round n first lt
-        ∙ generation s rules n round
+        ∙ generation s s.format rules n round
         ∙ sym (begun_generation s some most some_key few_keys round n first lt)
 
     as_much-others : (n owner : ℕ) → n < s.nodes → owner < s.nodes → owner ≢ n → HoldsAsMuchOf owner (table_of_node ts n) (table_of_node us n)
@@ -107,7 +108,7 @@ module _ (s : Settings) (some : 2 ≤ s.nodes) (most : s.nodes ≤ 4096) (some_k
           | false ↦ λ there here. kept-as_much owner (table_of_node (tables_after other (round - 1)) n) (table_of_node (tables_after s (round - 1)) n) (table_of_node ts n) (table_of_node us n)
               (same_keys other some most some_key few_keys round n owner first lt apart) (same_keys s some most some_key few_keys round n owner first lt apart) there here (before.as_much n owner lt owner_in)
         ]
-        (λ key. begun-others other some most some_key few_keys round n owner first lt apart key ∙ ap (λ b. if b then None else entry_at (table_of_node (tables_after other (round - 1)) n) owner key) (restarts s rules n round))
+        (λ key. begun-others other some most some_key few_keys round n owner first lt apart key ∙ ap (λ b. if b then None else entry_at (table_of_node (tables_after other (round - 1)) n) owner key) (restarts s s.format rules n round))
         (begun-others s some most some_key few_keys round n owner first lt apart)
 
     pub begun_beside : AreBeside (writes_by s round) s.nodes s.keys ts us
@@ -124,7 +125,7 @@ module _ (s : Settings) (some : 2 ≤ s.nodes) (most : s.nodes ≤ 4096) (some_k
 
     pub round_beside : AreBeside (writes_by s round) s.nodes s.keys (round_of other round (tables_after other (round - 1))).tables (round_of s round (tables_after s (round - 1))).tables
     round_beside =
-        subst (λ es. AreBeside (writes_by s round) s.nodes s.keys (fold_of (rules_of other) ts es).tables (round_of s round (tables_after s (round - 1))).tables) (sym (ap (λ (l : RoundListView). l.exchanges) (same_list s rules round)))
+        subst (λ es. AreBeside (writes_by s round) s.nodes s.keys (fold_of (rules_of other) ts es).tables (round_of s round (tables_after s (round - 1))).tables) (sym (ap (λ (l : RoundListView). l.exchanges) (same_list s s.format rules round)))
         (fold_beside (rules_of other) (rules_of s) s.nodes s.keys (writes_by s round) (round_list_of s round).exchanges (record { tables = ts; records = [] }) (record { tables = us; records = [] }) (planned_list s round some) begun_beside (uncut_round s some most some_key few_keys round (none round first (omega arith))))
 
   same_opening : tables_after other 0 ≡ tables_after s 0
@@ -165,7 +166,7 @@ module _ (s : Settings) (some : 2 ≤ s.nodes) (most : s.nodes ≤ 4096) (some_k
     ]
 
     other_figures : figures_in other round ≡ figures_of round (tables_after other round) (lists_after s round)
-    other_figures = ap (figures_of round (tables_after other round)) (same_lists s rules round)
+    other_figures = ap (figures_of round (tables_after other round)) (same_lists s s.format rules round)
 
     pub as_good : IsAsGood s other round
     as_good = record {

@@ -1,106 +1,44 @@
 -- Runs that have cut nothing: their copies are states of their owners, and hold as much as those of any other mode and
 -- budget.
 -- Serves `uncut_copies_are_states`, `uncut_runs_are_best` and `uncut_modes_are_alike`.
-use Rattle.std.proofs.Common.{◌≡◌, ◌≢◌, ℕ, zero, suc, ◌+◌, ◌-◌, ◌<◌, ◌≤◌, true, false, if◌then◌else◌, List, [], ◌∷◌, ◌++◌, length, map, take, drop, fold, get_or, All, Some, None, inl, inr, refl, sym, ap, ◌∙◌, subst, arith}
+use Rattle.std.proofs.Common.{◌≡◌, ◌≢◌, ℕ, zero, suc, ◌+◌, ◌-◌, ◌<◌, ◌≤◌, true, false, if◌then◌else◌, List, [], ◌∷◌, length, take, drop, fold, All, Some, None, inl, inr, refl, sym, ap, ◌∙◌, subst, arith}
 use Rattle.std.specs.Prelude.{Contains}
-use Rattle.std.specs.List.{range_with_len}
-use Rattle.std.proofs.lemmas.Bool.{cases_eq, cases_lt}
-use Rattle.std.proofs.lemmas.List.{get_or_past, take-append-drop}
+use Rattle.std.proofs.lemmas.Bool.{cases_eq}
+use Rattle.std.proofs.lemmas.List.{take-append-drop}
 use Rattle.std.proofs.lemmas.List.Elements.{All-take, Contains-append_cases}
 use Rattle.std.proofs.lemmas.List.Sums.{fold-append}
 use Rattle.bench_types.specs.declared.entries.Entry.{Entry}
 use Rattle.bench_types.specs.declared.entries.Mark.{Mark}
 use Rattle.bench_types.specs.declared.exchanges.Exchange.{Exchange}
 use Rattle.bench_types.specs.declared.exchanges.Record.{Record}
-use Rattle.bench_types.specs.declared.exchanges.Rules.{Rules}
-use Rattle.bench_types.specs.Entry.{next_version}
 use Rattle.bench_types.specs.Exchange.{IsPlanned}
 use Rattle.bench_types.specs.Mark.{absent, mark_of, mark_held, IsBefore, IsUpTo}
 use Rattle.bench_types.proofs.Marks.{absent-first, not_both, up_to-then}
-use Rattle.scenario.specs.Settings.{Settings, IsLawfulScenario}
-use Rattle.model.specs.Table.{Table, empty_table, entry_at, mark_at, greatest_mark, greatest_version, generation_held, with_own_write, with_own_writes, without_others, without_all, IsProper}
+use Rattle.scenario.specs.Settings.{Settings}
+use Rattle.model.specs.Table.{Table, entry_at, mark_at, greatest_mark, greatest_version, with_own_write, with_own_writes, without_others, without_all}
 use Rattle.model.specs.Tables.{table_of_node}
 use Rattle.model.specs.Clusters.{own_mark, AreCopiesOf}
 use Rattle.model.specs.Folds.{Folded, exchange_in, fold_of}
-use Rattle.model.specs.States.{MissesNone, HoldAsMuch}
+use Rattle.model.specs.States.{MissesNone}
 use Rattle.model.proofs.BeginLaws.{copy-up_to}
-use Rattle.model.proofs.ExchangeLaws.{marks_stay}
-use Rattle.model.proofs.FoldLaws.{fold_keeps_own}
 use Rattle.model.proofs.Greatest.{greatest_mark-same, greatest_mark-none}
-use Rattle.model.proofs.StateFolds.{CutsNothing, CutNothing, MissNone, AreBeside, keeps_records, misses-own, own_beside, fold_states, fold_beside}
+use Rattle.model.proofs.StateFolds.{CutNothing, MissNone, keeps_records, misses-own, fold_states}
 use Rattle.model.proofs.States.{HoldsAsMuchOf, as_much-from}
 use Rattle.model.proofs.TableLaws.{entry_at-own_write_other, entry_at-without_all, entry_at-without_others_other}
 use Rattle.round_plan.specs.Generations.{generation_upto}
-use Rattle.round_plan.specs.Outages.{is_up, forgets_now, restarts_now, separated}
+use Rattle.round_plan.specs.Outages.{forgets_now, restarts_now}
 use Rattle.round_plan.specs.Plan.{round_list_of}
-use Rattle.round_plan.specs.Words.{word_of}
-use Rattle.round_plan.specs.Writes.{writes_in, number_by, count_upto, count_before, numbered_write, own_writes, writes_upto, written_upto}
+use Rattle.round_plan.specs.Writes.{count_upto, count_before, own_writes, written_upto}
 use Rattle.round_plan.proofs.Generations.{generation_upto-same, generation_upto-next, restarts-forgets}
 use Rattle.round_plan.proofs.Growth.{count_before-grown, next-own_writes, written_upto-grown}
 use Rattle.round_plan.proofs.Planned.{planned_list}
-use Rattle.simulation.specs.Floors.{with_rules, CutsNothingUpTo, UncutCopiesAreStates}
-use Rattle.simulation.specs.Lists.{list_after, lists_after}
+use Rattle.simulation.specs.Floors.{CutsNothingUpTo, UncutCopiesAreStates}
 use Rattle.simulation.specs.Outcomes.{row_in}
 use Rattle.simulation.specs.Rounds.{after_restart, begun, rules_of, round_of, tables_after, records_in}
-use Rattle.simulation.specs.Soundness.{writes_by, AreSound, tables_within, IsSoundRun}
+use Rattle.simulation.specs.Soundness.{writes_by, tables_within, IsSoundRun}
 use Rattle.simulation.proofs.Begun.{begun_at}
 use Rattle.simulation.proofs.Rings.{sum_none}
 use Rattle.simulation.proofs.Soundness.{sound_run, counts_after}
-
--- mode and budget have no part in who meets whom, who restarts and what is written
-module _ (s : Settings) (rules : Rules) where
-  abbrev s' : Settings
-  s' = with_rules s rules
-
-  module _ (n : ℕ) where
-    forgets : (round : ℕ) → forgets_now s' n round ≡ forgets_now s n round
-    unfolding forgets_now
-    forgets round = refl
-
-    pub restarts : (round : ℕ) → restarts_now s' n round ≡ restarts_now s n round
-    unfolding restarts_now
-    restarts round = refl
-
-    up : (round : ℕ) → is_up s' n round ≡ is_up s n round
-    unfolding is_up
-    up round = refl
-
-    many : (round : ℕ) → writes_in s' round ≡ writes_in s round
-    unfolding writes_in
-    many round = refl
-
-    pub generation : (round : ℕ) → generation_upto s' n round ≡ generation_upto s n round
-    generation zero = refl
-    generation (suc round) = λ i. generation round i + (if forgets (suc round) i then 1 else 0)
-
-    counted : (round : ℕ) → count_upto s' n round ≡ count_upto s n round
-    counted zero = refl
-    counted (suc round) = λ i. (if forgets (suc round) i then 0 else counted round i) + (if up (suc round) i then many (suc round) i else 0)
-
-    before : (round : ℕ) → count_before s' n round ≡ count_before s n round
-    before zero = refl
-    before (suc round) = λ i. if forgets (suc round) i then 0 else counted round i
-
-    now : (round : ℕ) → own_writes s' n round (count_before s' n round) ≡ own_writes s n round (count_before s n round)
-    now round = λ i. if up round i then map (λ place. numbered_write s.keys round (generation round i) (number_by s.choice (word_of s n round (8 + place)) (next_version (before round i + place))) (before round i + place)) (range_with_len 0 (many round i)) else []
-
-    written : (round : ℕ) → written_upto s' n round ≡ written_upto s n round
-    written zero = refl
-    written (suc round) = λ i. written round i ++ now (suc round) i
-
-    pub current : (round : ℕ) → writes_upto s' n round ≡ writes_upto s n round
-    current zero = refl
-    current (suc round) = λ i. (if forgets (suc round) i then [] else current round i) ++ now (suc round) i
-
-  pub same_writes : (round : ℕ) → writes_by s' round ≡ writes_by s round
-  same_writes round = λ i n. written n round i
-
-  pub same_list : (round : ℕ) → round_list_of s' round ≡ round_list_of s round
-  unfolding is_up separated
-  same_list round = refl
-
-  pub same_lists : (round : ℕ) → lists_after s' round ≡ lists_after s round
-  same_lists round = λ i. map (λ n. map Rattle.model.specs.Writes.write_of_entry (current n round i)) (range_with_len 0 s.nodes)
 
 -- of an owner whose entries stay, or are gone, the greatest mark is the same, or the absent one
 kept-greatest : (t u : Table) (owner : ℕ) → u.keys ≡ t.keys → ((key : ℕ) → entry_at u owner key ≡ entry_at t owner key) → greatest_mark u owner ≡ greatest_mark t owner

@@ -6,7 +6,9 @@ pub mod Standing
 pub mod Soundness
 pub mod Healing
 pub mod Rings
+pub mod Paths
 pub mod Ample
+pub mod Formats
 pub mod Floors
 pub mod Best
 pub mod Alike

@@ -1,6 +1,6 @@
 -- How good a run can be. As long as a run has cut nothing, each copy is a state of its owner, and no mode and no budget do
 -- better with the same nodes, peers, losses and writes: so those that cut nothing come to the same. Source: this project.
-use Rattle.std.specs.Prelude.{◌≡◌, ℕ, ◌≤◌, List}
+use Rattle.std.specs.Prelude.{◌≡◌, ℕ, ◌≤◌}
 use Rattle.bench_types.specs.declared.exchanges.Rules.{Rules}
 use Rattle.scenario.specs.Settings.{Settings}
 use Rattle.model.specs.States.{HoldStates, HoldAsMuch}

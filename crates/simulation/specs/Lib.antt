@@ -6,10 +6,13 @@ pub mod Rows
 pub mod RoundView
 pub mod Outcomes
 pub mod Healing
+pub mod Paths
 pub mod Floors
+pub mod Formats
 pub mod Simulation
 pub mod inner
 pub use Rattle.model.specs.Exchanged
+pub use Rattle.model.specs.Spreads
 pub use Rattle.model.specs.States
 pub use Rattle.model.specs.Tables
 pub use Rattle.model.specs.Folds

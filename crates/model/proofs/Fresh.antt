@@ -60,7 +60,7 @@ module _ (writes : WritesBy) (nodes keys : ℕ) (ts : List Table) (copies : AreC
   pub no_newer : generation_held copy owner ≤ own.generation
   no_newer = (copy-up_to writes nodes keys ts copies holder owner in_nodes owner_in).generation
 
-  own_generation : (key : ℕ) (e : Entry) → entry_at own owner key ≡ Some e → e.generation ≡ own.generation
+  pub own_generation : (key : ℕ) (e : Entry) → entry_at own owner key ≡ Some e → e.generation ≡ own.generation
   own_generation key e held = (last.written key e held).2
 
   own_version : (key : ℕ) (e : Entry) → entry_at own owner key ≡ Some e → 1 ≤ e.version

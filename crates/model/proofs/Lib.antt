@@ -30,4 +30,9 @@ pub mod Received
 pub mod Rising
 pub mod Sending
 pub mod Sent
+pub mod Spreads
+pub mod StateDeltas
+pub mod StateFigures
+pub mod StateFolds
+pub mod States
 pub mod Tables

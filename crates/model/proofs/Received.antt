@@ -27,8 +27,8 @@ use Rattle.model.proofs.Members.{Contains-filter, Contains-kept}
 use Rattle.model.proofs.Sent.{All-delta_between, candidates-in_place}
 use Rattle.model.specs.ExchangeLaws.{NoMarkFalls}
 use Rattle.model.specs.calls.ExchangeLaws.{StoodInEither, IsPreciseMode, version_in, newer_generation}
-use Rattle.model.specs.Copies.{OwnParts, Generations, WritesBy, IsCurrentOrOlder, IsLastOf, HoldsWrites}
-use Rattle.model.specs.inner.Copies.{AreLastOf, HoldsOf, HasNoGap}
+use Rattle.model.specs.Copies.{OwnParts, Generations, WritesBy, IsCurrentOrOlder, IsLastOf, HoldsWrites, HoldsOf}
+use Rattle.model.specs.inner.Copies.{AreLastOf, HasNoGap}
 
 -- an item of one owner with one mark
 abbrev IsOneOf : List Item → ℕ → Mark → Item → Type 0
@@ -65,7 +65,7 @@ greatest_among-ge (x ∷ xs) i (suc k, lt, is) =
     ]
 
 -- a held entry that the receiver doesn't know is a candidate
-candidate : (mode : Mode) (from to : Table) (owner key : ℕ) (e : Entry) → entry_at from owner key ≡ Some e → owner ≢ to.node → IsBefore (known_mark (digest_kind mode) to (record { owner = owner; entry = e })) (mark_of e) → Contains (candidates mode from to) (record { owner = owner; entry = e })
+pub candidate : (mode : Mode) (from to : Table) (owner key : ℕ) (e : Entry) → entry_at from owner key ≡ Some e → owner ≢ to.node → IsBefore (known_mark (digest_kind mode) to (record { owner = owner; entry = e })) (mark_of e) → Contains (candidates mode from to) (record { owner = owner; entry = e })
 candidate mode from to owner key e held other newer =
     let i : Item = record { owner = owner; entry = e } in
     Contains-filter (λ (x : Item). not (eqb x.owner to.node) && is_before (known_mark (digest_kind mode) to x) (mark_of x.entry)) (items_of from) i (Contains-items_of from owner key e held)

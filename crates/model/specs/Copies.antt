@@ -31,10 +31,13 @@ pub record IsLastOf (generation : ℕ) (writes : List Entry) (own : ℕ → Opti
       → Contains writes e × (e.key ≡ key) × (e.generation ≡ generation)
   pub last : (e : Entry) → Contains writes e → (e.generation < generation) ⊎ IsCurrentOrOlder (own e.key) e
 
+-- each entry that the table holds of an owner is among these writes, and stands at its key
+abbrev pub HoldsOf : ℕ → List Entry → Table → Type 0
+HoldsOf owner writes t = (key : ℕ) (e : Entry) → entry_at t owner key ≡ Some e → Contains writes e × (e.key ≡ key)
+
 -- each entry in the table is a write of its owner
 abbrev pub HoldsWrites : WritesBy → Table → Type 0
-HoldsWrites writes t =
-    (owner key : ℕ) (e : Entry) → entry_at t owner key ≡ Some e → Contains (writes owner) e × (e.key ≡ key)
+HoldsWrites writes t = (owner : ℕ) → HoldsOf owner (writes owner) t
 
 -- the table has each entry of the owner's own part up to the greatest mark that it holds of the owner: all where the
 -- copy is of the owner's generation and no more versions were made, and none where it is of an older one

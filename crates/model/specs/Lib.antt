@@ -11,7 +11,9 @@ pub mod Copies
 pub mod Tables
 pub mod Folds
 pub mod Clusters
+pub mod States
 pub mod Fresh
+pub mod Spreads
 pub mod Runs
 pub mod RoundLists
 pub mod Writes

@@ -10,3 +10,4 @@ pub mod RoundLists
 pub mod Table
 pub mod Tables
 pub mod Writes
+pub mod StrictOrders

@@ -2,12 +2,18 @@
 
 ghost use Rattle.model.specs.DeltaLaws.{UncutDeltasSendAll};
 ghost use Rattle.model.specs.calls.DeltaLaws.{SendingOrdersAreTotal, ScuttleDeltasAscend, CandidatesAreLacked};
+ghost use Rattle.model.specs.calls.StrictOrders.{SendingOrdersAreStrict};
 ghost use Rattle.model.specs.calls.ExchangeLaws.{EntriesComeFromEither, EnoughBudgetCutsNothing, WholePreciseExchangesGiveTheNewer};
 ghost use Rattle.model.specs.calls.Clusters.{CopiesAreNeverAhead, ListsKeepTablesProper};
 
 /// The sending order of any items is total, in every mode and with every rotation.
 pub fn sending_orders_are_total()
     ensures { SendingOrdersAreTotal }
+{}
+
+/// And strict: of the candidates for one delta no two tie.
+pub fn sending_orders_are_strict()
+    ensures { SendingOrdersAreStrict }
 {}
 
 /// In the scuttle modes what is sent of each owner ascends in version.

@@ -4,13 +4,12 @@ use Rattle.std.proofs.Common.{◌≡◌, ℕ, Bool, set, zero, suc, ◌+◌, ◌
 use Rattle.std.specs.Prelude.{slice_get, Contains}
 use Rattle.std.proofs.lemmas.List.{take-append-drop, take_all}
 use Rattle.std.proofs.lemmas.Option.{get_or_from_slice_get, slice_get_within}
-use Rattle.std.proofs.lemmas.List.Elements.{Contains-append_left, Contains-append_right}
+use Rattle.std.proofs.lemmas.List.Elements.{Contains-append_right}
 use Rattle.std.proofs.lemmas.List.Sums.{fold-append, fold_more}
 use Rattle.bench_types.specs.declared.entries.Entry.{Entry}
 use Rattle.bench_types.specs.declared.exchanges.Exchange.{Exchange}
 use Rattle.bench_types.specs.declared.exchanges.Fate.TheVariants as fate
 use Rattle.bench_types.specs.declared.exchanges.Record.{Record}
-use Rattle.bench_types.specs.declared.exchanges.Rules.{Rules}
 use Rattle.bench_types.specs.calls.Exchange.{IsPlanned}
 use Rattle.scenario.specs.Settings.{Settings, IsLawfulScenario}
 use Rattle.model.specs.Table.{Table, applied, entry_at, with_own_writes, without_others, without_all, IsProper}
@@ -22,6 +21,7 @@ use Rattle.model.specs.ExchangeLaws.{LosesNothing}
 use Rattle.model.specs.Exchanged.{exchanged, fate_of, initiator_after, last_fate}
 use Rattle.model.specs.Folds.{Folded, exchange_in, fold_of}
 use Rattle.model.proofs.FoldLaws.{before_keeps_own, step_keeps_own}
+use Rattle.model.proofs.StateFolds.{keeps_records}
 use Rattle.model.proofs.Tables.{table_of_node-set_other, table_of_node-set_same}
 use Rattle.model.proofs.TableLaws.{entry_at-without_all, entry_at-without_others_own}
 use Rattle.round_plan.specs.Outages.{forgets_now, restarts_now}
@@ -36,23 +36,16 @@ use Rattle.simulation.proofs.Soundness.{sound_run}
 use Rattle.model.proofs.Fresh.{HasAllOf, all_stays, fresh_from, has_all, initiator_has, responder_has}
 
 -- where two messages came the last one decides, and the initiator has got its delta
-fate-answered : (e : Exchange) → e.lost1 ≡ false → e.lost2 ≡ false → fate_of e ≡ last_fate e.lost3
+pub fate-answered : (e : Exchange) → e.lost1 ≡ false → e.lost2 ≡ false → fate_of e ≡ last_fate e.lost3
 fate-answered e came1 came2 = λ i. if came1 i then fate.Lost1 else (if came2 i then fate.Lost2 else last_fate e.lost3)
 
-reaches-answered : (lost : Bool) (p : Table) (back : DeltaView) → initiator_after (last_fate lost) p back ≡ applied p back.items
+pub reaches-answered : (lost : Bool) (p : Table) (back : DeltaView) → initiator_after (last_fate lost) p back ≡ applied p back.items
 reaches-answered true p back = refl
 reaches-answered false p back = refl
 
 -- and where all three did it ended
-ended-loses_nothing : (e : Exchange) → LosesNothing e → fate_of e ≡ fate.Ok
+pub ended-loses_nothing : (e : Exchange) → LosesNothing e → fate_of e ≡ fate.Ok
 ended-loses_nothing e (came1, came2, came3) = λ i. if came1 i then fate.Lost1 else (if came2 i then fate.Lost2 else last_fate (came3 i))
-
--- what was recorded stays so
-keeps_records : (rules : Rules) (es : List Exchange) (f : Folded) (r : Record) → Contains f.records r → Contains (fold (exchange_in rules) f es).records r
-keeps_records rules [] f r there = there
-keeps_records rules (e ∷ es) f r there =
-    keeps_records rules es (exchange_in rules f e) r
-    (Contains-append_left f.records ((exchanged rules e (table_of_node f.tables e.initiator) (table_of_node f.tables e.responder)).sent ∷ []) r there)
 
 module _ (s : Settings) (lawful : IsLawfulScenario s) where
   pub sound : IsSoundRun s

@@ -6,6 +6,11 @@ pub mod Standing
 pub mod Soundness
 pub mod Healing
 pub mod Rings
+pub mod Paths
 pub mod Ample
+pub mod Formats
+pub mod Floors
+pub mod Best
+pub mod Alike
 pub mod Stepping
 pub mod Playing

@@ -1,49 +1,72 @@
--- What owners write is the same under each mode.
--- Serves `runs`.
+-- What owners write, who restarts and who meets whom is the same in each format, under each mode and with each budget.
+-- Serves `Best`, `Floors`, `Formats` and `runs`.
 use Rattle.std.proofs.Common.{◌≡◌, ℕ, zero, suc, ◌+◌, ◌++◌, [], map, if◌then◌else◌, refl}
 use Rattle.std.specs.List.{range_with_len}
 use Rattle.bench_types.specs.declared.exchanges.Mode.{Mode}
-use Rattle.round_plan.specs.Generations.{generation_upto}
-use Rattle.round_plan.specs.Outages.{is_up, forgets_now}
-use Rattle.round_plan.specs.Words.{word_of}
-use Rattle.round_plan.specs.Writes.{writes_in, number_by, count_upto, count_before, numbered_write, own_writes, written_upto}
+use Rattle.bench_types.specs.declared.exchanges.Rules.{Rules}
 use Rattle.bench_types.specs.Entry.{next_version}
+use Rattle.model.specs.Writes.{write_of_entry}
+use Rattle.round_plan.specs.Generations.{generation_upto}
+use Rattle.round_plan.specs.Outages.{is_up, forgets_now, restarts_now, separated}
+use Rattle.round_plan.specs.Plan.{round_list_of}
+use Rattle.round_plan.specs.Words.{word_of}
+use Rattle.round_plan.specs.Writes.{writes_in, number_by, count_upto, count_before, numbered_write, own_writes, writes_upto, written_upto}
 use Rattle.scenario.specs.Settings.{Settings, with_mode}
+use Rattle.simulation.specs.Lists.{lists_after}
 
-module _ (s : Settings) (mode : Mode) (n : ℕ) where
+module _ (s : Settings) (format : ℕ) (rules : Rules) where
   abbrev s' : Settings
-  s' = with_mode s mode
+  s' = record s { format = format; mode = rules.mode; budget = rules.budget }
 
-  forgets : (round : ℕ) → forgets_now s' n round ≡ forgets_now s n round
-  unfolding forgets_now
-  forgets round = refl
+  module _ (n : ℕ) where
+    pub forgets : (round : ℕ) → forgets_now s' n round ≡ forgets_now s n round
+    unfolding forgets_now
+    forgets round = refl
 
-  up : (round : ℕ) → is_up s' n round ≡ is_up s n round
-  unfolding is_up
-  up round = refl
+    pub restarts : (round : ℕ) → restarts_now s' n round ≡ restarts_now s n round
+    unfolding restarts_now
+    restarts round = refl
 
-  many : (round : ℕ) → writes_in s' round ≡ writes_in s round
-  unfolding writes_in
-  many round = refl
+    up : (round : ℕ) → is_up s' n round ≡ is_up s n round
+    unfolding is_up
+    up round = refl
 
-  word : (round place : ℕ) → word_of s' n round place ≡ word_of s n round place
-  word round place = refl
+    many : (round : ℕ) → writes_in s' round ≡ writes_in s round
+    unfolding writes_in
+    many round = refl
 
-  generation : (round : ℕ) → generation_upto s' n round ≡ generation_upto s n round
-  generation zero = refl
-  generation (suc round) = λ i. generation round i + (if forgets (suc round) i then 1 else 0)
+    word : (round place : ℕ) → word_of s' n round place ≡ word_of s n round place
+    word round place = refl
 
-  counted : (round : ℕ) → count_upto s' n round ≡ count_upto s n round
-  counted zero = refl
-  counted (suc round) = λ i. (if forgets (suc round) i then 0 else counted round i) + (if up (suc round) i then many (suc round) i else 0)
+    pub generation : (round : ℕ) → generation_upto s' n round ≡ generation_upto s n round
+    generation zero = refl
+    generation (suc round) = λ i. generation round i + (if forgets (suc round) i then 1 else 0)
 
-  before : (round : ℕ) → count_before s' n round ≡ count_before s n round
-  before zero = refl
-  before (suc round) = λ i. if forgets (suc round) i then 0 else counted round i
+    counted : (round : ℕ) → count_upto s' n round ≡ count_upto s n round
+    counted zero = refl
+    counted (suc round) = λ i. (if forgets (suc round) i then 0 else counted round i) + (if up (suc round) i then many (suc round) i else 0)
 
-  now : (round : ℕ) → own_writes s' n round (count_before s' n round) ≡ own_writes s n round (count_before s n round)
-  now round = λ i. if up round i then map (λ place. numbered_write s.keys round (generation round i) (number_by s.choice (word round (8 + place) i) (next_version (before round i + place))) (before round i + place)) (range_with_len 0 (many round i)) else []
+    before : (round : ℕ) → count_before s' n round ≡ count_before s n round
+    before zero = refl
+    before (suc round) = λ i. if forgets (suc round) i then 0 else counted round i
 
-  pub written_under : (round : ℕ) → written_upto s' n round ≡ written_upto s n round
-  written_under zero = refl
-  written_under (suc round) = λ i. written_under round i ++ now (suc round) i
+    pub now : (round : ℕ) → own_writes s' n round (count_before s' n round) ≡ own_writes s n round (count_before s n round)
+    now round = λ i. if up round i then map (λ place. numbered_write s.keys round (generation round i) (number_by s.choice (word round (8 + place) i) (next_version (before round i + place))) (before round i + place)) (range_with_len 0 (many round i)) else []
+
+    pub written : (round : ℕ) → written_upto s' n round ≡ written_upto s n round
+    written zero = refl
+    written (suc round) = λ i. written round i ++ now (suc round) i
+
+    current : (round : ℕ) → writes_upto s' n round ≡ writes_upto s n round
+    current zero = refl
+    current (suc round) = λ i. (if forgets (suc round) i then [] else current round i) ++ now (suc round) i
+
+  pub same_list : (round : ℕ) → round_list_of s' round ≡ round_list_of s round
+  unfolding is_up separated
+  same_list round = refl
+
+  pub same_lists : (round : ℕ) → lists_after s' round ≡ lists_after s round
+  same_lists round = λ i. map (λ n. map write_of_entry (current n round i)) (range_with_len 0 s.nodes)
+
+pub written_under : (s : Settings) (mode : Mode) (n round : ℕ) → written_upto (with_mode s mode) n round ≡ written_upto s n round
+written_under s mode = written s s.format (record { mode = mode; budget = s.budget })

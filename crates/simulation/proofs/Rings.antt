@@ -15,14 +15,13 @@ use Rattle.bench_types.specs.declared.entries.Mark.{Mark}
 use Rattle.bench_types.specs.declared.exchanges.Exchange.{Exchange}
 use Rattle.bench_types.specs.declared.exchanges.Fate.{Fate}
 use Rattle.bench_types.specs.declared.exchanges.Fate.TheVariants as fate
-use Rattle.bench_types.specs.declared.exchanges.Record.{Record}
 use Rattle.bench_types.specs.Mark.{mark_of, is_before, IsUpTo}
 use Rattle.bench_types.specs.Mode.{digest_kind}
 use Rattle.bench_types.specs.Sums.{sum_below, most_below}
 use Rattle.bench_types.proofs.Marks.{before-no}
 use Rattle.scenario.specs.declared.choices.Peers.TheVariants.{Ring}
 use Rattle.scenario.specs.Settings.{Settings, IsLawfulScenario}
-use Rattle.model.specs.Table.{Table, entry_at, mark_at, greatest_version}
+use Rattle.model.specs.Table.{Table, applied, entry_at, mark_at, greatest_version}
 use Rattle.model.specs.Tables.{table_of_node}
 use Rattle.model.specs.Deltas.{DeltaView, delta_between}
 use Rattle.model.specs.Digests.{digest_size}
@@ -30,7 +29,6 @@ use Rattle.model.specs.Exchanged.{fate_of, initiator_after, sent_until}
 use Rattle.model.specs.Figures.{writes_of_owner, generation_at, staleness_of, staleness_at, is_left_over, leftover_at, stale_count, rounds_behind, figures_of}
 use Rattle.model.specs.declared.writes.Write.{Write}
 use Rattle.model.specs.Writes.{write_of_entry, first_above}
-use Rattle.model.proofs.Counts.{count_by-none}
 use Rattle.model.proofs.DeltaLaws.{sent-uncut}
 use Rattle.round_plan.specs.Generations.{generation_upto}
 use Rattle.round_plan.specs.Outages.{is_up}
@@ -42,11 +40,10 @@ use Rattle.round_plan.proofs.Growth.{next-writes_upto}
 use Rattle.round_plan.proofs.Planned.{planned_list}
 use Rattle.round_plan.proofs.Written.{written-writes_upto}
 use Rattle.simulation.specs.Lists.{list_after, lists_after}
-use Rattle.simulation.specs.Rounds.{rules_of, tables_after, records_in}
-use Rattle.simulation.specs.Rows.{has_lost}
+use Rattle.simulation.specs.Rounds.{tables_after, records_in}
 use Rattle.simulation.specs.Soundness.{writes_by, AreSound, tables_within}
 use Rattle.model.specs.Fresh.{HasOwnPart}
-use Rattle.simulation.specs.Healing.{LeavesCopy, IsQuiet, HaveWrittenSince, IsHealed, QuietRingsHeal}
+use Rattle.simulation.specs.Healing.{LeavesCopy, AnswersWhole, IsQuiet, HaveWrittenSince, IsHealed, QuietRingsHeal}
 use Rattle.model.proofs.Fresh.{HasAllOf, fresh_from, of_generation, not_behind}
 use Rattle.simulation.proofs.Healing.{HasAll, sound, initiator_all, record_of, recorded, stays_to_end, stays_through}
 use Rattle.simulation.proofs.Soundness.{counts_after}
@@ -93,19 +90,19 @@ abbrev one_if : Bool → ℕ
 one_if b = if b then 1 else 0
 
 -- of a sum of nothing each part is nothing
-sum_none : {X : Type 0} (f : X → ℕ) (xs : List X) (x : X) → sum_by f xs ≡ 0 → Contains xs x → f x ≡ 0
+pub sum_none : {X : Type 0} (f : X → ℕ) (xs : List X) (x : X) → sum_by f xs ≡ 0 → Contains xs x → f x ≡ 0
 sum_none f [] x none (k, lt, is) = absurd (omega arith)
 sum_none f (y ∷ ys) x none (zero, lt, is) = subst (λ z. f z ≡ 0) is (omega (arith, none, sum_by-cons f y ys))
 sum_none f (y ∷ ys) x none (suc k, lt, is) = sum_none f ys x (omega (arith, none, sum_by-cons f y ys)) (k, omega arith, is)
 
--- an exchange that lost nothing and cut nothing came to its end
-whole_sent : (f : Fate) (d1 d2 : ℕ) (back forth : DeltaView) → has_lost (sent_until f d1 d2 back forth).fate ≡ false → (sent_until f d1 d2 back forth).back_cut + (sent_until f d1 d2 back forth).forth_cut ≡ 0 → (f ≡ fate.Ok) × (back.cut ≡ 0)
-whole_sent fate.Lost1 d1 d2 back forth lost cut = cc
-whole_sent fate.Lost2 d1 d2 back forth lost cut = cc
-whole_sent fate.Lost3 d1 d2 back forth lost cut = cc
-whole_sent fate.Ok d1 d2 back forth lost cut = (refl, omega (arith, cut))
+-- an exchange that answers in whole brings the initiator all of a delta that cut nothing
+answered_whole : (f : Fate) (d1 d2 : ℕ) (p : Table) (back forth : DeltaView) → AnswersWhole (sent_until f d1 d2 back forth) → (initiator_after f p back ≡ applied p back.items) × (back.cut ≡ 0)
+answered_whole fate.Lost1 d1 d2 p back forth is = absurd (is.first refl)
+answered_whole fate.Lost2 d1 d2 p back forth is = absurd (is.second refl)
+answered_whole fate.Lost3 d1 d2 p back forth is = (refl, is.cut)
+answered_whole fate.Ok d1 d2 p back forth is = (refl, is.cut)
 
-sum_below-none : (n : ℕ) (f : ℕ → ℕ) → ((i : ℕ) → i < n → f i ≡ 0) → sum_below n f ≡ 0
+pub sum_below-none : (n : ℕ) (f : ℕ → ℕ) → ((i : ℕ) → i < n → f i ≡ 0) → sum_below n f ≡ 0
 sum_below-none zero f none = refl
 sum_below-none (suc n) f none = omega (arith, sum_below-none n f (λ i lt. none i (omega (arith, lt))), none n (omega arith))
 
@@ -244,11 +241,13 @@ module _ (s : Settings) (lawful : IsLawfulScenario s) where
       kept : Contains (records_in s round) (record_of s lawful round n first e (listed n lt))
       kept = recorded s lawful round n first e (listed n lt)
 
-      whole : (fate_of e ≡ fate.Ok) × ((delta_between (rules_of s).mode e.rotation (rules_of s).budget q p).cut ≡ 0)
+      abbrev back : DeltaView
+      back = delta_between s.mode e.rotation s.budget q p
+
+      whole : (initiator_after (fate_of e) p back ≡ applied p back.items) × (back.cut ≡ 0)
       whole =
-          whole_sent (fate_of e) (digest_size (digest_kind s.mode) p) (digest_size (digest_kind s.mode) q) (delta_between s.mode e.rotation s.budget q p) (delta_between s.mode e.rotation s.budget p q)
-          (count_by-none (λ (r : Record). has_lost r.fate) (records_in s round) quiet.lost (record_of s lawful round n first e (listed n lt)) kept)
-          (sum_none (λ (r : Record). r.back_cut + r.forth_cut) (records_in s round) (record_of s lawful round n first e (listed n lt)) quiet.cut kept)
+          answered_whole (fate_of e) (digest_size (digest_kind s.mode) p) (digest_size (digest_kind s.mode) q) p back (delta_between s.mode e.rotation s.budget p q)
+          (quiet.answered (record_of s lawful round n first e (listed n lt)) kept)
 
       here : AreSound s round (tables_within s round n)
       here = (sound s lawful).within round n first
@@ -264,7 +263,7 @@ module _ (s : Settings) (lawful : IsLawfulScenario s) where
       learns : HasAll s lawful (tables_after s round) n e.responder
       learns =
           stays_to_end s lawful n e.responder lt (peer_below n) round (n + 1) first
-          (initiator_all s lawful round n first e (listed n lt) (ap (λ f. initiator_after f p (delta_between s.mode e.rotation s.budget q p)) whole.0)
+          (initiator_all s lawful round n first e (listed n lt) whole.0
           (λ i own there. sent-uncut s.mode q p e.rotation s.budget (here.copies.proper e.responder (omega (arith, peer_below n, here.copies.tables.size))) q_rotation whole.1 i there))
 
     -- and leaves what copies have

@@ -1,9 +1,11 @@
 -- When copies agree with their owners again. An exchange makes fresh what its two nodes hold of each other, and it
 -- stays so until the owner writes or the holder restarts. On a ring each node meets each other one within as many
--- rounds as there are others: where for so long nothing is written, lost or cut, and no node is down, restarts or is
--- apart, all copies are fresh. Source: this project.
-use Rattle.std.specs.Prelude.{◌≡◌, ℕ, ◌+◌, ◌-◌, ◌*◌, ◌<◌, ◌≤◌, ◌⊎◌, true, false, [], slice_get, Some}
+-- rounds as there are others: where for so long nothing is written, what comes back isn't lost or cut, and no node is
+-- down, restarts or is apart, all copies are fresh. Source: this project.
+use Rattle.std.specs.Prelude.{◌≡◌, ◌≢◌, ℕ, ◌+◌, ◌-◌, ◌*◌, ◌<◌, ◌≤◌, ◌⊎◌, true, false, [], slice_get, Some, Contains}
 use Rattle.bench_types.specs.declared.exchanges.Exchange.{Exchange}
+use Rattle.bench_types.specs.declared.exchanges.Fate.TheVariants as fate
+use Rattle.bench_types.specs.declared.exchanges.Record.{Record}
 use Rattle.bench_types.specs.Budget.{amount_of, largest_share}
 use Rattle.scenario.specs.declared.choices.Peers.TheVariants.{Ring}
 use Rattle.scenario.specs.Settings.{Settings}
@@ -15,7 +17,7 @@ use Rattle.round_plan.specs.Generations.{generation_upto}
 use Rattle.round_plan.specs.Outages.{is_up, restarts_now, separated}
 use Rattle.round_plan.specs.Plan.{round_list_of}
 use Rattle.round_plan.specs.Writes.{writes_in, count_upto, count_before, own_writes}
-use Rattle.simulation.specs.Rounds.{rules_of, tables_after}
+use Rattle.simulation.specs.Rounds.{rules_of, tables_after, records_in}
 use Rattle.simulation.specs.Outcomes.{figures_in, row_in}
 use Rattle.simulation.specs.Soundness.{tables_within}
 
@@ -67,14 +69,20 @@ FreshCopiesStay s =
     → ((round : ℕ) → m.round < round → round ≤ n.round → LeavesCopy s holder owner round)
     → IsFreshAt s m holder owner → IsFreshAt s n holder owner
 
--- a round in which no node is down, restarts or is apart from another, nothing is written, and nothing was lost or cut
+-- in an exchange messages 1 and 2 came, and nothing of what the second brought was cut
+pub record AnswersWhole (r : Record) : Type 0 where
+  pub first : r.fate ≢ fate.Lost1
+  pub second : r.fate ≢ fate.Lost2
+  pub cut : r.back_cut ≡ 0
+
+-- a round in which no node is down, restarts or is apart from another, nothing is written, and each exchange's initiator
+-- was answered in whole
 pub record IsQuiet (s : Settings) (round : ℕ) : Type 0 where
   pub up : (n : ℕ) → n < s.nodes → is_up s n round ≡ true
   pub kept : (n : ℕ) → n < s.nodes → restarts_now s n round ≡ false
   pub joined : (p q : ℕ) → p < s.nodes → q < s.nodes → separated s p q round ≡ false
   pub unwritten : writes_in s round ≡ 0
-  pub lost : (row_in s round).lost ≡ 0
-  pub cut : (row_in s round).cut ≡ 0
+  pub answered : (r : Record) → Contains (records_in s round) r → AnswersWhole r
 
 -- the rounds behind one, as many as a node has others
 abbrev pub AreQuietAfter : Settings → ℕ → Type 0

@@ -4,9 +4,14 @@ pub mod Lists
 pub mod Rows
 pub mod Outcomes
 pub mod Healing
+pub mod Paths
+pub mod Floors
+pub mod Formats
 pub mod calls
 pub mod inner
 pub use Rattle.model.specs.Exchanged
+pub use Rattle.model.specs.Spreads
+pub use Rattle.model.specs.States
 pub use Rattle.model.specs.Tables
 pub use Rattle.model.specs.Folds
 pub use Rattle.model.specs.RoundLists

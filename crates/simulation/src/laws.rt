@@ -3,6 +3,9 @@
 
 ghost use Rattle.scenario.specs.Settings.{Settings, IsLawfulScenario};
 ghost use Rattle.simulation.specs.Soundness.{IsSoundRun};
+ghost use Rattle.simulation.specs.Floors.{UncutCopiesAreStates, UncutRunsAreBest, UncutModesAreAlike};
+ghost use Rattle.simulation.specs.Formats.{LeavesNothingOver, FormatHasNoPart};
+ghost use Rattle.simulation.specs.Paths.{PathsMakeFresh};
 ghost use Rattle.simulation.specs.Healing.{ExchangesMakeFresh, FreshCopiesStay, QuietRingsHeal, AmpleBudgetsCutNothing};
 
 /// The law of every run. After each round, once a round has begun, and after each of its exchanges:
@@ -27,9 +30,17 @@ pub fn fresh_copies_stay()
     ensures { (s : Settings) → IsLawfulScenario s → FreshCopiesStay s }
 {}
 
-/// A quiet ring heals. Behind as many rounds as a node has others, in which nothing is written, lost or
-/// cut and no node is down, restarts or is apart, all copies are fresh: none is stale, and nothing is left
-/// over where each owner that has forgotten has written since. They may begin anywhere in the ring's cycle.
+/// Freshness spreads. An exchange hands on a fresh copy of any owner, if what it carries of that owner comes and isn't
+/// cut, and the copy stays fresh while its owner doesn't write and its holder doesn't restart: so at the end of a path of
+/// such exchanges the last holder has a fresh copy, whatever is lost, cut or separated elsewhere.
+pub fn paths_make_fresh()
+    ensures { (s : Settings) → IsLawfulScenario s → PathsMakeFresh s }
+{}
+
+/// A quiet ring heals. Behind as many rounds as a node has others, in which nothing is written, no node is
+/// down, restarts or is apart, and each exchange brings its initiator an answer of which nothing is cut, all
+/// copies are fresh: none is stale, and nothing is left over where each owner that has forgotten has written
+/// since. They may begin anywhere in the ring's cycle.
 pub fn quiet_rings_heal()
     ensures { (s : Settings) → IsLawfulScenario s → QuietRingsHeal s }
 {}
@@ -37,4 +48,33 @@ pub fn quiet_rings_heal()
 /// A budget with room for the largest entry of each key of all owners but one cuts nothing, in any round.
 pub fn ample_budgets_cut_nothing()
     ensures { (s : Settings) → IsLawfulScenario s → AmpleBudgetsCutNothing s }
+{}
+
+/// As long as nothing was cut, what a node holds of another is exactly the state that this one had when it made the
+/// write with the greatest mark that is held: at each key the last write of the generation up to it.
+pub fn uncut_copies_are_states()
+    ensures { (s : Settings) → IsLawfulScenario s → UncutCopiesAreStates s }
+{}
+
+/// A run that has cut nothing is the best. After each round up to which its rows say so, no more is stale, and nothing
+/// for longer, than under any other mode and with any other budget, whatever is lost, cut or separated, and whoever
+/// restarts or forgets. Of what is left over nothing is said: what spreads less leaves less over.
+pub fn uncut_runs_are_best()
+    ensures { (s : Settings) → IsLawfulScenario s → UncutRunsAreBest s }
+{}
+
+/// All runs that have cut nothing are alike: under each mode and with each budget they have the same tables and rows.
+pub fn uncut_modes_are_alike()
+    ensures { (s : Settings) → IsLawfulScenario s → UncutModesAreAlike s }
+{}
+
+/// In format 1 nothing is ever left over, since no node forgets.
+pub fn format_1_leaves_nothing_over()
+    ensures { (s : Settings) → IsLawfulScenario s → LeavesNothingOver s }
+{}
+
+/// The number of the format has no part in tables and rows: a scenario of format 2 in which no node forgets comes to
+/// what it would come to in format 1, by the same budget.
+pub fn the_format_has_no_part()
+    ensures { (s : Settings) → FormatHasNoPart s }
 {}

@@ -7,8 +7,9 @@
 //!   own entries, and a write changes nothing else.
 //! - `every_run_is_sound` speaks of each moment within a round, which no caller of `step` can look at; what holds after
 //!   a round stands in the contract of `step` too.
-//! - A quiet round's losses and cuts are those of its row, so the law holds too in a scenario with losses, where by
+//! - A quiet round's losses and cuts are those of its records, so the law holds too in a scenario with losses, where by
 //!   chance none came for so many rounds.
+//! - `uncut_runs_are_best` takes any mode and budget beside the uncut run, also a budget that no scenario may have.
 //! - The wrong body that counts down nodes as fresh (`must-fail`) does so in rounds in which all nodes are down. In any
 //!   other round it would need the figures of some tables, which only a loop with an invariant could give, so it would
 //!   be refused for want of one.
@@ -20,8 +21,9 @@ mod rounds;
 mod sims;
 
 pub use laws::{
-    ample_budgets_cut_nothing, every_run_is_sound, exchanges_make_fresh, fresh_copies_stay,
-    quiet_rings_heal,
+    ample_budgets_cut_nothing, every_run_is_sound, exchanges_make_fresh,
+    format_1_leaves_nothing_over, fresh_copies_stay, paths_make_fresh, quiet_rings_heal,
+    the_format_has_no_part, uncut_copies_are_states, uncut_modes_are_alike, uncut_runs_are_best,
 };
 pub use rounds::Round;
 pub use sims::Sim;

@@ -1,0 +1,74 @@
+"""Scenarios as runs of tools/replay.py, for the scripts that try laws: their rows, their exchanges and what nodes hold.
+REPLAY names another replay.py."""
+import csv
+import os
+import pathlib
+import subprocess
+import sys
+import tempfile
+from collections import defaultdict
+
+from trials import TOP
+
+REPLAY = os.environ.get("REPLAY", TOP / "tools" / "replay.py")
+LARGEST = 1023  # bytes of an entry
+
+
+class Run:
+    """A scenario, and what it comes to: the rows of its report, its exchanges, and what each node holds of each owner,
+    by rounds."""
+
+    def __init__(self, **fields):
+        self.fields = {"rounds": 0, "rotation": "none", "choice": "cycle", "loss_ppm": 0, "writes": 0} | fields
+        self.nodes, self.format = fields["nodes"], fields["format"]
+        self.load, self.restart, self.partition = [], [], []
+
+    @property
+    def rounds(self):
+        return self.fields["rounds"]
+
+    def add_rounds(self, count):
+        self.fields["rounds"] += count
+
+    @property
+    def ample_budget(self):
+        return (self.nodes - 1) * self.fields["keys"]
+
+    def set_budget(self, entries):
+        self.fields |= {"budget": entries} if self.format == 1 else {"budget_bytes": LARGEST * entries}
+
+    def text(self):
+        lines = [f'{name} = "{it}"' if isinstance(it, str) else f"{name} = {it}" for name, it in self.fields.items()]
+        for array in ("load", "restart", "partition"):
+            for it in getattr(self, array):
+                lines += [f"[[{array}]]", *(f"{name} = {str(value).lower()}" for name, value in it.items())]
+        return "".join(f"{line}\n" for line in lines)
+
+    def replay(self):
+        with tempfile.TemporaryDirectory() as room:
+            files = [pathlib.Path(room, name) for name in ("trace", "tables")]
+            words = ["run", "--trace", files[0], "--tables", files[1]]
+            done = subprocess.run([sys.executable, REPLAY, *words], input=self.text(), capture_output=True, text=True,
+                                  check=True)
+            texts = [done.stdout, *(it.read_text() for it in files)]
+        report, trace, tables = (csv.DictReader(it.splitlines()) for it in texts)
+        self.rows = {int(it["round"]): {name: int(value) for name, value in it.items()} for it in report}
+        self.exchanges, self.held = defaultdict(list), defaultdict(lambda: defaultdict(dict))
+        for exchange in trace:
+            self.exchanges[int(exchange["round"])].append(exchange)
+        for entry in tables:
+            held = self.held[int(entry["round"])][int(entry["holder"]), int(entry["owner"])]
+            held[entry["key"]] = [int(entry[name]) for name in ("generation", "version", "value", "born")]
+        return self
+
+    def writes(self, round):
+        return [0, *(it["writes"] for it in self.load if it["from"] <= round <= it["to"])][-1]
+
+    def restarted(self, round):
+        return {it["node"] for it in self.restart if it["round"] == round}
+
+    def has_down(self, round):
+        return any(it["round"] <= round < it["round"] + it["down"] for it in self.restart)
+
+    def has_split(self, round):
+        return any(it["from"] <= round <= it["to"] for it in self.partition)

@@ -1,5 +1,5 @@
 -- Candidates stand at different places, so only an item ties with itself in a sending order.
--- Serves `DeltaLaws`, `Levels`, `Sending`, `reconcile` and `version_tables`.
+-- Serves `DeltaLaws`, `Levels`, `Sending`, `delta_plans` and `reconcile`.
 use Rattle.std.proofs.Common.{◌≡◌, ℕ, zero, suc, ◌+◌, ◌-◌, ◌%◌, ◌<◌, ◌≤◌, Bool, true, false, cond, ◌&&◌, eqb, List, [], ◌∷◌, length, get_or, All, ◌⊎◌, inl, inr, refl, sym, ap, ◌∙◌, subst, arith}
 use Rattle.std.specs.Prelude.{count_by, filter, IsPermutation}
 use Rattle.std.specs.declared.cmp.Ordering.{Ordering}

@@ -1,5 +1,5 @@
 -- The sending order of each mode is by level, turn, version and key.
--- Serves `version_tables`.
+-- Serves `delta_plans`.
 use Rattle.std.proofs.Common.{◌≡◌, ◌≢◌, ℕ, ◌<◌, List, inl, inr, refl, sym, ap, ◌∙◌, arith}
 use Rattle.std.specs.Prelude.{Contains}
 use Rattle.std.specs.declared.cmp.Ordering.{Ordering}

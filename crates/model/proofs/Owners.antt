@@ -1,5 +1,5 @@
 -- The lists of all owners, and what one more write is in them.
--- Serves `bench`, `simulation`, `staleness` and `version_tables`.
+-- Serves `bench`, `simulation`, `staleness` and `version_lags`.
 use Rattle.std.proofs.Common.{◌≡◌, ℕ, ◌+◌, ◌<◌, List, [], ◌∷◌, ◌++◌, length, get_or, sym, ap, ◌∙◌}
 use Rattle.std.proofs.lemmas.List.{length-map, map-append, get_or-map}
 use Rattle.model.specs.declared.writes.Write.{Write}

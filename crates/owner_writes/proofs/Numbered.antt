@@ -1,5 +1,5 @@
 -- The write of a number.
--- Serves `OwnerWrites::numbered`, `owner_lists` and `version_tables`.
+-- Serves `OwnerWrites::numbered`, `owner_lists` and `version_lags`.
 use Rattle.std.proofs.Common.{◌≡◌, ℕ, zero, suc, ◌<◌, ◌≤◌, List, [], ◌∷◌, length, get_or, map, Some, None, refl, sym, ap, ◌∙◌, arith}
 use Rattle.std.proofs.lemmas.List.{get_or-map, length-map}
 use Rattle.bench_types.specs.declared.entries.Entry.{Entry}

@@ -1,6 +1,6 @@
 //! All that one owner wrote, in order.
 
-ghost use Rattle.std.specs.Prelude.{◌≡◌, ◌+◌, ◌^◌, ◌<◌, Some, None, MatchOption, OnOk, OnErr, IsOkUnless, length};
+ghost use Rattle.std.specs.Prelude.{◌≡◌, ◌+◌, ◌^◌, ◌<◌, ◌≤◌, Some, None, MatchOption, OnOk, OnErr, IsOkUnless, length};
 ghost use Rattle.bench_types.specs.declared.faults.Fault.TheVariants.{OutOfMemory};
 
 use bench_types::Fault;
@@ -48,7 +48,9 @@ impl Model for OwnerWrites {
 impl OwnerWrites {
     ghost use Rattle.model.specs.calls.OwnerListView.{entries_of, no_writes, with_write, begun_generation};
     ghost use Rattle.model.specs.calls.Numbers.{write_numbered};
+    ghost use Rattle.bench_types.specs.declared.entries.Entry.{Entry};
     ghost use Rattle.owner_writes.specs.Kept.{entry_kept};
+    ghost use Rattle.owner_writes.specs.Numbered.{start_of};
 
     /// Those of an owner that has written nothing, in generation 0. They take no memory yet.
     pub fn new(alloc: Global) -> OwnerWrites
@@ -106,6 +108,18 @@ impl OwnerWrites {
         match number.checked_sub(1) {
             Some(place) => self.kept.get(place as usize),
             None => None,
+        }
+    }
+
+    /// How many writes there were before the generation of a number's write, 0 where there is no such write.
+    pub fn start_of(&self, number: u32) -> u32
+        requires { (e : Entry) → write_numbered (entries_of self.now) number ≡ Some e → e.version ≤ number }
+        ensures start { result ≡ start_of (entries_of self.now) number }
+        ensures upto { result ≤ number }
+    {
+        match self.numbered(number) {
+            Some(write) => number - write.version,
+            None => 0,
         }
     }
 

@@ -1,5 +1,6 @@
 -- Lists that are changed element by element.
--- Serves the functions of `grids`, `lags`, `merges`, `owners` and `planes` and `version_tables`.
+-- Serves the functions of `grids`, `lags`, `merges`, `owners` and `planes`, `delta_plans`, `version_lags` and
+-- `version_tables`.
 use Rattle.std.proofs.Common.{◌≡◌, ℕ, ◌+◌, ◌<◌, ◌≤◌, List, length, [], ◌++◌, ◌-◌, get_or, set, map, take, replicate, inl, inr, refl, sym, ap, ◌∙◌, subst, arith}
 use Rattle.std.proofs.Math.Seq.{take-nil}
 use Rattle.std.proofs.lemmas.Bool.{cases_eq, cases_lt}

@@ -1,5 +1,6 @@
 -- The numbers of a table's planes, one after another.
--- Serves the functions of `grids`, `lags`, `merges` and `owners`, `Behind` and `version_tables`.
+-- Serves the functions of `ends`, `grids`, `lags`, `merges` and `owners`, `Behind`, `delta_plans` and
+-- `version_tables`.
 use Rattle.std.proofs.Common.{◌≡◌, ℕ, zero, suc, Fits, w32, ◌+◌, ◌*◌, ◌-◌, ◌<◌, ◌≤◌, Bool, cond, List, ◌++◌, length, get_or, map, take, drop, nat_lt, max, inl, inr, refl, sym, ap, ◌∙◌, subst, arith}
 use Rattle.std.proofs.Math.Nat.{mul-le-mul_right}
 use Rattle.std.proofs.lemmas.Bool.{cases_lt, lt-ltb, le-ltb}
@@ -9,9 +10,7 @@ use borrow.Rule.Slice.PartMut.{put_mid, post_of}
 use Rattle.bench_types.specs.declared.limits.TheConstants.{MOST_NODES, MOST_KEYS}
 use Rattle.planes.specs.Elementwise.{AreChanged}
 use Rattle.bench_types.specs.Sums.{sum_below}
-use Rattle.planes.specs.Planes.{Cells}
-use Rattle.planes.specs.Planes.{IsLeastAbove, IsRaised, HasNoneAbove}
-use Rattle.planes.specs.Planes.{cell, next_above, number_ahead, total_above, total_of, IsLowered, IsGrid, HasEach, IsNextAbove, ArePlanesChangedUpto, ArePlanesChanged}
+use Rattle.planes.specs.Planes.{Cells, IsLeastAbove, IsRaised, HasNoneAbove, cell, next_above, number_ahead, total_above, total_of, IsLowered, IsGrid, HasEach, IsNextAbove, ArePlanesChangedUpto, ArePlanesChanged}
 use Rattle.planes.proofs.Counts.{count_le}
 use Rattle.bench_types.proofs.Sums.{sum_below-same, sum_below-turned}
 

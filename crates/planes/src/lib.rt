@@ -23,6 +23,7 @@
 //! - These loops know no table, so their proofs stand on nothing but the limits, and are checked beside the rest.
 #![tactic(auto)]
 
+mod ends;
 mod grids;
 mod lags;
 mod merges;
@@ -30,6 +31,7 @@ mod numbers;
 mod owners;
 mod planes;
 
+pub use ends::Ends;
 pub use grids::{
     Masked, Sent, ahead, all_of, count_some_between, counts_above, least_above, take, total_above,
     total_held, total_upto, zeros,

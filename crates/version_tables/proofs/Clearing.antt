@@ -6,8 +6,8 @@ use Rattle.bench_types.specs.declared.entries.Entry.{Entry}
 use Rattle.bench_types.specs.Sums.{sum_below}
 use Rattle.planes.specs.Planes.{cell, total_of, ArePlanesChanged}
 use Rattle.version_tables.specs.inner.Taken.{drop_start, number_kept}
-use Rattle.version_tables.specs.inner.Offers.{start_of}
-use Rattle.version_tables.proofs.Columns.{sum_below-none}
+use Rattle.owner_writes.specs.Numbered.{start_of}
+use Rattle.delta_plans.proofs.Columns.{sum_below-none}
 
 -- nothing is dropped up to 0
 pub kept-all : (x : ℕ) → number_kept 0 x ≡ x

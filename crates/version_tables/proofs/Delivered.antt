@@ -21,25 +21,27 @@ use Rattle.model.specs.Order.{rotated}
 use Rattle.model.specs.calls.Numbers.{write_numbered}
 use Rattle.model.specs.calls.OwnerListView.{OwnerListView, all_writes, AreWrites, list_of_owner}
 use Rattle.planes.specs.Planes.{Cells, cell, number_ahead, HasEach, HasEachPlace, HasNoneAbove}
-use Rattle.version_tables.specs.declared.weights.Offer.{Offer}
-use Rattle.version_tables.specs.SentSets.{HasSet}
+use Rattle.delta_plans.specs.declared.offers.Offer.{Offer}
+use Rattle.delta_plans.specs.SentSets.{HasSet}
 use Rattle.version_tables.specs.Views.{VersionTableView, HistoriesView, table_in, IsKept}
 use Rattle.version_tables.specs.inner.Deltas.{is_taken_at, AreMarksOf}
 use Rattle.version_tables.specs.inner.Histories.{IsWrittenSoFar, FitsHistories}
 use Rattle.version_tables.specs.Laid.{AreNumbers}
-use Rattle.version_tables.specs.inner.Firsts.{by_first}
-use Rattle.version_tables.specs.inner.Marked.{LetAll, ShareLevel, KeepsLow, AreMarked, AreOffered}
-use Rattle.version_tables.specs.inner.OfferInMemory.{cells_in, low_in, high_in, count_in, IsOffer}
-use Rattle.version_tables.specs.inner.Offers.{IsHistory, Offers, offered_by, told_by, told_number}
-use Rattle.version_tables.specs.inner.Plans.{weight_on}
-use Rattle.version_tables.specs.inner.LevelMarks.{lets_through, NumbersDiffer, HasShape}
+use Rattle.delta_plans.specs.Firsts.{by_first}
+use Rattle.delta_plans.specs.Marked.{LetAll, ShareLevel, KeepsLow, AreMarked}
+use Rattle.version_tables.specs.inner.Offered.{AreOffered}
+use Rattle.delta_plans.specs.OfferInMemory.{cells_in, low_in, high_in, count_in, IsOffer}
+use Rattle.owner_writes.specs.Numbered.{IsHistory}
+use Rattle.delta_plans.specs.Offers.{Offers, offered_by, told_by, told_number}
+use Rattle.delta_plans.specs.Plans.{weight_on}
+use Rattle.delta_plans.specs.LevelMarks.{lets_through, NumbersDiffer, HasShape}
 use Rattle.version_tables.specs.inner.Taken.{is_taken}
-use Rattle.version_tables.specs.inner.Told.{AreKnown}
-use Rattle.version_tables.specs.inner.Weights.{number_shares, weight_between, weight_through, one_each}
-use Rattle.version_tables.proofs.CandidateNumbers.{candidate-below, candidate-key, candidate-number}
+use Rattle.delta_plans.specs.Told.{AreKnown}
+use Rattle.delta_plans.specs.Weights.{number_shares, weight_between, weight_through, one_each}
+use Rattle.delta_plans.proofs.CandidateNumbers.{candidate-below, candidate-key, candidate-number}
 use Rattle.version_tables.proofs.Fitting.{fits-upto, fits-below, fits-cells}
-use Rattle.version_tables.proofs.Lifts.{lets, count-sent, count-cut, are-sent, shared-sent, whole-sent}
-use Rattle.version_tables.proofs.Numbers.{numbered-some}
+use Rattle.delta_plans.proofs.Lifts.{lets, count-sent, count-cut, are-sent, shared-sent, whole-sent}
+use Rattle.owner_writes.proofs.Numbers.{numbered-some}
 use Rattle.version_tables.proofs.Told.{told-offers, offered-is, offered-upto}
 
 -- the marks of a delta

@@ -21,10 +21,10 @@ use Rattle.model.specs.Digests.{digest_size}
 use Rattle.model.proofs.Counts.{count_by-cons_true, count_by-cons_false}
 use Rattle.model.proofs.Fitting.{sum_by-ones}
 use Rattle.version_tables.specs.Views.{VersionTableView, table_in, IsKept}
-use Rattle.version_tables.specs.inner.Grids.{number_here, number_there}
-use Rattle.version_tables.proofs.Grids.{items_sum}
+use Rattle.delta_plans.specs.Grids.{number_here, number_there}
+use Rattle.delta_plans.proofs.Grids.{items_sum}
 use Rattle.version_tables.proofs.Laid.{has_cells}
-use Rattle.version_tables.proofs.Numbers.{numbered-some}
+use Rattle.owner_writes.proofs.Numbers.{numbered-some}
 
 sum_first : (n : ℕ) (f : ℕ → ℕ) → sum_below (suc n) f ≡ f 0 + sum_below n (λ i. f (suc i))
 sum_first zero f = omega arith

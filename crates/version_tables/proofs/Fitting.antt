@@ -10,9 +10,9 @@ use Rattle.model.specs.calls.OwnerListView.{all_writes}
 use Rattle.planes.specs.Planes.{Cells, cell}
 use Rattle.version_tables.specs.Views.{VersionTableView, HistoriesView, table_in, IsKept}
 use Rattle.version_tables.specs.inner.Histories.{IsWrittenSoFar, FitsHistories}
-use Rattle.version_tables.specs.inner.Offers.{HasCells}
+use Rattle.delta_plans.specs.Offers.{HasCells}
 use Rattle.version_tables.proofs.Laid.{has_cells}
-use Rattle.version_tables.proofs.Numbers.{numbered-some}
+use Rattle.owner_writes.proofs.Numbers.{numbered-some}
 
 -- what is contained has a place
 pub write_from-contains : (writes : List Entry) (e : Entry) → Contains writes e → (place : ℕ) × (place < length writes) × (write_from writes place ≡ Some e)

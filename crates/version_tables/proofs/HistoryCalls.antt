@@ -12,13 +12,10 @@ use Rattle.model.specs.calls.Numbers.{write_from, write_numbered}
 use Rattle.model.specs.calls.OwnerListView.{OwnerListView, all_writes, entries_of, list_of_owner, no_writes, next_entry, with_write, begun_generation, MarksRise, AreWrites, ListBecomes}
 use Rattle.owner_writes.proofs.Keeping.{writes_more, writes_begun}
 use Rattle.planes.specs.Planes.{HasEach, HasEachPlace, ArePlanesChanged, cell}
-use Rattle.version_tables.specs.inner.Histories.{AreHistories, AreMadeBy, IsBeginning, IsWrittenSoFar, IsWriteUnder}
-use Rattle.version_tables.specs.inner.Missed.{IsLastNumber}
-use Rattle.version_tables.specs.inner.Offers.{IsHistory, IsNumberedHistory}
-use Rattle.version_tables.specs.inner.RoundEnds.{AreEnds}
-use Rattle.version_tables.specs.inner.LevelMarks.{IsRoundMark}
-use Rattle.version_tables.proofs.Numbers.{write_from-some, numbered-within}
-use Rattle.version_tables.proofs.Offers.{write_from-at}
+use Rattle.version_tables.specs.inner.Histories.{AreHistories, IsBeginning, IsWrittenSoFar, IsWriteUnder}
+use Rattle.owner_writes.specs.Numbered.{AreMadeBy, IsHistory, IsNumberedHistory, AreEnds, IsRoundMark}
+use Rattle.version_lags.specs.Missed.{IsLastNumber}
+use Rattle.owner_writes.proofs.Numbers.{write_from-some, numbered-within, write_from-at}
 use Rattle.version_tables.proofs.OwnCalls.{same-place, place-within}
 
 -- a write behind others has the number after theirs, and they keep their own
@@ -311,8 +308,8 @@ module _ (written : ℕ → List Entry) (most : ℕ) (lists new : List OwnerList
           r other lt));
       are = each-list lists new owner _ changes (λ r v. AreWrites v) (λ r _. kept.are r) (writes_more list (kept.are owner) key value (rounds + 1));
       so_far = each-writes lists new owner _ changes (λ r w. IsWrittenSoFar (written r) most rounds w) (λ r _. kept.so_far r) grown;
-      ended = subst (λ n. AreEnds (all_writes new) n rounds ends) (sym changes.count) (record {
-        size = kept.ended.size;
+      ends_size = kept.ends_size ∙ ap (λ n. (rounds + 1) * n) (sym changes.count);
+      ended = subst (λ n. AreEnds (all_writes new) n rounds (cell ends n)) (sym changes.count) (record {
         none = kept.ended.none;
         rise = kept.ended.rise;
         parts = λ r round lt upto. each-writes lists new owner _ changes
@@ -370,8 +367,8 @@ module _ (written : ℕ → List Entry) (most : ℕ) (lists new : List OwnerList
       });
       are = each-list lists new owner _ changes (λ r v. AreWrites v) (λ r _. kept.are r) (writes_begun list (kept.are owner));
       so_far = λ r. subst (IsWrittenSoFar (written r) most rounds) (sym (same_each r)) (kept.so_far r);
-      ended = subst (λ n. AreEnds (all_writes new) n rounds ends) (sym changes.count) (record {
-        size = kept.ended.size;
+      ends_size = kept.ends_size ∙ ap (λ n. (rounds + 1) * n) (sym changes.count);
+      ended = subst (λ n. AreEnds (all_writes new) n rounds (cell ends n)) (sym changes.count) (record {
         none = kept.ended.none;
         rise = kept.ended.rise;
         parts = λ r round lt upto. subst (λ w. IsRoundMark w 0 round (cell ends (length lists) r round)) (sym (same_each r)) (kept.ended.parts r round lt upto);
@@ -390,11 +387,11 @@ module _ (written : ℕ → List Entry) (most : ℕ) (lists : List OwnerListView
   nodes = length lists
 
   row-before : (owner round : ℕ) → owner < nodes → round ≤ rounds → cell (ends ++ counts) nodes owner round ≡ cell ends nodes owner round
-  row-before owner round lt upto = get_or_append_left ends counts 0 (round * nodes + owner) (omega (arith, place-below nodes rounds round owner upto lt, kept.ended.size))
+  row-before owner round lt upto = get_or_append_left ends counts 0 (round * nodes + owner) (omega (arith, place-below nodes rounds round owner upto lt, kept.ends_size))
 
   row-last : (owner round : ℕ) → owner < nodes → round ≡ rounds + 1 → cell (ends ++ counts) nodes owner round ≡ length (all_writes lists owner)
   row-last owner round lt last =
-      ap (λ i. get_or (ends ++ counts) i 0) {x = round * nodes + owner} {y = length ends + owner} (omega (arith, ap (λ (n : ℕ). n * nodes) last, kept.ended.size))
+      ap (λ i. get_or (ends ++ counts) i 0) {x = round * nodes + owner} {y = length ends + owner} (omega (arith, ap (λ (n : ℕ). n * nodes) last, kept.ends_size))
       ∙ get_or-append-add ends counts owner 0
       ∙ kept.counted.each owner lt
 
@@ -418,9 +415,8 @@ module _ (written : ℕ → List Entry) (most : ℕ) (lists : List OwnerListView
         };
       }
 
-  ended-more : AreEnds (all_writes lists) nodes (rounds + 1) (ends ++ counts)
+  ended-more : AreEnds (all_writes lists) nodes (rounds + 1) (cell (ends ++ counts) nodes)
   ended-more = record {
-    size = grind (arith, length-append ends counts, kept.ended.size, kept.counted.size);
     none = λ owner lt. row-before owner 0 lt (omega arith) ∙ kept.ended.none owner lt;
     rise = λ owner round lt before. elim (cases_lt round rounds) [
       | inl old ↦ omega (arith, row-before owner round lt (omega (arith, old)), row-before owner (round + 1) lt (omega (arith, old)), kept.ended.rise owner round lt old)
@@ -444,6 +440,7 @@ module _ (written : ℕ → List Entry) (most : ℕ) (lists : List OwnerListView
     last = kept.last;
     are = kept.are;
     so_far = made-longer;
+    ends_size = grind (arith, length-append ends counts, kept.ends_size, kept.counted.size);
     ended = ended-more;
     reached = λ owner round lt upto. elim (cases_lt rounds round) [
       | inl new ↦ omega (arith, row-last owner round lt (omega (arith, new, upto)))
@@ -520,8 +517,8 @@ module _ (written : ℕ → List Entry) (most nodes : ℕ) (lists : List OwnerLi
     };
     are = λ r. subst AreWrites (sym (empty r)) no_writes-are;
     so_far = λ r. subst (IsWrittenSoFar (written r) most 0) (sym (writes-none r)) (so_far-none (written r) most some);
+    ends_size = omega (arith, no_ends.size, count);
     ended = record {
-      size = omega (arith, no_ends.size, count);
       none = λ r lt. row r 0 lt (omega arith);
       rise = λ r round lt before. absurd (omega (arith, before));
       parts = λ r round lt upto. subst (λ w. IsRoundMark w 0 round (cell ends (length lists) r round)) (sym (writes-none r)) (record {

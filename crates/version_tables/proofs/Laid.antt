@@ -12,7 +12,7 @@ use Rattle.model.proofs.TableLaws.{same_table, entry_at-empty_table}
 use Rattle.model.proofs.ProperLaws.{proper-empty_table}
 use Rattle.model.specs.inner.Held.{entry_in}
 use Rattle.model.proofs.InLists.{get-held_by_lists}
-use Rattle.version_tables.specs.inner.Offers.{HasCells}
+use Rattle.delta_plans.specs.Offers.{HasCells}
 use Rattle.model.specs.calls.Numbers.{write_numbered}
 use Rattle.planes.specs.Planes.{Cells}
 use Rattle.version_tables.specs.Laid.{entry_list, entries_below, table_of_cells, AreNumbers}

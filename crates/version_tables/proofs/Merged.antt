@@ -29,28 +29,28 @@ use Rattle.model.specs.calls.OwnerListView.{all_writes, list_of_owner, AreWrites
 use Rattle.model.specs.Table.{applied}
 use Rattle.planes.specs.Planes.{Cells, cell, count_between, most_ahead, number_raised, number_taken, numbers_taken, total_above, HasEach}
 use Rattle.planes.proofs.Places.{total-same}
-use Rattle.version_tables.specs.declared.weights.Offer.{Offer}
+use Rattle.delta_plans.specs.declared.offers.Offer.{Offer}
 use Rattle.version_tables.specs.Laid.{IsVersionTable}
 use Rattle.version_tables.specs.Views.{VersionTableView, HistoriesView, table_in, IsKept}
 use Rattle.version_tables.specs.inner.Deltas.{delta_of_views, is_taken_at, AreMarksOf}
 use Rattle.version_tables.specs.inner.Histories.{bases_in, IsWrittenSoFar, FitsHistories}
-use Rattle.version_tables.specs.inner.LevelMarks.{NumbersDiffer}
-use Rattle.version_tables.specs.inner.Firsts.{by_first}
-use Rattle.version_tables.specs.inner.Marked.{AreMarked}
+use Rattle.delta_plans.specs.LevelMarks.{NumbersDiffer}
+use Rattle.delta_plans.specs.Firsts.{by_first}
+use Rattle.delta_plans.specs.Marked.{AreMarked}
 use Rattle.version_tables.specs.inner.Merged.{HasMerged, IsMerged, MayMerge, MayTakeAll, StaysMerged}
-use Rattle.version_tables.specs.inner.OfferInMemory.{cells_in, low_in, high_in, weights_in, weight_in, count_in, IsOffer}
-use Rattle.version_tables.specs.inner.Offers.{offered_by, told_by, told_number}
-use Rattle.version_tables.specs.inner.Taken.{is_taken, number_kept, AreSent, IsTaken}
-use Rattle.version_tables.specs.inner.Weights.{share_or_none}
+use Rattle.delta_plans.specs.OfferInMemory.{cells_in, low_in, high_in, weights_in, weight_in, count_in, IsOffer}
+use Rattle.delta_plans.specs.Offers.{offered_by, told_by, told_number, AreSent}
+use Rattle.version_tables.specs.inner.Taken.{is_taken, number_kept, IsTaken}
+use Rattle.delta_plans.specs.Weights.{share_or_none}
 use Rattle.version_tables.proofs.Clearing.{kept-all, no_start}
-use Rattle.version_tables.proofs.Columns.{sum_below-none}
+use Rattle.delta_plans.proofs.Columns.{sum_below-none}
 use Rattle.version_tables.proofs.Delivered.{offer-is, delta-marks}
 use Rattle.version_tables.proofs.ExchangedViews.{all_sent_case}
 use Rattle.version_tables.proofs.Fitting.{fits-below}
-use Rattle.version_tables.proofs.MarkedLaws.{whole-size, whole-marked}
-use Rattle.version_tables.proofs.RoundMarks.{count-newest}
+use Rattle.delta_plans.proofs.MarkedLaws.{whole-size, whole-marked}
+use Rattle.delta_plans.proofs.RoundMarks.{count-newest}
 use Rattle.version_tables.proofs.TakenViews.{becomes_applied, becomes_one}
-use Rattle.version_tables.proofs.WeightLaws.{part, part-cases, weight_of-none, weight_of-split, weight_between-most, count_between-most}
+use Rattle.delta_plans.proofs.WeightLaws.{part, part-cases, weight_of-none, weight_of-split, weight_between-most, count_between-most}
 
 -- marks that let all through are the high ones, or from the newest on the low ones, beside which are the others
 low-whole : (first : First) (low high : List ℕ) → by_first first low (by_first first high low) ≡ low

@@ -18,8 +18,7 @@ use Rattle.version_tables.specs.Writes.{IsNextWrite}
 use Rattle.version_tables.specs.inner.Histories.{IsBeginning, IsWriteUnder}
 use Rattle.version_tables.specs.Laid.{IsFirst}
 use Rattle.version_tables.proofs.Laid.{has_cells}
-use Rattle.version_tables.proofs.Numbers.{numbered-some}
-use Rattle.version_tables.proofs.Offers.{write_from-at}
+use Rattle.owner_writes.proofs.Numbers.{numbered-some, write_from-at}
 
 nothing : (e : Entry) → None ≡ Some e → ⊥
 nothing e h = cc

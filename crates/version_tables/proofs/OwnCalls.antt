@@ -20,10 +20,9 @@ use Rattle.version_tables.specs.Views.{VersionTableView, table_in, IsKept}
 use Rattle.version_tables.specs.Writes.{IsNextWrite, HasOwnWrite}
 use Rattle.version_tables.specs.inner.Histories.{IsBeginning}
 use Rattle.version_tables.specs.Laid.{table_of_cells, AreNumbers, IsFirst, IsGreatest, IsVersionTable}
-use Rattle.version_tables.specs.inner.Offers.{IsHistory}
+use Rattle.owner_writes.specs.Numbered.{IsHistory}
 use Rattle.version_tables.proofs.Laid.{has_cells, cells_table}
-use Rattle.version_tables.proofs.Numbers.{numbered-some, numbered-within}
-use Rattle.version_tables.proofs.Offers.{numbers-before}
+use Rattle.owner_writes.proofs.Numbers.{numbered-some, numbered-within, numbers-before}
 
 nothing : (e : Entry) → None ≡ Some e → ⊥
 nothing e h = cc

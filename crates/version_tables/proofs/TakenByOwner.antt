@@ -9,10 +9,9 @@ use Rattle.bench_types.specs.declared.entries.Entry.{Entry}
 use Rattle.model.specs.Table.{Table, entry_at, generation_held, IsProper}
 use Rattle.model.specs.calls.Numbers.{write_from, write_numbered}
 use Rattle.model.specs.calls.OwnerListView.{OwnerListView, entries_of, AreWrites}
-use Rattle.version_tables.specs.inner.Offers.{IsHistory, IsNumberedHistory, start_before, start_of}
+use Rattle.owner_writes.specs.Numbered.{IsHistory, IsNumberedHistory, start_before, start_of}
 use Rattle.version_tables.specs.inner.Taken.{SendsNoNewer, SendsNewer, drop_start, number_kept}
-use Rattle.version_tables.proofs.Numbers.{numbered-some, numbers-up_to}
-use Rattle.version_tables.proofs.Offers.{write_from-at}
+use Rattle.owner_writes.proofs.Numbers.{numbered-some, numbers-up_to, write_from-at}
 use Rattle.version_tables.proofs.TakenNumbers.{kept-above, kept-none, kept-zero}
 
 -- writes behind those of earlier generations are of the owner's own generation, and none is of a newer one

@@ -7,10 +7,10 @@ use Rattle.bench_types.specs.declared.exchanges.Rules.{Rules}
 use Rattle.model.specs.Table.{Table, entry_at, IsProper}
 use Rattle.model.proofs.TableLaws.{frame-applied}
 use Rattle.model.specs.Deltas.{delta_between}
-use Rattle.version_tables.specs.inner.Offers.{HasCells}
+use Rattle.delta_plans.specs.Offers.{HasCells, AreSent}
 use Rattle.model.specs.calls.Numbers.{write_numbered}
 use Rattle.planes.specs.Planes.{Cells}
-use Rattle.version_tables.specs.inner.Taken.{AreSent, AreTakenCells}
+use Rattle.version_tables.specs.inner.Taken.{AreTakenCells}
 use Rattle.version_tables.proofs.TakenEntries.{after, Comes, after-sent, after-kept, after-dropped, came-held}
 
 module _ (rules : Rules) (rotation : ℕ) (from to : Table) (from_proper : IsProper from) (to_proper : IsProper to) (nodes : from.nodes ≡ to.nodes) (keys : from.keys ≡ to.keys)

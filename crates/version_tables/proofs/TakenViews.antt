@@ -15,8 +15,8 @@ use Rattle.version_tables.specs.Views.{VersionTableView, HistoriesView, table_in
 use Rattle.version_tables.specs.inner.Deltas.{delta_of_views, is_taken_at}
 use Rattle.version_tables.specs.inner.Histories.{bases_in, IsWrittenSoFar, FitsHistories}
 use Rattle.version_tables.specs.Laid.{table_of_cells, AreNumbers, IsFirst, IsGreatest, IsVersionTable}
-use Rattle.version_tables.specs.inner.Offers.{HasCells}
-use Rattle.version_tables.specs.inner.Taken.{is_taken, drop_start, number_kept, AreSent, SendsNoNewer, SendsNewer, AreTakenCells, IsTaken}
+use Rattle.delta_plans.specs.Offers.{HasCells, AreSent}
+use Rattle.version_tables.specs.inner.Taken.{is_taken, drop_start, number_kept, SendsNoNewer, SendsNewer, AreTakenCells, IsTaken}
 use Rattle.version_tables.proofs.Fitting.{fits-upto, fits-cells}
 use Rattle.version_tables.proofs.Laid.{cells_table}
 use Rattle.version_tables.proofs.TakenCells.{taken_cells}

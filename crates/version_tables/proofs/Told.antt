@@ -17,10 +17,10 @@ use Rattle.model.proofs.Greatest.{greatest_mark-unique}
 use Rattle.model.specs.Candidates.{known_mark}
 use Rattle.model.specs.calls.Numbers.{write_numbered}
 use Rattle.planes.specs.Planes.{Cells, number_ahead}
-use Rattle.version_tables.specs.inner.Offers.{IsHistory, IsNumberedHistory, HasCells, Offers, is_lacked, start_before, start_of, told_by, told_number, offered_by}
+use Rattle.owner_writes.specs.Numbered.{IsHistory, IsNumberedHistory, start_before, start_of}
+use Rattle.delta_plans.specs.Offers.{HasCells, Offers, is_lacked, told_by, told_number, offered_by}
 use Rattle.version_tables.specs.Laid.{AreNumbers, IsGreatest}
-use Rattle.version_tables.proofs.Offers.{numbers-before}
-use Rattle.version_tables.proofs.Numbers.{numbered-none, numbered-some, numbered-within, numbers-up_to, numbers-compare}
+use Rattle.owner_writes.proofs.Numbers.{numbers-before, numbered-none, numbered-some, numbered-within, numbers-up_to, numbers-compare}
 
 -- the start of a generation that a write has
 start-is : (writes : List Entry) (number : ℕ) (o : Option Entry) → write_numbered writes number ≡ o → start_of writes number ≡ start_before number o

@@ -61,7 +61,7 @@ pub trait SharedNumber: Number {
     ghost use Rattle.model.specs.Tables.{HoldsOfEach};
     ghost use Rattle.model.specs.calls.Tables.{IsCluster};
     ghost use Rattle.round_tables.specs.Histories.{AreWrittenBy, StandsAmong};
-    ghost use Rattle.version_tables.specs.inner.Pieces.{tables_of_views};
+    ghost use Rattle.version_tables.specs.inner.Beside.{tables_of_views};
 
     /// The figures at the end of a round, as `figures` has them.
     fn figures<H: Written, R: Threads + Sync>(

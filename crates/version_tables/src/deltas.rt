@@ -8,16 +8,13 @@ ghost use Rattle.bench_types.specs.calls.Mode.{first_sent};
 ghost use Rattle.version_tables.specs.Views.{table_in, IsKept};
 ghost use Rattle.version_tables.specs.inner.Deltas.{AreMarksOf, MaySend};
 ghost use Rattle.version_tables.specs.inner.Histories.{FitsHistories};
-ghost use Rattle.version_tables.specs.inner.Firsts.{by_first};
+ghost use Rattle.delta_plans.specs.Firsts.{by_first};
 ghost use Rattle.version_tables.specs.inner.Offered.{AreAhead, AreTold, IsOffered};
 
-use crate::histories::{Histories, Owners};
-use crate::marked::{Marked, planned};
-use crate::rounds::Ends;
+use crate::histories::Histories;
 use crate::tables::{VersionTable, Written};
-use crate::told_marks::told;
-use crate::weights::Offer;
 use bench_types::{DigestKind, Fault, First, Rules};
+use delta_plans::{Marked, Offer, Owners, planned, told};
 use model::DeltaCounts;
 use planes::{Masked, Number};
 use std::alloc::Global;
@@ -94,17 +91,13 @@ fn marks_sent<N: Number, H: Written>(
         lists: histories.lists(),
         budget: rules.budget,
     };
-    let ends = Ends {
-        numbers: histories.ends(),
-        rounds: histories.rounds(),
-    };
     let marked = planned(
         alloc,
         &offer,
         offered.found,
         rules.mode,
         rotation as usize,
-        ends,
+        histories.ends(),
     )?;
     Ok(marked)
 }

@@ -13,11 +13,12 @@ ghost use Rattle.version_tables.specs.inner.Taken.{HaveTakenBoth, MayTakeBoth};
 
 use crate::deltas::delta;
 use crate::digests::digest_size;
-use crate::histories::{Histories, Owners};
+use crate::histories::Histories;
 use crate::merging::{may_merge, merge};
 use crate::tables::{VersionTable, Written};
 use crate::taking::{Arrival, take_unless};
 use bench_types::{Exchange, Fault, Record, Rules};
+use delta_plans::Owners;
 use model::{DeltaCounts, sent_back, sent_before_an_answer, sent_both};
 use planes::Number;
 use std::alloc::Global;

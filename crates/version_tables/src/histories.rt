@@ -10,7 +10,7 @@ use crate::tables::Written;
 use bench_types::Fault;
 use bench_types::limits::MOST_KEYS;
 use owner_writes::OwnerWrites;
-use planes::{Number, zeros};
+use planes::{Ends, Number, zeros};
 use std::alloc::Global;
 use std::marker::{Model, PhantomData};
 
@@ -47,14 +47,14 @@ impl<N: Number, H: Written> Model for Histories<N, H> {
 }
 
 impl<N: Number, H: Written> Histories<N, H> {
-    ghost use Rattle.std.specs.Prelude.{ℕ, ◌+◌, ◌^◌, ◌<◌, ◌≤◌, map, length, IfOk, OnOk, OnErr, IsOkUnless};
+    ghost use Rattle.std.specs.Prelude.{ℕ, ◌+◌, ◌*◌, ◌^◌, ◌<◌, ◌≤◌, map, length, IfOk, OnOk, OnErr, IsOkUnless};
     ghost use Rattle.bench_types.specs.declared.faults.Fault.TheVariants.{OutOfMemory};
     ghost use Rattle.bench_types.specs.declared.limits.TheConstants.{MOST_KEYS, MOST_NODES};
     ghost use Rattle.model.specs.calls.OwnerListView.{all_writes, list_of_owner, no_writes, next_entry, with_write, begun_generation, AreWrites, ListBecomes};
-    ghost use Rattle.planes.specs.Planes.{HasEach, HasEachPlace};
+    ghost use Rattle.planes.specs.Planes.{cell, HasEach, HasEachPlace};
     ghost use Rattle.version_tables.specs.inner.Histories.{IsWrittenSoFar, IsWriteUnder};
-    ghost use Rattle.version_tables.specs.inner.Missed.{IsLastNumber};
-    ghost use Rattle.version_tables.specs.inner.RoundEnds.{AreEnds};
+    ghost use Rattle.version_lags.specs.Missed.{IsLastNumber};
+    ghost use Rattle.owner_writes.specs.Numbered.{AreEnds};
 
     /// Where so many owners have written nothing, before the first round. An error is lack of memory
     /// (`OutOfMemory`).
@@ -179,20 +179,18 @@ impl<N: Number, H: Written> Histories<N, H> {
         &self.lasts[..keys * self.lists.len()]
     }
 
-    // Row by row, how many writes each owner has made up to a round.
-    pub(crate) fn ends(&self) -> &[N]
-        ensures { AreEnds (all_writes self.now.lists) (length self.now.lists) self.now.rounds
-            (map N.number result.now) }
+    // Where each round ends: how many writes each owner has made up to it.
+    pub(crate) fn ends(&self) -> Ends<N>
+        ensures rounds { result.rounds ≡ self.now.rounds }
+        ensures size { length result.numbers.now ≡ (self.now.rounds + 1) * length self.now.lists }
+        ensures ends { AreEnds (all_writes self.now.lists) (length self.now.lists) self.now.rounds
+            (cell (map N.number result.numbers.now) (length self.now.lists)) }
     {
-        &self.ends
+        Ends {
+            numbers: &self.ends,
+            rounds: self.rounds,
+        }
     }
-}
-
-/// The owners' writes, and how many of each are of earlier generations.
-#[derive(Clone, Copy)]
-pub(crate) struct Owners<'a, N: Number> {
-    pub(crate) lists: &'a [OwnerWrites],
-    pub(crate) bases: &'a [N],
 }
 
 // The lists of so many owners that have written nothing.

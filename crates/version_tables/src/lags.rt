@@ -1,39 +1,23 @@
-//! How far the copies lag behind their owners, where tables keep versions alone: the figures of a round.
+//! The figures of a round, where tables keep versions alone.
 
-ghost use Rattle.std.specs.Prelude.{◌≡◌, ℕ, ◌+◌, ◌-◌, ◌*◌, ◌/◌, ◌^◌, ◌<◌, ◌≤◌, ◌&&◌, ◌↔◌, map, length, nat_lt, nat_le, slice_index, IfOk, IsFalse, IsTrue, IsOkUnless};
+ghost use Rattle.std.specs.Prelude.{◌≡◌, ◌≤◌, length, IfOk, IsOkUnless};
 ghost use Rattle.bench_types.specs.declared.faults.Fault.TheVariants.{OutOfMemory};
-ghost use Rattle.bench_types.specs.declared.limits.TheConstants.{MOST_NODES, MOST_KEYS, MOST_ROUNDS};
+ghost use Rattle.bench_types.specs.declared.limits.TheConstants.{MOST_ROUNDS};
+ghost use Rattle.model.specs.Figures.{figures_of};
+ghost use Rattle.model.specs.calls.OwnerListView.{lists_in};
 ghost use Rattle.model.specs.Tables.{HoldsOfEach};
 ghost use Rattle.model.specs.calls.Tables.{IsCluster};
-ghost use Rattle.model.specs.calls.OwnerListView.{all_writes, list_of_owner, lists_in, entries_of, AreWrites};
-ghost use Rattle.model.specs.calls.Numbers.{write_numbered};
-ghost use Rattle.planes.specs.Lags.{IsLeastBehind};
-ghost use Rattle.planes.specs.Planes.{cell, total_of, HasEach, HasEachPlace, IsGrid};
-ghost use Rattle.round_tables.specs.Histories.{BirthsRise, AreWrittenBy, StandsAmong};
-ghost use Rattle.bench_types.specs.Sums.{most_below};
-ghost use Rattle.model.specs.Figures.{rounds_behind, figures_of};
-ghost use Rattle.version_tables.specs.inner.Missed.{IsLastNumber};
-ghost use Rattle.version_tables.specs.inner.RoundEnds.{AreEnds};
-ghost use Rattle.version_tables.specs.inner.Pieces.{keys_in, tables_of_views, MayBeCounted, AreLaidAsNumbers, AreLastNumbers, AreCellsOf, AreCountedGrids, CountsPieceOf, numbers_in, IsPieceOf, MayWalk, WalksFrom, most_lag};
+ghost use Rattle.round_tables.specs.Histories.{AreWrittenBy, StandsAmong};
+ghost use Rattle.version_lags.specs.Pieces.{keys_in, numbers_in};
+ghost use Rattle.version_tables.specs.inner.Beside.{tables_of_views, AreCellsOf};
 
 use crate::histories::Histories;
-use crate::rounds::{Ends, row_of};
 use crate::tables::{VersionTable, Written};
 use bench_types::{Fault, Figures};
-use owner_writes::OwnerWrites;
-use planes::{Number, count_behind, least_behind, lower_all, total_upto};
-use rayon::{current_num_threads, join};
+use planes::Number;
 use std::alloc::Global;
 use std::thread::Threads;
-
-// What some of the tables say.
-#[derive(Drop)]
-struct Piece<N: Number> {
-    stale: u64,
-    leftover: u64,
-    // Of each owner's key the least number that one of them holds, or the last one where none is below it.
-    least: Vec<N>,
-}
+use version_lags::RoundNumbers;
 
 fn keys_of<N: Number, H: Written>(tables: &[VersionTable<N, H>]) -> usize
     ensures { result ≡ keys_in (tables_of_views H.lists tables.now) }
@@ -41,37 +25,6 @@ fn keys_of<N: Number, H: Written>(tables: &[VersionTable<N, H>]) -> usize
     match tables.first() {
         Some(table) => table.keys() as usize,
         None => 0,
-    }
-}
-
-// Whether a node has forgotten.
-fn has_forgotten<N: Number>(bases: &[N]) -> bool
-    ensures { IsFalse result → (r : ℕ) → r < length bases.now
-        → slice_index (map N.number bases.now) r ≡ 0 }
-{
-    for base in bases {
-        if base.is_above(N::zero()) {
-            return true;
-        }
-    }
-    false
-}
-
-// How many numbers are of an earlier generation than their owner's. Where no node has forgotten none is.
-fn left_over<N: Number>(cells: &[N], bases: &[N], nodes: usize, keys: usize, forgot: bool) -> u32
-    requires grid { IsGrid nodes keys (length cells.now) }
-    requires bases { length bases.now ≡ nodes }
-    requires forgot { IsFalse forgot → (r : ℕ) → r < nodes
-        → slice_index (map N.number bases.now) r ≡ 0 }
-    ensures { result ≡ total_of nodes keys
-        (λ r k. nat_lt 0 (cell (map N.number cells.now) nodes r k)
-        && nat_le (cell (map N.number cells.now) nodes r k)
-        (slice_index (map N.number bases.now) r)) }
-{
-    if forgot {
-        total_upto(cells, nodes, keys, bases)
-    } else {
-        0
     }
 }
 
@@ -88,233 +41,6 @@ fn cells_of<'a, N: Number, H: Written>(
         cells.push(table.cells())?;
     }
     Ok(cells)
-}
-
-// The numbers of all tables, how many writes each owner made before its generation and the last number of each key,
-// and whether a node has forgotten.
-#[derive(Clone, Copy)]
-struct Numbers<'a, N: Number> {
-    cells: &'a [&'a [N]],
-    bases: &'a [N],
-    last: &'a [N],
-    nodes: usize,
-    keys: usize,
-    forgot: bool,
-}
-
-impl<'a, N: Number + Send + Sync> Numbers<'a, N> {
-    // What so many tables from one on say.
-    fn piece_of(&self, alloc: Global, from: usize, count: usize) -> Result<Piece<N>, Fault>
-        requires numbers { AreCountedGrids N.number self.now }
-        requires within { from + count ≤ self.now.nodes }
-        ensures piece { IfOk result (CountsPieceOf N.number self.now from count) }
-        ensures only { IsOkUnless result OutOfMemory }
-    {
-        let Numbers {
-            cells,
-            bases,
-            last,
-            nodes,
-            keys,
-            forgot,
-        } = *self;
-        let mut stale = 0;
-        let mut leftover = 0;
-        let mut least = Vec::from_slice(alloc, last)?;
-        for at in 0..count {
-            let here = cells[from + at];
-            let behind = count_behind(&mut least, here, last, nodes, keys);
-            stale += u64::from(behind);
-            leftover += u64::from(left_over(here, bases, nodes, keys, forgot));
-        }
-        Ok(Piece {
-            stale,
-            leftover,
-            least,
-        })
-    }
-
-    // What all tables from one on say, so many in each thread. This thread starts all others: where a new thread starts
-    // another one, the system may put both on one processor.
-    #[cycle(rest)]
-    fn rest_from(
-        &self,
-        rt: &(impl Threads + Sync),
-        alloc: Global,
-        size: usize,
-        from: usize,
-    ) -> Result<Piece<N>, Fault>
-        requires numbers { AreCountedGrids N.number self.now }
-        requires some { 1 ≤ size }
-        requires within { from ≤ self.now.nodes }
-        ensures piece { IfOk result (CountsPieceOf N.number self.now from (self.now.nodes - from)) }
-        ensures only { IsOkUnless result OutOfMemory }
-    {
-        let rest = self.nodes - from;
-        if rest <= size {
-            return self.piece_of(alloc, from, rest);
-        }
-        let first = || -> Result<Piece<N>, Fault>
-            requires { AreCountedGrids N.number self.now × (from + size ≤ self.now.nodes) }
-            ensures piece { IfOk result (CountsPieceOf N.number self.entry.now from size) }
-            ensures only { IsOkUnless result OutOfMemory }
-        { self.piece_of(alloc, from, size) };
-        let others = || -> Result<Piece<N>, Fault>
-            requires { AreCountedGrids N.number self.now × (1 ≤ size) × (from + size ≤ self.now.nodes) }
-            ensures piece { IfOk result
-                (CountsPieceOf N.number self.entry.now (from + size) (self.entry.now.nodes - (from + size))) }
-            ensures only { IsOkUnless result OutOfMemory }
-        { self.rest_from(rt, alloc, size, from + size) };
-        let (first, others) = join(rt, first, others);
-        let mut piece = first?;
-        let others = others?;
-        piece.stale += others.stale;
-        piece.leftover += others.leftover;
-        lower_all(&mut piece.least, &others.least, self.nodes, self.keys);
-        Ok(piece)
-    }
-}
-
-// For how many rounds a copy of an owner has missed a write at most: since the first one that some copy misses,
-// which stands behind a number, the greatest where there is none.
-fn lag_of_owner<N: Number>(
-    list: &OwnerWrites,
-    owner: usize,
-    first: N,
-    least: &[N],
-    nodes: usize,
-    round: u32,
-) -> u32
-    requires { (keys : ℕ)
-        × WalksFrom round N.most nodes keys owner (N.number first) list.now
-        (map N.number least.now) }
-    ensures { (keys : ℕ)
-        → WalksFrom round N.most nodes keys owner (N.number first) list.now (map N.number least.now)
-        → result ≡ most_lag round nodes keys owner list.now (map N.number least.now) }
-{
-    if first.widen() == N::greatest().widen() {
-        return 0;
-    }
-    let from = list.earlier_count().max(first.widen() as usize);
-    for place in from..list.count() {
-        if let Some(write) = list.numbered(place as u32 + 1) {
-            if least[write.key as usize * nodes + owner].widen() <= place as u32 {
-                return round - write.born + 1;
-            }
-        }
-    }
-    0
-}
-
-// Whether all that an owner wrote behind a number was written after a round.
-fn is_after<N: Number>(ends: Ends<N>, nodes: usize, owner: usize, number: N, round: u32) -> bool
-    requires nodes { nodes ≤ MOST_NODES }
-    requires ends { length ends.numbers.now ≡ (ends.rounds + 1) * nodes }
-    requires owner { owner < nodes }
-    ensures { IsTrue result ↔ ((round ≤ ends.entry.rounds)
-        × (cell (map N.number ends.entry.numbers.now) nodes owner round ≤ N.number number)) }
-{
-    if ends.rounds < round {
-        return false;
-    }
-    let row = row_of(ends.numbers, nodes, ends.rounds, round);
-    row[owner].is_upto(number)
-}
-
-// The most rounds that a copy of any owner has missed a write. An owner's list is read only where that may be more than
-// of the owners before it.
-fn greatest_lag<N: Number>(
-    alloc: Global,
-    lists: &[OwnerWrites],
-    least: &[N],
-    last: &[N],
-    ends: Ends<N>,
-    keys: usize,
-    round: u32,
-) -> Result<u32, Fault>
-    requires grid { IsGrid (length lists.now) keys (length least.now) }
-    requires walk { (r : ℕ) → r < length lists.now
-        → MayWalk round N.most (length lists.now) keys r (list_of_owner lists.now r)
-        (map N.number least.now) }
-    requires last { HasEachPlace (length lists.now) keys
-        (λ r k y. IsLastNumber (list_of_owner lists.now r) k y)
-        (map N.number last.now) }
-    requires ends { AreEnds (all_writes lists.now) (length lists.now) ends.rounds
-        (map N.number ends.numbers.now) }
-    ensures lag { IfOk result (λ x. x ≡ most_below (length lists.now)
-        (λ r. most_lag round (length lists.now) keys r (list_of_owner lists.now r)
-        (map N.number least.now))) }
-    ensures only { IsOkUnless result OutOfMemory }
-{
-    let nodes = lists.len();
-    let firsts = least_behind(alloc, least, last, nodes, keys)?;
-    let mut greatest = 0;
-    for owner in 0..nodes {
-        let first = firsts[owner];
-        if is_after(ends, nodes, owner, first, round.saturating_sub(greatest)) {
-            continue;
-        }
-        let lag = lag_of_owner(&lists[owner], owner, first, least, nodes, round);
-        greatest = greatest.max(lag);
-    }
-    Ok(greatest)
-}
-
-// So many numbers of all tables are gone over by one thread: starting others would take longer. Where one worker has
-// made the exchanges, the tables are near its thread alone, and others are slower at them.
-const FEW_NUMBERS: usize = 262_144;
-
-const FEW_NUMBERS_OF_ONE_WORKER: usize = 2_097_152;
-
-// How many tables a thread gets: all where their numbers are few, else as many as give each processor a thread. It
-// bears on time and memory alone.
-fn tables_of_a_thread(rt: &impl Threads, tables: usize, keys: usize, workers: u32) -> usize
-    ensures { 1 ≤ result }
-{
-    let few = if workers == 1 {
-        FEW_NUMBERS_OF_ONE_WORKER
-    } else {
-        FEW_NUMBERS
-    };
-    if tables.saturating_mul(tables).saturating_mul(keys) <= few {
-        return tables.saturating_add(1);
-    }
-    (tables / current_num_threads(rt)).saturating_add(1)
-}
-
-// What all tables say.
-fn counted<N: Number + Send + Sync, H: Written>(
-    rt: &(impl Threads + Sync),
-    alloc: Global,
-    tables: &[VersionTable<N, H>],
-    histories: &Histories<N, H>,
-    last: &[N],
-    workers: u32,
-) -> Result<Piece<N>, Fault>
-    requires laid { AreLaidAsNumbers H.lists tables.now histories.now.lists }
-    requires last { AreLastNumbers (tables_of_views H.lists tables.now) histories.now.lists
-        (map N.number last.now) }
-    ensures piece { IfOk result
-        (λ p. IsPieceOf (tables_of_views H.lists tables.now) histories.now.lists 0
-        (length tables.now)
-        p.stale p.leftover (map N.number p.least.items)) }
-    ensures only { IsOkUnless result OutOfMemory }
-{
-    let nodes = tables.len();
-    let keys = keys_of(tables);
-    let bases = histories.bases();
-    let cells = cells_of(alloc, tables)?;
-    let size = tables_of_a_thread(rt, nodes, keys, workers);
-    let forgot = has_forgotten(bases);
-    let numbers = Numbers {
-        cells: &cells,
-        bases,
-        last,
-        nodes,
-        keys,
-        forgot,
-    };
-    numbers.rest_from(rt, alloc, size, 0)
 }
 
 /// The figures at the end of a round, down nodes included: how many keys of copies are below the
@@ -347,17 +73,14 @@ pub fn figures<N: Number + Send + Sync, H: Written>(
     ensures only { IsOkUnless result OutOfMemory }
 {
     let keys = keys_of(tables);
-    let lists = histories.lists();
-    let last = histories.lasts(keys);
-    let whole = counted(rt, alloc, tables, histories, last, workers)?;
-    let ends = Ends {
-        numbers: histories.ends(),
-        rounds: histories.rounds(),
+    let cells = cells_of(alloc, tables)?;
+    let numbers = RoundNumbers {
+        cells: &cells,
+        keys,
+        lists: histories.lists(),
+        bases: histories.bases(),
+        last: histories.lasts(keys),
+        ends: histories.ends(),
     };
-    let greatest = greatest_lag(alloc, lists, &whole.least, last, ends, keys, round)?;
-    Ok(Figures {
-        stale: whole.stale,
-        greatest,
-        leftover: whole.leftover,
-    })
+    version_lags::figures(rt, alloc, &numbers, round, workers)
 }

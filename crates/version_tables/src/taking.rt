@@ -3,14 +3,13 @@
 ghost use Rattle.std.specs.Prelude.{◌≡◌, ◌<◌, length, map, slice_index};
 ghost use Rattle.model.specs.calls.OwnerListView.{all_writes, entries_of};
 ghost use Rattle.planes.specs.Planes.{ArePlanesChanged, IsGrid};
-ghost use Rattle.version_tables.specs.inner.Offers.{IsNumberedHistory};
+ghost use Rattle.owner_writes.specs.Numbered.{IsNumberedHistory};
 ghost use Rattle.version_tables.specs.inner.Histories.{AreOwners};
 ghost use Rattle.version_tables.specs.inner.Taken.{drop_start, number_kept, HasArrived, IsOwnerKept, MayArrive};
 
 use crate::deltas::DeltaMarks;
-use crate::generations::start_of;
-use crate::histories::Owners;
 use crate::tables::{VersionTable, Written};
+use delta_plans::Owners;
 use owner_writes::OwnerWrites;
 use planes::{Number, Sent};
 
@@ -44,7 +43,7 @@ fn drop_from<N: Number>(list: &OwnerWrites, old: N, base: N, new: N) -> u32
         (N.number new) }
 {
     if old.is_above(N::zero()) && old.is_upto(base) && new.is_above(old) {
-        start_of(list, new.widen())
+        list.start_of(new.widen())
     } else {
         0
     }

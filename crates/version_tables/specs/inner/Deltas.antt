@@ -7,7 +7,8 @@ use Rattle.planes.specs.Planes.{cell}
 use Rattle.model.specs.Deltas.{DeltaView, delta_between}
 use Rattle.version_tables.specs.Views.{VersionTableView, HistoriesView, table_in}
 use Rattle.version_tables.specs.inner.Histories.{FitsHistories}
-use Rattle.version_tables.specs.inner.Taken.{AreSent, is_taken}
+use Rattle.delta_plans.specs.Offers.{AreSent}
+use Rattle.version_tables.specs.inner.Taken.{is_taken}
 
 -- the delta from one table to another, where this is what the owners write
 abbrev pub delta_of_views : Rules → ℕ → (ℕ → List Entry) → VersionTableView → VersionTableView → DeltaView

@@ -1,5 +1,5 @@
 -- What the owners wrote so far, beside all that they write in the run. Source: this project.
-use Rattle.std.specs.Prelude.{◌≡◌, ℕ, ◌+◌, ◌<◌, ◌≤◌, List, length, map, Contains, Some}
+use Rattle.std.specs.Prelude.{◌≡◌, ℕ, ◌+◌, ◌*◌, ◌<◌, ◌≤◌, List, length, map, Contains, Some}
 use Rattle.bench_types.specs.declared.entries.Entry.{Entry}
 use Rattle.bench_types.specs.declared.exchanges.Exchange.{Exchange}
 use Rattle.bench_types.specs.declared.exchanges.Rules.{Rules}
@@ -12,19 +12,13 @@ use Rattle.model.specs.calls.OwnerListView.{OwnerListView, all_writes, AreWrites
 use Rattle.model.specs.calls.Numbers.{write_numbered}
 use Rattle.planes.specs.Planes.{HasEach, HasEachPlace, cell}
 use Rattle.version_tables.specs.Views.{HistoriesView}
-use Rattle.version_tables.specs.declared.histories.Owners.{Owners}
-use Rattle.version_tables.specs.inner.Missed.{IsLastNumber}
-use Rattle.version_tables.specs.inner.Offers.{IsHistory, IsNumberedHistory}
-use Rattle.version_tables.specs.inner.RoundEnds.{AreEnds}
+use Rattle.delta_plans.specs.declared.told_marks.Owners.{Owners}
+use Rattle.version_lags.specs.Missed.{IsLastNumber}
+use Rattle.owner_writes.specs.Numbered.{IsHistory, IsNumberedHistory, AreEnds, AreMadeBy}
 
 -- some writes are the first of all
 abbrev pub IsBeginning : List Entry → List Entry → Type 0
 IsBeginning some all = (number : ℕ) → number ≤ length some → write_numbered some number ≡ write_numbered all number
-
--- none was made later than in a round, and none before round 1
-pub record AreMadeBy (round : ℕ) (writes : List Entry) : Type 0 where
-  pub first : (number : ℕ) (e : Entry) → write_numbered writes number ≡ Some e → 1 ≤ e.born
-  pub last : (number : ℕ) (e : Entry) → write_numbered writes number ≡ Some e → e.born ≤ round
 
 -- how many writes each owner made before its generation
 abbrev pub bases_in : List OwnerListView → ℕ → ℕ
@@ -47,7 +41,8 @@ pub record AreHistories (written : ℕ → List Entry) (most : ℕ) (lists : Lis
   pub last : HasEachPlace (length lists) MOST_KEYS (λ r k n. IsLastNumber (list_of_owner lists r) k n) lasts
   pub are : (owner : ℕ) → AreWrites (list_of_owner lists owner)
   pub so_far : (owner : ℕ) → IsWrittenSoFar (written owner) most rounds (all_writes lists owner)
-  pub ended : AreEnds (all_writes lists) (length lists) rounds ends
+  pub ends_size : length ends ≡ (rounds + 1) * length lists
+  pub ended : AreEnds (all_writes lists) (length lists) rounds (cell ends (length lists))
   pub reached : (owner round : ℕ) → owner < length lists → round ≤ rounds → cell ends (length lists) owner round ≤ length (all_writes lists owner)
 
 -- as many owners as nodes, whose writes are numbered, and of each how many it made before its generation

@@ -1,13 +1,12 @@
 -- What is offered from one table to another, in memory. Source: this project.
-use Rattle.std.specs.Prelude.{◌≡◌, ℕ, List, length, map, slice_index}
+use Rattle.std.specs.Prelude.{◌≡◌, ℕ, ◌*◌, ◌<◌, List, length, map, slice_index}
 use Rattle.bench_types.specs.declared.exchanges.DigestKind.{DigestKind}
 use Rattle.model.specs.calls.OwnerListView.{all_writes}
 use Rattle.planes.specs.Planes.{cell, number_ahead, total_above, HasEach, HasEachPlace}
 use Rattle.planes.specs.declared.grids.Masked.{Masked}
 use Rattle.version_tables.specs.Views.{VersionTableView, HistoriesView}
 use Rattle.version_tables.specs.declared.deltas.Offered.{Offered}
-use Rattle.version_tables.specs.inner.Marked.{AreOffered}
-use Rattle.version_tables.specs.inner.Offers.{told_number}
+use Rattle.delta_plans.specs.Offers.{offered_by, told_number}
 
 -- the marks that a receiver tells
 abbrev pub AreTold : {N : Type 0} → (N → ℕ) → ℕ → DigestKind → VersionTableView → HistoriesView → List N → Type 0
@@ -20,6 +19,13 @@ pub record AreAhead {N : Type 0} (number : N → ℕ) (from to : VersionTableVie
       (λ r k n. n ≡ number_ahead (cell from.cells from.nodes r k) (cell to.cells from.nodes r k) (slice_index (map number low) r))
       (map number ahead.numbers.items)
   pub count : ahead.count ≡ total_above from.nodes from.keys (map number ahead.numbers.items) (map number low)
+
+-- the numbers offered from one table to another, over low marks
+pub record AreOffered (kind : DigestKind) (from to : VersionTableView) (low cells : List ℕ) : Type 0 where
+  pub size : length cells ≡ from.keys * from.nodes
+  pub each : (owner key : ℕ) → owner < from.nodes → key < from.keys
+      → cell cells from.nodes owner key
+      ≡ offered_by kind (cell from.cells from.nodes) (cell to.cells to.nodes) (slice_index low) owner key
 
 -- the numbers offered over low marks, and how many these are
 pub record IsOffered {N : Type 0} (number : N → ℕ) (kind : DigestKind) (from to : VersionTableView) (offered : Offered N) : Type 0 where

@@ -7,20 +7,14 @@ use Rattle.planes.specs.Planes.{Cells, cell, numbers_taken, ArePlanesChanged, Is
 use Rattle.version_tables.specs.Views.{VersionTableView}
 use Rattle.version_tables.specs.Laid.{IsVersionTable}
 use Rattle.model.specs.calls.OwnerListView.{all_writes}
-use Rattle.version_tables.specs.declared.histories.Owners.{Owners}
+use Rattle.delta_plans.specs.declared.told_marks.Owners.{Owners}
 use Rattle.version_tables.specs.declared.taking.Arrival.{Arrival}
 use Rattle.version_tables.specs.inner.Histories.{bases_in, AreOwners}
-use Rattle.version_tables.specs.inner.Offers.{start_of}
+use Rattle.owner_writes.specs.Numbered.{start_of}
 
 -- a sent number is taken that is above the receiver's and one mark, and up to another
 abbrev pub is_taken : ℕ → ℕ → ℕ → ℕ → Bool
 is_taken number sent low high = nat_lt (max number low) sent && nat_le sent high
-
--- these places of the sender's are what a delta has
-pub record AreSent (from : Table) (items : List Item) (sent : ℕ → ℕ → Bool) : Type 0 where
-  pub held : (owner key : ℕ) → owner < from.nodes → key < from.keys → sent owner key ≡ true → (e : Entry) × (entry_at from owner key ≡ Some e)
-  pub members : (owner key : ℕ) (e : Entry) → entry_at from owner key ≡ Some e
-      → (sent owner key ≡ true) ↔ Contains items (record { owner = owner; entry = e })
 
 -- nothing of the owner that is sent is of a newer generation than the receiver's copy
 abbrev pub SendsNoNewer : Table → Table → (ℕ → ℕ → Bool) → ℕ → Type 0

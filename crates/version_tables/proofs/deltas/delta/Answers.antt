@@ -6,9 +6,9 @@ use Rattle.bench_types.specs.Mode.{digest_kind}
 use Rattle.model.specs.declared.records.DeltaCounts.{DeltaCounts}
 use Rattle.version_tables.specs.Views.{VersionTableView, table_in}
 use Rattle.version_tables.specs.inner.Deltas.{delta_of_views, is_taken_at, AreMarksOf}
-use Rattle.version_tables.specs.inner.Firsts.{by_first}
+use Rattle.delta_plans.specs.Firsts.{by_first}
 use Rattle.version_tables.specs.inner.Offered.{AreAhead, AreTold, IsOffered}
-use Rattle.version_tables.specs.inner.Taken.{AreSent}
+use Rattle.delta_plans.specs.Offers.{AreSent}
 use Rattle.version_tables.proofs.deltas.delta.Goals as goal
 
 pub ahead_of-requires-clause-low : goal.ahead_of-requires-clause-low

@@ -3,9 +3,9 @@ use Rattle.std.proofs.lemmas.List.{length-map}
 use Rattle.bench_types.specs.calls.Mode.{first_sent}
 use Rattle.planes.specs.Planes.{cell, total_above}
 use Rattle.version_tables.specs.inner.Deltas.{AreMarksOf}
-use Rattle.version_tables.specs.inner.Firsts.{by_first}
-use Rattle.version_tables.specs.inner.OfferInMemory.{marks}
-use Rattle.version_tables.proofs.RoundMarks.{count-newest}
+use Rattle.delta_plans.specs.Firsts.{by_first}
+use Rattle.delta_plans.specs.OfferInMemory.{marks}
+use Rattle.delta_plans.proofs.RoundMarks.{count-newest}
 use Rattle.version_tables.proofs.Delivered.{offer-is, delta-marks}
 use Rattle.version_tables.proofs.deltas.marks_sent.Goals as goal
 

@@ -1,4 +1,4 @@
-use Rattle.version_tables.proofs.Parts.{cells-more}
+use Rattle.version_tables.proofs.Standing.{cells-more}
 use Rattle.version_tables.proofs.lags.cells_of.Goals as goal
 
 pub loop-table-preserved : goal.loop-table-preserved

@@ -1,52 +1,66 @@
-use Rattle.std.proofs.Common.{◌≡◌, ℕ, ◌<◌, length, map, sym, subst, arith}
-use Rattle.model.specs.calls.OwnerListView.{list_of_owner}
-use Rattle.planes.specs.Planes.{HasEachPlace}
-use Rattle.bench_types.specs.Sums.{most_below}
-use Rattle.version_tables.specs.inner.Missed.{IsLastNumber}
-use Rattle.version_tables.specs.inner.Pieces.{MayWalk, most_lag}
-use Rattle.version_tables.proofs.Whole.{laid-is, lasts-are, may-walk, figures-are}
+use Rattle.std.proofs.Common.{◌≡◌, ℕ, ◌+◌, ◌*◌, ◌<◌, ◌≤◌, List, length, map, sym, ap, ◌∙◌, subst}
+use Rattle.std.proofs.Math.Path.{transport}
+use Rattle.std.specs.Borrow.{Bor}
+use Rattle.std.proofs.lemmas.Result.{IfOk-weaker}
+use Rattle.bench_types.specs.declared.entries.Entry.{Entry}
+use Rattle.bench_types.specs.declared.limits.TheConstants.{MOST_ROUNDS}
+use Rattle.model.specs.Figures.{figures_of}
+use Rattle.model.specs.calls.OwnerListView.{OwnerListView, all_writes, list_of_owner, lists_in, AreWrites}
+use Rattle.model.specs.Table.{Table}
+use Rattle.model.specs.Tables.{HoldsOfEach}
+use Rattle.model.specs.calls.Tables.{IsCluster}
+use Rattle.owner_writes.specs.Numbered.{AreEnds}
+use Rattle.planes.specs.Planes.{cell, HasEach, HasEachPlace}
+use Rattle.round_tables.specs.Histories.{AreWrittenBy, StandsAmong}
+use Rattle.version_lags.specs.declared.lags.RoundNumbers.{RoundNumbers}
+use Rattle.version_lags.specs.Missed.{base_of, IsLastNumber}
+use Rattle.version_lags.specs.Pieces.{keys_in, numbers_in, AreNumbersOf, AreRoundNumbers, MayBeCounted}
+use Rattle.version_tables.specs.Views.{VersionTableView, HistoriesView}
+use Rattle.version_tables.specs.inner.Beside.{tables_of_views, AreCellsOf, AreLaidAsNumbers}
+use Rattle.version_tables.specs.inner.Histories.{IsWrittenSoFar}
+use Rattle.version_tables.proofs.Standing.{laid-is, numbers-of}
 use Rattle.version_tables.proofs.lags.figures.Goals as goal
 
-pub lasts-last-requires : goal.lasts-last-requires
-lasts-last-requires g c = record {
-  keys =
-      let laid = laid-is g.H.Written.lists c.args.tables.now c.args.histories.now.lists g.N.Number.most c.args.histories.now.rounds c.requires.cluster c.requires.one_list_each c.requires.standing c.lists-lists.ensures.writes c.lists-lists.ensures.so_far in
-      omega (arith, laid.together.few_keys, c.keys_of-keys.ensures);
-}
+-- what is handed on are the numbers of the tables
+module _ {N : Type 0} (number : N → ℕ) (most : ℕ) (written : ℕ → List Entry) (views : List VersionTableView) (h : HistoriesView) (round : ℕ)
+    (cluster : IsCluster (length views) (tables_of_views written views)) (one_each : length h.lists ≡ length views) (standing : HoldsOfEach (StandsAmong h.lists) (tables_of_views written views))
+    (writes : (r : ℕ) → AreWrites (list_of_owner h.lists r)) (so_far : (r : ℕ) → IsWrittenSoFar (written r) most h.rounds (all_writes h.lists r)) (limit : round ≤ MOST_ROUNDS) (by : AreWrittenBy round h.lists)
+    (numbers : RoundNumbers N) (items : List (Bor (List N))) (keys_are : numbers.keys ≡ keys_in (tables_of_views written views)) (cells_are : numbers.cells.now ≡ items) (of_views : AreCellsOf written views (numbers_in number items))
+    (same : numbers.lists.now ≡ h.lists) (based : HasEach (length h.lists) (λ r n. n ≡ base_of (list_of_owner h.lists r)) (map number numbers.bases.now))
+    (lasts : HasEachPlace (length h.lists) numbers.keys (λ r k y. IsLastNumber (list_of_owner h.lists r) k y) (map number numbers.last.now))
+    (rounds : numbers.ends.rounds ≡ h.rounds) (size : length numbers.ends.numbers.now ≡ (h.rounds + 1) * length h.lists)
+    (ends : AreEnds (all_writes h.lists) (length h.lists) h.rounds (cell (map number numbers.ends.numbers.now) (length h.lists))) where
+  abbrev tables : List Table
+  tables = tables_of_views written views
 
-pub counted-requires-clause-laid : goal.counted-requires-clause-laid
-counted-requires-clause-laid g c κs within =
-    laid-is g.H.Written.lists c.args.tables.now c.args.histories.now.lists g.N.Number.most c.args.histories.now.rounds c.requires.cluster c.requires.one_list_each c.requires.standing c.lists-lists.ensures.writes c.lists-lists.ensures.so_far
+  laid : AreLaidAsNumbers written views h.lists
+  laid = laid-is written views h.lists most h.rounds cluster one_each standing writes so_far
 
-pub counted-requires-clause-last : goal.counted-requires-clause-last
-counted-requires-clause-last g c κs within =
-    let views = c.args.tables.now in
-    let lists = c.args.histories.now.lists in
-    let laid = laid-is g.H.Written.lists views lists g.N.Number.most c.args.histories.now.rounds c.requires.cluster c.requires.one_list_each c.requires.standing c.lists-lists.ensures.writes c.lists-lists.ensures.so_far in
-    lasts-are g.H.Written.lists views lists laid c.keys_of-keys.result c.keys_of-keys.ensures (map g.N.Number.number c.lasts-last.result.now) c.lasts-last.ensures
+  handed : AreRoundNumbers number most round numbers (tables_of_views written views)
+  handed = record {
+    may = subst (MayBeCounted round tables) (sym same) (record { together = laid.together; round_limit = limit; written = by });
+    few = λ r. subst (λ ls. length (all_writes ls r) < most) (sym same) (so_far r).few;
+    are = subst (λ ls. AreNumbersOf tables ls (length ls) numbers.keys (numbers_in number numbers.cells.now) (map number numbers.bases.now) (map number numbers.last.now)) (sym same)
+        (numbers-of written views h.lists laid number numbers.keys numbers.cells.now items (map number numbers.bases.now) (map number numbers.last.now) keys_are cells_are of_views based lasts);
+    ends = record {
+      size = size ∙ (λ i. (sym rounds i + 1) * length (sym same i));
+      are_ends = transport (λ i. AreEnds (all_writes (sym same i)) (length (sym same i)) (sym rounds i) (cell (map number numbers.ends.numbers.now) (length (sym same i)))) ends;
+    };
+  }
 
-pub greatest_lag-requires-clause-walk : goal.greatest_lag-requires-clause-walk
-greatest_lag-requires-clause-walk g c =
-    let views = c.args.tables.now in
-    let lists = c.args.histories.now.lists in
-    let whole = c.in_ok-whole.whole in
-    let laid = laid-is g.H.Written.lists views lists g.N.Number.most c.args.histories.now.rounds c.requires.cluster c.requires.one_list_each c.requires.standing c.lists-lists.ensures.writes c.lists-lists.ensures.so_far in
-    subst (λ xs. (r : ℕ) → r < length c.lists-lists.result.now → MayWalk c.args.round g.N.Number.most (length c.lists-lists.result.now) c.keys_of-keys.result r (list_of_owner c.lists-lists.result.now r) (map g.N.Number.number xs)) (sym c.deref.ensures.value)
-    (subst (λ ls. (r : ℕ) → r < length ls → MayWalk c.args.round g.N.Number.most (length ls) c.keys_of-keys.result r (list_of_owner ls r) (map g.N.Number.number whole.least.items)) (sym c.lists-lists.ensures.value)
-    (may-walk g.H.Written.lists views lists laid c.args.round whole.stale whole.leftover (map g.N.Number.number whole.least.items) c.requires.round c.requires.written c.in_ok-whole.ensures.piece c.keys_of-keys.result c.keys_of-keys.ensures
-    g.N.Number.most (λ r. (c.lists-lists.ensures.so_far r).few)))
-
-pub greatest_lag-requires-clause-last : goal.greatest_lag-requires-clause-last
-greatest_lag-requires-clause-last g c =
-    subst (λ ls. HasEachPlace (length ls) c.keys_of-keys.result (λ r k y. IsLastNumber (list_of_owner ls r) k y) (map g.N.Number.number c.lasts-last.result.now)) (sym c.lists-lists.ensures.value) c.lasts-last.ensures
+pub figures-requires-clause-are : goal.figures-requires-clause-are
+figures-requires-clause-are g c κs within = (
+  tables_of_views g.H.Written.lists c.args.tables.now,
+  handed g.N.Number.number g.N.Number.most g.H.Written.lists c.args.tables.now c.args.histories.now c.args.round c.requires.cluster c.requires.one_list_each c.requires.standing c.lists.ensures.writes c.lists.ensures.so_far c.requires.round c.requires.written
+      (record { cells = c.deref.result; keys = c.keys_of-keys.result; lists = c.lists.result; bases = c.bases.result; last = c.lasts.result; ends = c.ends.result }) c.in_ok-cells.cells.items c.keys_of-keys.ensures c.deref.ensures.value c.in_ok-cells.ensures.cells
+      c.lists.ensures.value c.bases.ensures.value c.lasts.ensures c.ends.ensures.rounds c.ends.ensures.size c.ends.ensures.ends,
+)
 
 pub returns-clause-figures : goal.returns-clause-figures
 returns-clause-figures g c =
-    let views = c.args.tables.now in
-    let lists = c.args.histories.now.lists in
-    let whole = c.in_ok-whole.whole in
-    let laid = laid-is g.H.Written.lists views lists g.N.Number.most c.args.histories.now.rounds c.requires.cluster c.requires.one_list_each c.requires.standing c.lists-lists.ensures.writes c.lists-lists.ensures.so_far in
-    let keys = c.keys_of-keys.result in
-    let lag = subst (λ xs. c.in_ok-greatest.greatest ≡ most_below (length c.lists-lists.result.now) (λ r. most_lag c.args.round (length c.lists-lists.result.now) keys r (list_of_owner c.lists-lists.result.now r) (map g.N.Number.number xs))) c.deref.ensures.value c.in_ok-greatest.ensures.lag in
-    let greatest = subst (λ ls. c.in_ok-greatest.greatest ≡ most_below (length ls) (λ r. most_lag c.args.round (length ls) keys r (list_of_owner ls r) (map g.N.Number.number whole.least.items))) c.lists-lists.ensures.value lag in
-    figures-are g.H.Written.lists views lists laid c.args.round whole.stale whole.leftover (map g.N.Number.number whole.least.items) c.requires.round c.requires.written c.in_ok-whole.ensures.piece keys c.keys_of-keys.ensures c.in_ok-greatest.greatest greatest
+    IfOk-weaker c.figures.result _ (λ f. f ≡ figures_of c.args.round (tables_of_views g.H.Written.lists c.args.tables.now) (lists_in c.args.histories.now.lists))
+    (λ f all. all (tables_of_views g.H.Written.lists c.args.tables.now) (handed g.N.Number.number g.N.Number.most g.H.Written.lists c.args.tables.now c.args.histories.now c.args.round c.requires.cluster c.requires.one_list_each c.requires.standing c.lists.ensures.writes c.lists.ensures.so_far c.requires.round c.requires.written
+    (record { cells = c.deref.result; keys = c.keys_of-keys.result; lists = c.lists.result; bases = c.bases.result; last = c.lasts.result; ends = c.ends.result }) c.in_ok-cells.cells.items c.keys_of-keys.ensures c.deref.ensures.value c.in_ok-cells.ensures.cells
+    c.lists.ensures.value c.bases.ensures.value c.lasts.ensures c.ends.ensures.rounds c.ends.ensures.size c.ends.ensures.ends)
+    ∙ ap (λ ls. figures_of c.args.round (tables_of_views g.H.Written.lists c.args.tables.now) (lists_in ls)) c.lists.ensures.value)
+    c.figures.ensures.figures

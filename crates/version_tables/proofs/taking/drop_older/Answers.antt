@@ -4,10 +4,10 @@ use Rattle.std.proofs.lemmas.List.{length-map}
 use Rattle.model.specs.calls.OwnerListView.{all_writes}
 use Rattle.planes.proofs.Elementwise.{number-at}
 use Rattle.planes.proofs.ByOwner.{owners-none, owners-next, owners-all}
-use Rattle.version_tables.specs.inner.Offers.{IsNumberedHistory}
+use Rattle.owner_writes.specs.Numbered.{IsNumberedHistory}
 use Rattle.version_tables.specs.inner.Taken.{drop_start, number_kept}
 use Rattle.version_tables.proofs.Clearing.{planes-stay, no_start, kept-all, plane-none}
-use Rattle.version_tables.proofs.Starts.{all_writes-here}
+use Rattle.delta_plans.proofs.Starts.{all_writes-here}
 use Rattle.version_tables.proofs.taking.drop_older.Given as given
 use Rattle.version_tables.proofs.taking.drop_older.Goals as goal
 

@@ -1,0 +1,119 @@
+-- Marks of all that is offered, or of a level that was shared out.
+-- Serves `planned` and `version_tables`.
+use Rattle.std.proofs.Common.{◌≡◌, ℕ, ◌-◌, ◌<◌, ◌≤◌, Bool, true, false, ltb, leb, List, length, get_or, map, inl, inr, refl, sym, ap, ◌∙◌, subst, arith}
+use Rattle.std.proofs.lemmas.Bool.{cases_lt, lt-ltb, le-ltb, le-leb}
+use Rattle.std.proofs.lemmas.List.{length-map, get_or_past}
+use Rattle.bench_types.specs.declared.exchanges.First.{First}
+use Rattle.bench_types.specs.declared.exchanges.First.TheVariants.{Oldest, Newest}
+use Rattle.bench_types.specs.declared.exchanges.Mode.{Mode}
+use Rattle.bench_types.specs.Budget.{amount_of}
+use Rattle.bench_types.specs.calls.Mode.{first_sent}
+use Rattle.planes.specs.Planes.{Cells, HasNoneAbove}
+use Rattle.bench_types.proofs.Sums.{sum_below-le}
+use Rattle.delta_plans.specs.declared.offers.Offer.{Offer}
+use Rattle.delta_plans.specs.declared.offers.Level.{Level}
+use Rattle.delta_plans.specs.Firsts.{by_first}
+use Rattle.delta_plans.specs.LevelMarks.{lets_through}
+use Rattle.delta_plans.specs.Marked.{HasShapeIn, KeepsLow, AreMarked}
+use Rattle.delta_plans.specs.OfferInMemory.{cells_in, low_in, high_in, marks, weights_in, weight_in, count_in, IsOffer}
+use Rattle.delta_plans.specs.Plans.{count_on}
+use Rattle.delta_plans.specs.Sharing.{AreShared}
+use Rattle.delta_plans.specs.Weights.{weight_between, weight_through, count_all_between, one_each}
+use Rattle.delta_plans.proofs.Columns.{where_true}
+
+-- fewer are between nearer marks
+between-le : (low low' high high' number : ℕ) → low' ≤ low → number ≤ high' → where_true (ltb low number) (where_true (leb number high) 1) ≤ where_true (ltb low' number) (where_true (leb number high') 1)
+between-le low low' high high' number le upto = elim (cases_lt low number) [
+  | inl above ↦
+      omega (
+        arith,
+        one (leb number high),
+        ap (λ b. where_true b (where_true (leb number high) 1)) (lt-ltb low number above),
+        ap (λ b. where_true b (where_true (leb number high') 1)) (lt-ltb low' number (omega (arith, le, above))),
+        ap (λ b. where_true b 1) (le-leb number high' upto),
+      )
+  | inr not_above ↦ omega (arith, ap (λ b. where_true b (where_true (leb number high) 1)) (le-ltb low number (omega (arith, not_above))))
+]
+  where
+    one : (b : Bool) → where_true b 1 ≤ 1
+    one true = omega arith
+    one false = omega arith
+
+count-le : (cells : Cells) (nodes keys : ℕ) (low low' high high' : ℕ → ℕ) → ((owner : ℕ) → owner < nodes → low' owner ≤ low owner) → ((owner : ℕ) → owner < nodes → HasNoneAbove cells keys owner (high' owner))
+    → count_all_between cells nodes keys low high ≤ count_all_between cells nodes keys low' high'
+count-le cells nodes keys low low' high high' lower covered =
+    sum_below-le nodes _ _ (λ owner in_nodes. sum_below-le keys _ _ (λ key in_keys. between-le (low owner) (low' owner) (high owner) (high' owner) (cells owner key) (lower owner in_nodes) (covered owner in_nodes key in_keys)))
+
+module _ {N : Type 0} (number : N → ℕ) (most : ℕ) (offer : Offer N) (is : IsOffer number most offer) where
+  abbrev low : ℕ → ℕ
+  low = low_in number offer
+
+  abbrev high : ℕ → ℕ
+  high = high_in number offer
+
+  -- what is let through is no more than all
+  count_on-le : (first : First) (mark : ℕ → ℕ) → ((r : ℕ) → r < offer.nodes → low r ≤ mark r) → count_on first number offer mark ≤ count_in number offer low high
+  count_on-le Oldest mark above = count-le (cells_in number offer) offer.nodes offer.keys low low mark high (λ owner in_nodes. omega arith) is.covered
+  count_on-le Newest mark above = count-le (cells_in number offer) offer.nodes offer.keys mark low high high above is.covered
+
+  keeps : (first : First) (mark : ℕ → ℕ) → ((r : ℕ) → r < offer.nodes → low r ≤ mark r) → KeepsLow first offer.nodes low mark
+  keeps Oldest mark above = tt
+  keeps Newest mark above = above
+
+  -- the marks that let all through: the high ones, or from the newest on the low ones
+  abbrev whole_marks : First → List ℕ
+  whole_marks first = by_first first (map number offer.high.now) (map number offer.low.now)
+
+  whole-length : (first : First) → length (whole_marks first) ≡ offer.nodes
+  whole-length Oldest = length-map offer.high.now number ∙ is.high
+  whole-length Newest = length-map offer.low.now number ∙ is.low
+
+  whole-keeps : (first : First) → KeepsLow first offer.nodes low (λ r. get_or (whole_marks first) r 0)
+  whole-keeps Oldest = tt
+  whole-keeps Newest = λ r below. omega arith
+
+  whole-lets : (first : First) (owner key : ℕ) → owner < offer.nodes → key < offer.keys → low owner < cells_in number offer owner key → lets_through first (get_or (whole_marks first) owner 0) (cells_in number offer owner key) ≡ true
+  whole-lets Oldest owner key in_nodes in_keys lt = le-leb (cells_in number offer owner key) (high owner) (is.covered owner in_nodes key in_keys)
+  whole-lets Newest owner key in_nodes in_keys lt = lt-ltb (low owner) (cells_in number offer owner key) lt
+
+  whole-through : (first : First) (weights : ℕ → ℕ → ℕ) → weight_through first weights (cells_in number offer) offer.nodes offer.keys low high (λ r. get_or (whole_marks first) r 0) ≡ weight_between weights (cells_in number offer) offer.nodes offer.keys low high
+  whole-through Oldest weights = refl
+  whole-through Newest weights = refl
+
+  pub whole-size : (first : First) (xs : List N) → map number xs ≡ whole_marks first → length xs ≡ offer.nodes
+  whole-size first xs same = sym (length-map xs number) ∙ ap length same ∙ whole-length first
+
+  module _ (rotation found : ℕ) (all : found ≡ count_in number offer low high) where
+    -- all where it fits
+    module _ (fits : weight_in number offer low high ≤ amount_of offer.budget) where
+      pub whole-marked : (mode : Mode) (xs : List N) → map number xs ≡ whole_marks (first_sent mode) → AreMarked mode rotation number offer (marks number xs) found 0
+      whole-marked mode xs same = subst (λ ys. AreMarked mode rotation number offer (λ r. get_or ys r 0) found 0) (sym same) (record {
+        above = whole-keeps (first_sent mode);
+        count = all ∙ sym (whole-through (first_sent mode) one_each);
+        left = omega (arith, all);
+        how = inl (record { all = whole-lets (first_sent mode); within = omega (arith, fits, whole-through (first_sent mode) (weights_in offer)) });
+      })
+
+    -- and a level that was shared out
+    module _ (mode : Mode) (level : Level N) (near_size : length level.near.items ≡ offer.nodes) (far_size : length level.far.items ≡ offer.nodes) (shape : HasShapeIn mode number offer (marks number level.near.items) (marks number level.far.items))
+        (xs : List N) (size : length xs ≡ offer.nodes) (sent : ℕ) (shared : AreShared (first_sent mode) rotation number offer (marks number level.near.items) (marks number level.far.items) (marks number xs) sent) where
+      pub sent-found : sent ≤ found
+      sent-found = omega (arith, all, shared.count, count_on-le (first_sent mode) (marks number xs) shared.above)
+
+      past : (ys : List N) → length ys ≡ offer.nodes → (r : ℕ) → offer.nodes ≤ r → marks number ys r ≡ 0
+      past ys len r le = get_or_past (map number ys) r 0 (omega (arith, len, le, length-map ys number))
+
+      pub share-marked : AreMarked mode rotation number offer (marks number xs) sent (found - sent)
+      share-marked = record {
+        above = keeps (first_sent mode) (marks number xs) shared.above;
+        count = shared.count;
+        left = omega (arith, all, sent-found);
+        how = inr (record {
+          near = marks number level.near.items;
+          far = marks number level.far.items;
+          shape = shape;
+          past_near = λ r le. past xs size r le ∙ sym (past level.near.items near_size r le);
+          past_far = λ r le. past xs size r le ∙ sym (past level.far.items far_size r le);
+          shared = shared;
+        });
+      }

@@ -1,0 +1,34 @@
+-- Nodes' numbers changed one after another, of which some are counted.
+-- Serves `next_runs` and `one_more`.
+use Rattle.std.proofs.Common.{◌≡◌, ℕ, ◌+◌, ◌<◌, ◌≤◌, Bool, cond, List, length, get_or, set, map, refl, arith, Fits, w32}
+use Rattle.std.proofs.lemmas.List.{length-map}
+use Rattle.bench_types.specs.declared.limits.TheConstants.{MOST_NODES}
+use Rattle.bench_types.specs.Sums.{sum_below}
+use Rattle.planes.specs.Elementwise.{AreChanged, AreChangedUpto}
+use Rattle.planes.proofs.Counts.{one_le, count_le, sum_next, sum_whole}
+use Rattle.planes.proofs.Elementwise.{changed_none, changed_all, written_next}
+
+pub count_fits : (test : ℕ → Bool) (r n count x : ℕ) (b : Bool) → count ≡ sum_below r (λ k. cond (test k) 1 0) → x ≡ cond b 1 0 → r < n → n ≤ MOST_NODES → Fits w32 (count + x)
+count_fits test r n count x b is now lt most = omega (arith, is, now, one_le b, count_le r test, lt, most)
+
+pub record AreCountedUpto (changed : ℕ → ℕ → ℕ → Type 0) (test : ℕ → Bool) (old new : List ℕ) (bound count : ℕ) : Type 0 where
+  pub written : AreChangedUpto changed old new bound
+  pub counted : count ≡ sum_below bound (λ r. cond (test r) 1 0)
+
+module _ {N : Type 0} (changed : ℕ → ℕ → ℕ → Type 0) (test : ℕ → Bool) (number : N → ℕ) (old : List N) where
+  pub counted_none : AreCountedUpto changed test (map number old) (map number old) 0 0
+  counted_none = record { written = changed_none changed (map number old); counted = refl }
+
+  module _ (new : List N) (bound count : ℕ) (so_far : AreCountedUpto changed test (map number old) (map number new) bound count) where
+    pub counted_next : (x : N) (one : ℕ) → bound < length old → changed bound (get_or (map number old) bound 0) (number x) → one ≡ cond (test bound) 1 0
+        → AreCountedUpto changed test (map number old) (map number (set new bound x)) (bound + 1) (count + one)
+    counted_next x one lt is adds = record {
+      written = written_next changed (map number old) number new bound x so_far.written (omega (arith, lt, length-map old number)) is;
+      counted = sum_next (λ r. cond (test r) 1 0) bound count one so_far.counted adds;
+    }
+
+    pub counted_all : length old ≤ bound → bound ≤ length old → AreChanged changed (map number old) (map number new) × (count ≡ sum_below (length old) (λ r. cond (test r) 1 0))
+    counted_all le ge = (
+      changed_all changed (map number old) (map number new) bound so_far.written (omega (arith, le, length-map old number)),
+      sum_whole (λ r. cond (test r) 1 0) bound (length old) count so_far.counted le ge,
+    )

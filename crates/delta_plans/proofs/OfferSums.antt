@@ -1,0 +1,48 @@
+-- What one table offers another, told by numbers.
+-- Serves `Columns`, `DeltaMarks` and `Lifts`.
+use Rattle.std.proofs.Common.{◌≡◌, ℕ, zero, suc, ◌<◌, ◌≤◌, cond, ltb, List, [], ◌∷◌, length, get_or, Some, None, inl, inr, refl, sym, ap, ◌∙◌, subst, arith}
+use Rattle.std.specs.Prelude.{Contains}
+use Rattle.std.specs.List.{sum_by}
+use Rattle.std.proofs.lemmas.Bool.{cases_lt, lt-ltb, le-ltb}
+use Rattle.std.proofs.lemmas.Option.{same_Some}
+use Rattle.bench_types.specs.declared.entries.Entry.{Entry}
+use Rattle.bench_types.specs.declared.entries.Item.{Item}
+use Rattle.bench_types.specs.declared.exchanges.Mode.{Mode}
+use Rattle.bench_types.specs.Mark.{mark_of, IsBefore}
+use Rattle.model.specs.Table.{Table, entry_at, items_of, IsProper}
+use Rattle.model.proofs.Items.{Contains-items_of}
+use Rattle.model.proofs.Members.{Contains-filter}
+use Rattle.model.specs.Candidates.{candidates}
+use Rattle.delta_plans.specs.Grids.{number_here, number_there}
+use Rattle.delta_plans.specs.Offers.{Offers, is_lacked, offered_sum}
+use Rattle.owner_writes.specs.Numbered.{IsHistory}
+use Rattle.model.specs.calls.Numbers.{write_from, write_numbered}
+use Rattle.planes.specs.Planes.{Cells}
+use Rattle.delta_plans.proofs.Grids.{candidates_sum}
+use Rattle.bench_types.proofs.Sums.{sum_below-same}
+
+module _ (mode : Mode) (from to : Table) (proper : IsProper from) (lists : ℕ → List Entry) (cells : Cells) (low : ℕ → ℕ) (offers : Offers mode from to lists cells low) where
+  -- a number of a candidate that is told by its place sums up over the places of numbers above the marks
+  pub offered-sum : (f : Item → ℕ) (g : ℕ → ℕ → ℕ) → ((c : Item) → Contains (candidates mode from to) c → f c ≡ g c.owner c.entry.key) → sum_by f (candidates mode from to) ≡ offered_sum from cells low g
+  offered-sum f g told =
+      candidates_sum mode from to proper f
+      ∙ sum_below-same from.nodes _ _ (λ owner in_nodes. sum_below-same from.keys _ _ (λ key in_keys. at owner key in_nodes in_keys))
+    where
+      at : (owner key : ℕ) → owner < from.nodes → key < from.keys → number_there (λ i. cond (is_lacked mode to i) (f i) 0) from owner key ≡ cond (ltb (low owner) (cells owner key)) (g owner key) 0
+      at owner key in_nodes in_keys = elim (cases_lt (low owner) (cells owner key)) [
+        | inl above ↦
+            let there = offers.above owner key in_nodes in_keys above in
+            let i : Item = record { owner = owner; entry = there.0 } in
+            let stands = Contains-filter (is_lacked mode to) (items_of from) i (Contains-items_of from owner key there.0 there.1) there.3 in
+            ap (number_here (λ i. cond (is_lacked mode to i) (f i) 0) owner) there.1
+            ∙ ap (λ b. cond b (f i) 0) there.3
+            ∙ told i stands
+            ∙ ap (g owner) (proper.in_place owner key there.0 there.1).keyed
+            ∙ ap (λ b. cond b (g owner key) 0) (sym (lt-ltb (low owner) (cells owner key) above))
+        | inr not_above ↦
+            elim (entry_at from owner key) as (λ o. entry_at from owner key ≡ o → number_here (λ i. cond (is_lacked mode to i) (f i) 0) owner o ≡ 0) [
+              | None ↦ λ _. refl
+              | Some e ↦ λ held. ap (λ b. cond b (f (record { owner = owner; entry = e })) 0) (offers.below owner key e held (omega (arith, not_above)))
+            ] refl
+            ∙ ap (λ b. cond b (g owner key) 0) (sym (le-ltb (low owner) (cells owner key) (omega (arith, not_above))))
+      ]

@@ -1,0 +1,61 @@
+-- What an offer's numbers take of its budget.
+-- Serves the functions of `breadths`, `depths` and `offers`, `LayerSteps`, `RunSteps` and `TurnSteps`.
+use Rattle.std.proofs.Common.{◌≡◌, ℕ, ◌*◌, ◌<◌, ◌≤◌, Bool, true, false, List, Option, Some, None, inl, inr, sym, subst, arith}
+use Rattle.std.specs.Prelude.{◌↔◌}
+use Rattle.std.proofs.lemmas.Bool.{cases_lt, both_ways}
+use Rattle.std.proofs.Math.Nat.{mul-le-mul_right}
+use Rattle.bench_types.specs.declared.entries.Entry.{Entry}
+use Rattle.bench_types.specs.declared.exchanges.Budget.{Budget}
+use Rattle.bench_types.specs.declared.exchanges.Budget.TheVariants.{Entries, Bytes}
+use Rattle.bench_types.specs.Budget.{amount_of}
+use Rattle.bench_types.specs.declared.limits.TheConstants.{MOST_NODES, MOST_KEYS, MOST_ENTRY_SIZE}
+use Rattle.model.specs.calls.Numbers.{write_numbered}
+use Rattle.model.specs.calls.OwnerListView.{all_writes}
+use Rattle.delta_plans.specs.declared.offers.Offer.{Offer}
+use Rattle.delta_plans.specs.OfferInMemory.{cells_in, marks, weights_in, weight_in, count_in, IsOffer}
+use Rattle.delta_plans.specs.Weights.{share_or_none, one_each}
+use Rattle.delta_plans.proofs.Columns.{sum_below-none}
+use Rattle.delta_plans.proofs.WeightLaws.{weight_of-none, weight_between-same, weight_between-most, number_share-one, count_all_between-most}
+
+-- no write takes more than the largest share
+pub share-most : (budget : Budget) (o : Option Entry) → share_or_none budget o ≤ MOST_ENTRY_SIZE
+share-most budget None = omega arith
+share-most (Entries n) (Some e) = omega arith
+share-most (Bytes n) (Some e) = omega arith
+
+-- nothing is between marks and themselves
+module _ {N : Type 0} (number : N → ℕ) (offer : Offer N) (mark : ℕ → ℕ) where
+  pub offer-weighs_none : weight_in number offer mark mark ≡ 0
+  offer-weighs_none = sum_below-none offer.nodes _ (λ owner lt. weight_of-none (weights_in offer owner) (cells_in number offer) offer.keys owner (mark owner) (mark owner) (omega arith))
+
+  pub offer-counts_none : count_in number offer mark mark ≡ 0
+  offer-counts_none = sum_below-none offer.nodes _ (λ owner lt. weight_of-none (λ _. 1) (cells_in number offer) offer.keys owner (mark owner) (mark owner) (omega arith))
+
+module _ {N : Type 0} (number : N → ℕ) (most : ℕ) (offer : Offer N) (is : IsOffer number most offer) (low high : ℕ → ℕ) where
+  pub offer-most : weight_in number offer low high ≤ count_in number offer low high * MOST_ENTRY_SIZE
+  offer-most =
+      weight_between-most (weights_in offer) MOST_ENTRY_SIZE (cells_in number offer) offer.nodes offer.keys low high
+      (λ owner n. share-most offer.budget (write_numbered (all_writes offer.lists.now owner) n))
+
+  pub offer-few : count_in number offer low high ≤ MOST_NODES * MOST_KEYS
+  offer-few =
+      let few : offer.nodes * offer.keys ≤ MOST_NODES * offer.keys = mul-le-mul_right {m = offer.nodes} {n = MOST_NODES} offer.keys is.grid.few_nodes in
+      omega (arith, count_all_between-most (cells_in number offer) offer.nodes offer.keys low high, few, is.grid.few_keys)
+
+  -- where entries are counted, they take as much as they are
+  pub offer-entries : (n : ℕ) → offer.budget ≡ Entries n → weight_in number offer low high ≡ count_in number offer low high
+  offer-entries n counted =
+      weight_between-same (weights_in offer) one_each (cells_in number offer) offer.nodes offer.keys low high
+      (λ owner key in_nodes in_keys above upto.
+      number_share-one offer.budget n (all_writes offer.lists.now owner) (cells_in number offer owner key) counted (omega (arith, above)) (is.written owner key in_nodes in_keys))
+
+-- what a test found of marks, of the same ones
+module _ {N : Type 0} (number : N → ℕ) (offer : Offer N) (low : ℕ → ℕ) (asked items : List N) (same : asked ≡ items) (fits : Bool) (tested : (fits ≡ true) ↔ (weight_in number offer low (marks number asked) ≤ amount_of offer.budget)) where
+  pub offer-fits : fits ≡ true → weight_in number offer low (marks number items) ≤ amount_of offer.budget
+  offer-fits yes' = subst (λ xs. weight_in number offer low (marks number xs) ≤ amount_of offer.budget) same (tested.0 yes')
+
+  pub offer-cut : fits ≡ false → amount_of offer.budget < weight_in number offer low (marks number items)
+  offer-cut no' = elim (cases_lt (amount_of offer.budget) (weight_in number offer low (marks number items))) [
+    | inl over ↦ over
+    | inr within ↦ absurd (both_ways fits no' (tested.1 (subst (λ xs. weight_in number offer low (marks number xs) ≤ amount_of offer.budget) (sym same) within)))
+  ]

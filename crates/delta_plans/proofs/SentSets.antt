@@ -1,0 +1,266 @@
+-- Any set of candidates that is closed downwards, fits, and lets nothing more in is what is sent.
+-- Serves `deltas_have_their_sets` and `DeltaMarks`.
+use Rattle.std.proofs.Common.{◌≡◌, ◌≢◌, ℕ, zero, suc, ◌+◌, ◌<◌, ◌≤◌, Bool, true, false, cond, not, eqb, List, [], ◌∷◌, get_or, Some, refl, sym, ap, ◌∙◌, subst, arith}
+use Rattle.std.specs.Prelude.{count_by, filter, IsPermutation, Contains, ◌&&◌}
+use Rattle.std.specs.List.{sum_by}
+use Rattle.std.specs.declared.cmp.Ordering.{Ordering}
+use Rattle.std.specs.declared.cmp.Ordering.TheVariants.{Less, Equal, Greater}
+use Rattle.std.specs.Ordering.{is_lt, is_eq, ordering_reverse}
+use Rattle.std.specs.Cmp.{IsTotalOrder, tied_itself}
+use Rattle.std.proofs.lemmas.Bool.{both_ways, le-leb, lt-leb, and_parts, eqb-true}
+use Rattle.std.proofs.lemmas.List.{get_or_default}
+use Rattle.std.proofs.lemmas.List.Kept.{AllPairs-filter}
+use Rattle.std.proofs.lemmas.List.Sorted.{length_permutation}
+use Rattle.model.proofs.TableLaws.{tied-stands_at}
+use Rattle.std.proofs.lemmas.Option.{same_Some}
+use Rattle.std.proofs.lemmas.List.Sums.{sum_by-cons, length-filter}
+use Rattle.bench_types.specs.declared.entries.Item.{Item}
+use Rattle.bench_types.specs.Budget.{amount_of}
+use Rattle.bench_types.specs.Mark.{is_before, mark_of}
+use Rattle.bench_types.specs.Mode.{digest_kind}
+use Rattle.model.specs.Table.{Table, entry_at, items_of, IsProper}
+use Rattle.model.specs.inner.Applied.{stands_at}
+use Rattle.model.proofs.Items.{IsApart, entry_at-items_of, apart-items_of}
+use Rattle.model.specs.Candidates.{candidates, known_mark}
+use Rattle.model.specs.Deltas.{DeltaView, delta_between, item_share}
+use Rattle.model.specs.Order.{sending_order}
+use Rattle.model.proofs.DeltaLaws.{sending_order-total, sending_order-strict}
+use Rattle.model.proofs.Members.{Contains-filter, Contains-kept, same_members}
+use Rattle.model.specs.Picks.{before_count, first_places, size_through, fits, sent, cut_count}
+use Rattle.model.proofs.Places.{before_count-places, Contains-first_places, first_places-Contains}
+use Rattle.delta_plans.specs.SentSets.{size_in, IsKeptOut, IsSentSet, EndsBefore, HasAll, DeltasHaveTheirSets}
+
+-- a sum over a list whose terms are no greater, for the elements of the list
+sum_by-le : {X : Type 0} (f g : X → ℕ) (xs : List X) → ((x : X) → Contains xs x → f x ≤ g x) → sum_by f xs ≤ sum_by g xs
+sum_by-le f g [] le = omega arith
+sum_by-le f g (x ∷ xs) le =
+    omega (arith, sum_by-cons f x xs, sum_by-cons g x xs, le x (0, omega arith, refl), sum_by-le f g xs (λ y (k, lt, is). le y (suc k, omega (arith, lt), is)))
+
+-- and where one of them is 0 and is greater by n there
+sum_by-more : {X : Type 0} (f g : X → ℕ) (xs : List X) (n : ℕ) (y : X) → Contains xs y → ((x : X) → Contains xs x → f x ≤ g x) → f y + n ≤ g y → sum_by f xs + n ≤ sum_by g xs
+sum_by-more f g [] n y (k, lt, is) le more = absurd (omega (arith, lt))
+sum_by-more f g (x ∷ xs) n y (zero, lt, is) le more =
+    let at : f x + n ≤ g x = subst (λ z. f z + n ≤ g z) (sym is) more in
+    omega (arith, sum_by-cons f x xs, sum_by-cons g x xs, at, sum_by-le f g xs (λ z (k, lt, is). le z (suc k, omega (arith, lt), is)))
+sum_by-more f g (x ∷ xs) n y (suc k, lt, is) le more =
+    omega (arith, sum_by-cons f x xs, sum_by-cons g x xs, le x (0, omega arith, refl), sum_by-more f g xs n y (k, omega (arith, lt), is) (λ z (j, lt, is). le z (suc j, omega (arith, lt), is)) more)
+
+-- tests that agree on a list count as many
+sum_by-same : {X : Type 0} (f g : X → ℕ) (xs : List X) → ((x : X) → Contains xs x → f x ≡ g x) → sum_by f xs ≡ sum_by g xs
+sum_by-same f g xs same = omega (arith, sum_by-le f g xs (λ x there. omega (arith, same x there)), sum_by-le g f xs (λ x there. omega (arith, same x there)))
+
+module _ {X : Type 0} (order : X → X → Ordering) (total : IsTotalOrder order) (cs : List X) (size : X → ℕ) (is_in : X → Bool) (budget : ℕ) (strict : (c d : X) → Contains cs c → Contains cs d → order c d ≡ Equal → c ≡ d) (is : IsSentSet order cs size is_in budget) where
+  abbrev term : X → ℕ
+  term d = cond (is_in d) (size d) 0
+
+  abbrev through : X → X → ℕ
+  through c d = cond (is_lt (order c d)) 0 (size d)
+
+  -- what stands behind none in the set
+  in_set : (c d : X) → Contains cs c → Contains cs d → is_in c ≡ true → order c d ≢ Less → is_in d ≡ true
+  in_set c d at_c at_d yes' behind = elim (order c d) as (λ r. order c d ≡ r → is_in d ≡ true) [
+    | Less ↦ λ e. absurd (behind e)
+    | Equal ↦ λ e. subst (λ x. is_in x ≡ true) (strict c d at_c at_d e) yes'
+    | Greater ↦ λ e. is.closed d c at_d at_c (total.antisymm d c ∙ ap ordering_reverse e) yes'
+  ] refl
+
+  not_less : (r : Ordering) → is_lt r ≡ false → r ≢ Less
+  not_less r no' e = both_ways (is_lt r) no' (ap is_lt e)
+
+  is_less : (r : Ordering) → is_lt r ≡ true → r ≡ Less
+  is_less Less e = refl
+  is_less Equal e = cc
+  is_less Greater e = cc
+
+  sent_fits : (c : X) → Contains cs c → is_in c ≡ true → size_through order cs size c ≤ size_in order cs size is_in
+  sent_fits c at_c yes' = sum_by-le (through c) term cs at
+    where
+      at : (d : X) → Contains cs d → through c d ≤ term d
+      at d at_d = elim (is_lt (order c d)) as (λ b. is_lt (order c d) ≡ b → cond b 0 (size d) ≤ term d) [
+        | true ↦ λ e. omega arith
+        | false ↦ λ e. let same : term d ≡ size d = ap (λ b. cond b (size d) 0) (in_set c d at_c at_d yes' (not_less (order c d) e)) in omega (arith, same)
+      ] refl
+
+  kept_out : (c : X) → Contains cs c → is_in c ≡ false → (out : IsKeptOut order cs size is_in budget c) → size_in order cs size is_in + size out.next ≤ size_through order cs size c
+  kept_out c at_c no' out = sum_by-more term (through c) cs (size out.next) out.next out.candidate at more
+    where
+      at : (d : X) → Contains cs d → term d ≤ through c d
+      at d at_d = elim (is_in d) as (λ b. is_in d ≡ b → cond b (size d) 0 ≤ through c d) [
+        | true ↦ λ e. elim (order c d) as (λ r. order c d ≡ r → size d ≤ cond (is_lt r) 0 (size d)) [
+          | Less ↦ λ before. absurd (both_ways (is_in c) no' (is.closed c d at_c at_d before e))
+          | Equal ↦ λ tied. omega arith
+          | Greater ↦ λ behind. omega arith
+        ] refl
+        | false ↦ λ e. omega arith
+      ] refl
+
+      more : term out.next + size out.next ≤ through c out.next
+      more =
+          let none : term out.next ≡ 0 = ap (λ b. cond b (size out.next) 0) out.outside in
+          elim (order c out.next) as (λ r. order c out.next ≡ r → term out.next + size out.next ≤ cond (is_lt r) 0 (size out.next)) [
+            | Less ↦ λ e. absurd (out.no_later e)
+            | Equal ↦ λ e. omega (arith, none)
+            | Greater ↦ λ e. omega (arith, none)
+          ] refl
+
+  -- a candidate fits where it is in the set
+  fits-is : (c : X) → Contains cs c → fits order cs size budget c ≡ is_in c
+  fits-is c at_c = elim (is_in c) as (λ b. is_in c ≡ b → fits order cs size budget c ≡ b) [
+    | true ↦ λ e. le-leb (size_through order cs size c) budget (omega (arith, sent_fits c at_c e, is.within))
+    | false ↦ λ e. let out = is.tight c at_c e in lt-leb (size_through order cs size c) budget (omega (arith, kept_out c at_c e out, out.beyond))
+  ] refl
+
+  count_fits : count_by (fits order cs size budget) cs ≡ count_by is_in cs
+  count_fits = sum_by-same (λ c. cond (fits order cs size budget c) 1 0) (λ c. cond (is_in c) 1 0) cs (λ c at_c. ap (λ b. cond b 1 0) (fits-is c at_c))
+
+  -- a candidate is sent where it is in the set
+  abbrev places : ℕ
+  places = count_by (fits order cs size budget) cs
+
+  abbrev one : Bool → ℕ
+  one b = cond b 1 0
+
+  set_place : (c : X) → Contains cs c → is_in c ≡ true → before_count order cs c < places
+  set_place c at_c yes' =
+      let more = sum_by-more (λ d. one (is_lt (order d c))) (λ d. one (fits order cs size budget d)) cs 1 c at_c at here in
+      omega (arith, more)
+    where
+      at : (d : X) → Contains cs d → one (is_lt (order d c)) ≤ one (fits order cs size budget d)
+      at d at_d = elim (is_lt (order d c)) as (λ b. is_lt (order d c) ≡ b → one b ≤ one (fits order cs size budget d)) [
+        | true ↦ λ e. let same : one (fits order cs size budget d) ≡ 1 = ap one (fits-is d at_d ∙ is.closed d c at_d at_c (is_less (order d c) e) yes') in omega (arith, same)
+        | false ↦ λ e. omega arith
+      ] refl
+
+      here : one (is_lt (order c c)) + 1 ≤ one (fits order cs size budget c)
+      here =
+          let none : one (is_lt (order c c)) ≡ 0 = ap (λ r. one (is_lt r)) (tied_itself total c) in
+          let fit : one (fits order cs size budget c) ≡ 1 = ap one (fits-is c at_c ∙ yes') in
+          omega (arith, none, fit)
+
+  place_set : (c : X) → Contains cs c → before_count order cs c < places → is_in c ≡ true
+  place_set c at_c lt = elim (is_in c) as (λ b. is_in c ≡ b → b ≡ true) [
+    | true ↦ λ e. refl
+    | false ↦ λ e. absurd (omega (arith, lt, sum_by-le (λ d. one (fits order cs size budget d)) (λ d. one (is_lt (order d c))) cs (at e)))
+  ] refl
+    where
+      at : is_in c ≡ false → (d : X) → Contains cs d → one (fits order cs size budget d) ≤ one (is_lt (order d c))
+      at no' d at_d = elim (is_in d) as (λ b. is_in d ≡ b → one (fits order cs size budget d) ≤ one (is_lt (order d c))) [
+        | true ↦ λ e. elim (order d c) as (λ r. order d c ≡ r → one (fits order cs size budget d) ≤ one (is_lt r)) [
+          | Less ↦ λ before. one_at_most (fits order cs size budget d)
+          | Equal ↦ λ tied. absurd (both_ways (is_in c) no' (subst (λ x. is_in x ≡ true) (strict d c at_d at_c tied) e))
+          | Greater ↦ λ behind. absurd (both_ways (is_in c) no' (is.closed c d at_c at_d (total.antisymm c d ∙ ap ordering_reverse behind) e))
+        ] refl
+        | false ↦ λ e. let none : one (fits order cs size budget d) ≡ 0 = ap one (fits-is d at_d ∙ e) in omega (arith, none)
+      ] refl
+        where
+          one_at_most : (b : Bool) → one b ≤ 1
+          one_at_most true = omega arith
+          one_at_most false = omega arith
+
+  pub sent-in_set : (c : X) → Contains (sent order cs size budget) c → Contains cs c × (is_in c ≡ true)
+  sent-in_set c there = let at = Contains-first_places order total cs places c there in (at.0, place_set c at.0 at.1)
+
+  pub in_set-sent : (c : X) → Contains cs c → is_in c ≡ true → Contains (sent order cs size budget) c
+  in_set-sent c at_c yes' = first_places-Contains order total cs strict places c at_c (set_place c at_c yes')
+
+  pub cut-is : cut_count order cs size budget ≡ count_by (λ c. not (is_in c)) cs
+  cut-is = sum_by-same (λ c. cond (not (fits order cs size budget c)) 1 0) (λ c. cond (not (is_in c)) 1 0) cs (λ c at_c. ap (λ b. cond (not b) 1 0) (fits-is c at_c))
+
+module _ {X : Type 0} (order : X → X → Ordering) (total : IsTotalOrder order) (cs : List X) (size : X → ℕ) (is_in : X → Bool) (budget : ℕ) where
+  -- what comes before a candidate that doesn't fit beside it
+  pub stops_sent : (next : X) → EndsBefore order cs size is_in budget next → IsSentSet order cs size is_in budget
+  stops_sent next is = record {
+    closed = λ c d at_c at_d before yes'. is.set c at_c ∙ ap is_lt (total.trans c d next before (is_less' (order d next) (sym (is.set d at_d) ∙ yes')));
+    within = is.within;
+    tight = λ c at_c no'. record {
+      next = next;
+      candidate = is.candidate;
+      outside = is.set next is.candidate ∙ ap is_lt (tied_itself total next);
+      no_later = λ before. both_ways (is_in c) no' (is.set c at_c ∙ ap is_lt before);
+      beyond = is.beyond;
+    };
+  }
+    where
+      is_less' : (r : Ordering) → is_lt r ≡ true → r ≡ Less
+      is_less' Less e = refl
+      is_less' Equal e = cc
+      is_less' Greater e = cc
+
+  -- all, where they fit
+  pub all_sent : HasAll order cs size is_in budget → IsSentSet order cs size is_in budget
+  all_sent is = record {
+    closed = λ c d at_c at_d before yes'. is.all c at_c;
+    within = is.within;
+    tight = λ c at_c no'. absurd (both_ways (is_in c) no' (is.all c at_c));
+  }
+
+-- what is sent of a table's items stands at different places
+sent_apart : (order : Item → Item → Ordering) (total : IsTotalOrder order) (t : Table) (proper : IsProper t) (cs : List Item) (of_table : (c : Item) → Contains cs c → Contains (items_of t) c) (n : ℕ) → IsApart (first_places order cs n)
+sent_apart order total t proper cs of_table n j k d lt in_range = elim (stands_at x.owner x.entry.key y) as (λ b. stands_at x.owner x.entry.key y ≡ b → b ≡ false) [
+  | true ↦ λ e.
+      let parts = and_parts (eqb y.owner x.owner) (eqb y.entry.key x.entry.key) e in
+      let owners = eqb-true y.owner x.owner parts.0 in
+      let keys = eqb-true y.entry.key x.entry.key parts.1 in
+      let entries : Some y.entry ≡ Some x.entry =
+      sym (entry_at-items_of t y proper (of_table y in_y)) ∙ (λ i. entry_at t (owners i) (keys i)) ∙ entry_at-items_of t x proper (of_table x in_x) in
+      let same : y ≡ x = λ i. record { owner = owners i; entry = same_Some y.entry x.entry entries i } in
+      absurd (omega (arith, before_count-places order total cs n j k d lt in_range, ap (before_count order cs) same))
+  | false ↦ λ e. refl
+] refl
+  where
+    x : Item
+    x = get_or (first_places order cs n) j d
+
+    y : Item
+    y = get_or (first_places order cs n) k d
+
+    in_x : Contains cs x
+    in_x = (Contains-first_places order total cs n x (j, omega (arith, lt, in_range), get_or_default (first_places order cs n) j x d (omega (arith, lt, in_range)))).0
+
+    in_y : Contains cs y
+    in_y = (Contains-first_places order total cs n y (k, in_range, get_or_default (first_places order cs n) k y d in_range)).0
+
+pub set_sent : DeltasHaveTheirSets
+set_sent mode rotation budget from to is_in proper in_nodes is = record {
+  members = λ c. ((λ there. sent-in_set order total cs size is_in (amount_of budget) strict is c there), (λ both. in_set-sent order total cs size is_in (amount_of budget) strict is c both.0 both.1));
+  count = sym (length_permutation delta.items (filter is_in cs) same_items) ∙ length-filter is_in cs;
+  cut = cut-is order total cs size is_in (amount_of budget) strict is;
+}
+  where
+    cs : List Item
+    cs = candidates mode from to
+
+    order : Item → Item → Ordering
+    order = sending_order mode from.nodes rotation cs
+
+    total : IsTotalOrder order
+    total = sending_order-total mode from.nodes rotation cs
+
+    strict : (c d : Item) → Contains cs c → Contains cs d → order c d ≡ Equal → c ≡ d
+    strict = sending_order-strict mode from to rotation proper in_nodes
+
+    size : Item → ℕ
+    size = item_share budget
+
+    delta : DeltaView
+    delta = delta_between mode rotation budget from to
+
+    not_known : Item → Bool
+    not_known x = not (eqb x.owner to.node) && is_before (known_mark (digest_kind mode) to x) (mark_of x.entry)
+
+    is_apart : Item → Item → Type 0
+    is_apart i j = stands_at i.owner i.entry.key j ≡ false
+
+    table_apart : IsApart (items_of from)
+    table_apart i j d lt in_range = sym (tied-stands_at (get_or (items_of from) i d).owner (get_or (items_of from) i d).entry.key (get_or (items_of from) j d)) ∙ ap is_eq (apart-items_of from proper i j d lt in_range)
+
+    held : (c : Item) → Contains cs c → Contains (items_of from) c
+    held c there = (Contains-kept not_known (items_of from) c there).0
+
+    filtered_apart : IsApart (filter is_in cs)
+    filtered_apart = AllPairs-filter is_apart is_in cs (AllPairs-filter is_apart not_known (items_of from) table_apart)
+
+    same_items : IsPermutation delta.items (filter is_in cs)
+    same_items = same_members delta.items (filter is_in cs) (sent_apart order total from proper cs held _) filtered_apart
+        (λ c there. let at = sent-in_set order total cs size is_in (amount_of budget) strict is c there in Contains-filter is_in cs c at.0 at.1)
+        (λ c there. let at = Contains-kept is_in cs c there in in_set-sent order total cs size is_in (amount_of budget) strict is c at.0 at.1)

@@ -1,0 +1,98 @@
+-- Where generations start in an owner's list.
+-- Serves `put_each_start`, `put_earlier_starts`, `put_starts`, `told` and `version_tables`.
+use Rattle.std.proofs.Common.{◌≡◌, ℕ, zero, suc, ◌+◌, ◌-◌, ◌*◌, ◌<◌, ◌≤◌, min, Bool, true, false, cond, List, [], ◌∷◌, ◌++◌, length, get_or, set, Some, None, inl, inr, refl, sym, ap, ◌∙◌, arith}
+use Rattle.std.specs.Prelude.{nat_lt, nat_le, ◌&&◌}
+use Rattle.std.proofs.lemmas.Bool.{cases_lt, cases_eq, lt-ltb, le-leb, eq-eqb, ne_eqb}
+use Rattle.std.proofs.lemmas.List.{get_or_default, get_or-set_same, get_or-set_other, length-set, length-append}
+use Rattle.bench_types.specs.declared.entries.Entry.{Entry}
+use Rattle.bench_types.specs.declared.exchanges.DigestKind.{DigestKind}
+use Rattle.model.specs.calls.Numbers.{write_from, write_numbered}
+use Rattle.model.specs.calls.OwnerListView.{OwnerListView, all_writes, entries_of, no_writes, AreWrites}
+use Rattle.planes.specs.Planes.{cell, total_of}
+use Rattle.bench_types.specs.Sums.{sum_below}
+use Rattle.planes.specs.Elementwise.{AreChanged}
+use Rattle.owner_writes.specs.Numbered.{start_before, start_of}
+use Rattle.delta_plans.specs.Offers.{told_by, told_number}
+use Rattle.delta_plans.specs.Told.{IsEarlierStart}
+use Rattle.owner_writes.proofs.Numbers.{numbered-some, write_from-at}
+
+-- an owner's writes are those of its list
+pub all_writes-here : (lists : List OwnerListView) (owner : ℕ) (x : OwnerListView) → owner < length lists → x ≡ get_or lists owner x → all_writes lists owner ≡ entries_of x
+all_writes-here lists owner x lt is = ap entries_of (get_or_default lists owner no_writes x lt ∙ sym is)
+
+pub start-upto : (writes : List Entry) (number : ℕ) → start_of writes number ≤ number
+start-upto writes number = elim (write_numbered writes number) as (λ o. start_before number o ≤ number) [
+  | None ↦ omega arith
+  | Some e ↦ omega arith
+]
+
+-- what stands behind others
+write_from-behind : (xs ys : List Entry) (place : ℕ) → write_from (xs ++ ys) (length xs + place) ≡ write_from ys place
+write_from-behind [] ys place = ap (write_from ys) {x = 0 + place} {y = place} (omega arith)
+write_from-behind (x ∷ xs) ys place = ap (write_from (x ∷ (xs ++ ys))) {x = length (x ∷ xs) + place} {y = suc (length xs + place)} (omega arith) ∙ write_from-behind xs ys place
+
+-- a write of an owner's own generation has all those of earlier ones before it
+pub start-own : (v : OwnerListView) (number : ℕ) → AreWrites v → length v.earlier < number → number ≤ length (entries_of v) → start_of (entries_of v) number ≡ length v.earlier
+start-own v zero are lt le = absurd (omega (arith, lt))
+start-own v (suc place) are lt le =
+    let there = numbered-some (entries_of v) (suc place) (omega arith) le in
+    let within : place - length v.earlier < length v.current = omega (arith, lt, le, length-append v.earlier v.current) in
+    let here : write_from v.current (place - length v.earlier) ≡ Some there.0 =
+    sym (write_from-behind v.earlier v.current (place - length v.earlier))
+    ∙ ap (write_from (entries_of v)) {x = length v.earlier + (place - length v.earlier)} {y = place} (omega (arith, lt))
+    ∙ there.1 in
+    let at = write_from-at v.current (place - length v.earlier) there.0 there.0 here in
+    let version : there.0.version ≡ place - length v.earlier + 1 =
+    ap (λ (e : Entry). e.version) (sym at.1) ∙ (are.current (place - length v.earlier) there.0 within).1 ∙ omega arith in
+    ap (start_before (suc place)) there.1 ∙ omega (arith, version, lt)
+
+-- lowered to the base, the start of an earlier generation, or else the number, is the start
+pub start-lowered : (writes : List Entry) (base x y z : ℕ) → IsEarlierStart writes base x y → (base < x → start_of writes x ≡ base) → z ≡ min y base → z ≡ start_of writes x
+start-lowered writes base x y z is own lowered = elim (cases_lt base x) [
+  | inl behind ↦ omega (arith, lowered, is.own behind, behind, own behind)
+  | inr upto ↦ elim (cases_lt 0 x) [
+    | inl some ↦ omega (arith, lowered, is.earlier some (omega (arith, upto)), start-upto writes x, upto)
+    | inr not_some ↦
+        let none : x ≡ 0 = omega (arith, not_some) in
+        omega (arith, lowered, is.none none, none, start-upto writes x)
+  ]
+]
+
+-- where nothing is counted, no test is passed
+sum-zero : (n : ℕ) (f : ℕ → ℕ) → sum_below n f ≤ 0 → (r : ℕ) → r < n → f r ≤ 0
+sum-zero zero f none r lt = absurd (omega (arith, lt))
+sum-zero (suc n) f none r lt = elim (cases_eq r n) [
+  | inl last ↦ omega (arith, none, ap f last)
+  | inr other ↦ sum-zero n f (omega (arith, none)) r (omega (arith, lt, other))
+]
+
+not_counted : (b : Bool) → cond b 1 0 ≤ 0 → b ≡ false
+not_counted true some = absurd (omega (arith, some))
+not_counted false none = refl
+
+pub none-upto : (xs : List ℕ) (nodes : ℕ) (high : ℕ → ℕ) → total_of nodes 1 (λ r k. nat_lt 0 (cell xs nodes r k) && nat_le (cell xs nodes r k) (high r)) ≤ 0 → (r : ℕ) → r < nodes → 0 < get_or xs r 0 → get_or xs r 0 ≤ high r → ⊥
+none-upto xs nodes high none r lt some upto =
+    let here : get_or xs (0 * nodes + r) 0 ≡ get_or xs r 0 = ap (λ i. get_or xs i 0) {x = 0 * nodes + r} {y = r} (omega arith) in
+    let one = sum-zero nodes (λ owner. sum_below 1 (λ k. cond (nat_lt 0 (cell xs nodes owner k) && nat_le (cell xs nodes owner k) (high owner)) 1 0)) none r lt in
+    let failed : (nat_lt 0 (cell xs nodes r 0) && nat_le (cell xs nodes r 0) (high r)) ≡ false = not_counted _ (omega (arith, one)) in
+    both (λ i. (lt-ltb 0 (get_or xs (0 * nodes + r) 0) (omega (arith, some, here)) i) && (le-leb (get_or xs (0 * nodes + r) 0) (high r) (omega (arith, upto, here)) i)) failed
+  where
+    both : {b : Bool} → b ≡ true → b ≡ false → ⊥
+    both t f = cc
+
+-- the receiver's own mark is put
+pub told-set : (kind : DigestKind) (most node : ℕ) (lists : ℕ → List Entry) (old new : List ℕ) → AreChanged (λ r x y. y ≡ told_by kind (lists r) x) old new → node < length old
+    → AreChanged (λ r x y. y ≡ told_number kind most node lists (λ _. x) r) old (set new node most)
+told-set kind most node lists old new is lt = record {
+  size = length-set new node most ∙ is.size;
+  each = λ r below. elim (cases_eq r node) [
+    | inl own ↦
+        ap (λ k. get_or (set new node most) k 0) own
+        ∙ get_or-set_same new node most 0 (omega (arith, lt, is.size))
+        ∙ sym (ap (λ b. cond b most (told_by kind (lists r) (get_or old r 0))) (eq-eqb r node own))
+    | inr other ↦
+        get_or-set_other new node r most 0 other
+        ∙ is.each r below
+        ∙ sym (ap (λ b. cond b most (told_by kind (lists r) (get_or old r 0))) (ne_eqb r node other))
+  ];
+}

@@ -1,0 +1,16 @@
+use Rattle.std.proofs.Common.{◌≡◌, ◌≤◌, length}
+use Rattle.bench_types.specs.declared.limits.TheConstants.{MOST_KEYS}
+use Rattle.delta_plans.specs.OfferInMemory.{marks}
+use Rattle.delta_plans.specs.Plans.{AreRunsSoFar}
+use Rattle.delta_plans.proofs.depths.depth.Given as goal
+
+abbrev pub invariant-loop-alloc : goal.invariant-loop-alloc
+invariant-loop-alloc g l = record {
+  near : length l.near.items ≡ l.offer.nodes;
+  far : length l.far.items ≡ l.offer.nodes;
+  few : l.size ≤ MOST_KEYS;
+  so_far : AreRunsSoFar g.N.Number.number l.offer (marks g.N.Number.number l.near.items) (marks g.N.Number.number l.far.items) l.size l.whole l.more;
+}
+
+abbrev pub decreases-loop-alloc : goal.decreases-loop-alloc
+decreases-loop-alloc g l = l.size

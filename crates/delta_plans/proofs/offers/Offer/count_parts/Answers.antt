@@ -1,0 +1,65 @@
+use Rattle.std.proofs.Common.{◌≡◌, ℕ, ◌+◌, ◌-◌, ◌<◌, ◌≤◌, List, get_or, length, map, take, drop, inr, ap, subst, ◌∙◌, arith}
+use Rattle.std.proofs.Math.Path.{transport}
+use Rattle.std.proofs.lemmas.List.{length-map, length-take-le, length-drop}
+use borrow.Rule.Slice.PartMut.{put_mid}
+use Rattle.bench_types.specs.declared.exchanges.First.{First}
+use Rattle.bench_types.specs.declared.exchanges.First.TheVariants.{Oldest, Newest}
+use Rattle.planes.specs.Planes.{Cells, count_between, HasEach}
+use Rattle.planes.proofs.Places.{part-here, part-written}
+use Rattle.delta_plans.specs.Firsts.{by_first}
+use Rattle.delta_plans.specs.OfferInMemory.{cells_in, marks}
+use Rattle.delta_plans.specs.Turns.{part_weight}
+use Rattle.delta_plans.specs.Weights.{weight_from}
+use Rattle.delta_plans.proofs.offers.Offer.count_parts.Goals as goal
+
+-- a part has as many numbers as lie between the two marks that go first
+counted : {N : Type 0} (number : N → ℕ) (cells : Cells) (keys size start : ℕ) (first : First) (near far : List N) (xs : List ℕ)
+    → HasEach size (λ r n. n ≡ count_between cells keys (start + r) (marks number (by_first first near far) (start + r)) (marks number (by_first first far near) (start + r))) xs
+    → HasEach size (λ r n. n ≡ weight_from first (λ _. 1) cells keys (start + r) (marks number near (start + r)) (marks number far (start + r))) xs
+counted number cells keys size start Oldest near far xs has = has
+counted number cells keys size start Newest near far xs has = has
+
+size-of : {N : Type 0} (first : First) (near far : List N) (n : ℕ) → length near ≡ n → length far ≡ n → length (by_first first near far) ≡ n
+size-of Oldest near far n one other = one
+size-of Newest near far n one other = other
+
+pub count_some_between-requires-clause-low : goal.count_some_between-requires-clause-low
+count_some_between-requires-clause-low g c =
+    let turns = c.args.turns.now in
+    ap length (c.by_first-low.ensures ∙ (λ i. by_first turns.first (c.deref.ensures.value i) (c.deref-2.ensures.value i)))
+    ∙ size-of turns.first turns.level.now.near.items turns.level.now.far.items c.args.self.now.nodes c.requires.turns.level.near c.requires.turns.level.far
+
+pub count_some_between-requires-clause-high : goal.count_some_between-requires-clause-high
+count_some_between-requires-clause-high g c =
+    let turns = c.args.turns.now in
+    ap length (c.by_first-high.ensures ∙ (λ i. by_first turns.first (c.deref-3.ensures.value i) (c.deref-4.ensures.value i)))
+    ∙ size-of turns.first turns.level.now.far.items turns.level.now.near.items c.args.self.now.nodes c.requires.turns.level.far c.requires.turns.level.near
+
+pub returns : goal.returns
+returns g c =
+    let number = g.N.Number.number in
+    let offer = c.args.self.now in
+    let turns = c.args.turns.now in
+    let owner = c.args.owner in
+    let old = c.args.counts.now in
+    let new = c.count_some_between.new.counts in
+    let size = c.min-end.result - owner in
+    let some : 0 < size = omega (arith, c.min-end.ensures, c.requires.owner) in
+    let within : owner + size ≤ length old = omega (arith, c.min-end.ensures, c.requires.owner, c.requires.counts.size, length-map old number) in
+    let sized : length new ≡ size = c.count_some_between.auto.counts ∙ length-take-le size (drop owner old) (omega (arith, within, length-drop owner old)) in
+    let parts =
+    counted number (cells_in number offer) offer.keys (length (take size (drop owner old))) owner turns.first turns.level.now.near.items turns.level.now.far.items (map number new)
+    (transport (λ i. HasEach (length (take size (drop owner old))) (λ r n. n ≡ count_between (cells_in number offer) offer.keys (owner + r)
+    (marks number ((c.by_first-low.ensures ∙ (λ j. by_first turns.first (c.deref.ensures.value j) (c.deref-2.ensures.value j))) i) (owner + r))
+    (marks number ((c.by_first-high.ensures ∙ (λ j. by_first turns.first (c.deref-3.ensures.value j) (c.deref-4.ensures.value j))) i) (owner + r)))
+    (map number new)) c.count_some_between.ensures)
+    in
+    let here : (r : ℕ) → r < size → get_or (map number new) r 0 ≡ part_weight number (λ _. 1) offer turns (owner + r) =
+    λ r lt. parts.each r (omega (arith, lt, sized, c.count_some_between.auto.counts))
+    in
+    record {
+      count =
+          subst (λ j. get_or (map number (put_mid owner size old new)) j 0 ≡ part_weight number (λ _. 1) offer turns j) {x = owner + 0} {y = owner} (omega arith)
+          (part-here number owner size old new within sized 0 some ∙ here 0 some);
+      counts = part-written number owner size old new within sized offer.nodes _ c.requires.counts (λ r lt. inr (here r lt));
+    }

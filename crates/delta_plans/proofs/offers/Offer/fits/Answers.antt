@@ -1,0 +1,21 @@
+use Rattle.std.proofs.Common.{ap, arith, rules}
+use Rattle.bench_types.specs.Budget.{amount_of}
+use Rattle.delta_plans.specs.OfferInMemory.{marks}
+use Rattle.delta_plans.proofs.OfferWeights.{offer-entries, offer-most, offer-few}
+use Rattle.delta_plans.proofs.offers.Offer.fits.Goals as goal
+
+pub overflow_mul-count : goal.overflow_mul-count
+overflow_mul-count g c =
+    omega (arith, c.requires.count, offer-few g.N.Number.number g.N.Number.most c.args.self.now c.requires.offer (marks g.N.Number.number c.args.low.now) (marks g.N.Number.number c.args.high.now))
+
+pub returns-in-Entries : goal.returns-in-Entries
+returns-in-Entries g c =
+    let alike = offer-entries g.N.Number.number g.N.Number.most c.args.self.now c.requires.offer (marks g.N.Number.number c.args.low.now) (marks g.N.Number.number c.args.high.now) c.in-Entries.amount c.in-Entries.is in
+    let amount = ap amount_of c.in-Entries.is in
+    grind (arith, rules, alike, amount, c.requires.count)
+
+pub returns-then-count-amount : goal.returns-then-count-amount
+returns-then-count-amount g c =
+    let most = offer-most g.N.Number.number g.N.Number.most c.args.self.now c.requires.offer (marks g.N.Number.number c.args.low.now) (marks g.N.Number.number c.args.high.now) in
+    let amount = ap amount_of c.in-Bytes.is in
+    grind (arith, rules, most, amount, c.requires.count, c.if-count-amount.true)

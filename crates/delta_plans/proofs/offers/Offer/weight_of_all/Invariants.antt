@@ -1,0 +1,11 @@
+use Rattle.std.proofs.Common.{◌≡◌, ◌*◌, ◌≤◌}
+use Rattle.bench_types.specs.Budget.{largest_share}
+use Rattle.delta_plans.specs.OfferInMemory.{cells_in, marks, weights_in}
+use Rattle.delta_plans.specs.Weights.{weight_between}
+use Rattle.delta_plans.proofs.offers.Offer.weight_of_all.Given as goal
+
+abbrev pub invariant-loop-owner : goal.invariant-loop-owner
+invariant-loop-owner g l = record {
+  weight : l.weight ≡ weight_between (weights_in l.self) (cells_in g.N.Number.number l.self) l.owner l.self.keys (marks g.N.Number.number l.low) (marks g.N.Number.number l.high);
+  limit : l.weight ≤ l.owner * (l.self.keys * largest_share l.self.budget);
+}

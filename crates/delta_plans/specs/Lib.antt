@@ -1,0 +1,14 @@
+pub mod Firsts
+pub mod Grids
+pub mod LevelMarks
+pub mod Marked
+pub mod OfferInMemory
+pub mod Offers
+pub mod Plans
+pub mod RoundLevels
+pub mod SentSets
+pub mod Sharing
+pub mod Stops
+pub mod Told
+pub mod Turns
+pub mod Weights

@@ -1,0 +1,58 @@
+-- What is sent where not all fits, or all, as one mark for each owner. Source: this project.
+use Rattle.std.specs.Prelude.{◌≡◌, ◌⊎◌, ℕ, ◌+◌, ◌*◌, ◌<◌, ◌≤◌, true, List, length, slice_index}
+use Rattle.bench_types.specs.declared.exchanges.First.{First}
+use Rattle.bench_types.specs.declared.exchanges.First.TheVariants.{Oldest, Newest}
+use Rattle.bench_types.specs.declared.exchanges.Mode.{Mode}
+use Rattle.bench_types.specs.declared.exchanges.DigestKind.{DigestKind}
+use Rattle.bench_types.specs.Budget.{amount_of}
+use Rattle.bench_types.specs.calls.Mode.{first_sent}
+use Rattle.model.specs.calls.OwnerListView.{all_writes}
+use Rattle.planes.specs.Planes.{cell}
+use Rattle.delta_plans.specs.declared.offers.Level.{Level}
+use Rattle.delta_plans.specs.declared.offers.Offer.{Offer}
+use Rattle.delta_plans.specs.OfferInMemory.{cells_in, low_in, high_in, count_in, marks}
+use Rattle.delta_plans.specs.Offers.{offered_by}
+use Rattle.delta_plans.specs.Plans.{weight_on, count_on}
+use Rattle.delta_plans.specs.LevelMarks.{lets_through, HasShape}
+use Rattle.delta_plans.specs.Sharing.{AreShared}
+
+-- the marks of a level of what is offered
+abbrev pub HasShapeIn : {N : Type 0} → Mode → (N → ℕ) → Offer N → (ℕ → ℕ) → (ℕ → ℕ) → Type 0
+HasShapeIn mode number offer near far =
+    HasShape mode (all_writes offer.lists.now) (cells_in number offer) offer.nodes offer.keys
+    (low_in number offer) near far
+
+-- of a level in memory
+abbrev pub HasShapeOf : {N : Type 0} → Mode → (N → ℕ) → Offer N → Level N → Type 0
+HasShapeOf mode number offer level =
+    HasShapeIn mode number offer (marks number level.near.items) (marks number level.far.items)
+
+-- marks that let all through, which fits
+pub record LetAll {N : Type 0} (first : First) (number : N → ℕ) (offer : Offer N) (mark : ℕ → ℕ) : Type 0 where
+  pub all : (owner key : ℕ) → owner < offer.nodes → key < offer.keys
+      → low_in number offer owner < cells_in number offer owner key
+      → lets_through first (mark owner) (cells_in number offer owner key) ≡ true
+  pub within : weight_on first number offer mark ≤ amount_of offer.budget
+
+-- marks that share out the first level that doesn't fit; past the owners all marks are alike
+pub record ShareLevel {N : Type 0} (mode : Mode) (rotation : ℕ) (number : N → ℕ) (offer : Offer N) (mark : ℕ → ℕ)
+    (sent : ℕ) : Type 0 where
+  pub near : ℕ → ℕ
+  pub far : ℕ → ℕ
+  pub shape : HasShapeIn mode number offer near far
+  pub past_near : (r : ℕ) → offer.nodes ≤ r → mark r ≡ near r
+  pub past_far : (r : ℕ) → offer.nodes ≤ r → mark r ≡ far r
+  pub shared : AreShared (first_sent mode) rotation number offer near far mark sent
+
+-- from the newest on no mark is below the low one
+abbrev pub KeepsLow : First → ℕ → (ℕ → ℕ) → (ℕ → ℕ) → Type 0
+KeepsLow Oldest nodes low mark = Unit {0}
+KeepsLow Newest nodes low mark = (r : ℕ) → r < nodes → low r ≤ mark r
+
+-- marks of what is sent, so many numbers, and so many are cut
+pub record AreMarked {N : Type 0} (mode : Mode) (rotation : ℕ) (number : N → ℕ) (offer : Offer N) (mark : ℕ → ℕ)
+    (sent cut : ℕ) : Type 0 where
+  pub above : KeepsLow (first_sent mode) offer.nodes (low_in number offer) mark
+  pub count : sent ≡ count_on (first_sent mode) number offer mark
+  pub left : sent + cut ≡ count_in number offer (low_in number offer) (high_in number offer)
+  pub how : LetAll (first_sent mode) number offer mark ⊎ ShareLevel mode rotation number offer mark sent

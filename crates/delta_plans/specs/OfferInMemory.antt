@@ -1,0 +1,61 @@
+-- What is offered in memory: cells with marks for each owner, and the owners' lists. Source: this project.
+use Rattle.std.specs.Prelude.{◌≡◌, ℕ, ◌<◌, ◌≤◌, List, length, map, slice_index}
+use Rattle.bench_types.specs.Budget.{amount_of}
+use Rattle.model.specs.calls.OwnerListView.{all_writes}
+use Rattle.planes.specs.Planes.{Cells, cell, count_above, IsGrid, HasNoneAbove}
+use Rattle.delta_plans.specs.declared.offers.Offer.{Offer}
+use Rattle.delta_plans.specs.LevelMarks.{NumbersDiffer}
+use Rattle.delta_plans.specs.Weights.{number_shares, weight_between, count_all_between}
+
+-- a number for each owner
+abbrev pub marks : {N : Type 0} → (N → ℕ) → List N → ℕ → ℕ
+marks number xs owner = slice_index (map number xs) owner
+
+-- the marks above which numbers are offered, and those up to which they are
+abbrev pub low_in : {N : Type 0} → (N → ℕ) → Offer N → ℕ → ℕ
+low_in number offer = marks number offer.low.now
+
+abbrev pub high_in : {N : Type 0} → (N → ℕ) → Offer N → ℕ → ℕ
+high_in number offer = marks number offer.high.now
+
+abbrev pub cells_in : {N : Type 0} → (N → ℕ) → Offer N → Cells
+cells_in number offer = cell (map number offer.cells.now) offer.nodes
+
+-- what each owner's numbers take of the budget
+abbrev pub weights_in : {N : Type 0} → Offer N → ℕ → ℕ → ℕ
+weights_in offer = number_shares offer.budget (all_writes offer.lists.now)
+
+-- what the numbers above marks and up to others take of it, and how many these are
+abbrev pub weight_in : {N : Type 0} → (N → ℕ) → Offer N → (ℕ → ℕ) → (ℕ → ℕ) → ℕ
+weight_in number offer = weight_between (weights_in offer) (cells_in number offer) offer.nodes offer.keys
+
+abbrev pub count_in : {N : Type 0} → (N → ℕ) → Offer N → (ℕ → ℕ) → (ℕ → ℕ) → ℕ
+count_in number offer = count_all_between (cells_in number offer) offer.nodes offer.keys
+
+-- how many of an owner's numbers are above its mark
+abbrev pub owner_count_in : {N : Type 0} → (N → ℕ) → Offer N → ℕ → ℕ
+owner_count_in number offer owner =
+    count_above (cells_in number offer) offer.keys owner (low_in number offer owner)
+
+-- each cell has the number of a write, or 0; those of an owner differ, and none is above its high mark
+pub record IsOffer {N : Type 0} (number : N → ℕ) (most : ℕ) (offer : Offer N) : Type 0 where
+  pub grid : IsGrid offer.nodes offer.keys (length offer.cells.now)
+  pub low : length offer.low.now ≡ offer.nodes
+  pub high : length offer.high.now ≡ offer.nodes
+  pub lists : length offer.lists.now ≡ offer.nodes
+  pub written : (owner key : ℕ) → owner < offer.nodes → key < offer.keys
+      → cells_in number offer owner key ≤ length (all_writes offer.lists.now owner)
+  pub below : (owner key : ℕ) → owner < offer.nodes → key < offer.keys → cells_in number offer owner key < most
+  pub differ : (owner : ℕ) → owner < offer.nodes → NumbersDiffer (cells_in number offer) offer.keys owner
+  pub covered : (owner : ℕ) → owner < offer.nodes
+      → HasNoneAbove (cells_in number offer) offer.keys owner (high_in number offer owner)
+
+-- so many numbers are offered
+abbrev pub IsCountOffered : {N : Type 0} → (N → ℕ) → Offer N → ℕ → Type 0
+IsCountOffered number offer found = found ≡ count_in number offer (low_in number offer) (high_in number offer)
+
+-- an offer that weighs more than the budget
+pub record IsTooLarge {N : Type 0} (number : N → ℕ) (most : ℕ) (offer : Offer N) : Type 0 where
+  pub is_offer : IsOffer number most offer
+  pub beyond : amount_of offer.budget
+      < weight_in number offer (low_in number offer) (high_in number offer)

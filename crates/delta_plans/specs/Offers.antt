@@ -1,0 +1,66 @@
+-- What one table offers another, told by numbers of writes: each owner's writes are numbered from 1, through all its
+-- generations, so within one owner numbers compare as marks. Source: this project.
+use Rattle.std.specs.Prelude.{◌≡◌, ℕ, ◌<◌, ◌≤◌, ◌↔◌, not, ◌&&◌, ◌==◌, true, false, if◌then◌else◌, nat_lt, Bool, List, Contains, Some}
+use Rattle.bench_types.specs.declared.entries.Entry.{Entry}
+use Rattle.bench_types.specs.declared.entries.Item.{Item}
+use Rattle.bench_types.specs.declared.exchanges.Mode.{Mode}
+use Rattle.bench_types.specs.Mark.{mark_of, is_before}
+use Rattle.bench_types.specs.Mode.{digest_kind}
+use Rattle.bench_types.specs.declared.exchanges.DigestKind.{DigestKind}
+use Rattle.bench_types.specs.declared.exchanges.DigestKind.TheVariants.{Scuttle, Precise}
+use Rattle.model.specs.Table.{Table, entry_at}
+use Rattle.owner_writes.specs.Numbered.{start_of}
+use Rattle.model.specs.Candidates.{known_mark}
+use Rattle.bench_types.specs.Sums.{sum_below}
+use Rattle.planes.specs.Planes.{Cells, number_ahead}
+use Rattle.model.specs.calls.Numbers.{write_numbered}
+
+-- a table holds the writes of these numbers
+abbrev pub HasCells : (ℕ → List Entry) → Cells → Table → Type 0
+HasCells lists cells t =
+    (owner key : ℕ) → owner < t.nodes → key < t.keys
+    → entry_at t owner key ≡ write_numbered (lists owner) (cells owner key)
+
+-- the receiver doesn't know the item, and it isn't its own
+abbrev pub is_lacked : Mode → Table → Item → Bool
+is_lacked mode to i = not (i.owner == to.node) && is_before (known_mark (digest_kind mode) to i) (mark_of i.entry)
+
+-- the candidates from one table to another are the writes of the numbers above a mark for each owner
+pub record Offers (mode : Mode) (from to : Table) (lists : ℕ → List Entry) (cells : Cells) (low : ℕ → ℕ) : Type 0 where
+  pub above : (owner key : ℕ) → owner < from.nodes → key < from.keys → low owner < cells owner key
+      → (e : Entry) × (entry_at from owner key ≡ Some e) × (write_numbered (lists owner) (cells owner key) ≡ Some e)
+      × (is_lacked mode to (record { owner = owner; entry = e }) ≡ true)
+  pub below : (owner key : ℕ) (e : Entry) → entry_at from owner key ≡ Some e → cells owner key ≤ low owner
+      → is_lacked mode to (record { owner = owner; entry = e }) ≡ false
+
+-- the sum of what g gives of the places of numbers above the marks
+abbrev pub offered_sum : Table → Cells → (ℕ → ℕ) → (ℕ → ℕ → ℕ) → ℕ
+offered_sum from cells low g =
+    sum_below from.nodes (λ owner. sum_below from.keys
+    (λ key. if nat_lt (low owner) (cells owner key) then g owner key else 0))
+
+-- how many of an owner's numbers above a mark are below a number
+abbrev pub rank_above : Cells → ℕ → ℕ → ℕ → ℕ → ℕ
+rank_above cells keys owner mark number =
+    sum_below keys (λ key. if nat_lt mark (cells owner key)
+    then (if nat_lt (cells owner key) number then 1 else 0) else 0)
+
+-- what of an owner isn't offered to a receiver that has this as its greatest number; the most for the receiver itself
+abbrev pub told_by : DigestKind → List Entry → ℕ → ℕ
+told_by Scuttle writes greatest = greatest
+told_by Precise writes greatest = start_of writes greatest
+
+abbrev pub told_number : DigestKind → ℕ → ℕ → (ℕ → List Entry) → (ℕ → ℕ) → ℕ → ℕ
+told_number kind most node lists greatest owner =
+    if owner == node then most else told_by kind (lists owner) (greatest owner)
+
+-- the numbers offered: in a precise digest's modes those ahead of the receiver's, and 0 in place of the others
+abbrev pub offered_by : DigestKind → Cells → Cells → (ℕ → ℕ) → Cells
+offered_by Scuttle sender receiver low = sender
+offered_by Precise sender receiver low = λ owner key. number_ahead (sender owner key) (receiver owner key) (low owner)
+
+-- these places of the sender's are what a delta has
+pub record AreSent (from : Table) (items : List Item) (sent : ℕ → ℕ → Bool) : Type 0 where
+  pub held : (owner key : ℕ) → owner < from.nodes → key < from.keys → sent owner key ≡ true → (e : Entry) × (entry_at from owner key ≡ Some e)
+  pub members : (owner key : ℕ) (e : Entry) → entry_at from owner key ≡ Some e
+      → (sent owner key ≡ true) ↔ Contains items (record { owner = owner; entry = e })

@@ -1,0 +1,113 @@
+-- Levels of what is offered, as marks: near marks let through whole levels, and far marks one level more, which doesn't
+-- fit. Source: this project.
+use Rattle.std.specs.Prelude.{◌≡◌, ◌⊎◌, ℕ, ◌+◌, ◌*◌, ◌<◌, ◌≤◌, nat_eq, nat_lt, length, if◌then◌else◌}
+use Rattle.bench_types.specs.declared.exchanges.First.{First}
+use Rattle.bench_types.specs.declared.exchanges.First.TheVariants.{Oldest}
+use Rattle.bench_types.specs.Budget.{amount_of}
+use Rattle.planes.specs.Planes.{Cells, HasNoneAbove, IsLeastAbove}
+use Rattle.bench_types.specs.Sums.{sum_below}
+use Rattle.delta_plans.specs.declared.offers.Offer.{Offer}
+use Rattle.delta_plans.specs.declared.offers.Level.{Level}
+use Rattle.delta_plans.specs.declared.offers.Step.{Step}
+use Rattle.delta_plans.specs.OfferInMemory.{cells_in, low_in, high_in, owner_count_in, marks, weights_in, weight_in, count_in}
+use Rattle.delta_plans.specs.LevelMarks.{IsLayerMark, AreLayers, AreRuns}
+use Rattle.delta_plans.specs.Stops.{IsOn}
+use Rattle.delta_plans.specs.Weights.{weight_through, one_each}
+
+-- a mark goes on to the owner's next number, or stays where there is none
+abbrev pub IsNextMark : Cells → ℕ → ℕ → ℕ → ℕ → Type 0
+IsNextMark cells keys owner mark next =
+    (HasNoneAbove cells keys owner mark × (next ≡ mark)) ⊎ IsLeastAbove cells keys owner mark next
+
+-- how many of the owners' marks are raised
+abbrev pub raised : ℕ → (ℕ → ℕ) → (ℕ → ℕ) → ℕ
+raised nodes mark next = sum_below nodes (λ owner. if nat_lt (mark owner) (next owner) then 1 else 0)
+
+-- one number more of each owner that has one is added
+pub record IsNextLayer {N : Type 0} (number : N → ℕ) (offer : Offer N) (near : ℕ → ℕ)
+    (step : Step N) : Type 0 where
+  pub count : length step.marks.items ≡ offer.nodes
+  pub next : (owner : ℕ) → owner < offer.nodes
+      → IsNextMark (cells_in number offer) offer.keys owner (near owner)
+      (marks number step.marks.items owner)
+  pub more : step.more ≡ raised offer.nodes near (marks number step.marks.items)
+
+-- what marks let through takes so much of the budget, and is so many numbers
+abbrev pub weight_on : {N : Type 0} → First → (N → ℕ) → Offer N → (ℕ → ℕ) → ℕ
+weight_on first number offer mark =
+    weight_through first (weights_in offer) (cells_in number offer) offer.nodes offer.keys (low_in number offer)
+    (high_in number offer) mark
+
+abbrev pub count_on : {N : Type 0} → First → (N → ℕ) → Offer N → (ℕ → ℕ) → ℕ
+count_on first number offer mark =
+    weight_through first one_each (cells_in number offer) offer.nodes offer.keys (low_in number offer)
+    (high_in number offer) mark
+
+-- far marks, which let through all that near marks do; none is below the low one
+abbrev pub AreFarther : First → ℕ → ℕ → ℕ → Type 0
+AreFarther first low near far = (low ≤ near) × (low ≤ far) × IsOn first near far
+
+-- near marks, which let through so many, and far marks, which are the first that let through more than fits
+pub record IsLevel {N : Type 0} (first : First) (number : N → ℕ) (offer : Offer N) (level : Level N) : Type 0 where
+  pub near : length level.near.items ≡ offer.nodes
+  pub far : length level.far.items ≡ offer.nodes
+  pub farther : (owner : ℕ) → owner < offer.nodes
+      → AreFarther first (low_in number offer owner) (marks number level.near.items owner)
+      (marks number level.far.items owner)
+  pub whole : level.whole ≡ count_on first number offer (marks number level.near.items)
+  pub within : weight_on first number offer (marks number level.near.items) ≤ amount_of offer.budget
+  pub beyond : amount_of offer.budget < weight_on first number offer (marks number level.far.items)
+
+-- a level of layers, and one of runs
+pub record IsLevelOfLayers {N : Type 0} (number : N → ℕ) (offer : Offer N) (level : Level N) : Type 0 where
+  pub is_level : IsLevel Oldest number offer level
+  pub of_layers : AreLayers (cells_in number offer) offer.nodes offer.keys (low_in number offer)
+      (marks number level.near.items) (marks number level.far.items)
+
+pub record IsLevelOfRuns {N : Type 0} (number : N → ℕ) (offer : Offer N) (level : Level N) : Type 0 where
+  pub is_level : IsLevel Oldest number offer level
+  pub of_runs : AreRuns (cells_in number offer) offer.nodes offer.keys (low_in number offer)
+      (marks number level.near.items) (marks number level.far.items)
+
+-- layers as far as they were gone over: the first fit, and the next is known
+pub record AreLayersSoFar {N : Type 0} (number : N → ℕ) (offer : Offer N) (near far : ℕ → ℕ)
+    (count added : ℕ) : Type 0 where
+  pub layers : ℕ
+  pub layered : (owner : ℕ) → owner < offer.nodes
+      → IsLayerMark (cells_in number offer) offer.keys owner (low_in number offer owner) layers (near owner)
+  pub next : (owner : ℕ) → owner < offer.nodes
+      → IsNextMark (cells_in number offer) offer.keys owner (near owner) (far owner)
+  pub more : added ≡ raised offer.nodes near far
+  pub whole : count ≡ count_in number offer (low_in number offer) near
+  pub within : weight_in number offer (low_in number offer) near ≤ amount_of offer.budget
+
+-- a mark that goes all the way for owners that have so many numbers, and for others not at all
+pub record IsMarkFrom (count low high size mark : ℕ) : Type 0 where
+  pub all : size ≤ count → mark ≡ high
+  pub none : count < size → mark ≡ low
+
+-- and so each owner's
+abbrev pub AreMarksFrom : {N : Type 0} → (N → ℕ) → Offer N → ℕ → (ℕ → ℕ) → Type 0
+AreMarksFrom number offer size mark =
+    (owner : ℕ) → owner < offer.nodes
+    → IsMarkFrom (owner_count_in number offer owner) (low_in number offer owner) (high_in number offer owner) size
+    (mark owner)
+
+-- all numbers of the owners that have so many are added
+pub record AreNextRuns {N : Type 0} (number : N → ℕ) (offer : Offer N) (near : ℕ → ℕ) (size : ℕ)
+    (step : Step N) : Type 0 where
+  pub count : length step.marks.items ≡ offer.nodes
+  pub marked : (owner : ℕ) → owner < offer.nodes
+      → marks number step.marks.items owner ≡ (if nat_eq (owner_count_in number offer owner) size
+      then high_in number offer owner else near owner)
+  pub more : step.more ≡ sum_below offer.nodes
+      (λ owner. if nat_eq (owner_count_in number offer owner) size then 1 else 0) * size
+
+-- runs as far as they were gone over: the longer ones fit, and those of this size are next
+pub record AreRunsSoFar {N : Type 0} (number : N → ℕ) (offer : Offer N) (near far : ℕ → ℕ)
+    (size count added : ℕ) : Type 0 where
+  pub longer : AreMarksFrom number offer (size + 1) near
+  pub next : AreMarksFrom number offer size far
+  pub whole : count ≡ count_in number offer (low_in number offer) near
+  pub more : count + added ≡ count_in number offer (low_in number offer) far
+  pub within : weight_in number offer (low_in number offer) near ≤ amount_of offer.budget

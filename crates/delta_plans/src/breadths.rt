@@ -1,0 +1,51 @@
+//! Layers: one number more of each owner at a time, as long as they fit.
+
+ghost use Rattle.std.specs.Prelude.{◌≡◌, IfOk, IsOkUnless, length};
+ghost use Rattle.bench_types.specs.declared.faults.Fault.TheVariants.{OutOfMemory};
+ghost use Rattle.delta_plans.specs.OfferInMemory.{marks, IsOffer, IsTooLarge};
+ghost use Rattle.delta_plans.specs.Plans.{IsNextLayer, IsLevelOfLayers};
+
+use crate::offers::{Level, Offer, Step, one_if, pick};
+use bench_types::Fault;
+use planes::{Number, least_above};
+use std::alloc::Global;
+
+// One number more of each owner that has one. The marks of the others stay.
+fn one_more<N: Number>(alloc: Global, offer: &Offer<N>, near: &[N]) -> Result<Step<N>, Fault>
+    requires offer { IsOffer N.number N.most offer.now }
+    requires near { length near.now ≡ offer.now.nodes }
+    ensures layer { IfOk result (IsNextLayer N.number offer.now (marks N.number near.now)) }
+    ensures only { IsOkUnless result OutOfMemory }
+{
+    let mut marks = least_above(alloc, offer.cells, offer.nodes, offer.keys, near)?;
+    let all: &mut [N] = &mut marks;
+    let mut more = 0;
+    for r in 0..all.len() {
+        let least = all[r];
+        let found = N::greatest().is_above(least);
+        more += one_if(found);
+        all[r] = pick(found, least, near[r]);
+    }
+    Ok(Step { marks, more })
+}
+
+/// Layers as long as they fit, and the first that doesn't.
+pub(crate) fn breadth<N: Number>(alloc: Global, offer: &Offer<N>) -> Result<Level<N>, Fault>
+    requires offer { IsTooLarge N.number N.most offer.now }
+    ensures level { IfOk result (IsLevelOfLayers N.number offer.now) }
+    ensures only { IsOkUnless result OutOfMemory }
+{
+    let mut near = Vec::from_slice(alloc, offer.low)?;
+    let mut whole = 0;
+    let first = one_more(alloc, offer, &near)?;
+    let mut far = first.marks;
+    let mut more = first.more;
+    while offer.fits(whole + more, offer.low, &far) {
+        let next = one_more(alloc, offer, &far)?;
+        whole += more;
+        near = far;
+        far = next.marks;
+        more = next.more;
+    }
+    Ok(Level { near, far, whole })
+}

@@ -1,0 +1,82 @@
+//! Runs: all that an owner offers, the longest run first, as long as they fit.
+
+ghost use Rattle.std.specs.Prelude.{◌≡◌, ℕ, ◌<◌, ◌≤◌, IfOk, IsOkUnless, length, map, slice_index};
+ghost use Rattle.bench_types.specs.declared.faults.Fault.TheVariants.{OutOfMemory};
+ghost use Rattle.bench_types.specs.declared.limits.TheConstants.{MOST_KEYS};
+ghost use Rattle.planes.specs.Planes.{HasEach};
+ghost use Rattle.delta_plans.specs.OfferInMemory.{marks, owner_count_in, IsOffer, IsTooLarge};
+ghost use Rattle.delta_plans.specs.Plans.{AreNextRuns, IsLevelOfRuns};
+
+use crate::offers::{Level, Offer, Step, one_if, pick};
+use bench_types::Fault;
+use planes::{Number, counts_above};
+use std::alloc::Global;
+
+// The greatest of these numbers.
+fn greatest_of<N: Number>(numbers: &[N]) -> u32
+    requires few { (r : ℕ) → r < length numbers.now
+        → slice_index (map N.number numbers.now) r ≤ MOST_KEYS }
+    ensures greatest { (r : ℕ) → r < length numbers.now
+        → slice_index (map N.number numbers.now) r ≤ result }
+    ensures few { result ≤ MOST_KEYS }
+{
+    let mut greatest = 0;
+    for r in 0..numbers.len() {
+        greatest = numbers[r].widen().max(greatest);
+    }
+    greatest
+}
+
+// All numbers of the owners that have so many.
+fn next_runs<N: Number>(
+    alloc: Global,
+    offer: &Offer<N>,
+    counts: &[N],
+    near: &[N],
+    size: u32,
+) -> Result<Step<N>, Fault>
+    requires offer { IsOffer N.number N.most offer.now }
+    requires near { length near.now ≡ offer.now.nodes }
+    requires counts { HasEach offer.now.nodes (λ r n. n ≡ owner_count_in N.number offer.now r)
+        (map N.number counts.now) }
+    requires few { size ≤ MOST_KEYS }
+    ensures runs { IfOk result
+        (λ s. AreNextRuns N.number offer.now (marks N.number near.now) size s) }
+    ensures only { IsOkUnless result OutOfMemory }
+{
+    let mut marks = Vec::from_slice(alloc, near)?;
+    let all: &mut [N] = &mut marks;
+    let high = offer.high;
+    let mut owners = 0;
+    for r in 0..all.len() {
+        let found = counts[r].widen() == size;
+        owners += one_if(found);
+        all[r] = pick(found, high[r], all[r]);
+    }
+    let more = owners * size;
+    Ok(Step { marks, more })
+}
+
+/// Runs as long as they fit, the longest first, and the first that don't.
+pub(crate) fn depth<N: Number>(alloc: Global, offer: &Offer<N>) -> Result<Level<N>, Fault>
+    requires offer { IsTooLarge N.number N.most offer.now }
+    ensures level { IfOk result (IsLevelOfRuns N.number offer.now) }
+    ensures only { IsOkUnless result OutOfMemory }
+{
+    let counts = counts_above(alloc, offer.cells, offer.nodes, offer.keys, offer.low)?;
+    let mut size = greatest_of(&counts);
+    let mut near = Vec::from_slice(alloc, offer.low)?;
+    let mut whole = 0;
+    let first = next_runs(alloc, offer, &counts, &near, size)?;
+    let mut far = first.marks;
+    let mut more = first.more;
+    while offer.fits(whole + more, offer.low, &far) {
+        size -= 1;
+        let next = next_runs(alloc, offer, &counts, &far, size)?;
+        whole += more;
+        near = far;
+        far = next.marks;
+        more = next.more;
+    }
+    Ok(Level { near, far, whole })
+}

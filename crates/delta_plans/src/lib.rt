@@ -1,0 +1,30 @@
+//! Plans of deltas over numbers of writes: what of an offer is sent, as one mark for each owner. No table is at hand.
+//!
+//! # Choices
+//!
+//! - Planners speak of numbers alone, and one theorem lifts them to the candidates, the order and the cut of `model`
+//!   (`proofs/DeltaMarks.antt`). So breadth, depth, the rounds and the turns of the rotation are proved without a table
+//!   at hand.
+//! - The round up to which a precise delta goes is found by halving with a step that doubles from the near end: mostly
+//!   it is one of the first. No clause says that sizes rise with the rounds; that few fit and enough don't is all that
+//!   is kept.
+//! - The parts of a level are counted for 64 owners at a time, as turns come to them. Mostly the first part that
+//!   doesn't fit is among the first of them, and the others aren't counted.
+//! - Where entries are counted nothing is weighed, and where bytes are, sizes are looked up only if the count times the
+//!   largest size doesn't fit.
+#![tactic(auto)]
+
+mod breadths;
+mod depths;
+mod laws;
+mod marked;
+mod offers;
+mod rounds;
+mod sharing;
+mod stops;
+mod told_marks;
+
+pub use laws::deltas_have_their_sets;
+pub use marked::{Marked, planned};
+pub use offers::Offer;
+pub use told_marks::{Owners, told};

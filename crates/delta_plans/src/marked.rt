@@ -1,0 +1,104 @@
+//! What is sent of an offer, as one mark for each owner.
+
+ghost use Rattle.std.specs.Prelude.{◌≡◌, ℕ, ◌<◌, ◌≤◌, length, map, IfOk, IsOkUnless};
+ghost use Rattle.bench_types.specs.declared.faults.Fault.TheVariants.{OutOfMemory};
+ghost use Rattle.bench_types.specs.calls.Mode.{first_sent};
+ghost use Rattle.delta_plans.specs.Firsts.{by_first};
+ghost use Rattle.delta_plans.specs.Marked.{HasShapeOf, AreMarked};
+ghost use Rattle.delta_plans.specs.OfferInMemory.{marks, IsCountOffered, IsOffer, IsTooLarge};
+ghost use Rattle.delta_plans.specs.Plans.{IsLevel};
+ghost use Rattle.delta_plans.specs.RoundLevels.{AreEndsOf};
+
+use crate::breadths::breadth;
+use crate::depths::depth;
+use crate::offers::{Level, Offer};
+use crate::rounds::rounds;
+use crate::sharing::share;
+use bench_types::{Fault, First, Mode};
+use model::DeltaCounts;
+use planes::{Ends, Number};
+use std::alloc::Global;
+
+/// Marks of what is sent: all numbers up to them, or where the newest goes first all above them.
+#[derive(Drop)]
+pub struct Marked<N: Number> {
+    pub mark: Vec<N>,
+    pub counts: DeltaCounts,
+}
+
+/// All where it fits, else whole levels and a share of the first one that doesn't fit with them. How many numbers are
+/// offered is given.
+pub fn planned<N: Number>(
+    alloc: Global,
+    offer: &Offer<N>,
+    found: u32,
+    mode: Mode,
+    rotation: usize,
+    ends: Ends<N>,
+) -> Result<Marked<N>, Fault>
+    requires offer { IsOffer N.number N.most offer.now }
+    requires found { IsCountOffered N.number offer.now found }
+    requires rotation { rotation < offer.now.nodes }
+    requires ends { AreEndsOf N.number offer.now ends }
+    ensures size { IfOk result (λ m. length m.mark.items ≡ offer.now.nodes) }
+    ensures marked { IfOk result
+        (λ m. AreMarked mode rotation N.number offer.now (marks N.number m.mark.items) m.counts.sent
+        m.counts.cut) }
+    ensures only { IsOkUnless result OutOfMemory }
+{
+    let first = mode.first();
+    if offer.fits(found, offer.low, offer.high) {
+        let mark = whole_mark(alloc, offer, first)?;
+        let counts = DeltaCounts {
+            sent: found,
+            cut: 0,
+        };
+        return Ok(Marked { mark, counts });
+    }
+    let level = level_of(alloc, offer, mode, ends, found)?;
+    let share = share(alloc, offer, &level, first, rotation)?;
+    let cut = found - share.sent;
+    let counts = DeltaCounts {
+        sent: share.sent,
+        cut,
+    };
+    Ok(Marked {
+        mark: share.mark,
+        counts,
+    })
+}
+
+// The marks that let all through.
+fn whole_mark<N: Number>(alloc: Global, offer: &Offer<N>, first: First) -> Result<Vec<N>, Fault>
+    ensures marks { IfOk result (λ v. map N.number v.items
+        ≡ by_first first (map N.number offer.now.high.now) (map N.number offer.now.low.now)) }
+    ensures only { IsOkUnless result OutOfMemory }
+{
+    match first {
+        First::Oldest => Ok(Vec::from_slice(alloc, offer.high)?),
+        First::Newest => Ok(Vec::from_slice(alloc, offer.low)?),
+    }
+}
+
+// The first level of a mode that doesn't fit with those before it.
+fn level_of<N: Number>(
+    alloc: Global,
+    offer: &Offer<N>,
+    mode: Mode,
+    ends: Ends<N>,
+    found: u32,
+) -> Result<Level<N>, Fault>
+    requires offer { IsTooLarge N.number N.most offer.now }
+    requires ends { AreEndsOf N.number offer.now ends }
+    requires found { IsCountOffered N.number offer.now found }
+    ensures level { IfOk result (λ l. IsLevel (first_sent mode) N.number offer.now l) }
+    ensures shape { IfOk result (λ l. HasShapeOf mode N.number offer.now l) }
+    ensures only { IsOkUnless result OutOfMemory }
+{
+    match mode {
+        Mode::ScuttleBreadth => breadth(alloc, offer),
+        Mode::ScuttleDepth => depth(alloc, offer),
+        Mode::PreciseOldest => rounds(alloc, offer, ends, found, First::Oldest),
+        Mode::PreciseNewest => rounds(alloc, offer, ends, found, First::Newest),
+    }
+}

@@ -1,0 +1,178 @@
+//! What is offered, as numbers of writes, what these weigh, and levels of them.
+
+ghost use Rattle.std.specs.Prelude.{◌≡◌, ℕ, ◌*◌, ◌<◌, ◌≤◌, ◌↔◌, IsTrue, length, if◌then◌else◌};
+ghost use Rattle.bench_types.specs.Budget.{amount_of, largest_share, share_of};
+ghost use Rattle.bench_types.specs.declared.limits.TheConstants.{MOST_NODES, MOST_KEYS};
+ghost use Rattle.owner_writes.specs.Kept.{entry_kept};
+ghost use Rattle.delta_plans.specs.OfferInMemory.{cells_in, count_in, marks, weight_in, weights_in, IsOffer};
+ghost use Rattle.delta_plans.specs.Weights.{weight_of};
+
+use bench_types::limits::MOST_ENTRY_SIZE;
+use bench_types::{Budget, Entry};
+use owner_writes::{Kept, OwnerWrites};
+use planes::Number;
+
+/// The candidates are the cells of each owner above `low`, of which none is above `high`.
+#[derive(Drop)]
+pub struct Offer<'a, N: Number> {
+    pub cells: &'a [N],
+    pub nodes: usize,
+    pub keys: usize,
+    pub low: &'a [N],
+    pub high: &'a [N],
+    pub lists: &'a [OwnerWrites],
+    pub budget: Budget,
+}
+
+/// Near marks let through whole levels, `whole` numbers in all, and far marks one level more, which doesn't fit.
+#[derive(Drop)]
+pub(crate) struct Level<N: Number> {
+    pub(crate) near: Vec<N>,
+    pub(crate) far: Vec<N>,
+    pub(crate) whole: u32,
+}
+
+/// Marks up to which is sent, or above which where the newest goes first, and how many numbers these are.
+#[derive(Drop)]
+pub(crate) struct Share<N: Number> {
+    pub(crate) mark: Vec<N>,
+    pub(crate) sent: u32,
+}
+
+/// Marks of one level more, and how many numbers it has.
+#[derive(Drop)]
+pub(crate) struct Step<N: Number> {
+    pub(crate) marks: Vec<N>,
+    pub(crate) more: u32,
+}
+
+pub(crate) fn pick<N: Number>(test: bool, number: N, other: N) -> N
+    ensures { N.number result ≡ (if test then N.number number else N.number other) }
+{
+    if test { number } else { other }
+}
+
+pub(crate) fn one_if(test: bool) -> u32
+    ensures { result ≡ (if test then 1 else 0) }
+{
+    u32::from(test)
+}
+
+// The number at a place.
+pub(crate) fn number_at<N: Number>(numbers: &[N], place: usize) -> N
+    requires { place < length numbers.now }
+    ensures { N.number result ≡ marks N.number numbers.now place }
+{
+    numbers[place]
+}
+
+// What a write takes of a budget, which goes by its value alone.
+fn share_of(budget: Budget, kept: &Kept) -> u32
+    ensures { result ≡ share_of budget (entry_kept kept.now) }
+{
+    budget.share_of(&Entry {
+        key: kept.key,
+        generation: 0,
+        version: kept.version,
+        value: kept.value,
+        born: kept.born,
+    })
+}
+
+impl<'a, N: Number> Offer<'a, N> {
+    /// What the write of an owner's number takes of the budget, 0 where there is none.
+    pub(crate) fn weight_of_number(&self, owner: usize, number: N) -> u32
+        requires owner { owner < length self.now.lists.now }
+        ensures weight { result ≡ weights_in self.now owner (N.number number) }
+        ensures limit { result ≤ largest_share self.now.budget }
+    {
+        match self.lists[owner].numbered(number.widen()) {
+            Some(kept) => share_of(self.budget, kept),
+            None => 0,
+        }
+    }
+
+    // The number of an owner's key.
+    pub(crate) fn cell_of(&self, owner: usize, key: usize) -> N
+        requires offer { IsOffer N.number N.most self.now }
+        requires owner { owner < self.now.nodes }
+        requires key { key < self.now.keys }
+        ensures { N.number result ≡ cells_in N.number self.now owner key }
+    {
+        number_at(self.cells, key * self.nodes + owner)
+    }
+
+    /// What an owner's numbers above one mark and up to another take of it.
+    #[inline(never)]
+    pub(crate) fn weight_of(&self, owner: usize, low: N, high: N) -> u32
+        requires offer { IsOffer N.number N.most self.now }
+        requires owner { owner < self.now.nodes }
+        ensures weight { result ≡ weight_of (weights_in self.now owner)
+            (cells_in N.number self.now) self.now.keys owner
+            (N.number low) (N.number high) }
+        ensures limit { result ≤ self.now.keys * largest_share self.now.budget }
+    {
+        let mut weight = 0;
+        for key in 0..self.keys {
+            let cell = self.cell_of(owner, key);
+            if cell.is_above(low) && cell.is_upto(high) {
+                weight += self.weight_of_number(owner, cell);
+            }
+        }
+        weight
+    }
+
+    // What all owners' numbers above one mark and up to another take of it.
+    fn weight_of_all(&self, low: &[N], high: &[N]) -> u32
+        requires offer { IsOffer N.number N.most self.now }
+        requires low { length low.now ≡ self.now.nodes }
+        requires high { length high.now ≡ self.now.nodes }
+        ensures { result ≡ weight_in N.number self.now (marks N.number low.now)
+            (marks N.number high.now) }
+    {
+        let mut weight = 0;
+        for owner in 0..self.nodes {
+            let from = number_at(low, owner);
+            let to = number_at(high, owner);
+            if to.is_above(from) {
+                weight += self.weight_of(owner, from, to);
+            }
+        }
+        weight
+    }
+
+    /// The same, where it is known how many these are. Entries need no walk then.
+    pub(crate) fn weight(&self, count: u32, low: &[N], high: &[N]) -> u32
+        requires offer { IsOffer N.number N.most self.now }
+        requires low { length low.now ≡ self.now.nodes }
+        requires high { length high.now ≡ self.now.nodes }
+        requires count { count
+            ≡ count_in N.number self.now (marks N.number low.now) (marks N.number high.now) }
+        ensures { result
+            ≡ weight_in N.number self.now (marks N.number low.now) (marks N.number high.now) }
+    {
+        match self.budget {
+            Budget::Entries(_) => count,
+            Budget::Bytes(_) => self.weight_of_all(low, high),
+        }
+    }
+
+    /// Whether they fit.
+    pub(crate) fn fits(&self, count: u32, low: &[N], high: &[N]) -> bool
+        requires offer { IsOffer N.number N.most self.now }
+        requires low { length low.now ≡ self.now.nodes }
+        requires high { length high.now ≡ self.now.nodes }
+        requires count { count ≡ count_in N.number self.now (marks N.number low.now)
+            (marks N.number high.now) }
+        ensures { IsTrue result
+            ↔ (weight_in N.number self.now (marks N.number low.now) (marks N.number high.now)
+            ≤ amount_of self.now.budget) }
+    {
+        match self.budget {
+            Budget::Entries(amount) => count <= amount,
+            Budget::Bytes(amount) => {
+                count * MOST_ENTRY_SIZE <= amount || self.weight_of_all(low, high) <= amount
+            }
+        }
+    }
+}

@@ -1,0 +1,101 @@
+//! What is offered to a receiver, by marks for each owner.
+
+ghost use Rattle.std.specs.Prelude.{◌≡◌, ℕ, ◌<◌, ◌≤◌, length, map, slice_index, IfOk, IsOkUnless};
+ghost use Rattle.bench_types.specs.declared.faults.Fault.TheVariants.{OutOfMemory};
+ghost use Rattle.bench_types.specs.declared.exchanges.DigestKind.TheVariants.{Precise};
+ghost use Rattle.model.specs.calls.OwnerListView.{all_writes, entries_of};
+ghost use Rattle.planes.specs.Planes.{HasEach};
+ghost use Rattle.planes.specs.Elementwise.{AreChanged};
+ghost use Rattle.owner_writes.specs.Numbered.{start_of, IsNumberedHistory};
+ghost use Rattle.delta_plans.specs.Offers.{told_by, told_number};
+ghost use Rattle.delta_plans.specs.Told.{AreEarlierStarts, AreKnownOf, AreStarts, IsEarlierStart};
+
+use bench_types::{DigestKind, Fault};
+use owner_writes::OwnerWrites;
+use planes::Number;
+use std::alloc::Global;
+
+/// The owners' writes, and how many of each are of earlier generations.
+#[derive(Clone, Copy)]
+pub struct Owners<'a, N: Number> {
+    pub lists: &'a [OwnerWrites],
+    pub bases: &'a [N],
+}
+
+/// The marks up to which a receiver needs nothing: by a scuttle digest the greatest number that it has of each
+/// owner, by a precise one how many writes there are before the generation of that. Of itself it needs nothing.
+pub fn told<N: Number>(
+    alloc: Global,
+    kind: DigestKind,
+    node: usize,
+    greatest: &[N],
+    owners: Owners<N>,
+) -> Result<Vec<N>, Fault>
+    requires node { node < length owners.lists.now }
+    requires known { AreKnownOf N.number N.most owners greatest.now }
+    ensures told { IfOk result (λ v. HasEach (length owners.entry.lists.now)
+        (λ r n. n
+        ≡ told_number kind N.most node (all_writes owners.entry.lists.now)
+        (slice_index (map N.number greatest.now)) r)
+        (map N.number v.items)) }
+    ensures only { IsOkUnless result OutOfMemory }
+{
+    let mut told = Vec::from_slice(alloc, greatest)?;
+    put_marks(&mut told, kind, owners);
+    told[node] = N::greatest();
+    Ok(told)
+}
+
+// Puts what is told in place of each greatest number, but for the receiver itself.
+fn put_marks<N: Number>(numbers: &mut [N], kind: DigestKind, owners: Owners<N>)
+    requires { AreKnownOf N.number N.most owners numbers.old }
+    ensures { AreChanged (λ r x y. y ≡ told_by kind (all_writes owners.entry.lists.now r) x)
+        (map N.number numbers.old) (map N.number numbers.new) }
+{
+    match kind {
+        DigestKind::Scuttle => {}
+        DigestKind::Precise => put_starts(numbers, owners),
+    }
+}
+
+// Puts in place of each number where the generation of that write starts.
+fn put_starts<N: Number>(numbers: &mut [N], owners: Owners<N>)
+    requires { AreKnownOf N.number N.most owners numbers.old }
+    ensures { AreStarts N.number owners.entry numbers.old numbers.new }
+{
+    put_earlier_starts(numbers, owners);
+    planes::lower(numbers, owners.bases);
+}
+
+// Puts the starts of earlier generations. Most often there are none, which one fast loop tells.
+fn put_earlier_starts<N: Number>(numbers: &mut [N], owners: Owners<N>)
+    requires { AreKnownOf N.number N.most owners numbers.old }
+    ensures { AreEarlierStarts N.number owners.entry numbers.old numbers.new }
+{
+    if planes::total_upto(numbers, numbers.len(), 1, owners.bases) > 0 {
+        put_each_start(numbers, owners);
+    }
+}
+
+fn put_each_start<N: Number>(numbers: &mut [N], owners: Owners<N>)
+    requires { AreKnownOf N.number N.most owners numbers.old }
+    ensures { AreEarlierStarts N.number owners.entry numbers.old numbers.new }
+{
+    let Owners { lists, bases } = owners;
+    for r in 0..numbers.len() {
+        numbers[r] = earlier_start(&lists[r], numbers[r], bases[r]);
+    }
+}
+
+fn earlier_start<N: Number>(list: &OwnerWrites, number: N, base: N) -> N
+    requires numbered { IsNumberedHistory (entries_of list.now) }
+    requires fits { N.number number ≤ N.most }
+    ensures { IsEarlierStart (entries_of list.now) (N.number base) (N.number number)
+        (N.number result) }
+{
+    if number.is_above(N::zero()) && number.is_upto(base) {
+        N::narrow(list.start_of(number.widen()))
+    } else {
+        number
+    }
+}

@@ -1,0 +1,108 @@
+-- Writes by their numbers: which there are, and how their marks compare.
+-- Serves `delta_plans`, `version_lags` and `version_tables`.
+use Rattle.std.proofs.Common.{◌≡◌, ℕ, zero, suc, ◌<◌, ◌≤◌, List, [], ◌∷◌, length, get_or, Some, None, inl, inr, refl, sym, ap, ◌∙◌, subst, arith}
+use Rattle.std.specs.Prelude.{nat_lt}
+use Rattle.std.proofs.lemmas.Bool.{cases_lt, lt-ltb, le-ltb}
+use Rattle.std.proofs.lemmas.Option.{same_Some}
+use Rattle.bench_types.specs.declared.entries.Entry.{Entry}
+use Rattle.bench_types.specs.Mark.{mark_of, is_before, IsBefore, IsUpTo}
+use Rattle.bench_types.proofs.Marks.{before-yes, before-no, before-up_to, up_to-itself}
+use Rattle.model.specs.calls.Numbers.{write_from, write_numbered}
+use Rattle.owner_writes.specs.Numbered.{IsHistory}
+
+-- what stands at a place
+pub write_from-at : (writes : List Entry) (place : ℕ) (e d : Entry) → write_from writes place ≡ Some e → (place < length writes) × (get_or writes place d ≡ e)
+write_from-at [] place e d is = absurd (none is)
+  where
+    none : None ≡ Some e → ⊥
+    none h = cc
+write_from-at (x ∷ xs) zero e d is = (omega arith, same_Some x e is)
+write_from-at (x ∷ xs) (suc place) e d is = let rest = write_from-at xs place e d is in (omega (arith, rest.0), rest.1)
+
+-- a number is that of a place, where its write stands
+pub record IsPlaced (writes : List Entry) (number : ℕ) (e : Entry) : Type 0 where
+  pub place : ℕ
+  pub is : number ≡ suc place
+  pub within : place < length writes
+  pub there : (d : Entry) → get_or writes place d ≡ e
+
+pub numbered-placed : (writes : List Entry) (number : ℕ) (e : Entry) → write_numbered writes number ≡ Some e → IsPlaced writes number e
+numbered-placed writes zero e is = absurd (none is)
+  where
+    none : None ≡ Some e → ⊥
+    none h = cc
+numbered-placed writes (suc place) e is = record {
+  place = place;
+  is = refl;
+  within = (write_from-at writes place e e is).0;
+  there = λ d. (write_from-at writes place e d is).1;
+}
+
+-- numbers compare as marks
+pub numbers-before : (writes : List Entry) (history : IsHistory writes) (m n : ℕ) (d e : Entry) → write_numbered writes m ≡ Some d → write_numbered writes n ≡ Some e → m < n → IsBefore (mark_of d) (mark_of e)
+numbers-before writes history m n d e is_d is_e lt =
+    let first = numbered-placed writes m d is_d in
+    let second = numbered-placed writes n e is_e in
+    subst (λ x. IsBefore (mark_of x) (mark_of e)) (first.there d)
+    (subst (λ x. IsBefore (mark_of (get_or writes first.place d)) (mark_of x)) (second.there d)
+    (history.rise first.place second.place d (omega (arith, lt, first.is, second.is)) second.within))
+
+-- of one generation, numbers compare as versions
+module _ (writes : List Entry) (history : IsHistory writes) (m n : ℕ) (d e : Entry) (is_d : write_numbered writes m ≡ Some d) (is_e : write_numbered writes n ≡ Some e) (alike : d.generation ≡ e.generation) where
+  pub versions-rise : m < n → d.version < e.version
+  versions-rise lt = (numbers-before writes history m n d e is_d is_e lt).version alike
+
+  pub number-of_version : d.version < e.version → m < n
+  number-of_version lt = elim (cases_lt m n) [
+    | inl before ↦ before
+    | inr not_before ↦ elim (cases_lt n m) [
+      | inl behind ↦ absurd (omega (arith, lt, (numbers-before writes history n m e d is_e is_d behind).version (sym alike)))
+      | inr same ↦
+          let one : Some d ≡ Some e = sym is_d ∙ ap (write_numbered writes) {x = m} {y = n} (omega (arith, not_before, same)) ∙ is_e in
+          absurd (omega (arith, lt, ap (λ (x : Entry). x.version) (same_Some d e one)))
+    ]
+  ]
+
+-- there is a write at each place below the count
+pub write_from-some : (es : List Entry) (place : ℕ) → place < length es → (e : Entry) × (write_from es place ≡ Some e)
+write_from-some [] place lt = absurd (omega (arith, lt))
+write_from-some (e ∷ es) zero lt = (e, refl)
+write_from-some (e ∷ es) (suc place) lt = write_from-some es place (omega (arith, lt))
+
+pub numbered-some : (writes : List Entry) (number : ℕ) → 0 < number → number ≤ length writes → (e : Entry) × (write_numbered writes number ≡ Some e)
+numbered-some writes zero some le = absurd (omega (arith, some))
+numbered-some writes (suc place) some le = write_from-some writes place (omega (arith, le))
+
+-- a number up to the count of which there is no write is 0
+pub numbered-none : (writes : List Entry) (number : ℕ) → number ≤ length writes → write_numbered writes number ≡ None → number ≡ 0
+numbered-none writes zero le none = refl
+numbered-none [] (suc place) le none = absurd (omega (arith, le))
+numbered-none (e ∷ es) (suc place) le none =
+    let there = write_from-some (e ∷ es) place (omega (arith, le)) in absurd (some there.0 (sym there.1 ∙ none))
+  where
+    some : (d : Entry) → Some d ≡ None → ⊥
+    some d h = cc
+
+-- a write has a number from 1 up to the count
+pub numbered-within : (writes : List Entry) (number : ℕ) (e : Entry) → write_numbered writes number ≡ Some e → (0 < number) × (number ≤ length writes)
+numbered-within writes zero e is = absurd (none is)
+  where
+    none : None ≡ Some e → ⊥
+    none h = cc
+numbered-within writes (suc place) e is = let at = write_from-at writes place e e is in (omega arith, omega (arith, at.0))
+
+module _ (writes : List Entry) (history : IsHistory writes) (m n : ℕ) (d e : Entry) (is_d : write_numbered writes m ≡ Some d) (is_e : write_numbered writes n ≡ Some e) where
+  pub numbers-up_to : m ≤ n → IsUpTo (mark_of d) (mark_of e)
+  numbers-up_to le = elim (cases_lt m n) [
+    | inl before ↦ before-up_to (mark_of d) (mark_of e) (numbers-before writes history m n d e is_d is_e before)
+    | inr not_before ↦
+        let one : Some d ≡ Some e = sym is_d ∙ ap (write_numbered writes) {x = m} {y = n} (omega (arith, le, not_before)) ∙ is_e in
+        subst (λ x. IsUpTo (mark_of d) (mark_of x)) (same_Some d e one) (up_to-itself (mark_of d))
+  ]
+
+-- marks compare as numbers
+pub numbers-compare : (writes : List Entry) (history : IsHistory writes) (m n : ℕ) (d e : Entry) → write_numbered writes m ≡ Some d → write_numbered writes n ≡ Some e → is_before (mark_of d) (mark_of e) ≡ nat_lt m n
+numbers-compare writes history m n d e is_d is_e = elim (cases_lt m n) [
+  | inl before ↦ before-yes (mark_of d) (mark_of e) (numbers-before writes history m n d e is_d is_e before) ∙ sym (lt-ltb m n before)
+  | inr not_before ↦ before-no (mark_of d) (mark_of e) (numbers-up_to writes history n m e d is_e is_d (omega (arith, not_before))) ∙ sym (le-ltb m n (omega (arith, not_before)))
+]

@@ -1,0 +1,7 @@
+pub mod Missed
+pub mod Lagging
+pub mod Pieces
+pub mod Walks
+pub mod Counted
+pub mod Parts
+pub mod Whole

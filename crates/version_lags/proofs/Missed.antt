@@ -1,0 +1,250 @@
+-- The first write that a copy misses, by numbers.
+-- Serves `Lagging` and `Walks`.
+use Rattle.std.proofs.Common.{◌≡◌, ℕ, zero, suc, ◌+◌, ◌-◌, ◌<◌, ◌≤◌, Bool, true, false, cond, eqb, ltb, ◌&&◌, List, [], ◌∷◌, length, get_or, reverse, Some, None, ◌⊎◌, option_map, inl, inr, refl, sym, ap, ◌∙◌, subst, arith, length-append}
+use Rattle.std.specs.List.{find}
+use Rattle.std.proofs.lemmas.Bool.{cases_lt, cases_Bool, lt-ltb, le-ltb, ltb-true, eq-eqb, eqb-true, and_parts, both_ways}
+use Rattle.std.proofs.lemmas.List.{get_or-append_right, get_or-map, length-map, get_or_default, get_or-reverse, length-reverse}
+use Rattle.std.proofs.lemmas.Option.{same_Some}
+use Rattle.bench_types.specs.declared.entries.Entry.{Entry}
+use Rattle.bench_types.specs.declared.entries.Mark.{Mark}
+use Rattle.bench_types.specs.Mark.{absent, mark_of, mark_held, is_before, IsBefore, IsUpTo}
+use Rattle.bench_types.proofs.Marks.{before-yes, before-no, before-up_to, up_to-itself}
+use Rattle.model.specs.declared.writes.Write.{Write}
+use Rattle.model.specs.Writes.{write_of_entry}
+use Rattle.model.specs.calls.Writes.{IsNumbered, is_write_of, last_write}
+use Rattle.model.specs.calls.OwnerListView.{OwnerListView, entries_of, written, AreWrites}
+use Rattle.model.specs.calls.Numbers.{write_numbered}
+use Rattle.version_lags.specs.Missed.{base_of, number_staleness, IsMissed, IsFirstMissed, HasNoneMissed}
+use Rattle.owner_writes.proofs.Numbered.{write_from-here}
+use Rattle.round_tables.specs.Histories.{BirthsRise}
+use Rattle.owner_writes.proofs.Numbers.{write_from-at, numbered-placed}
+
+-- births don't fall with the numbers
+pub numbers-born : (writes : List Entry) (rise : BirthsRise writes) (m n : ℕ) (d e : Entry) → write_numbered writes m ≡ Some d → write_numbered writes n ≡ Some e → m ≤ n → d.born ≤ e.born
+numbers-born writes rise m n d e is_d is_e le =
+    let first = numbered-placed writes m d is_d in
+    let second = numbered-placed writes n e is_e in
+    omega (
+      arith,
+      rise first.place second.place d (omega (arith, le, first.is, second.is)) second.within,
+      ap (λ (x : Entry). x.born) (first.there d),
+      ap (λ (x : Entry). x.born) (second.there d),
+    )
+
+-- a search that finds nothing, or the first that passes
+pub record IsCountOffered (test : Write → Bool) (ws : List Write) (i : ℕ) (w : Write) : Type 0 where
+  pub within : i < length ws
+  pub there : (d : Write) → get_or ws i d ≡ w
+  pub passes : test w ≡ true
+  pub first : (j : ℕ) (d : Write) → j < i → test (get_or ws j d) ≡ false
+
+NoneFound : (Write → Bool) → List Write → Type 0
+NoneFound test ws = (i : ℕ) (d : Write) → i < length ws → test (get_or ws i d) ≡ false
+
+find_cases : (test : Write → Bool) (ws : List Write) → ((find test ws ≡ None) × NoneFound test ws) ⊎ ((i : ℕ) × ((w : Write) × ((find test ws ≡ Some w) × IsCountOffered test ws i w)))
+unfolding NoneFound
+find_cases test [] = inl (refl, λ i d lt. absurd (omega (arith, lt)))
+find_cases test (w ∷ ws) = elim (cases_Bool (test w)) [
+  | inl passes ↦ inr (
+    0,
+    (
+      w,
+      (
+        ap (λ b. cond b (Some w) (find test ws)) passes,
+        record {
+          within = omega arith;
+          there = λ d. refl;
+          passes = passes;
+          first = λ j d lt. absurd (omega (arith, lt));
+        },
+      ),
+    ),
+  )
+  | inr fails ↦
+      let rest : find test (w ∷ ws) ≡ find test ws = ap (λ b. cond b (Some w) (find test ws)) fails in
+      elim (find_cases test ws) [
+        | inl none ↦ inl (rest ∙ none.0, elim [ zero ↦ λ d lt. fails | suc i ↦ λ d lt. none.1 i d (omega (arith, lt)) ])
+        | inr found ↦ let at = found.1.1.1 in inr (
+          suc found.0,
+          (
+            found.1.0,
+            (
+              rest ∙ found.1.1.0,
+              record {
+                within = omega (arith, at.within);
+                there = λ d. at.there d;
+                passes = at.passes;
+                first = elim [ zero ↦ λ d lt. fails | suc j ↦ λ d lt. at.first j d (omega (arith, lt)) ];
+              },
+            ),
+          ),
+        )
+      ]
+]
+
+-- a key that was written has a last write, which stands no earlier
+pub last_write-after : (ws : List Write) (key i : ℕ) (d : Write) → IsNumbered ws → i < length ws → (get_or ws i d).key ≡ key → (w : Write) × ((last_write ws key ≡ Some w) × (i < w.version))
+unfolding NoneFound
+last_write-after ws key i d numbered lt here = elim (find_cases (is_write_of key) (reverse ws)) [
+  | inl none ↦ absurd (fails (none.1 back d (omega (arith, length-reverse ws))))
+  | inr found ↦
+      let at = found.1.1.1 in
+      let before : found.0 < length ws = omega (arith, at.within, length-reverse ws) in
+      let there : get_or ws (length ws - 1 - found.0) d ≡ found.1.0 = sym (get_or-reverse ws found.0 d before) ∙ at.there d in
+      let version = numbered (length ws - 1 - found.0) d (omega arith) in (
+        found.1.0,
+        (
+          found.1.1.0,
+          elim (cases_lt back found.0) [
+            | inl sooner ↦ absurd (fails (at.first back d sooner))
+            | inr later ↦ omega (arith, ap (λ (w : Write). w.version) there, version)
+          ],
+        ),
+      )
+]
+  where
+    back : ℕ
+    back = length ws - 1 - i
+
+    passes : is_write_of key (get_or (reverse ws) back d) ≡ true
+    passes =
+        let same : length ws - 1 - back ≡ i = omega arith in
+        eq-eqb (get_or (reverse ws) back d).key key
+        (ap (λ (w : Write). w.key) (get_or-reverse ws back d (omega arith)) ∙ ap (λ j. (get_or ws j d).key) same ∙ here)
+
+    fails : is_write_of key (get_or (reverse ws) back d) ≡ false → ⊥
+    fails failed = let bad : true ≡ false = sym passes ∙ failed in cc
+
+pub last_write-keyed : (ws : List Write) (key : ℕ) (w : Write) → last_write ws key ≡ Some w → w.key ≡ key
+last_write-keyed ws key w is = elim (find_cases (is_write_of key) (reverse ws)) [
+  | inl none ↦ let no : None ≡ Some w = sym none.0 ∙ is in absurd (nothing no)
+  | inr found ↦ let same = same_Some found.1.0 w (sym found.1.1.0 ∙ is) in eqb-true w.key key (subst (λ x. is_write_of key x ≡ true) same found.1.1.1.passes)
+]
+  where
+    nothing : None ≡ Some w → ⊥
+    nothing same = cc
+
+module _ (v : OwnerListView) (are : AreWrites v) where
+  abbrev base : ℕ
+  base = base_of v
+
+  abbrev all : List Entry
+  all = entries_of v
+
+  -- the write at a place of the generation
+  pub numbered-current : (j : ℕ) (d : Entry) → j < length v.current → write_numbered all (suc (base + j)) ≡ Some (get_or v.current j d)
+  numbered-current j d lt =
+      write_from-here all (base + j) d (omega (arith, lt, length-append v.earlier v.current))
+      ∙ ap Some (get_or-append_right v.earlier v.current base (base + j) d refl (omega arith) ∙ ap (λ i. get_or v.current i d) {x = base + j - base} {y = j} (omega arith))
+
+  pub record IsCurrent (number : ℕ) (e : Entry) : Type 0 where
+    pub place : ℕ
+    pub within : place < length v.current
+    pub is : number ≡ suc (base + place)
+    pub there : (d : Entry) → get_or v.current place d ≡ e
+
+  pub current-numbered : (number : ℕ) (e : Entry) → write_numbered all number ≡ Some e → base < number → IsCurrent number e
+  current-numbered zero e is lt = absurd (omega (arith, lt))
+  current-numbered (suc i) e is lt =
+      let at = write_from-at all i e e is in
+      let place : base ≤ i = omega (arith, lt) in
+      let within : i - base < length v.current = omega (arith, at.0, length-append v.earlier v.current, lt) in
+      record {
+        place = i - base;
+        within = within;
+        is = omega (arith, lt);
+        there = λ d. get_or_default v.current (i - base) d e within ∙ sym (get_or-append_right v.earlier v.current base i e refl place) ∙ at.1;
+      }
+
+  -- a mark is below that of a write of the generation just where its number is
+  before-number : (c j : ℕ) (d : Entry) → c ≤ length all → j < length v.current → is_before (mark_held (write_numbered all c)) (record { generation = v.generation; version = (get_or v.current j d).version }) ≡ ltb c (suc (base + j))
+  before-number zero j d le lt =
+      let next = are.current j d lt in
+      before-yes absent (record { generation = v.generation; version = (get_or v.current j d).version }) (record { generation = omega arith; version = λ same. omega (arith, next.1) })
+      ∙ sym (lt-ltb 0 (suc (base + j)) (omega arith))
+  before-number (suc i) j d le lt =
+      let next = are.current j d lt in
+      let within : i < length all = omega (arith, le) in
+      let e = get_or all i d in
+      let here : get_or all (base + j) d ≡ get_or v.current j d =
+      get_or-append_right v.earlier v.current base (base + j) d refl (omega arith) ∙ ap (λ k. get_or v.current k d) {x = base + j - base} {y = j} (omega arith) in
+      let m : Mark = record { generation = v.generation; version = (get_or v.current j d).version } in
+      let mark_is : mark_of (get_or all (base + j) d) ≡ m = (λ k. record { generation = (ap (λ (x : Entry). x.generation) here ∙ next.0) k; version = ap (λ (x : Entry). x.version) here k }) in
+      ap (λ o. is_before (mark_held o) m) (write_from-here all i d within)
+      ∙ elim (cases_lt i (base + j)) [
+        | inl before ↦
+            before-yes (mark_of e) m (subst (IsBefore (mark_of e)) mark_is (are.rising i (base + j) d before (omega (arith, lt, length-append v.earlier v.current))))
+            ∙ sym (lt-ltb (suc i) (suc (base + j)) (omega (arith, before)))
+        | inr not_before ↦ before-no (mark_of e) m (subst (λ x. IsUpTo x (mark_of e)) mark_is (elim (cases_lt (base + j) i) [
+          | inl behind ↦ before-up_to (mark_of (get_or all (base + j) d)) (mark_of e) (are.rising (base + j) i d behind within)
+          | inr same ↦ subst (λ k. IsUpTo (mark_of (get_or all k d)) (mark_of e)) {x = i} {y = base + j} (omega (arith, same, not_before)) (up_to-itself (mark_of e))
+        ]))
+            ∙ sym (le-ltb (suc i) (suc (base + j)) (omega (arith, not_before)))
+      ]
+
+  module _ (key c : ℕ) (le : c ≤ length all) where
+    test : Write → Bool
+    test w = eqb w.key key && is_before (mark_held (write_numbered all c)) (record { generation = v.generation; version = w.version })
+
+    tested : (j : ℕ) (d : Entry) (w : Write) → j < length v.current → test (get_or (written v) j w) ≡ (eqb (get_or v.current j d).key key && ltb c (suc (base + j)))
+    unfolding test
+    tested j d w lt =
+        ap (λ (x : Write). test x) (get_or-map write_of_entry v.current j d w lt)
+        ∙ ap (λ b. eqb (get_or v.current j d).key key && b) (before-number c j d le lt)
+
+    -- what is missed passes the test
+    missed_passes : (j : ℕ) (d : Entry) (w : Write) → j < length v.current → (get_or v.current j d).key ≡ key → c < suc (base + j) → test (get_or (written v) j w) ≡ true
+    missed_passes j d w lt keyed above =
+        tested j d w lt ∙ (λ i. eq-eqb (get_or v.current j d).key key keyed i && lt-ltb c (suc (base + j)) above i)
+
+    passes_missed : (j : ℕ) (d : Entry) (w : Write) → j < length v.current → test (get_or (written v) j w) ≡ true → IsMissed v key c (suc (base + j)) (get_or v.current j d)
+    passes_missed j d w lt passes =
+        let parts = and_parts (eqb (get_or v.current j d).key key) (ltb c (suc (base + j))) (sym (tested j d w lt) ∙ passes) in
+        record {
+          written = numbered-current j d lt;
+          current = omega arith;
+          keyed = eqb-true (get_or v.current j d).key key parts.0;
+          over = ltb-true c (suc (base + j)) parts.1;
+        }
+
+    -- nothing is missed, or there is a first write that is
+    pub missed_cases : (round : ℕ) → (HasNoneMissed v key c × (number_staleness round v key c ≡ None))
+        ⊎ ((number : ℕ) × ((e : Entry) × (IsFirstMissed v key c number e × (number_staleness round v key c ≡ Some (round - e.born + 1)))))
+    unfolding test NoneFound
+    missed_cases round = elim (find_cases test (written v)) [
+      | inl none ↦ inl (
+        (λ m d missed.
+            let at = current-numbered m d missed.written missed.current in
+            let w = write_of_entry d in
+            both_ways (test (get_or (written v) at.place w)) (none.1 at.place w (omega (arith, at.within, length-map v.current write_of_entry)))
+            (missed_passes at.place d w at.within (ap (λ (x : Entry). x.key) (at.there d) ∙ missed.keyed) (omega (arith, at.is, missed.over)))),
+        ap (option_map (λ (w : Write). round - w.born + 1)) none.0,
+      )
+      | inr found ↦
+          let j = found.0 in
+          let w = found.1.0 in
+          let is = found.1.1.1 in
+          let within : j < length v.current = omega (arith, is.within, length-map v.current write_of_entry) in
+          let d : Entry = record { key = 0; generation = 0; version = 0; value = 0; born = 0 } in
+          let e = get_or v.current j d in
+          let same : w ≡ write_of_entry e = sym (is.there w) ∙ get_or-map write_of_entry v.current j d w within in
+          inr (
+            suc (base + j),
+            (
+              e,
+              (
+                record {
+                  missed = passes_missed j d w within (ap test (is.there w) ∙ is.passes);
+                  first = λ m x missed.
+                      let at = current-numbered m x missed.written missed.current in
+                      elim (cases_lt at.place j) [
+                        | inl before ↦ absurd (both_ways (test (get_or (written v) at.place w)) (is.first at.place w before)
+                            (missed_passes at.place x w at.within (ap (λ (y : Entry). y.key) (at.there x) ∙ missed.keyed) (omega (arith, at.is, missed.over))))
+                        | inr not_before ↦ omega (arith, at.is, not_before)
+                      ];
+                },
+                ap (option_map (λ (w : Write). round - w.born + 1)) found.1.1.0 ∙ ap (λ (x : Write). Some (round - x.born + 1)) same,
+              ),
+            ),
+          )
+    ]

@@ -1,0 +1,164 @@
+-- The first write of an owner that some copy misses has been missed for longest.
+-- Serves `greatest_lag` and `lag_of_owner`.
+use Rattle.std.proofs.Common.{◌≡◌, ℕ, zero, suc, ◌+◌, ◌-◌, ◌*◌, ◌<◌, ◌≤◌, max, List, length, Some, inl, inr, refl, sym, ap, ◌∙◌, subst, arith}
+use Rattle.std.proofs.Math.Nat.{mul-le-mul_right}
+use Rattle.std.proofs.lemmas.Bool.{cases_lt}
+use Rattle.std.proofs.lemmas.Option.{same_Some}
+use Rattle.bench_types.specs.declared.entries.Entry.{Entry}
+use Rattle.model.specs.calls.OwnerListView.{OwnerListView, entries_of, list_of_owner, AreWrites}
+use Rattle.model.specs.calls.Numbers.{write_numbered}
+use Rattle.planes.specs.Planes.{cell}
+use Rattle.round_tables.specs.Histories.{BirthsRise}
+use Rattle.bench_types.specs.Sums.{most_below}
+use Rattle.model.specs.Figures.{rounds_behind}
+use Rattle.version_lags.specs.Missed.{base_of, number_staleness, IsMissed, IsLastNumber, NonePassUpto}
+use Rattle.owner_writes.specs.Numbered.{IsRoundMark}
+use Rattle.version_lags.specs.Pieces.{MayWalk, WalksFrom, most_lag}
+use Rattle.owner_writes.proofs.Numbers.{write_from-at, numbered-within}
+use Rattle.version_lags.proofs.Missed.{numbers-born, missed_cases}
+
+most_below-le : (f : ℕ → ℕ) (m x : ℕ) → ((k : ℕ) → k < m → f k ≤ x) → most_below m f ≤ x
+most_below-le f zero x le = omega arith
+most_below-le f (suc m) x le = omega (arith, le m (omega arith), most_below-le f m x (λ k lt. le k (omega (arith, lt))))
+
+most_below-has : (f : ℕ → ℕ) (m k : ℕ) → k < m → f k ≤ most_below m f
+most_below-has f zero k lt = absurd (omega (arith, lt))
+most_below-has f (suc m) k lt = elim (cases_lt k m) [
+  | inl before ↦ omega (arith, most_below-has f m k before)
+  | inr not_before ↦ let same : m ≡ k = omega (arith, lt, not_before) in omega (arith, ap f same)
+]
+
+most_below-is : (f : ℕ → ℕ) (m k x : ℕ) → k < m → f k ≡ x → ((j : ℕ) → j < m → f j ≤ x) → most_below m f ≡ x
+most_below-is f m k x lt is le = omega (arith, most_below-has f m k lt, is, most_below-le f m x le)
+
+module _ (v : OwnerListView) (least : ℕ → ℕ) where
+  abbrev all : List Entry
+  all = entries_of v
+
+  -- the walk begins at the least number that is behind, or at the generation
+  pub walk-start : (keys first : ℕ) (last : ℕ → ℕ) → ((m : ℕ) (e : Entry) → write_numbered all m ≡ Some e → base_of v < m → e.key < keys)
+      → ((k : ℕ) → k < keys → IsLastNumber v k (last k)) → ((k : ℕ) → k < keys → least k < last k → first ≤ least k) → NonePassUpto v least (max (base_of v) first)
+  walk-start keys first last keyed lasts upto m e is current le =
+      let in_keys = keyed m e is current in
+      elim (cases_lt (least e.key) (last e.key)) [
+        | inl behind ↦ omega (arith, le, current, upto e.key in_keys behind)
+        | inr not_behind ↦ elim (cases_lt (last e.key) m) [
+          | inl over ↦ absurd ((lasts e.key in_keys).last m e (record { written = is; current = current; keyed = refl; over = over }))
+          | inr not_over ↦ omega (arith, not_over, not_behind)
+        ]
+      ]
+
+  -- one more write doesn't pass
+  pub walk-next : (place : ℕ) → NonePassUpto v least place → ((e : Entry) → write_numbered all (place + 1) ≡ Some e → place + 1 ≤ least e.key) → NonePassUpto v least (place + 1)
+  walk-next place none here m e is current le = elim (cases_lt place m) [
+    | inl next ↦
+        let same : m ≡ place + 1 = omega (arith, next, le) in
+        omega (arith, here e (sym (ap (write_numbered all) same) ∙ is), same)
+    | inr before ↦ none m e is current before
+  ]
+
+  module _ (round keys : ℕ) (are : AreWrites v) (within : (k : ℕ) → k < keys → least k ≤ length all) where
+    abbrev lag : ℕ → ℕ
+    lag k = rounds_behind (number_staleness round v k (least k))
+
+    pub walk-none : (place : ℕ) → NonePassUpto v least place → length all ≤ place → most_below keys lag ≡ 0
+    walk-none place none past = omega (
+      arith,
+      most_below-le lag keys 0 (λ k in_keys. elim (missed_cases v are k (least k) (within k in_keys) round) [
+        | inl nothing ↦ omega (arith, ap rounds_behind nothing.1)
+        | inr found ↦
+            let missed = found.1.1.0.missed in
+            absurd (omega (arith, missed.over, none found.0 found.1.0 missed.written missed.current (omega (arith, past, (numbered-within all found.0 found.1.0 missed.written).1)), ap least missed.keyed))
+      ]),
+    )
+
+    pub walk-found : BirthsRise all → (place : ℕ) (e : Entry) → NonePassUpto v least place → base_of v ≤ place → write_numbered all (place + 1) ≡ Some e → e.key < keys → least e.key ≤ place → most_below keys lag ≡ round - e.born + 1
+    walk-found rise place e none current is in_keys over = most_below-is lag keys e.key (round - e.born + 1) in_keys here upto
+      where
+        behind : (k m : ℕ) (d : Entry) → IsMissed v k (least k) m d → place + 1 ≤ m
+        behind k m d missed = elim (cases_lt place m) [
+          | inl next ↦ omega (arith, next)
+          | inr before ↦ absurd (omega (arith, missed.over, none m d missed.written missed.current before, ap least missed.keyed))
+        ]
+
+        upto : (k : ℕ) → k < keys → lag k ≤ round - e.born + 1
+        upto k lt = elim (missed_cases v are k (least k) (within k lt) round) [
+          | inl nothing ↦ omega (arith, ap rounds_behind nothing.1)
+          | inr found ↦
+              let missed = found.1.1.0.missed in
+              omega (arith, ap rounds_behind found.1.1.1, numbers-born all rise (place + 1) found.0 e found.1.0 is missed.written (behind k found.0 found.1.0 missed))
+        ]
+
+        itself : IsMissed v e.key (least e.key) (place + 1) e
+        itself = record { written = is; current = omega (arith, current); keyed = refl; over = omega (arith, over) }
+
+        here : lag e.key ≡ round - e.born + 1
+        here = elim (missed_cases v are e.key (least e.key) (within e.key in_keys) round) [
+          | inl nothing ↦ absurd (nothing.0 (place + 1) e itself)
+          | inr found ↦
+              let missed = found.1.1.0.missed in
+              let same : found.0 ≡ place + 1 = omega (arith, behind e.key found.0 found.1.0 missed, found.1.1.0.first (place + 1) e itself) in
+              ap rounds_behind found.1.1.1
+              ∙ ap (λ (x : Entry). round - x.born + 1) (same_Some found.1.0 e (sym missed.written ∙ ap (write_numbered all) same ∙ is))
+        ]
+
+-- what a walk reads
+module _ (round most nodes keys owner first : ℕ) (v : OwnerListView) (least : List ℕ) (walks : WalksFrom round most nodes keys owner first v least) (place : ℕ) (e : Entry) (current : base_of v ≤ place) (is : write_numbered (entries_of v) (place + 1) ≡ Some e) where
+  pub walk-keyed : e.key < keys
+  walk-keyed = walks.may.keyed (place + 1) e is (omega (arith, current))
+
+  pub walk-index : e.key * nodes + owner < length least
+  walk-index = omega (arith, walks.may.size, walks.may.among, mul-le-mul_right {m = e.key + 1} {n = keys} nodes (omega (arith, walk-keyed)))
+
+  pub walk-born : e.born ≤ round
+  walk-born =
+      let at = write_from-at (entries_of v) place e e (ap (write_numbered (entries_of v)) {x = suc place} {y = place + 1} (omega arith) ∙ is) in
+      subst (λ (x : Entry). x.born ≤ round) at.1 (walks.may.born place e at.0)
+
+-- where all behind the number was written after a round, no copy has been behind for longer than since then
+pub lag-since : (round most nodes keys owner first : ℕ) (v : OwnerListView) (least : List ℕ) → WalksFrom round most nodes keys owner first v least
+    → (since mark greatest : ℕ) → IsRoundMark (entries_of v) 0 since mark → mark ≤ first → round ≤ since + greatest → most_lag round nodes keys owner v least ≤ greatest
+lag-since round most nodes keys owner first v least walks since mark greatest marked upto_first recent =
+    most_below-le _ keys greatest (λ k in_keys. elim (missed_cases v walks.may.writes k (cell least nodes owner k) (walks.may.written k in_keys) round) [
+      | inl nothing ↦ omega (arith, ap rounds_behind nothing.1)
+      | inr found ↦
+          let missed = found.1.1.0.missed in
+          let start = max (base_of v) first in
+          elim (cases_lt start found.0) [
+            | inl past ↦ omega (
+              arith,
+              ap rounds_behind found.1.1.1,
+              marked.above found.0 found.1.0 (omega (arith, past)) missed.written (omega (arith, upto_first, past)),
+              born-upto found.0 found.1.0 missed.written,
+              recent,
+            )
+            | inr before ↦ absurd (omega (arith, missed.over, walks.start found.0 found.1.0 missed.written missed.current before, ap (cell least nodes owner) missed.keyed))
+          ]
+    ])
+  where
+    born-upto : (m : ℕ) (e : Entry) → write_numbered (entries_of v) m ≡ Some e → e.born ≤ round
+    born-upto zero e is = absurd (nothing e is)
+      where
+        nothing : (x : Entry) → write_numbered (entries_of v) zero ≡ Some x → ⊥
+        nothing x h = cc
+    born-upto (suc place) e is =
+        let at = write_from-at (entries_of v) place e e is in
+        subst (λ (x : Entry). x.born ≤ round) at.1 (walks.may.born place e at.0)
+
+-- an owner's list among those of all
+pub walks-from : (round most nodes keys r first : ℕ) (lists : List OwnerListView) (v : OwnerListView) (least last : List ℕ) → v ≡ list_of_owner lists r → MayWalk round most nodes keys r (list_of_owner lists r) least
+    → ((k : ℕ) → k < keys → IsLastNumber (list_of_owner lists r) k (cell last nodes r k))
+    → ((k : ℕ) → k < keys → cell least nodes r k < cell last nodes r k → first ≤ cell least nodes r k) → WalksFrom round most nodes keys r first v least
+walks-from round most nodes keys r first lists v least last is may lasts upto =
+    subst (λ w. WalksFrom round most nodes keys r first w least) (sym is) (record {
+      may = may;
+      start = walk-start (list_of_owner lists r) (cell least nodes r) keys first (cell last nodes r) may.keyed lasts upto;
+    })
+
+-- one more owner that has been behind for no longer
+pub most-stays : (f : ℕ → ℕ) (r x : ℕ) → x ≡ most_below r f → f r ≤ x → x ≡ most_below (r + 1) f
+most-stays f r x is le = omega (arith, is, le) ∙ ap (λ m. most_below m f) {x = suc r} {y = r + 1} (omega arith)
+
+-- one more owner
+pub most-next : (f : ℕ → ℕ) (r x y z : ℕ) → x ≡ most_below r f → z ≡ max x y → y ≡ f r → z ≡ most_below (r + 1) f
+most-next f r x y z is joined now = joined ∙ (λ i. max (is i) (now i)) ∙ ap (λ m. most_below m f) {x = suc r} {y = r + 1} (omega arith)

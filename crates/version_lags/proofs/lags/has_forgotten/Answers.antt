@@ -1,0 +1,10 @@
+use Rattle.std.proofs.Common.{sym, ◌∙◌, below_more}
+use Rattle.planes.proofs.Elementwise.{number-at}
+use Rattle.version_lags.proofs.Counted.{not_above}
+use Rattle.version_lags.proofs.lags.has_forgotten.Goals as goal
+
+pub loop-base-preserved : goal.loop-base-preserved
+loop-base-preserved g c =
+    let here = number-at g.N.Number.number c.args.bases.now c.loop-base.base-index c.base-item.result c.loop-base-test.true c.base-item.is in
+    below_more _ _ c.loop-base.invariant
+    (sym here ∙ not_above (g.N.Number.number c.zero.result) (g.N.Number.number c.base-item.result) c.zero.ensures (sym c.is_above.ensures ∙ c.if-is_above.false))

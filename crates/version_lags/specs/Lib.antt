@@ -1,0 +1,2 @@
+pub mod Missed
+pub mod Pieces

@@ -1,6 +1,0 @@
-use Rattle.std.proofs.Common.{map}
-use Rattle.version_tables.specs.inner.Pieces.{numbers_in, CountsPiece}
-use Rattle.version_tables.proofs.lags.Numbers.piece_of.Given as goal
-
-abbrev pub invariant-loop-at : goal.invariant-loop-at
-invariant-loop-at g l = CountsPiece l.nodes l.keys (numbers_in g.N.Number.number l.cells) (map g.N.Number.number l.bases) (map g.N.Number.number l.last) l.from l.at l.stale l.leftover (map g.N.Number.number l.least.items)

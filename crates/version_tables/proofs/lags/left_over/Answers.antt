@@ -1,8 +1,0 @@
-use Rattle.std.proofs.Common.{slice_index, map}
-use Rattle.planes.specs.Planes.{cell}
-use Rattle.version_tables.proofs.Counted.{none_left}
-use Rattle.version_tables.proofs.lags.left_over.Goals as goal
-
-pub returns-else-forgot : goal.returns-else-forgot
-returns-else-forgot g c =
-    none_left c.args.nodes c.args.keys (cell (map g.N.Number.number c.args.cells.now) c.args.nodes) (λ r. slice_index (map g.N.Number.number c.args.bases.now) r) (c.requires.forgot c.if-forgot.false)

@@ -1,9 +1,0 @@
-use Rattle.std.proofs.Common.{sym, ◌∙◌}
-use Rattle.version_tables.specs.inner.OfferInMemory.{marks}
-use Rattle.version_tables.proofs.OfferWeights.{offer-entries}
-use Rattle.version_tables.proofs.weights.Offer.weight.Goals as goal
-
-pub returns-in-Entries : goal.returns-in-Entries
-returns-in-Entries g c =
-    c.requires.count
-    ∙ sym (offer-entries g.N.Number.number g.N.Number.most c.args.self.now c.requires.offer (marks g.N.Number.number c.args.low.now) (marks g.N.Number.number c.args.high.now) c.in-Entries.field-0 c.in-Entries.is)

@@ -39,6 +39,8 @@ def copied(room):
     """A copy of the repository's crates, without what checks keep, and of its scripts."""
     shutil.copytree(TOP / "scripts", room / "scripts", ignore=shutil.ignore_patterns("__pycache__"))
     shutil.copy(TOP / "crates.txt", room)
+    (room / "docs").mkdir()
+    shutil.copy(TOP / "docs" / "proofs.md", room / "docs")
     for part in [*TOP.glob("crates/*/specs"), *TOP.glob("crates/*/src")]:
         shutil.copytree(part, room / part.relative_to(TOP))
 
@@ -55,9 +57,9 @@ def try_changes(room):
         for file, (front, behind) in files.items():
             text = kept[room / "crates" / file]
             (room / "crates" / file).write_text(f"{front}{text}{behind}")
-        status, out, _ = run(room, room / "scripts" / "believed")
+        _, out, _ = run(room, room / "scripts" / "believed")
         told = [it.split(": wanted ")[0] for it in out.splitlines() if ": wanted " in it]
-        holds(name, (bool(wanted), wanted), (bool(status), told))
+        holds(name, wanted, [it for it in told if not it.startswith("docs/")])
         for file, text in kept.items():
             file.write_text(text)
 

@@ -1,14 +1,12 @@
 -- What a document says fixes the settings of a scenario.
 -- Serves `documents_fix_settings`.
-use Rattle.std.proofs.Common.{◌≡◌, ℕ, pos, Bool, true, false, ◌&&◌, cond, List, [], ◌∷◌, map, Option, None, Some, bytes_eq, inl, inr, refl, sym, ap, ◌∙◌, subst}
+use Rattle.std.proofs.Common.{◌≡◌, ℕ, pos, Bool, true, false, ◌&&◌, List, [], ◌∷◌, map, Option, Some, inl, inr, refl, sym, ap, ◌∙◌, subst}
 use Rattle.std.specs.List.{AllZip}
 use Rattle.std.specs.Cmp.Lexicographic.{slice_cmp}
 use Rattle.std.specs.Ordering.{is_eq, nat_cmp, match_ordering}
-use Rattle.std.specs.declared.cmp.Ordering.{Ordering}
 use Rattle.std.specs.declared.cmp.Ordering.TheVariants.{Less, Equal, Greater}
 use Rattle.std.proofs.lemmas.Map.Text.{is_eq-slice_cmp}
 use Rattle.std.proofs.lemmas.Slice.Eq.{bytes_eq-Decides}
-use Rattle.toml.specs.Data as toml
 use Rattle.toml.specs.Data.{Data, integer, Members, no_members, member, get_member}
 use Rattle.bench_types.specs.declared.exchanges.Budget.{Budget}
 use Rattle.bench_types.specs.declared.exchanges.Budget.TheVariants.{Entries, Bytes}
@@ -19,10 +17,10 @@ use Rattle.bench_types.specs.Mode.{mode_named}
 use Rattle.scenario.specs.declared.elements.Partition.{Partition}
 use Rattle.scenario.specs.declared.elements.Restart.{Restart}
 use Rattle.scenario.specs.declared.elements.Load.{Load}
-use Rattle.scenario.specs.Budgets.{is_in_entries, budget_field}
+use Rattle.scenario.specs.Budgets.{is_in_entries}
 use Rattle.scenario.specs.Elements.{has_generations, list_of}
 use Rattle.scenario.specs.Fields.{is_among, has_only}
-use Rattle.scenario.specs.Order.{members_of, HasNumber, HasFlag, HasBudget, HasWord, HasNumbers, HasElements, SaysPartition, SaysRestart, SaysLoad, Says, DocumentsFixSettings}
+use Rattle.scenario.specs.Order.{members_of, HasNumber, HasFlag, HasBudget, HasWord, HasNumbers, HasElements, SaysPartition, SaysRestart, SaysLoad, Says}
 use Rattle.scenario.specs.Settings.{Settings}
 use Rattle.scenario.specs.Top.{top_fields}
 use Rattle.scenario.specs.Words.{peers_of, rotation_of, choice_of}
@@ -136,7 +134,7 @@ budget_once format table (Bytes m) (Entries n) only a b = absurd (not_both forma
 budget_once format table (Bytes m) (Bytes n) only a b = ap (λ k. Bytes k) (number_once table field.BudgetBytes m n a b)
 
 -- no two scenarios are what one document says
-pub Says-once : DocumentsFixSettings
+pub Says-once : (table : Members) (s t : Settings) → Says table s → Says table t → s ≡ t
 Says-once table s t a b =
     let format = number_once table field.Format s.format t.format a.format b.format in
     let nodes = number_once table field.Nodes s.nodes t.nodes a.nodes b.nodes in

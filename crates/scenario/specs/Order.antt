@@ -236,7 +236,3 @@ pub record Says (table : Members) (s : Settings) : Type 0 where
   pub others_of_partitions : elements_have_only field.Partition partition_fields table ≡ true
   pub others_of_restarts : elements_have_only field.Restart (restart_fields s.format) table ≡ true
   pub others_of_loads : elements_have_only field.Load load_fields table ≡ true
-
--- no two scenarios are what one document says
-abbrev pub DocumentsFixSettings : Type 0
-DocumentsFixSettings = (table : Members) (s t : Settings) → Says table s → Says table t → s ≡ t

@@ -3,7 +3,6 @@
 ghost use Rattle.std.specs.Prelude.{◌≡◌, ◌≢◌, None, IfOk, IfErr, OnOk, IsErrOf, IsSomeAnd, IsUtf8};
 ghost use Rattle.toml.specs.View.{table_view};
 ghost use Rattle.scenario.specs.Order.{document_of, first_fault, Says};
-ghost use Rattle.scenario.specs.inner.Checked.{text_checked};
 ghost use Rattle.scenario.specs.CheckFault.{IsFaultOfCheck};
 
 use crate::scenarios::Scenario;

@@ -64,7 +64,7 @@ listed_births s round owner lt =
     subst NoneIsOlder (sym (get_or-map-range_with_len (list_after s round) 0 s.nodes owner owner [] lt (omega arith)))
     (AllPairs-map (λ (d e : Write). d.born ≤ e.born) write_of_entry (writes_upto s owner round) (births_of s owner round))
 
-begun_generation : (s : Settings) (some : 2 ≤ s.nodes) (most : s.nodes ≤ 4096) (some_key : 1 ≤ s.keys) (few_keys : s.keys ≤ 64) (round n : ℕ) → 1 ≤ round → n < s.nodes → (table_of_node (begun s round (tables_after s (round - 1))) n).generation ≡ generation_upto s n round
+pub begun_generation : (s : Settings) (some : 2 ≤ s.nodes) (most : s.nodes ≤ 4096) (some_key : 1 ≤ s.keys) (few_keys : s.keys ≤ 64) (round n : ℕ) → 1 ≤ round → n < s.nodes → (table_of_node (begun s round (tables_after s (round - 1))) n).generation ≡ generation_upto s n round
 begun_generation s some most some_key few_keys round n first lt =
     sym (before_keeps_own (rules_of s) s.nodes s.keys (round_list_of s round).exchanges (begun s round (tables_after s (round - 1))) (planned_list s round some) (copies_begun s some most some_key few_keys round first).tables (length (round_list_of s round).exchanges) n).generation
     ∙ ap (λ ts. (table_of_node ts n).generation) ((sound_run s some most some_key few_keys).ends round first)

@@ -10,7 +10,9 @@ pub mod Paths
 pub mod Ample
 pub mod Formats
 pub mod Floors
+pub mod CatchingUp
 pub mod Best
+pub mod Bounds
 pub mod Alike
 pub mod Stepping
 pub mod Playing

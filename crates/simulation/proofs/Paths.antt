@@ -1,28 +1,58 @@
 -- A path of exchanges makes fresh what its last holder has.
--- Serves `paths_make_fresh`.
-use Rattle.std.proofs.Common.{◌≡◌, ℕ, ◌+◌, ◌-◌, ◌<◌, ◌≤◌, false, List, [], length, take, get_or, Some, inl, inr, refl, sym, ap, ◌∙◌, subst, arith}
+-- Serves `paths_make_fresh` and `uncut_exchanges_hand_on`.
+use Rattle.std.proofs.Common.{◌≡◌, ℕ, ◌+◌, ◌-◌, ◌<◌, ◌≤◌, false, List, [], length, take, get_or, Some, inl, inr, refl, sym, ap, ◌∙◌, subst, arith, Bool, true, if◌then◌else◌}
 use Rattle.std.specs.Prelude.{slice_get}
 use Rattle.std.proofs.lemmas.Bool.{cases_eq}
 use Rattle.std.proofs.lemmas.List.Sums.{fold_more}
 use Rattle.std.proofs.lemmas.Option.{get_or_from_slice_get, slice_get_within}
 use Rattle.bench_types.specs.declared.exchanges.Exchange.{Exchange}
+use Rattle.bench_types.specs.declared.exchanges.Fate.{Fate}
+use Rattle.bench_types.specs.declared.exchanges.Fate.TheVariants as fate
 use Rattle.bench_types.specs.calls.Exchange.{IsPlanned}
+use Rattle.bench_types.specs.Mode.{digest_kind}
 use Rattle.scenario.specs.Settings.{Settings, IsLawfulScenario}
 use Rattle.model.specs.Table.{Table}
 use Rattle.model.specs.Tables.{table_of_node}
 use Rattle.model.specs.Deltas.{DeltaView, delta_between}
 use Rattle.model.specs.ExchangeLaws.{LosesNothing}
-use Rattle.model.specs.Exchanged.{initiator_after, responder_after}
+use Rattle.model.specs.Digests.{digest_size}
+use Rattle.model.specs.Exchanged.{fate_of, last_fate, sent_until, initiator_after, responder_after}
 use Rattle.model.specs.Folds.{Folded, exchange_in, fold_of}
+use Rattle.model.proofs.DeltaLaws.{sent-uncut}
 use Rattle.model.proofs.Fresh.{HasAllOf, fresh_from, has_all}
 use Rattle.model.proofs.Spreads.{to_initiator, to_responder}
 use Rattle.round_plan.specs.Plan.{round_list_of}
 use Rattle.round_plan.proofs.Planned.{planned_list}
 use Rattle.simulation.specs.Rounds.{begun, rules_of, tables_after}
 use Rattle.simulation.specs.Soundness.{writes_by, AreSound, tables_within}
-use Rattle.simulation.specs.Healing.{Moment, IsUpToMoment, IsFreshAt}
-use Rattle.simulation.specs.Paths.{next_moment, SendsCopyAt, back, forth, IsReached, own, stays, handed, PathsMakeFresh}
+use Rattle.simulation.specs.Healing.{Moment, IsUpToMoment, IsFreshAt, AnswersWhole, table_at_moment}
+use Rattle.simulation.specs.Paths.{next_moment, SendsCopyAt, HandsOn, back, forth, record_at, UncutExchangesHandOn, IsReached, own, stays, handed, PathsMakeFresh}
+use Rattle.simulation.proofs.Rings.{answered_whole}
 use Rattle.simulation.proofs.Healing.{sound, fate-answered, reaches-answered, ended-loses_nothing, copies_stay}
+
+-- the fate in a record is that of the exchange
+fate-recorded : (f : Fate) (d1 d2 : ℕ) (b h : DeltaView) → (sent_until f d1 d2 b h).fate ≡ f
+fate-recorded fate.Lost1 d1 d2 b h = refl
+fate-recorded fate.Lost2 d1 d2 b h = refl
+fate-recorded fate.Lost3 d1 d2 b h = refl
+fate-recorded fate.Ok d1 d2 b h = refl
+
+-- where it ended its cuts are those of its deltas
+pub ended_uncut : (f : Fate) (d1 d2 : ℕ) (b h : DeltaView) → f ≡ fate.Ok → (sent_until f d1 d2 b h).forth_cut ≡ 0 → h.cut ≡ 0
+ended_uncut fate.Lost1 d1 d2 b h is none = cc
+ended_uncut fate.Lost2 d1 d2 b h is none = cc
+ended_uncut fate.Lost3 d1 d2 b h is none = none
+ended_uncut fate.Ok d1 d2 b h is none = none
+
+-- and no message of it was lost
+loses_nothing : (e : Exchange) → fate_of e ≡ fate.Ok → LosesNothing e
+loses_nothing e is = of e.lost1 e.lost2 e.lost3 is
+  where
+    of : (a b c : Bool) → (if a then fate.Lost1 else (if b then fate.Lost2 else last_fate c)) ≡ fate.Ok → (a ≡ false) × (b ≡ false) × (c ≡ false)
+    of true b c is = cc
+    of false true c is = cc
+    of false false true is = cc
+    of false false false is = (refl, refl, refl)
 
 module _ (s : Settings) (lawful : IsLawfulScenario s) where
   -- one exchange of a round
@@ -30,7 +60,7 @@ module _ (s : Settings) (lawful : IsLawfulScenario s) where
     abbrev exchanges : List Exchange
     exchanges = (round_list_of s m.round).exchanges
 
-    abbrev folded : Folded
+    abbrev pub folded : Folded
     folded = fold_of (rules_of s) (begun s m.round (tables_after s (m.round - 1))) (take m.exchanges exchanges)
 
     in_list : m.exchanges < length exchanges
@@ -39,14 +69,14 @@ module _ (s : Settings) (lawful : IsLawfulScenario s) where
     is_at : get_or exchanges m.exchanges e ≡ e
     is_at = get_or_from_slice_get exchanges m.exchanges e e listed
 
-    planned : IsPlanned s.nodes e
+    pub planned : IsPlanned s.nodes e
     planned = subst (IsPlanned s.nodes) is_at (planned_list s m.round lawful.nodes.0 m.exchanges e in_list)
 
-    next_tables : tables_within s m.round (m.exchanges + 1) ≡ (exchange_in (rules_of s) folded e).tables
+    pub next_tables : tables_within s m.round (m.exchanges + 1) ≡ (exchange_in (rules_of s) folded e).tables
     next_tables =
         ap (λ (f : Folded). f.tables) (fold_more (exchange_in (rules_of s)) (record { tables = begun s m.round (tables_after s (m.round - 1)); records = [] }) exchanges m.exchanges e in_list ∙ ap (exchange_in (rules_of s) folded) is_at)
 
-    here : AreSound s m.round (tables_within s m.round m.exchanges)
+    pub here : AreSound s m.round (tables_within s m.round m.exchanges)
     here = (sound s lawful).within m.round m.exchanges first
 
     abbrev at : ℕ → Table
@@ -120,3 +150,39 @@ module _ (s : Settings) (lawful : IsLawfulScenario s) where
       spreads_back m (in_rounds owner owner_in m from reached).0 e listed owner owner_in came1 came2 sends (paths_fresh owner owner_in m from reached)
   paths_fresh owner owner_in _ _ (handed m from to reached (forth e listed came sends)) =
       spreads_forth m (in_rounds owner owner_in m from reached).0 e listed owner owner_in came sends (paths_fresh owner owner_in m from reached)
+
+  -- what an exchange's record says of its messages
+  module _ (m : Moment) (e : Exchange) (owner : ℕ) (first : 1 ≤ m.round) (listed : slice_get (round_list_of s m.round).exchanges m.exchanges ≡ Some e) where
+    abbrev p : Table
+    p = table_at_moment s m e.initiator
+
+    abbrev q : Table
+    q = table_at_moment s m e.responder
+
+    all_sent : (from to : ℕ) → from < s.nodes → (delta_between s.mode e.rotation s.budget (table_at_moment s m from) (table_at_moment s m to)).cut ≡ 0 → SendsCopyAt s m e.rotation owner from to
+    all_sent from to from_in none i own_item there =
+        let tables = (here m first e listed).copies in
+        sent-uncut s.mode (table_at_moment s m from) (table_at_moment s m to) e.rotation s.budget (tables.proper from (omega (arith, from_in, tables.tables.size)))
+        (omega (arith, (planned m first e listed).rotation, (tables.tables.tables from from_in).nodes)) none i there
+
+    -- by its fate
+    said : (came1 came2 came3 : Bool) → e.lost1 ≡ came1 → e.lost2 ≡ came2 → e.lost3 ≡ came3 → fate_of e ≡ (if came1 then fate.Lost1 else (if came2 then fate.Lost2 else last_fate came3))
+    said came1 came2 came3 is1 is2 is3 = λ i. if is1 i then fate.Lost1 else (if is2 i then fate.Lost2 else last_fate (is3 i))
+
+    hands_back : AnswersWhole (record_at s m e) → HandsOn s m owner e.responder e.initiator
+    hands_back whole = elim e.lost1 as (λ b. e.lost1 ≡ b → HandsOn s m owner e.responder e.initiator) [
+      | true ↦ λ lost1. absurd (whole.first (fate-recorded (fate_of e) (digest_size (digest_kind s.mode) p) (digest_size (digest_kind s.mode) q) (delta_between s.mode e.rotation s.budget q p) (delta_between s.mode e.rotation s.budget p q) ∙ ap (λ b. if b then fate.Lost1 else (if e.lost2 then fate.Lost2 else last_fate e.lost3)) lost1))
+      | false ↦ λ came1. elim e.lost2 as (λ b. e.lost2 ≡ b → HandsOn s m owner e.responder e.initiator) [
+        | true ↦ λ lost2. absurd (whole.second (fate-recorded (fate_of e) (digest_size (digest_kind s.mode) p) (digest_size (digest_kind s.mode) q) (delta_between s.mode e.rotation s.budget q p) (delta_between s.mode e.rotation s.budget p q) ∙ said false true e.lost3 came1 lost2 refl))
+        | false ↦ λ came2. back e listed came1 came2 (all_sent e.responder e.initiator (planned m first e listed).responder (answered_whole (fate_of e) (digest_size (digest_kind s.mode) p) (digest_size (digest_kind s.mode) q) p (delta_between s.mode e.rotation s.budget q p) (delta_between s.mode e.rotation s.budget p q) whole).1)
+      ] refl
+    ] refl
+
+    hands_forth : (record_at s m e).fate ≡ fate.Ok → (record_at s m e).forth_cut ≡ 0 → HandsOn s m owner e.initiator e.responder
+    hands_forth ended none =
+        let is_ok : fate_of e ≡ fate.Ok = sym (fate-recorded (fate_of e) (digest_size (digest_kind s.mode) p) (digest_size (digest_kind s.mode) q) (delta_between s.mode e.rotation s.budget q p) (delta_between s.mode e.rotation s.budget p q)) ∙ ended in
+        forth e listed (loses_nothing e is_ok)
+        (all_sent e.initiator e.responder (planned m first e listed).initiator (ended_uncut (fate_of e) (digest_size (digest_kind s.mode) p) (digest_size (digest_kind s.mode) q) (delta_between s.mode e.rotation s.budget q p) (delta_between s.mode e.rotation s.budget p q) is_ok none))
+
+  pub exchanges_hand_on : UncutExchangesHandOn s
+  exchanges_hand_on m e owner first listed = (hands_back m e owner first listed, hands_forth m e owner first listed)

@@ -96,7 +96,7 @@ sum_none f (y ∷ ys) x none (zero, lt, is) = subst (λ z. f z ≡ 0) is (omega 
 sum_none f (y ∷ ys) x none (suc k, lt, is) = sum_none f ys x (omega (arith, none, sum_by-cons f y ys)) (k, omega arith, is)
 
 -- an exchange that answers in whole brings the initiator all of a delta that cut nothing
-answered_whole : (f : Fate) (d1 d2 : ℕ) (p : Table) (back forth : DeltaView) → AnswersWhole (sent_until f d1 d2 back forth) → (initiator_after f p back ≡ applied p back.items) × (back.cut ≡ 0)
+pub answered_whole : (f : Fate) (d1 d2 : ℕ) (p : Table) (back forth : DeltaView) → AnswersWhole (sent_until f d1 d2 back forth) → (initiator_after f p back ≡ applied p back.items) × (back.cut ≡ 0)
 answered_whole fate.Lost1 d1 d2 p back forth is = absurd (is.first refl)
 answered_whole fate.Lost2 d1 d2 p back forth is = absurd (is.second refl)
 answered_whole fate.Lost3 d1 d2 p back forth is = (refl, is.cut)

@@ -6,6 +6,7 @@ pub mod Outcomes
 pub mod Healing
 pub mod Paths
 pub mod Floors
+pub mod CatchingUp
 pub mod Formats
 pub mod calls
 pub mod inner

@@ -3,9 +3,10 @@
 
 ghost use Rattle.scenario.specs.Settings.{Settings, IsLawfulScenario};
 ghost use Rattle.simulation.specs.Soundness.{IsSoundRun};
+ghost use Rattle.simulation.specs.CatchingUp.{UncutPathsCatchUp, StalenessIsBounded};
 ghost use Rattle.simulation.specs.Floors.{UncutCopiesAreStates, UncutRunsAreBest, UncutModesAreAlike};
 ghost use Rattle.simulation.specs.Formats.{LeavesNothingOver, FormatHasNoPart};
-ghost use Rattle.simulation.specs.Paths.{PathsMakeFresh};
+ghost use Rattle.simulation.specs.Paths.{UncutExchangesHandOn, PathsMakeFresh};
 ghost use Rattle.simulation.specs.Healing.{ExchangesMakeFresh, FreshCopiesStay, QuietRingsHeal, AmpleBudgetsCutNothing};
 
 /// The law of every run. After each round, once a round has begun, and after each of its exchanges:
@@ -37,6 +38,13 @@ pub fn paths_make_fresh()
     ensures { (s : Settings) → IsLawfulScenario s → PathsMakeFresh s }
 {}
 
+/// What an exchange's record says is enough for a path: one that wasn't lost before its answer came and cut nothing of it
+/// hands on each copy to its initiator, and one that lost nothing and cut nothing of its third message each to its
+/// responder.
+pub fn uncut_exchanges_hand_on()
+    ensures { (s : Settings) → IsLawfulScenario s → UncutExchangesHandOn s }
+{}
+
 /// A quiet ring heals. Behind as many rounds as a node has others, in which nothing is written, no node is
 /// down, restarts or is apart, and each exchange brings its initiator an answer of which nothing is cut, all
 /// copies are fresh: none is stale, and nothing is left over where each owner that has forgotten has written
@@ -66,6 +74,18 @@ pub fn uncut_runs_are_best()
 /// All runs that have cut nothing are alike: under each mode and with each budget they have the same tables and rows.
 pub fn uncut_modes_are_alike()
     ensures { (s : Settings) → IsLawfulScenario s → UncutModesAreAlike s }
+{}
+
+/// While owners write, a path of exchanges in a run that has cut nothing brings all that its owner had written when the
+/// path began: the greatest mark of the last holder's copy isn't below the owner's own one then.
+pub fn uncut_paths_catch_up()
+    ensures { (s : Settings) → IsLawfulScenario s → UncutPathsCatchUp s }
+{}
+
+/// So where all that owners have written as a round begins comes to all others by the end of a later one, nothing is
+/// stale then for longer than since that round.
+pub fn staleness_is_bounded()
+    ensures { (s : Settings) → IsLawfulScenario s → StalenessIsBounded s }
 {}
 
 /// In format 1 nothing is ever left over, since no node forgets.

@@ -23,7 +23,8 @@ mod sims;
 pub use laws::{
     ample_budgets_cut_nothing, every_run_is_sound, exchanges_make_fresh,
     format_1_leaves_nothing_over, fresh_copies_stay, paths_make_fresh, quiet_rings_heal,
-    the_format_has_no_part, uncut_copies_are_states, uncut_modes_are_alike, uncut_runs_are_best,
+    staleness_is_bounded, the_format_has_no_part, uncut_copies_are_states, uncut_exchanges_hand_on,
+    uncut_modes_are_alike, uncut_paths_catch_up, uncut_runs_are_best,
 };
 pub use rounds::Round;
 pub use sims::Sim;

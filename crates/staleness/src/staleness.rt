@@ -191,8 +191,7 @@ fn staleness_of(
     Some(round - missed.born + 1)
 }
 
-// The version that what is held counts for in a generation: none, so 0, where it is of an older one, and all where it is
-// of a newer one.
+// The version that what is held counts for in a generation: 0 where it is of an older one, all where of a newer one.
 fn version_known(held: Option<Entry>, generation: u32) -> u32
     ensures { result ≡ version_known generation held }
 {
